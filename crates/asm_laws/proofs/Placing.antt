@@ -52,7 +52,8 @@ middle front ps after bytes at h e =
     let before : at ≡ length outer.front = sym e ∙ sym (spelt-length front outer.front outer.first) in
     let long : pieces_size ps ≡ length inner.front = sym (spelt-length ps inner.front inner.first) in
     let dropped : drop at bytes ≡ inner.front ++ inner.back =
-    ap (λ (n : ℕ). drop n bytes) before ∙ ap (λ (l : List ℕ). drop (length outer.front) l) outer.whole ∙ drop-append_seam outer.front outer.back ∙ inner.whole in
+    ap (λ (n : ℕ). drop n bytes) before ∙ ap (λ (l : List ℕ). drop (length outer.front) l) outer.whole ∙ drop-append_seam outer.front outer.back
+    ∙ inner.whole in
     let taken : take (pieces_size ps) (drop at bytes) ≡ inner.front =
     ap (λ (l : List ℕ). take (pieces_size ps) l) dropped ∙ ap (λ (n : ℕ). take n (inner.front ++ inner.back)) long ∙ take-append_seam inner.front inner.back in
     subst (λ (l : List ℕ). Spells ps l) (sym taken) inner.first
@@ -70,7 +71,8 @@ size-of-other : (b : Bool) (ps : List Piece) → pieces_size (cond b [] ps) ≡ 
 size-of-other true ps = refl
 size-of-other false ps = refl
 
-pub above-next : (labels : List LabelView) (line : List ℕ) (p : Placed) (text_front data_front : List Piece) (place : SectionPlace) → LineStandsFor labels place line p → AreAbove place text_front data_front
+pub above-next : (labels : List LabelView) (line : List ℕ) (p : Placed) (text_front data_front : List Piece) (place : SectionPlace) →
+    LineStandsFor labels place line p → AreAbove place text_front data_front
     → AreAbove (place_after place p.item) (text_front ++ cond p.place.in_text p.pieces []) (data_front ++ cond p.place.in_text [] p.pieces)
 above-next labels line p text_front data_front place s a =
     let size : pieces_size p.pieces ≡ size_of p.item = item-sized labels (address_of place) p.item p.pieces s.pieces in
@@ -78,8 +80,22 @@ above-next labels line p text_front data_front place s a =
     let text : cond p.place.in_text (pieces_size p.pieces) 0 ≡ cond place.in_text (size_of p.item) 0 = rw (same, size) refl in
     let others : cond p.place.in_text 0 (pieces_size p.pieces) ≡ cond place.in_text 0 (size_of p.item) = rw (same, size) refl in
     record {
-      text = omega (arith, size-append text_front (cond p.place.in_text p.pieces []), size-of-either p.place.in_text p.pieces, text, a.text, text-after place p.item);
-      data_section = omega (arith, size-append data_front (cond p.place.in_text [] p.pieces), size-of-other p.place.in_text p.pieces, others, a.data_section, data-after place p.item);
+      text = omega (
+        arith,
+        size-append text_front (cond p.place.in_text p.pieces []),
+        size-of-either p.place.in_text p.pieces,
+        text,
+        a.text,
+        text-after place p.item,
+      );
+      data_section = omega (
+        arith,
+        size-append data_front (cond p.place.in_text [] p.pieces),
+        size-of-other p.place.in_text p.pieces,
+        others,
+        a.data_section,
+        data-after place p.item,
+      );
     }
 
 -- an item is there
@@ -91,7 +107,8 @@ there-by true object p tf tb df db e t d a = rw e (middle tf p.pieces tb object.
 there-by false object p tf tb df db e t d a = rw e (middle df p.pieces db object.data_bytes p.place.data_len d a.data_section)
 
 -- so are all
-pub all-there : (object : Object) (labels : List LabelView) (place end : SectionPlace) (lines : List (List ℕ)) (items : List Placed) (text_front data_front : List Piece)
+pub all-there : (object : Object) (labels : List LabelView) (place end : SectionPlace) (lines : List (List ℕ)) (items : List Placed)
+    (text_front data_front : List Piece)
     → AllStand labels place lines items end → AreAbove place text_front data_front
     → Spells (text_front ++ text_pieces items) object.text_bytes → Spells (data_front ++ data_pieces items) object.data_bytes
     → AreThere object items

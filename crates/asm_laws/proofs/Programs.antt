@@ -55,7 +55,8 @@ items-of above s t (line ∷ lines) e =
     let text = said line in
     let r = passes (at_line (above + 1) (filled s text)) (λ (next : Sections). sections_from (above + 1) next lines) t e in
     let f = passes_line (above + 1) (filled s text) r.first r.is in
-    let i = passes (item_at s.place (statement_in text)) (λ (item : SourceItem). and_then (pieces_of s.labels (address_of s.place) item) (λ ps. Ok (placed_at s item ps))) r.first f in
+    let i = passes (item_at s.place (statement_in text)) (λ (item : SourceItem). and_then (pieces_of s.labels (address_of s.place) item)
+    (λ ps. Ok (placed_at s item ps))) r.first f in
     let p = passes (pieces_of s.labels (address_of s.place) i.first) (λ (ps : List Piece). Ok (placed_at s i.first ps)) r.first i.goes in
     let next : placed_at s i.first p.first ≡ r.first = cc p.goes in
     let rest = subst (λ (u : Sections). ItemsOf u t lines) (sym next) (items-of (above + 1) r.first t lines r.goes) in
@@ -74,7 +75,8 @@ labelled-by : (twice : Bool) (more next : List LabelView) (answer : Result (List
 labelled-by true more next answer e h = absurd (cc)
 labelled-by false more next answer e h = cc
 
-labelled : (labels next : List LabelView) (place : SectionPlace) (label : Option (List ℕ)) → with_label labels place label ≡ Ok next → next ≡ labels ++ label_of label place
+labelled : (labels next : List LabelView) (place : SectionPlace) (label : Option (List ℕ)) → with_label labels place label ≡ Ok next →
+    next ≡ labels ++ label_of label place
 labelled labels next place None e = let same : labels ≡ next = cc in sym same ∙ sym (append-nil labels)
 labelled labels next place (Some name) e =
     labelled-by (is_some (value_of labels name)) (labels ++ label_of (Some name) place) next (with_label labels place (Some name)) refl e
@@ -96,14 +98,19 @@ labels-are above labels marks place end last (line ∷ lines) (p ∷ ps) e s =
     let draft : Draft = record { place = place; labels = labels } in
     let r = passes (at_line (above + 1) (drafted draft text)) (λ (next : Draft). draft_from (above + 1) next lines) last e in
     let f = passes_line (above + 1) (drafted draft text) r.first r.is in
-    let l = passes (with_label labels place (label_in text)) (λ (more : List LabelView). and_then (item_at place (statement_in text)) (λ item. Ok (record { place = place_after place item; labels = more }))) r.first f in
-    let i = passes (item_at place (statement_in text)) (λ (item : SourceItem). Ok (record { place = place_after place item; labels = l.first })) r.first l.goes in
+    let l = passes (with_label labels place (label_in text)) (λ (more : List LabelView). and_then (item_at place (statement_in text))
+    (λ item. Ok (record { place = place_after place item; labels = more }))) r.first f in
+    let i = passes (item_at place (statement_in text)) (λ (item : SourceItem). Ok (record { place = place_after place item; labels = l.first })) r.first l.goes
+    in
     let item : i.first ≡ p.item = same-item (item_at place (statement_in text)) i.first p.item i.is s.0.item in
     let next : (record { place = place_after place i.first; labels = l.first }) ≡ r.first = cc i.goes in
-    let here : (record { place = place_after place p.item; labels = l.first }) ≡ r.first = ap (λ (x : SourceItem). record { place = place_after place x; labels = l.first }) (sym item) ∙ next in
-    let goes : draft_from (above + 1) (record { place = place_after place p.item; labels = l.first }) lines ≡ Ok last = subst (λ (d : Draft). draft_from (above + 1) d lines ≡ Ok last) (sym here) r.goes in
+    let here : (record { place = place_after place p.item; labels = l.first }) ≡ r.first =
+    ap (λ (x : SourceItem). record { place = place_after place x; labels = l.first }) (sym item) ∙ next in
+    let goes : draft_from (above + 1) (record { place = place_after place p.item; labels = l.first }) lines ≡ Ok last =
+    subst (λ (d : Draft). draft_from (above + 1) d lines ≡ Ok last) (sym here) r.goes in
     let rest = labels-are (above + 1) l.first marks (place_after place p.item) end last lines ps goes s.1 in
-    let label : l.first ≡ labels ++ label_of (label_in text) p.place = labelled labels l.first place (label_in text) l.is ∙ ap (λ (q : SectionPlace). labels ++ label_of (label_in text) q) (sym s.0.place) in
+    let label : l.first ≡ labels ++ label_of (label_in text) p.place = labelled labels l.first place (label_in text) l.is
+    ∙ ap (λ (q : SectionPlace). labels ++ label_of (label_in text) q) (sym s.0.place) in
     rest ∙ ap (λ (ls : List LabelView). ls ++ labels_of lines ps) label ∙ append_assoc labels (label_of (label_in text) p.place) (labels_of lines ps)
 
 -- they are not exported yet
@@ -119,7 +126,8 @@ bare-labels (line ∷ lines) (p ∷ ps) =
     ∙ ap (λ (l : List LabelView). l ++ map unexported (labels_of lines ps)) (bare-label (label_in (said line)) p.place)
     ∙ ap (λ (ls : List LabelView). label_of (label_in (said line)) p.place ++ ls) (bare-labels lines ps)
 
-program-of : (lines : List (List ℕ)) (sections : Sections) (object : Object) → sections_of lines ≡ Ok sections → IsObject sections object → IsProgram lines object
+program-of : (lines : List (List ℕ)) (sections : Sections) (object : Object) → sections_of lines ≡ Ok sections → IsObject sections object →
+    IsProgram lines object
 program-of lines sections object e is =
     let l = looks lines sections e in
     let o = items-of 0 (empty l.labels) sections lines l.filled in
@@ -135,14 +143,17 @@ program-of lines sections object e is =
       there = all-there object object.labels start sections.place lines o.items [] [] stand (record { text = refl; data_section = refl }) text others;
       text = spelt-length sections.text object.text_bytes is.text_bytes ∙ sized.text;
       data_section = spelt-length sections.data_pieces object.data_bytes is.data_bytes ∙ sized.data_section;
-      labels = ap (λ (ls : List LabelView). map unexported ls) is.labels ∙ o.labels.bare ∙ ap (λ (ls : List LabelView). map unexported ls) labels ∙ bare-labels lines o.items;
+      labels = ap (λ (ls : List LabelView). map unexported ls) is.labels ∙ o.labels.bare ∙ ap (λ (ls : List LabelView). map unexported ls) labels
+          ∙ bare-labels lines o.items;
     }
 
-program-by : (answer : Result Sections AsmErr) (lines : List (List ℕ)) (object : Object) → sections_of lines ≡ answer → Objects object answer → IsProgram lines object
+program-by : (answer : Result Sections AsmErr) (lines : List (List ℕ)) (object : Object) → sections_of lines ≡ answer → Objects object answer →
+    IsProgram lines object
 program-by (Ok sections) lines object e is = program-of lines sections object e is
 program-by (Err kind) lines object e is = absurd is
 
-program-either : (b : Bool) (e : AsmErr) (lines : List (List ℕ)) (object : Object) → Objects object (cond b (Err e) (sections_of lines)) → IsProgram lines object
+program-either : (b : Bool) (e : AsmErr) (lines : List (List ℕ)) (object : Object) → Objects object (cond b (Err e) (sections_of lines)) →
+    IsProgram lines object
 program-either true e lines object is = absurd is
 program-either false e lines object is = program-by (sections_of lines) lines object refl is
 

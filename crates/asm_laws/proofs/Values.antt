@@ -43,7 +43,8 @@ bare-kept : (b : Bool) (l : LabelView) → unexported (cond b (record l { global
 bare-kept true l = refl
 bare-kept false l = refl
 
-found-by : (t : Bool) (l m : LabelView) (rest other : Option LabelView) → l.value ≡ m.value → option_map (λ label. label.value) rest ≡ option_map (λ label. label.value) other
+found-by : (t : Bool) (l m : LabelView) (rest other : Option LabelView) → l.value ≡ m.value →
+    option_map (λ label. label.value) rest ≡ option_map (λ label. label.value) other
     → option_map (λ label. label.value) (cond t (Some l) rest) ≡ option_map (λ label. label.value) (cond t (Some m) other)
 found-by true l m rest other e h = ap Some e
 found-by false l m rest other e h = h
@@ -92,10 +93,12 @@ then-step : {A B E : Type 0} (x : Result A E) (f g : A → Result B E) → ((a :
 then-step (Ok a) f g h = h a
 then-step (Err e) f g h = refl
 
-bytes-same : (a b : List LabelView) (width : Width) (bytes : List ℕ) (operands : List (List ℕ)) → SameValues a b → bytes_from a width bytes operands ≡ bytes_from b width bytes operands
+bytes-same : (a b : List LabelView) (width : Width) (bytes : List ℕ) (operands : List (List ℕ)) → SameValues a b →
+    bytes_from a width bytes operands ≡ bytes_from b width bytes operands
 bytes-same a b width bytes [] h = refl
 bytes-same a b width bytes (o ∷ os) h =
-    ap (λ (value : Result ℤ AsmKind). and_then value (λ z. bytes_from a width (bytes ++ bytes_low_first 0 (bytes_of_width width) (word_modulo z)) os)) (operand-same a b width o h)
+    ap (λ (value : Result ℤ AsmKind). and_then value (λ z. bytes_from a width (bytes ++ bytes_low_first 0 (bytes_of_width width) (word_modulo z)) os))
+    (operand-same a b width o h)
     ∙ then-step (operand_value b width o) (λ z. bytes_from a width (bytes ++ bytes_low_first 0 (bytes_of_width width) (word_modulo z)) os)
     (λ z. bytes_from b width (bytes ++ bytes_low_first 0 (bytes_of_width width) (word_modulo z)) os)
     (λ z. bytes-same a b width (bytes ++ bytes_low_first 0 (bytes_of_width width) (word_modulo z)) os h)

@@ -73,7 +73,8 @@ unfolding lines_at
 word-first symbols pc a b c d rest k h =
     let yes : (pc % 4 == 0) ≡ true = grind (arith, nat_tests) in
     let some : nat_le 4 (length (a ∷ b ∷ c ∷ d ∷ rest)) ≡ true = grind (arith, nat_tests) in
-    let first : lines_at symbols pc (a ∷ b ∷ c ∷ d ∷ rest) ≡ label_lines symbols pc ++ word_line pc (from_le_bytes w32 (a ∷ b ∷ c ∷ d ∷ [])) = rw (yes, some) refl in
+    let first : lines_at symbols pc (a ∷ b ∷ c ∷ d ∷ rest) ≡ label_lines symbols pc ++ word_line pc (from_le_bytes w32 (a ∷ b ∷ c ∷ d ∷ [])) =
+    rw (yes, some) refl in
     ap (λ (l : List ℕ). l ++ lines_from symbols ((pc + 1) % 2 ^ 32) (b ∷ c ∷ d ∷ rest)) first
     ∙ ap (λ (l : List ℕ). (label_lines symbols pc ++ word_line pc (from_le_bytes w32 (a ∷ b ∷ c ∷ d ∷ []))) ++ l) (others symbols pc b c d rest h k)
 
@@ -95,12 +96,14 @@ pub ruleset words = (no-lines)
 pub ruleset walked = (skip, skipped-aligned)
 
 -- labels that have the lines of the symbols make the same lines of words
-lines-same : (symbols labels : List NamedSymbol) → HaveLines symbols labels → (pc : ℕ) (bytes : List ℕ) → lines_from labels pc bytes ≡ lines_from symbols pc bytes
+lines-same : (symbols labels : List NamedSymbol) → HaveLines symbols labels → (pc : ℕ) (bytes : List ℕ) →
+    lines_from labels pc bytes ≡ lines_from symbols pc bytes
 unfolding lines_at
 lines-same symbols labels h pc [] = refl
 lines-same symbols labels h pc (byte ∷ bytes) = rw (h.at pc, lines-same symbols labels h ((pc + 1) % 2 ^ 32) bytes) refl
 
-segment-same : (symbols labels : List NamedSymbol) → HaveLines symbols labels → (segment : LoadSegment) → segment_lines labels segment ≡ segment_lines symbols segment
+segment-same : (symbols labels : List NamedSymbol) → HaveLines symbols labels → (segment : LoadSegment) →
+    segment_lines labels segment ≡ segment_lines symbols segment
 unfolding segment_lines
 segment-same symbols labels h segment = rw (lines-same symbols labels h segment.vaddr segment.bytes) refl
 

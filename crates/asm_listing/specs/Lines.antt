@@ -1,4 +1,5 @@
--- The lines of a listing: the words of a program with their addresses, their instructions and the labels before them (a format of this project, with the instructions as in the RISC-V Assembly Programmer's Manual).
+-- The lines of a listing: the words of a program with their addresses, their instructions and the labels before them (a
+-- format of this project, with the instructions as in the RISC-V Assembly Programmer's Manual).
 use Rattle.std.specs.Prelude.{◌≡◌, ◌≤◌, ℕ, ◌+◌, ◌-◌, ◌%◌, ◌^◌, ◌==◌, ◌&&◌, not, nat_le, List, [], ◌∷◌, ◌++◌, codes, length, take, drop, Option, Some, None, if◌then◌else◌, Bool, map}
 use Rattle.std.specs.List.{flat_map}
 use Rattle.std.specs.Int.{w32, from_le_bytes}

@@ -12,10 +12,10 @@ ghost use Rattle.asm_listing.specs.Lines.{word_line, label_lines, labelled_lines
 use crate::labels::put_labels;
 use crate::putting::put_three;
 use cf_io::{Failed, Sink};
-use texts::Page;
 use elf_view::LazySymbol;
 use rv_inst::decode_m;
 use rv_text::{TextLine, write_instr};
+use texts::Page;
 
 /// The address and the word of a line.
 fn front_page(pc: u32, word: u32) -> Page

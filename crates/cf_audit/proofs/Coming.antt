@@ -36,7 +36,8 @@ pub record Comes (text : List ℕ) (start : RunPlace) (now : AuditRun) : Type 0 
 
 -- before the first group
 first_comes : (text : List ℕ) (core : Processor) (streams : Streams) → core.state.retired ≡ 0
-    → Comes text (place_of core streams (Some (told_by (fresh text))) no_tally) (stand_of (place_of core streams (Some (told_by (fresh text))) no_tally) (fresh text))
+    → Comes text (place_of core streams (Some (told_by (fresh text))) no_tally) (stand_of (place_of core streams (Some (told_by (fresh text))) no_tally)
+    (fresh text))
 first_comes text core streams none =
     let start : RunPlace = place_of core streams (Some (told_by (fresh text))) no_tally in
     record {
@@ -53,7 +54,8 @@ first_comes text core streams none =
 pub comes-first : (text : List ℕ) (core : Processor) (streams : Streams) (seen : Comparison) → seen ≡ fresh text → core.state.retired ≡ 0
     → Comes text (place_of core streams (Some (told_by (fresh text))) no_tally) (stand_of (place_of core streams (Some (told_by seen)) no_tally) seen)
 comes-first text core streams seen is none =
-    subst (λ (c : Comparison). Comes text (place_of core streams (Some (told_by (fresh text))) no_tally) (stand_of (place_of core streams (Some (told_by c)) no_tally) c)) (sym is) (first_comes text core streams none)
+    subst (λ (c : Comparison). Comes text (place_of core streams (Some (told_by (fresh text))) no_tally)
+    (stand_of (place_of core streams (Some (told_by c)) no_tally) c)) (sym is) (first_comes text core streams none)
 
 -- the text, and the run's groups as far as they agree
 pub record SoFar (text : List ℕ) (start : RunPlace) (now : AuditRun) (trace : List Made) : Type 0 where
@@ -86,25 +88,29 @@ unfolding shown numbered_move
 shown-some plan n made = omega arith
 
 -- what was put after what agreed
-pub put-after : (now new : Comparison) (piece : List ℕ) → now.other ≡ None → told_by new ≡ told_by now ++ piece → (new.text ≡ now.text) × (put_of new ≡ take now.agreed now.text ++ piece)
+pub put-after : (now new : Comparison) (piece : List ℕ) → now.other ≡ None → told_by new ≡ told_by now ++ piece →
+    (new.text ≡ now.text) × (put_of new ≡ take now.agreed now.text ++ piece)
 put-after now new piece none told =
     let both = told-more now new piece told in
     (both.0, both.1 ∙ ap (λ (put : List ℕ). put ++ piece) (put_all_agreed now none))
 
 -- one more instruction can retire
-pub retires-below : (text : List ℕ) (start : RunPlace) (now : AuditRun) → Comes text start now → length text ≤ most_trace → now.place.core.state.retired < most_retired
+pub retires-below : (text : List ℕ) (start : RunPlace) (now : AuditRun) → Comes text start now → length text ≤ most_trace →
+    now.place.core.state.retired < most_retired
 retires-below text start now h small =
     let s = so-far text start now h in
     let size : length now.seen.text ≡ length text = ap length s.text_is in
     omega (arith, h.retired, h.few, h.within, size)
 
 -- the next group agrees
-pub comes-more : (text : List ℕ) (start : RunPlace) (now new : AuditRun) (mv : Move) → length text ≤ most_trace → new.place.report ≡ Some (told_by new.seen) → Comes text start now → NextIs now mv → Advances mv now new
+pub comes-more : (text : List ℕ) (start : RunPlace) (now new : AuditRun) (mv : Move) → length text ≤ most_trace → new.place.report ≡ Some (told_by new.seen) →
+    Comes text start now → NextIs now mv → Advances mv now new
     → Comes text start new × (now.seen.agreed < new.seen.agreed)
 comes-more text start now new mv small tells h next a =
     let made : Made = record { move = mv; event = a.event; state = new.place.core.state } in
     let low : now.place.core.state.retired < most_retired = retires-below text start now h small in
-    let more : Reaches most_retired show.Moves start new.place = reached-more most_retired show.Moves start now.place new.place mv a.event h.reached low a.makes in
+    let more : Reaches most_retired show.Moves start new.place = reached-more most_retired show.Moves start now.place new.place mv a.event h.reached low a.makes
+    in
     let trace : more.trace ≡ h.reached.trace ++ made ∷ [] = reached-trace most_retired show.Moves start now.place new.place mv a.event h.reached low a.makes in
     let group : List ℕ = shown show.Moves now.place.core.plan new.place.tally.moves made in
     let P : Option (List ℕ) → Type 0 = λ o. Writes o new.place.report group in
@@ -114,9 +120,11 @@ comes-more text start now new mv small tells h next a =
     let agreed : take new.seen.agreed now.seen.text ≡ take now.seen.agreed now.seen.text ++ group =
     ap (take new.seen.agreed) (sym both.0) ∙ sym (put_all_agreed new.seen a.same.none) ∙ both.1 in
     let high : new.seen.agreed ≤ length now.seen.text = subst (λ (t : List ℕ). new.seen.agreed ≤ length t) both.0 a.same.within in
-    let rises : now.seen.agreed < new.seen.agreed = goes_on now.seen.text group now.seen.agreed new.seen.agreed h.within high (shown-some now.place.core.plan new.place.tally.moves made) agreed in
+    let rises : now.seen.agreed < new.seen.agreed = goes_on now.seen.text group now.seen.agreed new.seen.agreed h.within high
+    (shown-some now.place.core.plan new.place.tally.moves made) agreed in
     let one : now.place.core.state.retired < now.place.core.state.retired + 1 = omega arith in
-    let retires : new.place.core.state.retired ≤ now.place.core.state.retired + 1 = made-within (now.place.core.state.retired + 1) show.Moves now.place new.place mv a.event one a.makes in
+    let retires : new.place.core.state.retired ≤ now.place.core.state.retired + 1 = made-within
+    (now.place.core.state.retired + 1) show.Moves now.place new.place mv a.event one a.makes in
     let count : new.place.tally.moves ≡ now.place.tally.moves + 1 = ap (λ (t : Tally). t.moves) a.makes.makes.tally in (
       record {
         reached = more;
@@ -131,12 +139,14 @@ comes-more text start now new mv small tells h next a =
       rises,
     )
 
-pub comes-on : (text : List ℕ) (start : RunPlace) (now new : AuditRun) → length text ≤ most_trace → new.place.report ≡ Some (told_by new.seen) → Comes text start now → Tests text now new None → Comes text start new × (now.seen.agreed < new.seen.agreed)
+pub comes-on : (text : List ℕ) (start : RunPlace) (now new : AuditRun) → length text ≤ most_trace → new.place.report ≡ Some (told_by new.seen) →
+    Comes text start now → Tests text now new None → Comes text start new × (now.seen.agreed < new.seen.agreed)
 unfolding Tests AuditTries
 comes-on text start now new small tells h (mv, next, a) = comes-more text start now new mv small tells h next a
 
 -- so less of the text is left
-pub comes-falls : (text : List ℕ) (start : RunPlace) (new : AuditRun) (agreed : ℕ) → Comes text start new → agreed < new.seen.agreed → length text - new.seen.agreed < length text - agreed
+pub comes-falls : (text : List ℕ) (start : RunPlace) (new : AuditRun) (agreed : ℕ) → Comes text start new → agreed < new.seen.agreed →
+    length text - new.seen.agreed < length text - agreed
 comes-falls text start new agreed h rises =
     let size : length new.seen.text ≡ length text = ap length (so-far text start new h).text_is in
     omega (arith, rises, h.within, size)
@@ -146,8 +156,12 @@ pub counts-small : (text : List ℕ) (start : RunPlace) (now : AuditRun) → Com
     → (now.place.tally.moves ≤ most_trace) × (now.place.tally.meets ≤ most_trace) × (now.place.tally.kills ≤ most_trace) × (now.place.tally.dead ≤ most_trace)
 counts-small text start now h small =
     let size : length now.seen.text ≡ length text = ap length (so-far text start now h).text_is in
-    let counts = counts-within most_retired show.Moves start now.place h.reached in
-    (omega (arith, h.few, h.within, size), omega (arith, h.few, h.within, size, counts.0), omega (arith, h.few, h.within, size, counts.1), omega (arith, h.few, h.within, size, counts.2))
+    let counts = counts-within most_retired show.Moves start now.place h.reached in (
+      omega (arith, h.few, h.within, size),
+      omega (arith, h.few, h.within, size, counts.0),
+      omega (arith, h.few, h.within, size, counts.1),
+      omega (arith, h.few, h.within, size, counts.2),
+    )
 
 -- as many moves as were counted
 moves_counted : (trace : List Made) (tally : Tally) → tally ≡ tally_of trace → length trace ≡ tally.moves
@@ -155,7 +169,8 @@ unfolding tally_of
 moves_counted trace tally is = sym (ap (λ (t : Tally). t.moves) is)
 
 -- the groups so far are the trace of the run, which leads to any moment to which its moves do
-pub trace-so-far : (text : List ℕ) (start : RunPlace) (now : AuditRun) (h : Comes text start now) (last : Moment) → Leads start.core.plan most_retired start.streams.input (moment_of start.core h.reached.rest) h.reached.trace last
+pub trace-so-far : (text : List ℕ) (start : RunPlace) (now : AuditRun) (h : Comes text start now) (last : Moment) →
+    Leads start.core.plan most_retired start.streams.input (moment_of start.core h.reached.rest) h.reached.trace last
     → IsTrace start.core start.streams.input (take now.seen.agreed text) now.place.tally.moves last
 trace-so-far text start now h last leads = record {
   trace = h.reached.trace;
@@ -168,10 +183,12 @@ trace-so-far text start now h last leads = record {
 }
 
 -- the rest of the text
-pub agrees-so-far : (text : List ℕ) (start : RunPlace) (now : AuditRun) (h : Comes text start now) (last : Moment) → Leads start.core.plan most_retired start.streams.input (moment_of start.core h.reached.rest) h.reached.trace last → 0 < length (left_of now.seen)
+pub agrees-so-far : (text : List ℕ) (start : RunPlace) (now : AuditRun) (h : Comes text start now) (last : Moment) →
+    Leads start.core.plan most_retired start.streams.input (moment_of start.core h.reached.rest) h.reached.trace last → 0 < length (left_of now.seen)
     → AgreesSoFar start.core start.streams.input text (take now.seen.agreed text) (left_of now.seen) now.place.tally.moves last
 agrees-so-far text start now h last leads some = record {
-  parts = sym (take-append-drop now.seen.agreed text) ∙ ap (λ (t : List ℕ). take now.seen.agreed text ++ drop now.seen.agreed t) (sym (so-far text start now h).text_is);
+  parts = sym (take-append-drop now.seen.agreed text) ∙ ap (λ (t : List ℕ). take now.seen.agreed text ++ drop now.seen.agreed t)
+      (sym (so-far text start now h).text_is);
   some = some;
   is = trace-so-far text start now h last leads;
 }
@@ -182,5 +199,6 @@ agreed-length text start now h =
     length-take-le now.seen.agreed text (subst (λ (t : List ℕ). now.seen.agreed ≤ length t) (so-far text start now h).text_is h.within)
 
 -- the processor and the input stand where the run leads
-pub stands-here : (text : List ℕ) (start : RunPlace) (now : AuditRun) (h : Comes text start now) → ReachesMoment start.core now.place.core start.streams.input now.place.streams.input h.reached.last
+pub stands-here : (text : List ℕ) (start : RunPlace) (now : AuditRun) (h : Comes text start now) →
+    ReachesMoment start.core now.place.core start.streams.input now.place.streams.input h.reached.last
 stands-here text start now h = record { processor = h.reached.core; input = h.reached.streams.input }

@@ -17,17 +17,20 @@ one_more (x ∷ bytes) (suc same) within =
 put_more : (text bytes : List ℕ) (agreed same : ℕ) → same ≤ length bytes → take same (drop agreed text) ≡ take same bytes
     → take (agreed + same) text ++ alone (slice_get bytes same) ≡ (take agreed text ++ []) ++ take (min (length bytes) (same + 1)) bytes
 put_more text bytes agreed same within agrees =
-    rw (one_more bytes same within, append-nil, take-add agreed same text, agrees) (append_assoc (take agreed text) (take same bytes) (alone (slice_get bytes same)))
+    rw (one_more bytes same within, append-nil, take-add agreed same text, agrees) (append_assoc (take agreed text) (take same bytes)
+    (alone (slice_get bytes same)))
 
 -- a put of bytes that agree so far
-put_taken : {E : Type 0} (text bytes : List ℕ) (agreed same faults : ℕ) → 0 < length bytes → same ≤ length bytes → take same (drop agreed text) ≡ take same bytes
+put_taken : {E : Type 0} (text bytes : List ℕ) (agreed same faults : ℕ) → 0 < length bytes → same ≤ length bytes →
+    take same (drop agreed text) ≡ take same bytes
     → Puts {E = E} (Some (told_by (record { text = text; agreed = agreed; other = None; faults = faults })))
     (Some (told_by (record { text = text; agreed = agreed + same; other = slice_get bytes same; faults = faults }))) bytes (Ok (min (length bytes) (same + 1)))
 unfolding told_by
 put_taken text bytes agreed same faults some within agrees = record {
   count = omega arith;
   some = λ h. omega arith;
-  told = ap Some (ap (λ (put : List ℕ). map suc text ++ 0 ∷ put) (put_more text bytes agreed same within agrees) ∙ sym (append_assoc (map suc text) (0 ∷ (take agreed text ++ [])) (take (min (length bytes) (same + 1)) bytes)));
+  told = ap Some (ap (λ (put : List ℕ). map suc text ++ 0 ∷ put) (put_more text bytes agreed same within agrees)
+      ∙ sym (append_assoc (map suc text) (0 ∷ (take agreed text ++ [])) (take (min (length bytes) (same + 1)) bytes)));
   empty = λ none. absurd (omega arith);
   unchanged = tt;
 }
@@ -43,16 +46,23 @@ pub taken : {E : Type 0} (text rest bytes : List ℕ) (agreed same faults count 
     → 0 < length bytes → same ≤ length bytes → take same rest ≡ take same bytes → next ≡ slice_get bytes same → count ≡ min (length bytes) (same + 1)
     → Puts {E = E} (Some (told_by old)) (Some (told_by (record { text = text; agreed = agreed + same; other = next; faults = faults }))) bytes (Ok count)
 taken {E} text rest bytes agreed same faults count other next old is none after some within agrees next_is count_is =
-    let blank : record { text = text; agreed = agreed; other = None; faults = faults } ≡ old = ap (λ (o : Option ℕ). record { text = text; agreed = agreed; other = o; faults = faults }) (sym (none_other other none)) ∙ is in
+    let blank : record { text = text; agreed = agreed; other = None; faults = faults } ≡ old =
+    ap (λ (o : Option ℕ). record { text = text; agreed = agreed; other = o; faults = faults }) (sym (none_other other none)) ∙ is in
     let place : drop old.agreed old.text ≡ drop agreed text = ap (λ (c : Comparison). drop c.agreed c.text) (sym is) in
     let front : take same (drop agreed text) ≡ take same bytes = ap (take same) (sym (after ∙ place)) ∙ agrees in
-    let put : Puts {E = E} (Some (told_by (record { text = text; agreed = agreed; other = None; faults = faults }))) (Some (told_by (record { text = text; agreed = agreed + same; other = slice_get bytes same; faults = faults }))) bytes (Ok (min (length bytes) (same + 1))) = put_taken {E = E} text bytes agreed same faults some within front in
-    let started : Puts {E = E} (Some (told_by old)) (Some (told_by (record { text = text; agreed = agreed + same; other = slice_get bytes same; faults = faults }))) bytes (Ok (min (length bytes) (same + 1))) =
-    subst (λ (c : Comparison). Puts {E = E} (Some (told_by c)) (Some (told_by (record { text = text; agreed = agreed + same; other = slice_get bytes same; faults = faults }))) bytes (Ok (min (length bytes) (same + 1)))) blank put in
+    let put : Puts {E = E} (Some (told_by (record { text = text; agreed = agreed; other = None; faults = faults })))
+    (Some (told_by (record { text = text; agreed = agreed + same; other = slice_get bytes same; faults = faults }))) bytes
+    (Ok (min (length bytes) (same + 1))) = put_taken {E = E} text bytes agreed same faults some within front in
+    let started : Puts {E = E} (Some (told_by old)) (Some (told_by
+    (record { text = text; agreed = agreed + same; other = slice_get bytes same; faults = faults }))) bytes (Ok (min (length bytes) (same + 1))) =
+    subst (λ (c : Comparison). Puts {E = E} (Some (told_by c))
+    (Some (told_by (record { text = text; agreed = agreed + same; other = slice_get bytes same; faults = faults }))) bytes
+    (Ok (min (length bytes) (same + 1)))) blank put in
     rw (next_is, count_is) started
 
 -- a put that fails
-pub refused : (text bytes : List ℕ) (agreed faults more : ℕ) (other : Option ℕ) (old : Comparison) {E : Type 0} (e : E) → record { text = text; agreed = agreed; other = other; faults = faults } ≡ old → 0 < length bytes
+pub refused : (text bytes : List ℕ) (agreed faults more : ℕ) (other : Option ℕ) (old : Comparison) {E : Type 0} (e : E) →
+    record { text = text; agreed = agreed; other = other; faults = faults } ≡ old → 0 < length bytes
     → Puts {E = E} (Some (told_by old)) (Some (told_by (record { text = text; agreed = agreed; other = other; faults = more }))) bytes (Err e)
 unfolding told_by
 refused text bytes agreed faults more other old e is some = record {
@@ -69,13 +79,15 @@ get-after text zero place = let same : zero + place ≡ place = omega arith in r
 get-after [] (suc front) place = refl
 get-after (x ∷ text) (suc front) place = let same : suc front + place ≡ suc (front + place) = omega arith in rw same (get-after text front place)
 
-other_is : (text : List ℕ) (agreed same : ℕ) (other : Option ℕ) → ((byte : ℕ) → other ≡ Some byte → IsOther (drop agreed text) same byte) → IfSome other (λ byte. IsOther text (agreed + same) byte)
+other_is : (text : List ℕ) (agreed same : ℕ) (other : Option ℕ) → ((byte : ℕ) → other ≡ Some byte → IsOther (drop agreed text) same byte) →
+    IfSome other (λ byte. IsOther text (agreed + same) byte)
 other_is text agreed same None apart = tt
 other_is text agreed same (Some byte) apart = λ here. apart byte refl (get-after text agreed same ∙ here)
 
 -- a comparison after a put of bytes
 pub compared-more : (text rest bytes : List ℕ) (agreed same faults : ℕ) (other next : Option ℕ) (old : Comparison)
-    → record { text = text; agreed = agreed; other = other; faults = faults } ≡ old → IsComparison (record { text = text; agreed = agreed; other = other; faults = faults }) → is_some other ≡ false
+    → record { text = text; agreed = agreed; other = other; faults = faults } ≡ old → IsComparison
+    (record { text = text; agreed = agreed; other = other; faults = faults }) → is_some other ≡ false
     → rest ≡ drop old.agreed old.text → same ≤ length rest → DifferAt rest bytes same → next ≡ slice_get bytes same
     → IsComparison (record { text = text; agreed = agreed + same; other = next; faults = faults })
 compared-more text rest bytes agreed same faults other next old is was none after within apart next_is =
@@ -92,12 +104,14 @@ compared-more text rest bytes agreed same faults other next old is was none afte
     failed_not None e h = absurd (cc)
     failed_not (Some byte) e h = absurd (cc)
 
-other_there : (text : List ℕ) (agreed faults : ℕ) (other : Option ℕ) → IsComparison (record { text = text; agreed = agreed; other = other; faults = faults }) → is_some other ≡ true → HasOther (record { text = text; agreed = agreed; other = other; faults = faults })
+other_there : (text : List ℕ) (agreed faults : ℕ) (other : Option ℕ) → IsComparison (record { text = text; agreed = agreed; other = other; faults = faults }) →
+    is_some other ≡ true → HasOther (record { text = text; agreed = agreed; other = other; faults = faults })
 other_there text agreed faults None was some = absurd (cc)
 other_there text agreed faults (Some byte) was some = record { other = byte; is = refl; differs = was.other; within = was.within }
 
 -- a byte was put that does not agree
-pub has-other : (text : List ℕ) (agreed faults : ℕ) (other : Option ℕ) (seen : Comparison) → record { text = text; agreed = agreed; other = other; faults = faults } ≡ seen
+pub has-other : (text : List ℕ) (agreed faults : ℕ) (other : Option ℕ) (seen : Comparison) →
+    record { text = text; agreed = agreed; other = other; faults = faults } ≡ seen
     → IsComparison (record { text = text; agreed = agreed; other = other; faults = faults }) → is_some other ≡ true → HasOther seen
 has-other text agreed faults other seen is was some = subst HasOther is (other_there text agreed faults other was some)
 

@@ -32,10 +32,12 @@ digit_no d = grind (arith, nat_tests)
 onto_no : (k n : ℕ) (text : List ℕ) → has_line text ≡ false → has_line (digits_onto k 10 false n text) ≡ false
 onto_no zero n text e = e
 onto_no (suc k) n text e =
-    let longer : has_line (digit_glyph false (n % 10) ∷ text) ≡ false = or_false (is_line_feed (digit_glyph false (n % 10))) (has_line text) (digit_no (n % 10)) e in
+    let longer : has_line (digit_glyph false (n % 10) ∷ text) ≡ false = or_false (is_line_feed (digit_glyph false (n % 10))) (has_line text)
+    (digit_no (n % 10)) e in
     by (n / 10 == 0) longer (onto_no k (n / 10) (digit_glyph false (n % 10) ∷ text) longer)
   where
-    by : (b : Bool) → has_line (digit_glyph false (n % 10) ∷ text) ≡ false → has_line (digits_onto k 10 false (n / 10) (digit_glyph false (n % 10) ∷ text)) ≡ false
+    by : (b : Bool) → has_line (digit_glyph false (n % 10) ∷ text) ≡ false → has_line (digits_onto k 10 false (n / 10) (digit_glyph false (n % 10) ∷ text))
+        ≡ false
         → has_line (if b then digit_glyph false (n % 10) ∷ text else digits_onto k 10 false (n / 10) (digit_glyph false (n % 10) ∷ text)) ≡ false
     by true ends goes = ends
     by false ends goes = goes
@@ -76,7 +78,8 @@ move_line_no (Execute i) = staged_no (codes "execute") i refl
 move_line_no (Send i) = staged_no (codes "send") i refl
 move_line_no (Launch i) = staged_no (codes "launch") i refl
 move_line_no (Slide k c) =
-    joined (codes "slide " ++ decimal k ++ codes " ") (decimal c) (joined (codes "slide " ++ decimal k) (codes " ") (joined (codes "slide ") (decimal k) refl (decimal_no k)) refl) (decimal_no c)
+    joined (codes "slide " ++ decimal k ++ codes " ") (decimal c) (joined (codes "slide " ++ decimal k) (codes " ")
+    (joined (codes "slide ") (decimal k) refl (decimal_no k)) refl) (decimal_no c)
 move_line_no Access = refl
 move_line_no (Recover i) = staged_no (codes "recover") i refl
 move_line_no Leave = refl
@@ -107,7 +110,8 @@ one_first (c ∷ a) (d ∷ b) x y e f same =
 -- the line of a move by its parts
 front_of : (n : ℕ) (mv : Move) (after : List ℕ) → numbered_move n mv ++ after ≡ move_front n ++ (move_line mv ++ 10 ∷ after)
 unfolding numbered_move
-front_of n mv after = append_assoc (move_front n) (move_line mv ++ 10 ∷ []) after ∙ ap (λ (t : List ℕ). move_front n ++ t) (append_assoc (move_line mv) (10 ∷ []) after)
+front_of n mv after = append_assoc (move_front n) (move_line mv ++ 10 ∷ []) after ∙ ap (λ (t : List ℕ). move_front n ++ t)
+    (append_assoc (move_line mv) (10 ∷ []) after)
 
 -- what comes after the number of a move's line
 line_after : (text rest : List ℕ) (n : ℕ) (mv : Move) → text ≡ move_front n ++ rest → (b : BeginsWithMove text n mv) → rest ≡ move_line mv ++ 10 ∷ b.after
@@ -117,16 +121,19 @@ line_after text rest n mv is b = append_cancel_left (move_front n) rest (move_li
 pub no_front : (text : List ℕ) (n : ℕ) → ((rest : List ℕ) → text ≡ move_front n ++ rest → ⊥) → (mv : Move) → BeginsWithMove text n mv → ⊥
 no_front text n none mv b = none (move_line mv ++ 10 ∷ b.after) (b.is ∙ front_of n mv b.after)
 
-pub no_line : (text rest : List ℕ) (n : ℕ) → text ≡ move_front n ++ rest → ((line : List ℕ) → IsFirstLine rest line → ⊥) → (mv : Move) → BeginsWithMove text n mv → ⊥
+pub no_line : (text rest : List ℕ) (n : ℕ) → text ≡ move_front n ++ rest → ((line : List ℕ) → IsFirstLine rest line → ⊥) → (mv : Move) →
+    BeginsWithMove text n mv → ⊥
 no_line text rest n is none mv b = none (move_line mv) (record { whole = move_line_no mv; after = b.after; is = line_after text rest n mv is b })
 
-pub no_move : (text rest line : List ℕ) (n : ℕ) → text ≡ move_front n ++ rest → IsFirstLine rest line → ((mv : Move) → IsMoveLine line mv → ⊥) → (mv : Move) → BeginsWithMove text n mv → ⊥
+pub no_move : (text rest line : List ℕ) (n : ℕ) → text ≡ move_front n ++ rest → IsFirstLine rest line → ((mv : Move) → IsMoveLine line mv → ⊥) → (mv : Move) →
+    BeginsWithMove text n mv → ⊥
 no_move text rest line n is first none mv b =
     let same = one_first line (move_line mv) first.after b.after first.whole (move_line_no mv) (sym first.is ∙ line_after text rest n mv is b) in
     none mv (record { written = same.0; told = b.told })
 
 -- a move's line does where the line there names it
-pub one_move : (text rest line : List ℕ) (n : ℕ) (mv : Move) → text ≡ move_front n ++ rest → IsFirstLine rest line → IsMoveLine line mv → BeginsWithMove text n mv
+pub one_move : (text rest line : List ℕ) (n : ℕ) (mv : Move) → text ≡ move_front n ++ rest → IsFirstLine rest line → IsMoveLine line mv →
+    BeginsWithMove text n mv
 one_move text rest line n mv is first tells = record {
   told = tells.told;
   after = first.after;
@@ -153,12 +160,18 @@ first_at [] h = absurd (omega arith)
 first_at (x ∷ text) h = by (is_line_feed x) refl (λ low. first_at text low) h
   where
     by : (b : Bool) → is_line_feed x ≡ b → (position_or_len is_line_feed text < length text → IsFirstLine text (take (position_or_len is_line_feed text) text))
-        → cond (not b) (1 + position_or_len is_line_feed text) 0 < suc (length text) → IsFirstLine (x ∷ text) (take (cond (not b) (1 + position_or_len is_line_feed text) 0) (x ∷ text))
+        → cond (not b) (1 + position_or_len is_line_feed text) 0 < suc (length text) → IsFirstLine (x ∷ text)
+        (take (cond (not b) (1 + position_or_len is_line_feed text) 0) (x ∷ text))
     by true e rest low = record { whole = refl; after = text; is = ap (λ (byte : ℕ). byte ∷ text) (feed_here x e) }
     by false e rest low =
         let one : 1 + position_or_len is_line_feed text ≡ suc (position_or_len is_line_feed text) = omega arith in
         let h : IsFirstLine text (take (position_or_len is_line_feed text) text) = rest (omega arith) in
-        rw one (record { whole = or_false (is_line_feed x) (has_line (take (position_or_len is_line_feed text) text)) e h.whole; after = h.after; is = ap (λ (l : List ℕ). x ∷ l) h.is })
+        rw one (record {
+          whole = or_false (is_line_feed x) (has_line (take (position_or_len is_line_feed text) text)) e h.whole;
+          after = h.after;
+          is =
+              ap (λ (l : List ℕ). x ∷ l) h.is;
+        })
 
 no_first : (text line : List ℕ) → length text ≤ position_or_len is_line_feed text → IsFirstLine text line → ⊥
 no_first [] line h f = absurd (let size : 0 ≡ length (line ++ 10 ∷ f.after) = ap length f.is in omega (arith, size, length-append line (10 ∷ f.after)))
@@ -167,7 +180,8 @@ no_first (x ∷ text) line h f = by (is_line_feed x) refl (λ rest high. no_firs
     by : (b : Bool) → is_line_feed x ≡ b → ((rest : List ℕ) → length text ≤ position_or_len is_line_feed text → IsFirstLine text rest → ⊥)
         → suc (length text) ≤ cond (not b) (1 + position_or_len is_line_feed text) 0 → (line : List ℕ) → IsFirstLine (x ∷ text) line → ⊥
     by true e go high line f = absurd (omega arith)
-    by false e go high [] f = let same : x ≡ 10 = first_byte x text f.after f.is in absurd (let here : is_line_feed 10 ≡ false = ap is_line_feed (sym same) ∙ e in cc)
+    by false e go high [] f = let same : x ≡ 10 = first_byte x text f.after f.is in absurd (let here : is_line_feed 10 ≡ false = ap is_line_feed (sym same)
+        ∙ e in cc)
       where
         first_byte : (x : ℕ) (text after : List ℕ) → x ∷ text ≡ 10 ∷ after → x ≡ 10
         first_byte x text after e = cc
@@ -185,7 +199,8 @@ pub first_not : (text : List ℕ) (end : ℕ) → end ≡ position_or_len is_lin
 first_not text end is high line f = no_first text line (rw is at high) f
 
 -- a move's line stands first exactly where the line there names the move
-pub told_first : (text rest line : List ℕ) (n : ℕ) (told : Option Move) → text ≡ move_front n ++ rest → IsFirstLine rest line → MatchOption told ((mv : Move) → IsMoveLine line mv → ⊥) (λ mv. IsMoveLine line mv)
+pub told_first : (text rest line : List ℕ) (n : ℕ) (told : Option Move) → text ≡ move_front n ++ rest → IsFirstLine rest line →
+    MatchOption told ((mv : Move) → IsMoveLine line mv → ⊥) (λ mv. IsMoveLine line mv)
     → MatchOption told ((mv : Move) → BeginsWithMove text n mv → ⊥) (λ mv. BeginsWithMove text n mv)
 told_first text rest line n None is first none = no_move text rest line n is first none
 told_first text rest line n (Some mv) is first tells = one_move text rest line n mv is first tells

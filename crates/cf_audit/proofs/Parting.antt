@@ -25,7 +25,8 @@ front_of (x ∷ text) (g ∷ group) (suc place) (suc k) other within e =
     record { same = rw first (ap (λ (l : List ℕ). g ∷ l) h.same); next = h.next }
 
 -- a text agrees up to one place, and with a front of a group after it up to another, where the group has another byte
-pub parted : (text group : List ℕ) (from to k other : ℕ) → from ≤ length text → to ≤ length text → IsOther text to other → take to text ++ other ∷ [] ≡ take from text ++ take k group
+pub parted : (text group : List ℕ) (from to k other : ℕ) → from ≤ length text → to ≤ length text → IsOther text to other →
+    take to text ++ other ∷ [] ≡ take from text ++ take k group
     → (from ≤ to) × IsFrontOf (drop from text) group (to - from) other
 parted text group zero to k other within low differs e =
     let same : to - zero ≡ to = omega arith in

@@ -27,17 +27,21 @@ opened_regs : (plan : Plan) (hart : Hart) → (opened plan hart).state.regs ≡ 
 unfolding opened opened_on
 opened_regs plan hart = refl
 
-retires_as : (core : Processor) (hart : Hart) (rest text : List ℕ) (n : ℕ) (last : Moment) → IsAccepted core.plan → length core.state.regs ≡ 32 → core ≡ opened core.plan hart → IsTrace core (Some rest) text n last → RetiresAs core hart rest text n
+retires_as : (core : Processor) (hart : Hart) (rest text : List ℕ) (n : ℕ) (last : Moment) → IsAccepted core.plan → length core.state.regs ≡ 32 →
+    core ≡ opened core.plan hart → IsTrace core (Some rest) text n last → RetiresAs core hart rest text n
 retires_as core hart rest text n last accepted wide opens t =
     let plan : Plan = core.plan in
     let x : Machine = machine_on hart rest in
     let same : moment_of core t.rest ≡ start_on plan x = begins core hart rest t.rest opens t.is_told in
-    let leads : Leads plan most_retired (Some rest) (start_on plan x) t.trace last = subst (λ (m : Moment). Leads plan most_retired (Some rest) m t.trace last) same t.leads in
+    let leads : Leads plan most_retired (Some rest) (start_on plan x) t.trace last = subst
+    (λ (m : Moment). Leads plan most_retired (Some rest) m t.trace last) same t.leads in
     let runs = leads-run plan most_retired rest (start_on plan x) t.trace last leads in
     let regs : core.state.regs ≡ hart.regs = ap (λ (p : Processor). p.state.regs) opens ∙ opened_regs plan hart in
     let size : length x.hart.regs ≡ 32 = subst (λ (r : List ℕ). length r ≡ 32) regs wide in
-    let refines : Refines plan x (lines plan (start_on plan x) (moves_of t.trace)) (moment_after plan x (moves_of t.trace)) = run_refines plan x (moves_of t.trace) accepted size runs.0 in
-    let texts = subst (λ (k : ℕ). AreTexts (k + 1) (lines plan (start_on plan x) (moves_of t.trace)) (all_shown show.Retired plan 1 t.trace)) (opened_retired plan x)
+    let refines : Refines plan x (lines plan (start_on plan x) (moves_of t.trace)) (moment_after plan x (moves_of t.trace)) =
+    run_refines plan x (moves_of t.trace) accepted size runs.0 in
+    let texts = subst (λ (k : ℕ). AreTexts (k + 1) (lines plan (start_on plan x) (moves_of t.trace)) (all_shown show.Retired plan 1 t.trace))
+    (opened_retired plan x)
     (shown-lines plan most_retired rest (start_on plan x) 1 t.trace last leads) in
     record {
       last = last;
@@ -46,9 +50,11 @@ retires_as core hart rest text n last accepted wide opens t =
       lines = subst (λ (l : List Line). AreTexts (x.hart.retired + 1) l (all_shown show.Retired plan 1 t.trace)) refines.lines texts;
     }
 
-pub retires-sequentially : (core new : Processor) (told now : Option (List ℕ)) (text : List ℕ) (answer : Audit) → IsAccepted core.plan → length core.state.regs ≡ 32 → Audits core new told now text answer → RetiresSequentially core told text answer
+pub retires-sequentially : (core new : Processor) (told now : Option (List ℕ)) (text : List ℕ) (answer : Audit) → IsAccepted core.plan →
+    length core.state.regs ≡ 32 → Audits core new told now text answer → RetiresSequentially core told text answer
 unfolding Audits RetiresSequentially
 retires-sequentially core new None now text answer accepted wide h = tt
-retires-sequentially core new (Some rest) now text (Agrees n) accepted wide (last, trace, stands) = λ hart opens. retires_as core hart rest text n last accepted wide opens trace
+retires-sequentially core new (Some rest) now text (Agrees n) accepted wide (last, trace, stands) =
+    λ hart opens. retires_as core hart rest text n last accepted wide opens trace
 retires-sequentially core new (Some rest) now text (Wrong line kind) accepted wide h = tt
 retires-sequentially core new (Some rest) now text ReadFault accepted wide h = tt

@@ -24,13 +24,27 @@ puts_front None b text front = (0, omega arith, tt)
 puts_front (Some told) b text (n, short, k) = (n, omega (arith, short), k)
 
 parts_shown : (mv : Move) (now new : AuditRun) (e : Event) → MakesAndShows show.Moves mv e now.place new.place → HasOther new.seen → ShownDiffers mv now new
-parts_shown mv now new e d other = record { event = e; makes = d.makes; report = puts_all now.place.report new.place.report (shown_of show.Moves mv e now.place new.place) d.report; differs = other }
+parts_shown mv now new e d other =
+    record {
+      event = e;
+      makes = d.makes;
+      report = puts_all now.place.report new.place.report (shown_of show.Moves mv e now.place new.place) d.report;
+      differs =
+          other;
+    }
 
 parts_unshown : (mv : Move) (now new : AuditRun) (e : Event) → MakesUnshown show.Moves mv e now.place new.place → HasOther new.seen → ShownDiffers mv now new
-parts_unshown mv now new e d other = record { event = e; makes = d.makes; report = puts_front now.place.report new.place.report (shown_of show.Moves mv e now.place new.place) d.report; differs = other }
+parts_unshown mv now new e d other =
+    record {
+      event = e;
+      makes = d.makes;
+      report = puts_front now.place.report new.place.report (shown_of show.Moves mv e now.place new.place) d.report;
+      differs = other;
+    }
 
 -- the move was made and shown
-pub tried-shown : (text : List ℕ) (mv : Move) (now new : AuditRun) (e : Event) (answer : Option Audit) → MoveDoes show.Moves mv now.place new.place (Ok e) → ComparisonAnswers text new.seen answer → AuditTries text mv now new answer
+pub tried-shown : (text : List ℕ) (mv : Move) (now new : AuditRun) (e : Event) (answer : Option Audit) → MoveDoes show.Moves mv now.place new.place (Ok e) →
+    ComparisonAnswers text new.seen answer → AuditTries text mv now new answer
 unfolding MoveDoes ComparisonAnswers AuditTries
 tried-shown text mv now new e None d h = record { event = e; makes = d; same = h }
 tried-shown text mv now new e (Some (Agrees n)) d h = absurd h
@@ -41,7 +55,9 @@ tried-shown text mv now new e (Some (Wrong line Cut)) d h = (parts_shown mv now 
 tried-shown text mv now new e (Some ReadFault) d h = absurd h
 
 -- the move was made, and the comparison failed
-pub tried-unshown : (text : List ℕ) (mv : Move) (now new : AuditRun) (before : ℕ) (answer : Option Audit) → MoveDoes show.Moves mv now.place new.place (Err ran.ReportFault) → raised before ≤ new.seen.faults → ComparisonAnswers text new.seen answer → AuditTries text mv now new answer
+pub tried-unshown : (text : List ℕ) (mv : Move) (now new : AuditRun) (before : ℕ) (answer : Option Audit) →
+    MoveDoes show.Moves mv now.place new.place (Err ran.ReportFault) → raised before ≤ new.seen.faults → ComparisonAnswers text new.seen answer →
+    AuditTries text mv now new answer
 unfolding MoveDoes ComparisonAnswers AuditTries
 tried-unshown text mv now new before None d rose h = absurd (omega (arith, rose, h.works))
 tried-unshown text mv now new before (Some (Agrees n)) d rose h = absurd h
@@ -52,7 +68,8 @@ tried-unshown text mv now new before (Some (Wrong line Cut)) d rose h = (parts_u
 tried-unshown text mv now new before (Some ReadFault) d rose h = absurd h
 
 -- the input did not fail then
-pub tried-still : (text : List ℕ) (seen : Comparison) (before now : ℕ) (answer : Option Audit) → ComparisonAnswers text seen answer → now ≡ before → HasCause before now (input_tested answer)
+pub tried-still : (text : List ℕ) (seen : Comparison) (before now : ℕ) (answer : Option Audit) → ComparisonAnswers text seen answer → now ≡ before →
+    HasCause before now (input_tested answer)
 unfolding ComparisonAnswers
 tried-still text seen before now None h still = record { never_falls = omega (arith, still); rose = tt; still = still }
 tried-still text seen before now (Some (Agrees n)) h still = absurd h

@@ -42,11 +42,13 @@ record LastMade (plan : Plan) (limit : ℕ) (told : Option (List ℕ)) (m : Mome
   is : IsMade plan limit (record at { rest = rest }) made
   last_is : last ≡ next_moment plan (record at { rest = rest }) made.move
 
-last_made : (plan : Plan) (limit : ℕ) (told : Option (List ℕ)) (m : Moment) (trace : List Made) (made : Made) (last : Moment) → Leads plan limit told m (trace ++ made ∷ []) last → LastMade plan limit told m trace made last
+last_made : (plan : Plan) (limit : ℕ) (told : Option (List ℕ)) (m : Moment) (trace : List Made) (made : Made) (last : Moment) →
+    Leads plan limit told m (trace ++ made ∷ []) last → LastMade plan limit told m trace made last
 unfolding Leads
 last_made plan limit told m [] made last (rest, finds, is, h) = record { at = m; leads = refl; rest = rest; finds = finds; is = is; last_is = h }
 last_made plan limit told m (first ∷ trace) made last (rest, finds, is, h) =
-    let l : LastMade plan limit told (next_moment plan (record m { rest = rest }) first.move) trace made last = last_made plan limit told (next_moment plan (record m { rest = rest }) first.move) trace made last h in
+    let l : LastMade plan limit told (next_moment plan (record m { rest = rest }) first.move) trace made last =
+    last_made plan limit told (next_moment plan (record m { rest = rest }) first.move) trace made last h in
     record { at = l.at; leads = (rest, finds, is, l.leads); rest = l.rest; finds = l.finds; is = l.is; last_is = l.last_is }
 
 -- where the group of the next move and the text part
@@ -60,7 +62,8 @@ record PartsThere (text : List ℕ) (start : RunPlace) (now new : AuditRun) (rea
   text_is : new.seen.text ≡ text
   within : new.seen.agreed ≤ length text
 
-parts_there : (text : List ℕ) (start : RunPlace) (now new : AuditRun) (mv : Move) → length text ≤ most_trace → new.place.report ≡ Some (told_by new.seen) → (h : Comes text start now) → NextIs now mv → ShownDiffers mv now new → PartsThere text start now new h.reached
+parts_there : (text : List ℕ) (start : RunPlace) (now new : AuditRun) (mv : Move) → length text ≤ most_trace → new.place.report ≡ Some (told_by new.seen) →
+    (h : Comes text start now) → NextIs now mv → ShownDiffers mv now new → PartsThere text start now new h.reached
 parts_there text start now new mv small tells h next p =
     let group : List ℕ = shown_of show.Moves mv p.event now.place new.place in
     let full : RunPlace = record new.place { report = filled now.place.report group } in
@@ -80,9 +83,11 @@ parts_there text start now new mv small tells h next p =
     let told : told_by new.seen ≡ told_by now.seen ++ take front.0 group = same_Some _ _ (sym tells ∙ front.2) in
     let both = put-after now.seen new.seen (take front.0 group) h.none told in
     let put : take new.seen.agreed now.seen.text ++ p.differs.other ∷ [] ≡ take now.seen.agreed now.seen.text ++ take front.0 group =
-    ap (λ (t : List ℕ). take new.seen.agreed t ++ p.differs.other ∷ []) (sym both.0) ∙ ap (λ (o : Option ℕ). take new.seen.agreed new.seen.text ++ alone o) (sym p.differs.is) ∙ both.1 in
+    ap (λ (t : List ℕ). take new.seen.agreed t ++ p.differs.other ∷ []) (sym both.0) ∙ ap (λ (o : Option ℕ). take new.seen.agreed new.seen.text ++ alone o)
+    (sym p.differs.is) ∙ both.1 in
     let high : new.seen.agreed ≤ length now.seen.text = subst (λ (t : List ℕ). new.seen.agreed ≤ length t) both.0 p.differs.within in
-    let other : slice_get now.seen.text new.seen.agreed ≡ Some p.differs.other → ⊥ = λ e. p.differs.differs (ap (λ (t : List ℕ). slice_get t new.seen.agreed) both.0 ∙ e) in
+    let other : slice_get now.seen.text new.seen.agreed ≡ Some p.differs.other → ⊥ = λ e. p.differs.differs
+    (ap (λ (t : List ℕ). slice_get t new.seen.agreed) both.0 ∙ e) in
     let apart = parted now.seen.text group now.seen.agreed new.seen.agreed front.0 p.differs.other h.within high other put in
     let plan : now.place.core.plan ≡ start.core.plan = ap (λ (c : Processor). c.plan) h.reached.core in
     let number : new.place.tally.moves ≡ now.place.tally.moves + 1 = ap (λ (t : Tally). t.moves) p.makes.tally in
@@ -116,13 +121,17 @@ parts_there text start now new mv small tells h next p =
     }
 
 -- the processor and the input stand where the run leads, and no more moves were made
-still_there : (text : List ℕ) (start : RunPlace) (now new : AuditRun) (h : Comes text start now) → new ≡ now → ReachesMoment start.core new.place.core start.streams.input new.place.streams.input h.reached.last
+still_there : (text : List ℕ) (start : RunPlace) (now new : AuditRun) (h : Comes text start now) → new ≡ now →
+    ReachesMoment start.core new.place.core start.streams.input new.place.streams.input h.reached.last
 still_there text start now new h same =
-    subst (λ (s : AuditRun). ReachesMoment start.core s.place.core start.streams.input s.place.streams.input h.reached.last) (sym same) (stands-here text start now h)
+    subst (λ (s : AuditRun). ReachesMoment start.core s.place.core start.streams.input s.place.streams.input h.reached.last) (sym same)
+    (stands-here text start now h)
 
 -- the trace goes wrong at a place after the groups so far
-wrong_at : (text : List ℕ) (start : RunPlace) (now : AuditRun) (h : Comes text start now) (last stop : Moment) (line place : ℕ) (kind : TraceKind) → Leads start.core.plan most_retired start.streams.input (moment_of start.core h.reached.rest) h.reached.trace last → 0 < length (left_of now.seen)
-    → TraceFails start.core.plan start.streams.input last (now.place.tally.moves + 1) (left_of now.seen) place kind stop → line ≡ line_of text (now.seen.agreed + place) → GoesWrong start.core start.streams.input text line kind stop
+wrong_at : (text : List ℕ) (start : RunPlace) (now : AuditRun) (h : Comes text start now) (last stop : Moment) (line place : ℕ) (kind : TraceKind) →
+    Leads start.core.plan most_retired start.streams.input (moment_of start.core h.reached.rest) h.reached.trace last → 0 < length (left_of now.seen)
+    → TraceFails start.core.plan start.streams.input last (now.place.tally.moves + 1) (left_of now.seen) place kind stop →
+    line ≡ line_of text (now.seen.agreed + place) → GoesWrong start.core start.streams.input text line kind stop
 wrong_at text start now h last stop line place kind leads some fails line_is = record {
   front = take now.seen.agreed text;
   left = left_of now.seen;
@@ -136,7 +145,8 @@ wrong_at text start now h last stop line place kind leads some fails line_is = r
 
 -- at the first line of the next group, where no more moves are made
 wrong_first : (text : List ℕ) (start : RunPlace) (now new : AuditRun) (h : Comes text start now) (line : ℕ) (kind : TraceKind) → 0 < length (left_of now.seen)
-    → TraceFails start.core.plan start.streams.input h.reached.last (now.place.tally.moves + 1) (left_of now.seen) 0 kind h.reached.last → line ≡ line_of text now.seen.agreed → new ≡ now
+    → TraceFails start.core.plan start.streams.input h.reached.last (now.place.tally.moves + 1) (left_of now.seen) 0 kind h.reached.last →
+    line ≡ line_of text now.seen.agreed → new ≡ now
     → Audits start.core new.place.core start.streams.input new.place.streams.input text (Wrong line kind)
 unfolding Audits
 wrong_first text start now new h line kind some fails line_is same =
@@ -162,11 +172,13 @@ left_length text start now h =
     omega (arith, size, h.within, length-drop now.seen.agreed now.seen.text)
 
 -- all of the trace agrees
-agrees_all : (text : List ℕ) (start : RunPlace) (now new : AuditRun) (n : ℕ) → Comes text start now → length (left_of now.seen) ≡ 0 → n ≡ now.place.tally.moves → new ≡ now → Audits start.core new.place.core start.streams.input new.place.streams.input text (Agrees n)
+agrees_all : (text : List ℕ) (start : RunPlace) (now new : AuditRun) (n : ℕ) → Comes text start now → length (left_of now.seen) ≡ 0 →
+    n ≡ now.place.tally.moves → new ≡ now → Audits start.core new.place.core start.streams.input new.place.streams.input text (Agrees n)
 unfolding Audits
 agrees_all text start now new n h none count same =
     let all : take now.seen.agreed text ≡ text = take_all now.seen.agreed text (omega (arith, none, left_length text start now h)) in
-    let trace : IsTrace start.core start.streams.input (take now.seen.agreed text) now.place.tally.moves h.reached.last = trace-so-far text start now h h.reached.last h.reached.leads in (
+    let trace : IsTrace start.core start.streams.input (take now.seen.agreed text) now.place.tally.moves h.reached.last =
+    trace-so-far text start now h h.reached.last h.reached.leads in (
       h.reached.last,
       subst (λ (m : ℕ). IsTrace start.core start.streams.input text m h.reached.last) (sym count)
           (subst (λ (t : List ℕ). IsTrace start.core start.streams.input t now.place.tally.moves h.reached.last) all trace),
@@ -174,7 +186,8 @@ agrees_all text start now new n h none count same =
     )
 
 -- the place where the group of a move and the text part, among all bytes
-parted_place : (text : List ℕ) (start : RunPlace) (now new : AuditRun) (h : Comes text start now) (line : ℕ) → PartsThere text start now new h.reached → line ≡ line_of text new.seen.agreed → line ≡ line_of text (now.seen.agreed + (new.seen.agreed - now.seen.agreed))
+parted_place : (text : List ℕ) (start : RunPlace) (now new : AuditRun) (h : Comes text start now) (line : ℕ) → PartsThere text start now new h.reached →
+    line ≡ line_of text new.seen.agreed → line ≡ line_of text (now.seen.agreed + (new.seen.agreed - now.seen.agreed))
 parted_place text start now new h line p line_is =
     let place : new.seen.agreed ≡ now.seen.agreed + (new.seen.agreed - now.seen.agreed) = omega (arith, p.low) in
     line_is ∙ ap (line_of text) place
@@ -185,7 +198,8 @@ IsQuiet now new =
     (now.place.streams ≡ streams_of now.place.streams.input None) × (new.place.streams ≡ streams_of new.place.streams.input None)
 
 -- the call that failed was made where the run leads
-fails_there : (text : List ℕ) (start : RunPlace) (now new : AuditRun) (h : Comes text start now) → IsQuiet now new → FailsToRead now.place.core new.place.core now.place.streams new.place.streams
+fails_there : (text : List ℕ) (start : RunPlace) (now new : AuditRun) (h : Comes text start now) → IsQuiet now new →
+    FailsToRead now.place.core new.place.core now.place.streams new.place.streams
     → FailsToRead (in_state start.core h.reached.last.state) new.place.core (streams_of now.place.streams.input None) (streams_of new.place.streams.input None)
 fails_there text start now new h quiet fails =
     let there : FailsToRead (in_state start.core h.reached.last.state) new.place.core now.place.streams new.place.streams =
@@ -194,7 +208,8 @@ fails_there text start now new h quiet fails =
     (subst (λ (s : Streams). FailsToRead (in_state start.core h.reached.last.state) new.place.core s new.place.streams) quiet.0 there)
 
 -- what the move of the next line leads to, where the audit ends with it
-tried : (text : List ℕ) (start : RunPlace) (now new : AuditRun) (mv : Move) (answer : Audit) → length text ≤ most_trace → new.place.report ≡ Some (told_by new.seen) → IsQuiet now new → Comes text start now → NextIs now mv → AuditTries text mv now new (Some answer)
+tried : (text : List ℕ) (start : RunPlace) (now new : AuditRun) (mv : Move) (answer : Audit) → length text ≤ most_trace →
+    new.place.report ≡ Some (told_by new.seen) → IsQuiet now new → Comes text start now → NextIs now mv → AuditTries text mv now new (Some answer)
     → Audits start.core new.place.core start.streams.input new.place.streams.input text answer
 unfolding Audits AuditTries TraceFails MoveDoes
 tried text start now new mv (Agrees n) small tells quiet h next t = absurd t
@@ -206,7 +221,8 @@ tried text start now new mv (Wrong line Differs) small tells quiet h next t =
     let p = parts_there text start now new mv small tells h next t.0 in
     let size : length new.seen.text ≡ length text = ap length p.text_is in (
       p.stop,
-      wrong_at text start now h p.last p.stop line (new.seen.agreed - now.seen.agreed) Differs p.leads (begins_some (left_of now.seen) (now.place.tally.moves + 1) mv next)
+      wrong_at text start now h p.last p.stop line (new.seen.agreed - now.seen.agreed) Differs p.leads
+          (begins_some (left_of now.seen) (now.place.tally.moves + 1) mv next)
           (p.parts, omega (arith, size, t.1, p.low, left_length text start now h)) (parted_place text start now new h line p t.2),
       p.stands,
     )
@@ -214,7 +230,8 @@ tried text start now new mv (Wrong line Cut) small tells quiet h next t =
     let p = parts_there text start now new mv small tells h next t.0 in
     let size : length new.seen.text ≡ length text = ap length p.text_is in (
       p.stop,
-      wrong_at text start now h p.last p.stop line (new.seen.agreed - now.seen.agreed) Cut p.leads (begins_some (left_of now.seen) (now.place.tally.moves + 1) mv next)
+      wrong_at text start now h p.last p.stop line (new.seen.agreed - now.seen.agreed) Cut p.leads
+          (begins_some (left_of now.seen) (now.place.tally.moves + 1) mv next)
           (inr (p.parts, omega (arith, size, t.1, p.low, left_length text start now h))) (parted_place text start now new h line p t.2),
       p.stands,
     )
@@ -227,23 +244,32 @@ tried text start now new mv ReadFault small tells quiet h next t =
       last = h.reached.last;
       agrees = agrees-so-far text start now h h.reached.last h.reached.leads (begins_some (left_of now.seen) (now.place.tally.moves + 1) mv next);
       begins = subst (λ (m : Move). BeginsWithMove (left_of now.seen) (now.place.tally.moves + 1) m) serves next;
-      allowed = subst (λ (c : Processor). bar c.plan c.state Serve ≡ None) h.reached.core (subst (λ (m : Move). bar now.place.core.plan now.place.core.state m ≡ None) serves t.0.allowed);
+      allowed = subst (λ (c : Processor). bar c.plan c.state Serve ≡ None) h.reached.core (subst (λ (m : Move). bar now.place.core.plan now.place.core.state m
+          ≡ None) serves t.0.allowed);
       asked = now.place.streams.input;
       input = h.reached.streams.input;
       fails = fails_there text start now new h quiet t.1;
     }
 
 -- the first line of what is left names no move
-pub tests-none : (text left : List ℕ) (now new : AuditRun) (place : ℕ) (answer : Audit) → answer ≡ Wrong (line_of text place) NotAMove → place ≡ now.seen.agreed → left ≡ left_of now.seen → has_line left ≡ true → ((mv : Move) → BeginsWithMove left (now.place.tally.moves + 1) mv → ⊥)
+pub tests-none : (text left : List ℕ) (now new : AuditRun) (place : ℕ) (answer : Audit) → answer ≡ Wrong (line_of text place) NotAMove →
+    place ≡ now.seen.agreed → left ≡ left_of now.seen → has_line left ≡ true → ((mv : Move) → BeginsWithMove left (now.place.tally.moves + 1) mv → ⊥)
     → new ≡ now → Tests text now new (Some answer)
 unfolding Tests
 tests-none text left now new place answer is at after has none same =
-    rw is (ap has_line (sym after) ∙ has, λ mv begins. none mv (subst (λ (t : List ℕ). BeginsWithMove t (now.place.tally.moves + 1) mv) (sym after) begins), ap (line_of text) at, same)
+    rw is (
+      ap has_line (sym after) ∙ has,
+      λ mv begins. none mv (subst (λ (t : List ℕ). BeginsWithMove t (now.place.tally.moves + 1) mv) (sym after) begins),
+      ap (line_of text) at,
+      same,
+    )
 
 -- it names a move, which is tried
-pub tests-tried : (text left : List ℕ) (now new : AuditRun) (mv : Move) (answer : Option Audit) → left ≡ left_of now.seen → BeginsWithMove left (now.place.tally.moves + 1) mv → AuditTries text mv now new answer → Tests text now new answer
+pub tests-tried : (text left : List ℕ) (now new : AuditRun) (mv : Move) (answer : Option Audit) → left ≡ left_of now.seen →
+    BeginsWithMove left (now.place.tally.moves + 1) mv → AuditTries text mv now new answer → Tests text now new answer
 unfolding Tests AuditTries
-tests-tried text left now new mv answer after begins tries = of answer (subst (λ (t : List ℕ). BeginsWithMove t (now.place.tally.moves + 1) mv) after begins) tries
+tests-tried text left now new mv answer after begins tries = of answer (subst (λ (t : List ℕ). BeginsWithMove t (now.place.tally.moves + 1) mv) after begins)
+    tries
   where
     of : (answer : Option Audit) → NextIs now mv → AuditTries text mv now new answer → Tests text now new answer
     of None next t = (mv, next, t)
@@ -255,13 +281,15 @@ tests-tried text left now new mv answer after begins tries = of answer (subst (�
     of (Some ReadFault) next t = (mv, next, t)
 
 -- how the audit ends with a turn
-pub audited : (text : List ℕ) (start : RunPlace) (now new : AuditRun) (answer : Audit) → length text ≤ most_trace → new.place.report ≡ Some (told_by new.seen) → IsQuiet now new → Comes text start now → Tests text now new (Some answer)
+pub audited : (text : List ℕ) (start : RunPlace) (now new : AuditRun) (answer : Audit) → length text ≤ most_trace → new.place.report ≡ Some (told_by new.seen) →
+    IsQuiet now new → Comes text start now → Tests text now new (Some answer)
     → Audits start.core new.place.core start.streams.input new.place.streams.input text answer
 unfolding Tests Audits TraceFails
 audited text start now new (Agrees n) small tells quiet h t = agrees_all text start now new n h t.0 t.1 t.2
 audited text start now new (Wrong line NotAMove) small tells quiet h t =
     wrong_first text start now new h line NotAMove (line_some (left_of now.seen) t.0) (t.0, t.1, refl, refl) t.2 t.3
-audited text start now new (Wrong line (Barred b)) small tells quiet h (mv, next, t) = tried text start now new mv (Wrong line (Barred b)) small tells quiet h next t
+audited text start now new (Wrong line (Barred b)) small tells quiet h (mv, next, t) = tried text start now new mv
+    (Wrong line (Barred b)) small tells quiet h next t
 audited text start now new (Wrong line Differs) small tells quiet h (mv, next, t) = tried text start now new mv (Wrong line Differs) small tells quiet h next t
 audited text start now new (Wrong line Cut) small tells quiet h (inl t) = wrong_first text start now new h line Cut t.0 (inl (t.1, refl, refl)) t.2 t.3
 audited text start now new (Wrong line Cut) small tells quiet h (inr (mv, next, t)) = tried text start now new mv (Wrong line Cut) small tells quiet h next t

@@ -12,7 +12,8 @@ use Rattle.cf_audit.specs.declared.answer.Audit.{Audit}
 use Rattle.cf_audit.specs.declared.answer.Audit.TheVariants.{Agrees, Wrong, ReadFault}
 use Rattle.cf_audit.specs.Traces.{IsTrace, ReachesMoment, GoesWrong, StopsAtCall}
 
--- the trace is that of a run of this many moves, at whose end the processor and the input stand; or it goes wrong in this line, for this reason, and they stand where the moves that were made lead; or the input failed a call
+-- the trace is that of a run of this many moves, at whose end the processor and the input stand; or it goes wrong in
+-- this line, for this reason, and they stand where the moves that were made lead; or the input failed a call
 unfoldable pub Audits : (core new : Processor) → (told now : Option (List ℕ)) → List ℕ → Audit → Type 0
 Audits core new told now text (Agrees n) =
     (last : Moment) × IsTrace core told text n last × ReachesMoment core new told now last
@@ -32,7 +33,9 @@ AgreesWithAll core None text answer = Unit {0}
 AgreesWithAll core (Some rest) text answer =
     (n : ℕ) (last : Moment) → IsTrace core (Some rest) text n last → IsAgreement n answer
 
--- The retirement lines of the run whose trace the text is are those of the sequential machine that starts on this hart with this input: for some number of its first instructions a line each, in their order, numbered by the machine's count.
+-- The retirement lines of the run whose trace the text is are those of the sequential machine that starts on this hart
+-- with this input: for some number of its first instructions a line each, in their order, numbered by the machine's
+-- count.
 pub record RetiresAs (core : Processor) (hart : Hart) (rest text : List ℕ) (n : ℕ) : Type 0 where
   pub last : Moment
   pub is : IsTrace core (Some rest) text n last

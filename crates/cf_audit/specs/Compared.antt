@@ -48,6 +48,7 @@ alone (Some byte) = byte ∷ []
 abbrev pub put_of : Comparison → List ℕ
 put_of c = take c.agreed c.text ++ alone c.other
 
--- what the sink tells: the text, in bytes raised by one, so that the first 0 ends it; and after that 0 what was put. So whatever puts to it is known to leave its text as it is
+-- what the sink tells: the text, in bytes raised by one, so that the first 0 ends it; and after that 0 what was put. So
+-- whatever puts to it is known to leave its text as it is
 unfoldable pub told_by : Comparison → List ℕ
 told_by c = map suc c.text ++ 0 ∷ put_of c

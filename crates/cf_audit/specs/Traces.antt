@@ -33,7 +33,8 @@ abbrev pub AreReadBack : List Made → Type 0
 AreReadBack [] = Unit {0}
 AreReadBack (made ∷ trace) = IsReadBack made.move × AreReadBack trace
 
--- The text is the trace of a run of n moves from the processor, over what the input tells: for each move its line, the line of the instruction that retired with it, if one did, and the picture after it. The run leads to this moment.
+-- The text is the trace of a run of n moves from the processor, over what the input tells: for each move its line, the
+-- line of the instruction that retired with it, if one did, and the picture after it. The run leads to this moment.
 pub record IsTrace (core : Processor) (told : Option (List ℕ)) (text : List ℕ) (n : ℕ) (last : Moment) : Type 0 where
   pub trace : List Made
   pub rest : List ℕ
@@ -77,7 +78,8 @@ pub record IsGroup (plan : Plan) (told : Option (List ℕ)) (last : Moment) (n :
   pub move : made.move ≡ mv
   pub is : group ≡ shown show.Moves plan n made
 
--- what is left begins with the line of a move that can be made, which leads to the moment `stop`, and it is the move's group up to this place, at which the group has another byte or the text has ended
+-- what is left begins with the line of a move that can be made, which leads to the moment `stop`, and it is the move's
+-- group up to this place, at which the group has another byte or the text has ended
 pub record PartsAt (plan : Plan) (told : Option (List ℕ)) (last : Moment) (n : ℕ) (left : List ℕ) (place : ℕ) (stop : Moment) : Type 0 where
   pub move : Move
   pub begins : BeginsWithMove left n move
@@ -89,7 +91,10 @@ pub record PartsAt (plan : Plan) (told : Option (List ℕ)) (last : Moment) (n :
   pub goes_on : slice_get group place ≡ Some other
   pub differs : slice_get left place ≡ Some other → ⊥
 
--- why what is left, which is not empty, is not the trace of further moves from the moment, the next of which has this number; the place is that of the byte that shows it. The tests stand in the order in which they are made: no line feed is left; the first line is that of no move; the move is barred; what follows is not its group. Only for the last is a move made: all stops at the moment to which it leads, and else at this one
+-- why what is left, which is not empty, is not the trace of further moves from the moment, the next of which has this
+-- number; the place is that of the byte that shows it. The tests stand in the order in which they are made: no line
+-- feed is left; the first line is that of no move; the move is barred; what follows is not its group. Only for the last
+-- is a move made: all stops at the moment to which it leads, and else at this one
 unfoldable pub TraceFails : Plan → Option (List ℕ) → Moment → ℕ → List ℕ → ℕ → TraceKind → (stop : Moment) → Type 0
 TraceFails plan told last n left place Cut stop =
     ((has_line left ≡ false) × (place ≡ 0) × (stop ≡ last))

@@ -4,9 +4,9 @@ ghost use Rattle.std.specs.Prelude.{◌≡◌, ◌+◌, ◌<◌, ◌≤◌, ◌+
 ghost use Rattle.texts.specs.Hexadecimal.{hex8};
 
 use arrayvec::ArrayVec;
-use texts::hex8;
 use itoa::Buffer;
 use std::marker::Model;
+use texts::hex8;
 
 /// A buffer of 32 bytes for the line of a move, without its line feed. Every move's text fits.
 #[derive(Drop)]

@@ -52,10 +52,12 @@ emit_row : (lane : List ℕ) (c : Cell) → not (is_some (emit_bar lane c)) ≡ 
 emit_row [] c = let e : nat_lt 0 (length {A = ℕ} []) ≡ false = grind (arith, nat_tests) in rw e refl
 emit_row (r ∷ lane) c = let e : nat_lt 0 (length (r ∷ lane)) ≡ true = grind (arith, nat_tests) in rw e (one_row (is_some c.packet) Occupied)
 
-pub emit-free : (plan : Plan) (s : State) → IsProcessor plan s → is_free plan s Emit ≡ (nat_lt 0 (length s.lane) && not (is_some (packet_at s.cells plan.stages)))
+pub emit-free : (plan : Plan) (s : State) → IsProcessor plan s → is_free plan s Emit ≡ (nat_lt 0 (length s.lane)
+    && not (is_some (packet_at s.cells plan.stages)))
 emit-free plan s h = let t = highest plan s h in rw t.1 (emit_row s.lane t.0)
 
-leave_row : (full owes : Bool) (p : Passenger) → not (is_some (first full NotMet (first owes Owes (first (is_undone p || is_out p) NotDone None)))) ≡ (not full && (not owes && (not (is_undone p) && not (is_out p))))
+leave_row : (full owes : Bool) (p : Passenger) → not (is_some (first full NotMet (first owes Owes (first (is_undone p || is_out p) NotDone None))))
+    ≡ (not full && (not owes && (not (is_undone p) && not (is_out p))))
 leave_row full owes p = by full owes (is_undone p) (is_out p)
   where
     by : (a b c d : Bool) → not (is_some (first a NotMet (first b Owes (first (c || d) NotDone None)))) ≡ (not a && (not b && (not c && not d)))
@@ -67,7 +69,8 @@ leave_row full owes p = by full owes (is_undone p) (is_out p)
 
 pub leave-free : (plan : Plan) (s : State) (p : Passenger) → passenger_at s.cells plan.stages ≡ Some p →
     is_free plan s Leave ≡ (not (is_full_at s.cells plan.stages) && (not (is_some p.owes) && (not (is_undone p) && not (is_out p))))
-leave-free plan s p e = let h = here-by (cell_at s.cells plan.stages) p e in rw (h.1, h.2) (leave_row (is_full (record h.0 { passenger = Some p })) (is_some p.owes) p)
+leave-free plan s p e = let h = here-by (cell_at s.cells plan.stages) p e in rw (h.1, h.2)
+    (leave_row (is_full (record h.0 { passenger = Some p })) (is_some p.owes) p)
 
 -- where no passenger stands
 none_leaves : (o : Option Cell) → on o None (λ c. c.passenger) ≡ None → not (is_some (on o (Some NoSuchSite) leave_bar)) ≡ false
@@ -95,7 +98,8 @@ exit_row (Some c) = by (is_some c.packet) (is_full c)
 pub exit-free : (plan : Plan) (s : State) → is_free plan s Exit ≡ (is_some (packet_at s.cells 1) && not (is_full_at s.cells 1))
 exit-free plan s = exit_row (cell_at s.cells 1)
 
-serve_row : (dead done serial full : Bool) → not (is_some (first dead Dead (first done AlreadyDone (first (not serial) NoUnit (first full NotMet None))))) ≡ ((not dead && not done) && (serial && not full))
+serve_row : (dead done serial full : Bool) → not (is_some (first dead Dead (first done AlreadyDone (first (not serial) NoUnit (first full NotMet None)))))
+    ≡ ((not dead && not done) && (serial && not full))
 serve_row true done serial full = refl
 serve_row false true serial full = refl
 serve_row false false false full = refl
@@ -104,7 +108,8 @@ serve_row false false true false = refl
 
 pub serve-free : (plan : Plan) (s : State) (p : Passenger) → passenger_at s.cells plan.stages ≡ Some p →
     is_free plan s Serve ≡ (is_undone p && (is_serial (kind p) && not (is_full_at s.cells plan.stages)))
-serve-free plan s p e = let h = here-by (cell_at s.cells plan.stages) p e in rw (h.1, h.2) (serve_row p.dead p.done (is_serial (kind p)) (is_full (record h.0 { passenger = Some p })))
+serve-free plan s p e = let h = here-by (cell_at s.cells plan.stages) p e in rw (h.1, h.2)
+    (serve_row p.dead p.done (is_serial (kind p)) (is_full (record h.0 { passenger = Some p })))
 
 pub serve-none : (plan : Plan) (s : State) → passenger_at s.cells plan.stages ≡ None → is_free plan s Serve ≡ false
 serve-none plan s e = none_serves (cell_at s.cells plan.stages) e
@@ -132,7 +137,8 @@ slide_row ops c (Some o) e = rw e (by (is_taken (slice_get ops c)) (is_some o))
     by true true = refl
     by true false = refl
 
-pub slide-free : (plan : Plan) (s : State) (k c : ℕ) → is_free plan s (Slide k c) ≡ (is_taken (slice_get (siding_at s k) c) && on (slice_get (siding_at s k) (c + 1)) false (λ o. not (is_some o)))
+pub slide-free : (plan : Plan) (s : State) (k c : ℕ) → is_free plan s (Slide k c) ≡ (is_taken (slice_get (siding_at s k) c)
+    && on (slice_get (siding_at s k) (c + 1)) false (λ o. not (is_some o)))
 slide-free plan s k c = slide_row (siding_at s k) c (slice_get (siding_at s k) (c + 1)) refl
 
 pub ruleset emit_free = (emit-free)

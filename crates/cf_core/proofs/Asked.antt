@@ -15,8 +15,10 @@ refuted true h = absurd (h (cc))
 refuted false h = refl
 
 -- the ECALL of the highest stage makes no call that asks the input
-pub input-unasked : (p : Processor) (q : Passenger) → passenger_at p.state.cells p.plan.stages ≡ Some q → instruction q ≡ Ecall → (CallsInput p → ⊥) → asks_input p.state.regs p.state.mem ≡ false
+pub input-unasked : (p : Processor) (q : Passenger) → passenger_at p.state.cells p.plan.stages ≡ Some q → instruction q ≡ Ecall → (CallsInput p → ⊥) →
+    asks_input p.state.regs p.state.mem ≡ false
 input-unasked p q here is unasked = refuted _ (λ asks. unasked (record { calls = calls_here p q here is; asks = asks }))
 
-pub output-unasked : (p : Processor) (q : Passenger) → passenger_at p.state.cells p.plan.stages ≡ Some q → instruction q ≡ Ecall → (CallsOutput p → ⊥) → asks_output p.state.regs p.state.mem ≡ false
+pub output-unasked : (p : Processor) (q : Passenger) → passenger_at p.state.cells p.plan.stages ≡ Some q → instruction q ≡ Ecall → (CallsOutput p → ⊥) →
+    asks_output p.state.regs p.state.mem ≡ false
 output-unasked p q here is unasked = refuted _ (λ asks. unasked (record { calls = calls_here p q here is; asks = asks }))

@@ -33,9 +33,11 @@ marks_back : (plan : Plan) (s : State) (mv : Move) → IsProcessor plan s → ro
 marks_back plan s mv h free =
     let w = touched-within plan s mv h free in
     let at = touched plan s mv in
-    sym (marks-two plan (moved plan s mv) s at.low at.high h.accepted.stages.1 w.low w.low_in w.high w.high_in (λ j off far. sym (moved-but plan s mv free j off far)))
+    sym (marks-two plan (moved plan s mv) s at.low at.high h.accepted.stages.1 w.low w.low_in w.high w.high_in
+    (λ j off far. sym (moved-but plan s mv free j off far)))
 
-pub back-marks : (p : Processor) (k : Kept) (marks : Marks) (t : Touched) → HasJustMade p k → marks ≡ marks_of p.plan p.state → t ≡ touched p.plan (restored p.state k) k.move →
+pub back-marks : (p : Processor) (k : Kept) (marks : Marks) (t : Touched) → HasJustMade p k → marks ≡ marks_of p.plan p.state →
+    t ≡ touched p.plan (restored p.state k) k.move →
     remarked p.plan (restored p.state k) marks t ≡ marks_of p.plan (restored p.state k)
 back-marks p k marks t h is touches =
     let back = earlier-restored p k h in

@@ -11,7 +11,8 @@ use Rattle.cf_semantics.specs.state.State.{State, siding_at}
 use Rattle.cf_core.specs.Processors.{AreOps, IsOp, IsProcessor}
 
 -- the siding of this number has as many cells as its plan says; where there is no such siding, none
-counted : (sidings : List (List (Option Op))) (plans : List SidingPlan) (k : ℕ) → map length sidings ≡ map (λ siding. siding.cells) plans → length (on (slice_get sidings k) [] (λ ops. ops)) ≡ (unwrap_or (slice_get plans k) no_siding).cells
+counted : (sidings : List (List (Option Op))) (plans : List SidingPlan) (k : ℕ) → map length sidings ≡ map (λ siding. siding.cells) plans →
+    length (on (slice_get sidings k) [] (λ ops. ops)) ≡ (unwrap_or (slice_get plans k) no_siding).cells
 counted [] [] k e = refl
 counted [] (p ∷ ps) k e = absurd (cc)
 counted (o ∷ os) [] k e = absurd (cc)
@@ -44,7 +45,8 @@ last-indexed cells h = get_or_from_slice_get cells (length cells - 1) (last_op c
 pub ruleset berths = (length-siding, cells-none, last-cell)
 
 -- what holds of each operation of a siding holds of the one in a cell
-pub op-there : (plan : Plan) (bounds : List Bounds) (k c : ℕ) (ops : List (Option Op)) (o : Option Op) → AreOps plan bounds k ops → Some o ≡ slice_get ops c → IfSome o (IsOp plan bounds k)
+pub op-there : (plan : Plan) (bounds : List Bounds) (k c : ℕ) (ops : List (Option Op)) (o : Option Op) → AreOps plan bounds k ops → Some o ≡ slice_get ops c →
+    IfSome o (IsOp plan bounds k)
 op-there plan bounds k c ops o all e =
     let here : slice_get ops c ≡ Some o = sym e in
     subst (λ (q : Option Op). IfSome q (IsOp plan bounds k)) (get_or_from_slice_get ops c o o here) (all c o (slice_get_within ops c o here))

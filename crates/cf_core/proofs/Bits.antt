@@ -15,7 +15,8 @@ use Rattle.cf_core.specs.declared.marks.Marks.{Marks}
 use Rattle.cf_core.specs.declared.touching.Touched.{Touched}
 
 -- one test says something else at one stage
-word_at : (test other : ℕ → Bool) (n i : ℕ) → n ≤ 32 → 0 < i → i ≤ n → ((k : ℕ) → k ≢ i → other k ≡ test k) → word_of other n ≡ with_bit (word_of test n) (i - 1) (other i)
+word_at : (test other : ℕ → Bool) (n i : ℕ) → n ≤ 32 → 0 < i → i ≤ n → ((k : ℕ) → k ≢ i → other k ≡ test k) →
+    word_of other n ≡ with_bit (word_of test n) (i - 1) (other i)
 word_at test other n zero few low within same = absurd (omega arith)
 word_at test other n (suc k) few low within same =
     let z : suc k - 1 ≡ k = omega arith in
@@ -35,7 +36,8 @@ unfolding between
 between_here test other i true e = rw e refl
 between_here test other i false e = let off : i ≢ i = grind (arith, nat_tests) in absurd (off refl)
 
-between_rest : (test other : ℕ → Bool) (i j : ℕ) → ((k : ℕ) → k ≢ i → k ≢ j → other k ≡ test k) → (k : ℕ) (b : Bool) → nat_eq k i ≡ b → k ≢ j → other k ≡ between test other i k
+between_rest : (test other : ℕ → Bool) (i j : ℕ) → ((k : ℕ) → k ≢ i → k ≢ j → other k ≡ test k) → (k : ℕ) (b : Bool) → nat_eq k i ≡ b → k ≢ j →
+    other k ≡ between test other i k
 unfolding between
 between_rest test other i j same k true e off = rw e refl
 between_rest test other i j same k false e off = let far : k ≢ i = grind (arith, nat_tests) in rw e (same k far off)
@@ -58,7 +60,8 @@ pub marks-two : (plan : Plan) (s t : State) (i j : ℕ) → plan.stages ≤ 32 �
     marks_of plan t ≡ marked (marked (marks_of plan s) i (mark_at plan t i)) j (mark_at plan t j)
 unfolding marks_of
 marks-two plan s t i j few low within low2 within2 same =
-    let two = λ (field : StageMark → Bool). word-two (λ k. field (mark_at plan s k)) (λ k. field (mark_at plan t k)) plan.stages i j few low within low2 within2 (λ k a b. ap field (same k a b)) in
+    let two = λ (field : StageMark → Bool). word-two (λ k. field (mark_at plan s k)) (λ k. field (mark_at plan t k)) plan.stages i j few low within low2 within2
+    (λ k a b. ap field (same k a b)) in
     let owes = two (λ m. m.owes) in
     let stops = two (λ m. m.stops) in
     let execute = two (λ m. m.execute) in
@@ -70,7 +73,8 @@ marks-two plan s t i j few low within low2 within2 same =
 with-bit-twice : (w k : ℕ) (b : Bool) → with_bit (with_bit w k b) k b ≡ with_bit w k b
 unfolding with_bit
 with-bit-twice w k true = same_from_bits _ _ (λ i. rw (bit_at_or (bit_or w (2 ^ k)) (2 ^ k) i, bit_at_or w (2 ^ k) i) (omega arith))
-with-bit-twice w k false = same_from_bits _ _ (λ i. rw (bit_at_and (bit_and w (bit_not w32 (2 ^ k))) (bit_not w32 (2 ^ k)) i, bit_at_and w (bit_not w32 (2 ^ k)) i) (omega arith))
+with-bit-twice w k false =
+    same_from_bits _ _ (λ i. rw (bit_at_and (bit_and w (bit_not w32 (2 ^ k))) (bit_not w32 (2 ^ k)) i, bit_at_and w (bit_not w32 (2 ^ k)) i) (omega arith))
 
 pub marked-once : (plan : Plan) (s : State) (marks : Marks) (t : Touched) → t.low ≡ t.high → marked marks t.low (mark_at plan s t.low) ≡ remarked plan s marks t
 marked-once plan s marks t same =
@@ -81,7 +85,8 @@ marked-once plan s marks t same =
     let execute = once marks.execute m.execute in
     let launch = once marks.launch m.launch in
     let recover = once marks.recover m.recover in
-    let twice : marked marks t.low m ≡ marked (marked marks t.low m) t.low m = λ x. record { owes = owes x; stops = stops x; execute = execute x; launch = launch x; recover = recover x } in
+    let twice : marked marks t.low m ≡ marked (marked marks t.low m) t.low m = λ x. record
+    { owes = owes x; stops = stops x; execute = execute x; launch = launch x; recover = recover x } in
     twice ∙ ap (λ (i : ℕ). marked (marked marks t.low m) i (mark_at plan s i)) same
 
 pub ruleset marked_once = (marked-once)

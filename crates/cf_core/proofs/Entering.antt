@@ -25,7 +25,8 @@ source_free p rest = by (missing p.src1) (missing p.src2)
     by None (Some r) e = absurd (cc)
     by (Some r) b e = absurd (cc)
 
-entry_free : (plan : Plan) (s : State) (p : Passenger) (k : ℕ) → entry_bar plan s p ≡ None → siding_of plan (kind p) ≡ Some k → is_taken (slice_get (siding_at s k) 0) ≡ false
+entry_free : (plan : Plan) (s : State) (p : Passenger) (k : ℕ) → entry_bar plan s p ≡ None → siding_of plan (kind p) ≡ Some k →
+    is_taken (slice_get (siding_at s k) 0) ≡ false
 entry_free plan s p k e at = grind arith
 
 launch_free : (plan : Plan) (s : State) (c : Cell) (i : ℕ) (p : Passenger) → launch_bar plan s c i ≡ None → c.passenger ≡ Some p → entry_bar plan s p ≡ None
@@ -36,7 +37,9 @@ empty [] h e = absurd (omega arith)
 empty (None ∷ cells) h e = refl
 empty (Some op ∷ cells) h e = absurd (cc)
 
-pub first-empty : (plan : Plan) (s : State) (i : ℕ) (c : Cell) (p : Passenger) (k : ℕ) (sidings : List (List (Option Op))) → IsProcessor plan s → row_bar plan s (Launch i) ≡ None → Some c ≡ cell_at s.cells i → c.passenger ≡ Some p → siding_of plan (kind p) ≡ Some k → sidings ≡ s.sidings → slice_get (cells_in sidings k) 0 ≡ Some None
+pub first-empty : (plan : Plan) (s : State) (i : ℕ) (c : Cell) (p : Passenger) (k : ℕ) (sidings : List (List (Option Op))) → IsProcessor plan s →
+    row_bar plan s (Launch i) ≡ None → Some c ≡ cell_at s.cells i → c.passenger ≡ Some p → siding_of plan (kind p) ≡ Some k → sidings ≡ s.sidings →
+    slice_get (cells_in sidings k) 0 ≡ Some None
 first-empty plan s i c p k sidings h e at there home same =
     let f : launch_bar plan s c i ≡ None = rw (← at) at e in
     let free = entry_free plan s p k (launch_free plan s c i p f there) home in

@@ -18,7 +18,8 @@ either false c d h k = k
 
 read_answers : (fd addr len : ℕ) (mem : Memory) (rest : List ℕ) → IsAnswer (read fd addr len mem rest)
 unfolding read
-read_answers fd addr len mem rest = either (not (fd == 0)) _ _ (value_answers _) (either (len == 0) _ _ (value_answers _) (either (not (can_write mem addr len)) _ _ (value_answers _) (value_answers _)))
+read_answers fd addr len mem rest = either (not (fd == 0)) _ _ (value_answers _) (either (len == 0) _ _ (value_answers _)
+    (either (not (can_write mem addr len)) _ _ (value_answers _) (value_answers _)))
 
 written_answers : (o : Option (List ℕ)) (len : ℕ) (mem : Memory) (rest : List ℕ) → IsAnswer (write_from o len mem rest)
 written_answers None len mem rest = value_answers _
@@ -26,10 +27,12 @@ written_answers (Some bytes) len mem rest = value_answers _
 
 write_answers : (fd addr len : ℕ) (mem : Memory) (rest : List ℕ) → IsAnswer (write fd addr len mem rest)
 unfolding write
-write_answers fd addr len mem rest = either (not (is_output fd)) _ _ (value_answers _) (either (len == 0) _ _ (value_answers _) (written_answers (range_of mem addr len) len mem rest))
+write_answers fd addr len mem rest = either (not (is_output fd)) _ _ (value_answers _) (either (len == 0) _ _ (value_answers _)
+    (written_answers (range_of mem addr len) len mem rest))
 
 -- of two choices that differ only in answers
-alike : (b : Bool) (c c' d d' : Called) (status : ℕ) → (c ≡ Exit status → c' ≡ Exit status) → (d ≡ Exit status → d' ≡ Exit status) → (if b then c else d) ≡ Exit status → (if b then c' else d') ≡ Exit status
+alike : (b : Bool) (c c' d d' : Called) (status : ℕ) → (c ≡ Exit status → c' ≡ Exit status) → (d ≡ Exit status → d' ≡ Exit status) →
+    (if b then c else d) ≡ Exit status → (if b then c' else d') ≡ Exit status
 alike true c c' d d' status h k e = h e
 alike false c c' d d' status h k e = k e
 
@@ -39,7 +42,8 @@ exit-any_rest regs mem rest other status e =
     alike (number_in regs == 63) (read a b c mem rest) (read a b c mem other) _ _ status (λ h. absurd (read_answers a b c mem rest status h))
     (alike (number_in regs == 64) (write a b c mem rest) (write a b c mem other) _ _ status (λ h. absurd (write_answers a b c mem rest status h))
     (alike (is_exit (number_in regs)) (exit a) (exit a) _ _ status (λ h. h)
-    (alike (number_in regs == 214) (brk a mem rest) (brk a mem other) (answered no_such_call mem rest) (answered no_such_call mem other) status (λ h. absurd (value_answers _ status h)) (λ h. absurd (value_answers _ status h))))) e
+    (alike (number_in regs == 214) (brk a mem rest) (brk a mem other) (answered no_such_call mem rest) (answered no_such_call mem other) status
+    (λ h. absurd (value_answers _ status h)) (λ h. absurd (value_answers _ status h))))) e
   where
     a : ℕ
     a = first_argument regs

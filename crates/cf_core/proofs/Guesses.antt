@@ -35,7 +35,8 @@ with_guess : Passenger → Guess → Passenger
 with_guess p g = record p { guess = g }
 
 -- two guesses make passengers that differ only in the guess
-ended_as : (o : Option End) (i : Instr) (pc : ℕ) (g h : Guess) → on o (fresh_fence i pc h) (fresh_end (Some i) pc h) ≡ with_guess (on o (fresh_fence i pc g) (fresh_end (Some i) pc g)) h
+ended_as : (o : Option End) (i : Instr) (pc : ℕ) (g h : Guess) → on o (fresh_fence i pc h) (fresh_end (Some i) pc h)
+    ≡ with_guess (on o (fresh_fence i pc g) (fresh_end (Some i) pc g)) h
 unfolding with_guess
 ended_as None i pc g h = refl
 ended_as (Some e) i pc g h = refl
@@ -63,7 +64,8 @@ same_guesses p Wait h = refl
 same_guesses p (To t) h = refl
 
 -- the row of a guess
-issue_row : (there may full : Bool) → not (is_some (first there Occupied (first (not may) BadGuess (first full LaneFull None)))) ≡ (not there && (may && not full))
+issue_row : (there may full : Bool) → not (is_some (first there Occupied (first (not may) BadGuess (first full LaneFull None))))
+    ≡ (not there && (may && not full))
 issue_row true may full = refl
 issue_row false false full = refl
 issue_row false true true = refl
@@ -74,7 +76,8 @@ none_there o c here none = rw (rw here at none) refl
 
 issue_here : (plan : Plan) (s : State) (g : Guess) (c : Cell) (pc : ℕ) → s.fetch ≡ Running pc → cell_at s.cells 1 ≡ Some c → is_some c.passenger ≡ false →
     is_free plan s (Issue g) ≡ (may_guess g (issued_at plan s pc g) && not (nat_lt plan.lane (length s.lane + length (requests (issued_at plan s pc g)))))
-issue_here plan s g c pc runs here free = rw (here, runs, free) (issue_row false (may_guess g (issued_at plan s pc g)) (nat_lt plan.lane (length s.lane + length (requests (issued_at plan s pc g)))))
+issue_here plan s g c pc runs here free = rw (here, runs, free) (issue_row false (may_guess g (issued_at plan s pc g))
+    (nat_lt plan.lane (length s.lane + length (requests (issued_at plan s pc g)))))
 
 -- there is a lowest stage
 lowest : (plan : Plan) (s : State) → IsProcessor plan s → (c : Cell) × (cell_at s.cells 1 ≡ Some c)
@@ -93,14 +96,16 @@ issue-free plan s pc g h runs none =
     ∙ rw (alike, same_requests (issued_at plan s pc Next) g, same_guesses (issued_at plan s pc Next) g g) refl
 
 -- where the lane has no room for the requests, no guess is allowed, and where it has, those that may be made
-pub issue-full : (plan : Plan) (s : State) (pc : ℕ) (g : Guess) (p : Passenger) → IsProcessor plan s → s.fetch ≡ Running pc → passenger_at s.cells 1 ≡ None → p ≡ issued_at plan s pc Next →
+pub issue-full : (plan : Plan) (s : State) (pc : ℕ) (g : Guess) (p : Passenger) → IsProcessor plan s → s.fetch ≡ Running pc → passenger_at s.cells 1 ≡ None →
+    p ≡ issued_at plan s pc Next →
     plan.lane < length s.lane + length (requests p) → false ≡ is_free plan s (Issue g)
 issue-full plan s pc g p h runs none is full =
     let e = rw (← is) at (issue-free plan s pc g h runs none) in
     let t : nat_lt plan.lane (length s.lane + length (requests p)) ≡ true = grind (arith, nat_tests) in
     sym (rw t at e ∙ and-false (may_guess g p))
 
-pub issue-fits : (plan : Plan) (s : State) (pc : ℕ) (g : Guess) (p : Passenger) → IsProcessor plan s → s.fetch ≡ Running pc → passenger_at s.cells 1 ≡ None → p ≡ issued_at plan s pc Next →
+pub issue-fits : (plan : Plan) (s : State) (pc : ℕ) (g : Guess) (p : Passenger) → IsProcessor plan s → s.fetch ≡ Running pc → passenger_at s.cells 1 ≡ None →
+    p ≡ issued_at plan s pc Next →
     length s.lane + length (requests p) ≤ plan.lane → may_guess g p ≡ is_free plan s (Issue g)
 issue-fits plan s pc g p h runs none is fits =
     let e = rw (← is) at (issue-free plan s pc g h runs none) in
@@ -108,7 +113,8 @@ issue-fits plan s pc g p h runs none is fits =
     sym (rw t at e ∙ and-true (may_guess g p))
 
 -- nothing is issued where an instruction stands in the lowest stage, or where fetch waits
-taken_row : (plan : Plan) (s : State) (g : Guess) (c : Cell) (f : Fetch) → s.fetch ≡ f → is_some c.passenger ≡ true → not (is_some (issue_bar plan s g c)) ≡ false
+taken_row : (plan : Plan) (s : State) (g : Guess) (c : Cell) (f : Fetch) → s.fetch ≡ f → is_some c.passenger ≡ true →
+    not (is_some (issue_bar plan s g c)) ≡ false
 taken_row plan s g c (Running pc) e there = rw (e, there) refl
 taken_row plan s g c Waiting e there = rw e refl
 

@@ -47,7 +47,8 @@ word-set isa pc (Err e) = tt
 
 fetched-set : (isa : Isa) (mem : Memory) (pc : ℕ) → IsFetched isa (fetched isa mem pc)
 unfolding fetched
-fetched-set isa mem pc = choice (IsFetched isa) (pc % 4 == 0) (word_read isa pc (fetched_at mem pc)) (Bad (Trap 0 pc pc)) (word-set isa pc (fetched_at mem pc)) tt
+fetched-set isa mem pc = choice (IsFetched isa) (pc % 4 == 0) (word_read isa pc (fetched_at mem pc)) (Bad (Trap 0 pc pc))
+    (word-set isa pc (fetched_at mem pc)) tt
 
 -- a source that waits is of a register other than x0
 unknown-writable : (r : ℕ) (v : Option ℕ) → IsWritable r → IfSome (unknown r v) IsWritable
@@ -65,14 +66,16 @@ both-writable : (a b : Option ℕ) → IfSome a IsWritable → IfSome b IsWritab
 both-writable None None h g = All-nil IsWritable
 both-writable (Some r) None h g = one-writable r h
 both-writable None (Some s) h g = one-writable s g
-both-writable (Some r) (Some s) h g = choice (All IsWritable) (r == s) (r ∷ []) (r ∷ s ∷ []) (one-writable r h) (All-cons IsWritable r (s ∷ []) h (one-writable s g))
+both-writable (Some r) (Some s) h g = choice (All IsWritable) (r == s) (r ∷ []) (r ∷ s ∷ []) (one-writable r h)
+    (All-cons IsWritable r (s ∷ []) h (one-writable s g))
 
 requests-writable : (isa : Isa) (p : Passenger) → IsPassenger isa p → All IsWritable (requests p)
 requests-writable isa p h = both-writable (missing p.src1) (missing p.src2) (missing-writable p.src1 h.src1) (missing-writable p.src2 h.src2)
 
 -- The moves --
 
-issued-kept : (plan : Plan) (s : State) (g : Guess) (c : Cell) (pc : ℕ) → IsProcessor plan s → IsCellOfSet (isa_of plan) c → IsProcessor plan (issued plan s g c pc)
+issued-kept : (plan : Plan) (s : State) (g : Guess) (c : Cell) (pc : ℕ) → IsProcessor plan s → IsCellOfSet (isa_of plan) c →
+    IsProcessor plan (issued plan s g c pc)
 issued-kept plan s g c pc h stage =
     let isa = isa_of plan in
     let p = fresh s.cache (fetched isa s.mem pc) pc g in
@@ -87,11 +90,13 @@ issue-kept plan s g h =
     kept-where plan s (cell_at s.cells 1) _ h (λ c e. kept-where plan s (running s.fetch) (issued plan s g c) h (λ pc f.
     issued-kept plan s g c pc h (stage-at plan s 1 c h e)))
 
-emitted-kept : (plan : Plan) (s : State) (n : ℕ) (lane : List ℕ) (c : Cell) → IsProcessor plan s → All IsWritable lane → IsCellOfSet (isa_of plan) c → IsProcessor plan (emitted s n lane c)
+emitted-kept : (plan : Plan) (s : State) (n : ℕ) (lane : List ℕ) (c : Cell) → IsProcessor plan s → All IsWritable lane → IsCellOfSet (isa_of plan) c →
+    IsProcessor plan (emitted s n lane c)
 emitted-kept plan s n [] c h all stage = h
 emitted-kept plan s n (r ∷ lane) c h all stage =
     let value = record c { packet = Some (Value r (slice_index s.regs r)); met = false } in
-    let k : IsProcessor plan (with_cell s n value) = cell-kept plan s n value h (packet-new (isa_of plan) c (Some (Value r (slice_index s.regs r))) stage (All-head IsWritable r lane all)) in
+    let k : IsProcessor plan (with_cell s n value) = cell-kept plan s n value h (packet-new (isa_of plan) c (Some (Value r (slice_index s.regs r))) stage
+    (All-head IsWritable r lane all)) in
     ends-kept plan (with_cell s n value) (emitted s n (r ∷ lane) c) k refl refl refl (All-tail IsWritable r lane all)
 
 pub emit-kept : (plan : Plan) (s : State) → IsProcessor plan s → IsProcessor plan (moved plan s Emit)

@@ -39,7 +39,8 @@ served_but plan m n c p (Value a) k off far =
     rest-but plan t (served m n c p (Value a)).state n n refl refl k off far ∙ cell-but plan m.state n n (with_passenger c (moves.answered p a.value)) k off far
 served_but plan m n c p (Exit status) k off far = cell-but plan m.state n n _ k off far
 
-moment_but : {A : Type 0} (plan : Plan) (o : Option A) (m : Moment) (n : ℕ) (f : A → Moment) → ((a : A) → SameBut plan m.state (f a).state n n) → SameBut plan m.state (on o m f).state n n
+moment_but : {A : Type 0} (plan : Plan) (o : Option A) (m : Moment) (n : ℕ) (f : A → Moment) → ((a : A) → SameBut plan m.state (f a).state n n) →
+    SameBut plan m.state (on o m f).state n n
 moment_but plan None m n f same k off far = refl
 moment_but plan (Some a) m n f same k off far = same a k off far
 
@@ -49,59 +50,75 @@ serve_but plan m =
     moment_but plan (cell_at m.state.cells plan.stages) m plan.stages _ (λ c. moment_but plan c.passenger m plan.stages _ (λ p.
     served_but plan m plan.stages c p (serve_of (instruction p) m.state.regs m.state.mem m.rest)))
 
-next_but : (plan : Plan) (m : Moment) (mv : Move) → row_bar plan m.state mv ≡ None → SameBut plan m.state (next plan m mv).state (touched plan m.state mv).low (touched plan m.state mv).high
+next_but : (plan : Plan) (m : Moment) (mv : Move) → row_bar plan m.state mv ≡ None → SameBut plan m.state (next plan m mv).state (touched plan m.state mv).low
+    (touched plan m.state mv).high
 unfolding touched
 next_but plan m Serve free = serve_but plan m
-next_but plan m mv free = subst (λ (q : Moment). SameBut plan m.state q.state (touched plan m.state mv).low (touched plan m.state mv).high) (sym (next_moved plan m mv (λ e. absurd (cc)))) (moved-but plan m.state mv free)
+next_but plan m mv free = subst (λ (q : Moment). SameBut plan m.state q.state (touched plan m.state mv).low (touched plan m.state mv).high)
+    (sym (next_moved plan m mv (λ e. absurd (cc)))) (moved-but plan m.state mv free)
 
-made_but : (old new : Processor) (mv : Move) (before after : Streams) (r : Result Event Fault) → row_bar old.plan old.state mv ≡ None → MakesOrFails old new mv before after r →
+made_but : (old new : Processor) (mv : Move) (before after : Streams) (r : Result Event Fault) → row_bar old.plan old.state mv ≡ None →
+    MakesOrFails old new mv before after r →
     SameBut old.plan old.state new.state (touched old.plan old.state mv).low (touched old.plan old.state mv).high
 unfolding MakesOrFails
 made_but old new mv before after (Ok e) free h =
     let m : Moment = record { state = old.state; rest = h.0.rest; output = [] } in
-    subst (λ (q : Moment). SameBut old.plan old.state q.state (touched old.plan old.state mv).low (touched old.plan old.state mv).high) h.0.is (next_but old.plan m mv free)
-made_but old new mv before after (Err fault.Read) free h = rest-but old.plan old.state new.state _ _ (ap (λ (p : Processor). p.state.cells) h.1.processor) (ap (λ (p : Processor). p.state.sidings) h.1.processor)
-made_but old new mv before after (Err fault.Write) free h = rest-but old.plan old.state new.state _ _ (ap (λ (p : Processor). p.state.cells) h.1.processor) (ap (λ (p : Processor). p.state.sidings) h.1.processor)
+    subst (λ (q : Moment). SameBut old.plan old.state q.state (touched old.plan old.state mv).low (touched old.plan old.state mv).high) h.0.is
+    (next_but old.plan m mv free)
+made_but old new mv before after (Err fault.Read) free h = rest-but old.plan old.state new.state _ _ (ap (λ (p : Processor). p.state.cells) h.1.processor)
+    (ap (λ (p : Processor). p.state.sidings) h.1.processor)
+made_but old new mv before after (Err fault.Write) free h = rest-but old.plan old.state new.state _ _ (ap (λ (p : Processor). p.state.cells) h.1.processor)
+    (ap (λ (p : Processor). p.state.sidings) h.1.processor)
 
-pub same-plan : (old new : Processor) (mv : Move) (before after : Streams) (r : Result Event Fault) → MakesOrFails old new mv before after r → new.plan ≡ old.plan
+pub same-plan : (old new : Processor) (mv : Move) (before after : Streams) (r : Result Event Fault) → MakesOrFails old new mv before after r →
+    new.plan ≡ old.plan
 unfolding MakesOrFails
 same-plan old new mv before after (Ok e) h = h.0.plan
 same-plan old new mv before after (Err fault.Read) h = ap (λ (p : Processor). p.plan) h.1.processor
 same-plan old new mv before after (Err fault.Write) h = ap (λ (p : Processor). p.plan) h.1.processor
 
 pub made-marks : (old new : Processor) (marks : Marks) (mv : Move) (before after : Streams) (r : Result Event Fault) (t : Touched) →
-    IsProcessor old.plan old.state → bar old.plan old.state mv ≡ None → MakesOrFails old new mv before after r → marks ≡ marks_of old.plan old.state → t ≡ touched old.plan old.state mv → remarked new.plan new.state marks t ≡ marks_of new.plan new.state
+    IsProcessor old.plan old.state → bar old.plan old.state mv ≡ None → MakesOrFails old new mv before after r → marks ≡ marks_of old.plan old.state →
+    t ≡ touched old.plan old.state mv → remarked new.plan new.state marks t ≡ marks_of new.plan new.state
 made-marks old new marks mv before after r t h free made is touches =
     let row = unbarred old.plan old.state mv free in
     let w = touched-within old.plan old.state mv h row in
     let same = same-plan old new mv before after r made in
     let at = touched old.plan old.state mv in
-    let two = marks-two old.plan old.state new.state at.low at.high h.accepted.stages.1 w.low w.low_in w.high w.high_in (made_but old new mv before after r row made) in
+    let two = marks-two old.plan old.state new.state at.low at.high h.accepted.stages.1 w.low w.low_in w.high w.high_in
+    (made_but old new mv before after r row made) in
     rw (is, touches, same) (sym two)
 
-pub made-within : (old new : Processor) (mv : Move) (before after : Streams) (r : Result Event Fault) (t : Touched) → IsProcessor old.plan old.state → bar old.plan old.state mv ≡ None → MakesOrFails old new mv before after r → t ≡ touched old.plan old.state mv → Within new.plan t
+pub made-within : (old new : Processor) (mv : Move) (before after : Streams) (r : Result Event Fault) (t : Touched) → IsProcessor old.plan old.state →
+    bar old.plan old.state mv ≡ None → MakesOrFails old new mv before after r → t ≡ touched old.plan old.state mv → Within new.plan t
 made-within old new mv before after r t h free made touches =
     rw (touches, same-plan old new mv before after r made) (touched-within old.plan old.state mv h (unbarred old.plan old.state mv free))
 
 -- A move that leaves them as they are --
 
-next_same : (plan : Plan) (m : Moment) (mv : Move) → row_bar plan m.state mv ≡ None → keeps_marks plan m.state mv ≡ true → Same plan m.state (next plan m mv).state
+next_same : (plan : Plan) (m : Moment) (mv : Move) → row_bar plan m.state mv ≡ None → keeps_marks plan m.state mv ≡ true →
+    Same plan m.state (next plan m mv).state
 unfolding keeps_marks
 next_same plan m Serve free keeps = absurd (cc)
-next_same plan m mv free keeps = subst (λ (q : Moment). Same plan m.state q.state) (sym (next_moved plan m mv (λ e. absurd (cc)))) (moved-same plan m.state mv free keeps)
+next_same plan m mv free keeps = subst (λ (q : Moment). Same plan m.state q.state) (sym (next_moved plan m mv (λ e. absurd (cc))))
+    (moved-same plan m.state mv free keeps)
 
-made_same : (old new : Processor) (mv : Move) (before after : Streams) (r : Result Event Fault) → row_bar old.plan old.state mv ≡ None → MakesOrFails old new mv before after r → keeps_marks old.plan old.state mv ≡ true → Same old.plan old.state new.state
+made_same : (old new : Processor) (mv : Move) (before after : Streams) (r : Result Event Fault) → row_bar old.plan old.state mv ≡ None →
+    MakesOrFails old new mv before after r → keeps_marks old.plan old.state mv ≡ true → Same old.plan old.state new.state
 unfolding MakesOrFails
 made_same old new mv before after (Ok e) free h keeps =
     let m : Moment = record { state = old.state; rest = h.0.rest; output = [] } in
     subst (λ (q : Moment). Same old.plan old.state q.state) h.0.is (next_same old.plan m mv free keeps)
-made_same old new mv before after (Err fault.Read) free h keeps = rest-same old.plan old.state new.state (ap (λ (p : Processor). p.state.cells) h.1.processor) (ap (λ (p : Processor). p.state.sidings) h.1.processor)
-made_same old new mv before after (Err fault.Write) free h keeps = rest-same old.plan old.state new.state (ap (λ (p : Processor). p.state.cells) h.1.processor) (ap (λ (p : Processor). p.state.sidings) h.1.processor)
+made_same old new mv before after (Err fault.Read) free h keeps = rest-same old.plan old.state new.state (ap (λ (p : Processor). p.state.cells) h.1.processor)
+    (ap (λ (p : Processor). p.state.sidings) h.1.processor)
+made_same old new mv before after (Err fault.Write) free h keeps = rest-same old.plan old.state new.state (ap (λ (p : Processor). p.state.cells) h.1.processor)
+    (ap (λ (p : Processor). p.state.sidings) h.1.processor)
 
 marks_same : (plan : Plan) (s t : State) → Same plan s t → marks_of plan s ≡ marks_of plan t
 unfolding marks_of
 marks_same plan s t same =
-    let word = λ (field : StageMark → Bool). word-agrees (λ k. field (mark_at plan s k)) (λ k. field (mark_at plan t k)) plan.stages (λ k low high. sym (ap field (same k))) in
+    let word = λ (field : StageMark → Bool). word-agrees (λ k. field (mark_at plan s k)) (λ k. field (mark_at plan t k)) plan.stages
+    (λ k low high. sym (ap field (same k))) in
     let owes = word (λ m. m.owes) in
     let stops = word (λ m. m.stops) in
     let execute = word (λ m. m.execute) in
@@ -109,7 +126,8 @@ marks_same plan s t same =
     let recover = word (λ m. m.recover) in
     λ x. record { owes = owes x; stops = stops x; execute = execute x; launch = launch x; recover = recover x }
 
-pub kept-marks : (old new : Processor) (marks : Marks) (mv : Move) (before after : Streams) (r : Result Event Fault) → bar old.plan old.state mv ≡ None → MakesOrFails old new mv before after r →
+pub kept-marks : (old new : Processor) (marks : Marks) (mv : Move) (before after : Streams) (r : Result Event Fault) → bar old.plan old.state mv ≡ None →
+    MakesOrFails old new mv before after r →
     marks ≡ marks_of old.plan old.state → keeps_marks old.plan old.state mv ≡ true → marks ≡ marks_of new.plan new.state
 kept-marks old new marks mv before after r free made is keeps =
     let row = unbarred old.plan old.state mv free in

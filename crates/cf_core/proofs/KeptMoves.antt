@@ -33,5 +33,6 @@ kept_moved plan s Exit h free = exit-kept plan s h
 kept_moved plan s Serve h free = serve-kept plan s h
 
 -- so it is for a processor that was in this state and has made the move
-pub kept_after : (before now after : Processor) (mv : Move) → after ≡ after_move before mv → before ≡ now → row_bar now.plan now.state mv ≡ None → IsProcessor before.plan before.state → IsProcessor after.plan after.state
+pub kept_after : (before now after : Processor) (mv : Move) → after ≡ after_move before mv → before ≡ now → row_bar now.plan now.state mv ≡ None →
+    IsProcessor before.plan before.state → IsProcessor after.plan after.state
 kept_after before now after mv made same free h = rw made (kept_moved before.plan before.state mv h (rw same free))

@@ -16,11 +16,13 @@ use Rattle.cf_sidings.specs.Sidings.{cells_in}
 use Rattle.cf_core.specs.Processors.{AreOps, IsProcessor, IsCellOfSet}
 
 -- it is kept where a part is there or not, and is kept in each case
-pub kept-or : {A : Type 0} (plan : Plan) (o : Option A) (d : State) (f : A → State) → (o ≡ None → IsProcessor plan d) → ((a : A) → o ≡ Some a → IsProcessor plan (f a)) → IsProcessor plan (on o d f)
+pub kept-or : {A : Type 0} (plan : Plan) (o : Option A) (d : State) (f : A → State) → (o ≡ None → IsProcessor plan d) →
+    ((a : A) → o ≡ Some a → IsProcessor plan (f a)) → IsProcessor plan (on o d f)
 kept-or plan None d f g h = g refl
 kept-or plan (Some a) d f g h = h a refl
 
-pub kept-where : {A : Type 0} (plan : Plan) (s : State) (o : Option A) (f : A → State) → IsProcessor plan s → ((a : A) → o ≡ Some a → IsProcessor plan (f a)) → IsProcessor plan (on o s f)
+pub kept-where : {A : Type 0} (plan : Plan) (s : State) (o : Option A) (f : A → State) → IsProcessor plan s → ((a : A) → o ≡ Some a → IsProcessor plan (f a)) →
+    IsProcessor plan (on o s f)
 kept-where plan s o f g h = kept-or plan o s f (λ e. g) h
 
 -- what holds of each element holds of the one at an index
@@ -40,7 +42,8 @@ length_put : (cells : List Cell) (i : ℕ) (c : Cell) → length (put_cell cells
 length_put cells zero c = refl
 length_put cells (suc i) c = length-set cells i c
 
-stages_put : (plan : Plan) (cells : List Cell) (i : ℕ) (c : Cell) → IsCellOfSet (isa_of plan) c → All (IsCellOfSet (isa_of plan)) cells → All (IsCellOfSet (isa_of plan)) (put_cell cells i c)
+stages_put : (plan : Plan) (cells : List Cell) (i : ℕ) (c : Cell) → IsCellOfSet (isa_of plan) c → All (IsCellOfSet (isa_of plan)) cells →
+    All (IsCellOfSet (isa_of plan)) (put_cell cells i c)
 stages_put plan cells zero c p h = h
 stages_put plan cells (suc i) c p h = All-set (IsCellOfSet (isa_of plan)) cells i c p h
 
@@ -55,19 +58,22 @@ cell-kept plan s i c h p = record {
 }
 
 -- a siding gets other cells, as many as it had
-lengths_set : (sidings : List (List (Option Op))) (k : ℕ) (ops : List (Option Op)) → length ops ≡ length (cells_in sidings k) → map length (slice_set sidings k ops) ≡ map length sidings
+lengths_set : (sidings : List (List (Option Op))) (k : ℕ) (ops : List (Option Op)) → length ops ≡ length (cells_in sidings k) →
+    map length (slice_set sidings k ops) ≡ map length sidings
 lengths_set [] k ops e = refl
 lengths_set (o ∷ os) zero ops e = ap (λ (n : ℕ). n ∷ map length os) e
 lengths_set (o ∷ os) (suc k) ops e = ap (λ (ns : List ℕ). length o ∷ ns) (lengths_set os k ops e)
 
-each_set : (P : ℕ → List (Option Op) → Type 0) (sidings : List (List (Option Op))) (k : ℕ) (ops : List (Option Op)) → P k ops → ((j : ℕ) → P j (cells_in sidings j)) → (j : ℕ) → P j (cells_in (slice_set sidings k ops) j)
+each_set : (P : ℕ → List (Option Op) → Type 0) (sidings : List (List (Option Op))) (k : ℕ) (ops : List (Option Op)) → P k ops →
+    ((j : ℕ) → P j (cells_in sidings j)) → (j : ℕ) → P j (cells_in (slice_set sidings k ops) j)
 each_set P [] k ops p h j = h j
 each_set P (o ∷ os) zero ops p h zero = p
 each_set P (o ∷ os) zero ops p h (suc j) = h (suc j)
 each_set P (o ∷ os) (suc k) ops p h zero = h zero
 each_set P (o ∷ os) (suc k) ops p h (suc j) = each_set (λ (n : ℕ). P (suc n)) os k ops p (λ n. h (suc n)) j
 
-pub siding-kept : (plan : Plan) (s : State) (k : ℕ) (ops : List (Option Op)) → IsProcessor plan s → length ops ≡ length (siding_at s k) → AreOps plan (bounds_of s.mem) k ops → IsProcessor plan (with_siding s k ops)
+pub siding-kept : (plan : Plan) (s : State) (k : ℕ) (ops : List (Option Op)) → IsProcessor plan s → length ops ≡ length (siding_at s k) →
+    AreOps plan (bounds_of s.mem) k ops → IsProcessor plan (with_siding s k ops)
 siding-kept plan s k ops h e p = record {
   accepted = h.accepted;
   stages = h.stages;
@@ -78,7 +84,8 @@ siding-kept plan s k ops h e p = record {
 }
 
 -- the lane gets other requests, and fetch, the kept values, the register file, the count and the ending change in any way
-pub ends-kept : (plan : Plan) (s t : State) → IsProcessor plan s → t.cells ≡ s.cells → t.sidings ≡ s.sidings → t.mem ≡ s.mem → All IsWritable t.lane → IsProcessor plan t
+pub ends-kept : (plan : Plan) (s t : State) → IsProcessor plan s → t.cells ≡ s.cells → t.sidings ≡ s.sidings → t.mem ≡ s.mem → All IsWritable t.lane →
+    IsProcessor plan t
 ends-kept plan s t h same beside kept lane = record {
   accepted = h.accepted;
   stages = ap length same ∙ h.stages;

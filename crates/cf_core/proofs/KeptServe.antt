@@ -46,7 +46,8 @@ either mem false c d h k = k
 
 read_keeps : (fd addr len : ℕ) (mem : Memory) (rest : List ℕ) → Keeps mem (read fd addr len mem rest)
 unfolding read
-read_keeps fd addr len mem rest = either mem (not (fd == 0)) _ _ refl (either mem (len == 0) _ _ refl (either mem (not (can_write mem addr len)) _ _ refl (bounds-memory_with mem addr len _)))
+read_keeps fd addr len mem rest = either mem (not (fd == 0)) _ _ refl (either mem (len == 0) _ _ refl
+    (either mem (not (can_write mem addr len)) _ _ refl (bounds-memory_with mem addr len _)))
 
 written_keeps : (o : Option (List ℕ)) (len : ℕ) (mem : Memory) (rest : List ℕ) → Keeps mem (write_from o len mem rest)
 written_keeps None len mem rest = refl
@@ -54,7 +55,8 @@ written_keeps (Some bytes) len mem rest = refl
 
 write_keeps : (fd addr len : ℕ) (mem : Memory) (rest : List ℕ) → Keeps mem (write fd addr len mem rest)
 unfolding write
-write_keeps fd addr len mem rest = either mem (not (is_output fd)) _ _ refl (either mem (len == 0) _ _ refl (written_keeps (range_of mem addr len) len mem rest))
+write_keeps fd addr len mem rest = either mem (not (is_output fd)) _ _ refl (either mem (len == 0) _ _ refl
+    (written_keeps (range_of mem addr len) len mem rest))
 
 break_bounds : (b : Bool) (addr : ℕ) (mem : Memory) → bounds_of (if b then record mem { program_break = addr } else mem) ≡ bounds_of mem
 unfolding bounds_of
@@ -82,15 +84,18 @@ failed_kept : (plan : Plan) (s : State) → IsProcessor plan s → IsProcessor p
 failed_kept plan s h = record { accepted = h.accepted; stages = h.stages; sidings = h.sidings; cells = h.cells; ops = h.ops; lane = h.lane }
 
 -- the passenger of the highest stage has its answer, or it will end the program
-served_kept : (plan : Plan) (m : Moment) (n : ℕ) (c : Cell) (p : Passenger) (o : Called) → IsProcessor plan m.state → IsCellOfSet (isa_of plan) c → IsPassenger (isa_of plan) p → Keeps m.state.mem o → IsProcessor plan (served m n c p o).state
+served_kept : (plan : Plan) (m : Moment) (n : ℕ) (c : Cell) (p : Passenger) (o : Called) → IsProcessor plan m.state → IsCellOfSet (isa_of plan) c →
+    IsPassenger (isa_of plan) p → Keeps m.state.mem o → IsProcessor plan (served m n c p o).state
 served_kept plan m n c p (Value a) h stage rider keeps =
     kept_bounds plan (with_cell m.state n (with_passenger c (moves.answered p a.value))) a.mem
-    (cell-kept plan m.state n (with_passenger c (moves.answered p a.value)) h (passenger-changed (isa_of plan) c (moves.answered p a.value) stage (answered-passenger (isa_of plan) p a.value rider))) keeps
+    (cell-kept plan m.state n (with_passenger c (moves.answered p a.value)) h (passenger-changed (isa_of plan) c (moves.answered p a.value) stage
+    (answered-passenger (isa_of plan) p a.value rider))) keeps
 served_kept plan m n c p (Exit status) h stage rider keeps =
     let q = record p { done = true; ending = Some (ending.Exit status) } in
     cell-kept plan m.state n (with_passenger c q) h (passenger-changed (isa_of plan) c q stage (quitting-passenger (isa_of plan) p status rider))
 
-moment_kept : {A : Type 0} (plan : Plan) (o : Option A) (m : Moment) (f : A → Moment) → IsProcessor plan m.state → ((a : A) → o ≡ Some a → IsProcessor plan (f a).state) → IsProcessor plan (on o m f).state
+moment_kept : {A : Type 0} (plan : Plan) (o : Option A) (m : Moment) (f : A → Moment) → IsProcessor plan m.state →
+    ((a : A) → o ≡ Some a → IsProcessor plan (f a).state) → IsProcessor plan (on o m f).state
 moment_kept plan None m f g h = g
 moment_kept plan (Some a) m f g h = h a refl
 
@@ -100,14 +105,17 @@ serve-kept plan m h =
     moment_kept plan (cell_at m.state.cells plan.stages) m _ h (λ c here.
     let stage = stage-at plan m.state plan.stages c h here in
     moment_kept plan c.passenger m _ h (λ p rides.
-    served_kept plan m plan.stages c p (serve_of (instruction p) m.state.regs m.state.mem m.rest) h stage (passenger-in (isa_of plan) c p stage rides) (serve_keeps (instruction p) m.state.regs m.state.mem m.rest)))
+    served_kept plan m plan.stages c p (serve_of (instruction p) m.state.regs m.state.mem m.rest) h stage (passenger-in (isa_of plan) c p stage rides)
+    (serve_keeps (instruction p) m.state.regs m.state.mem m.rest)))
 
 -- a move that is made
 next_kept : (plan : Plan) (m : Moment) (mv : Move) → row_bar plan m.state mv ≡ None → IsProcessor plan m.state → IsProcessor plan (next plan m mv).state
 next_kept plan m Serve free h = serve-kept plan m h
-next_kept plan m mv free h = subst (λ (q : Moment). IsProcessor plan q.state) (sym (next_moved plan m mv (λ e. absurd (cc)))) (kept_moved plan m.state mv h free)
+next_kept plan m mv free h = subst (λ (q : Moment). IsProcessor plan q.state) (sym (next_moved plan m mv (λ e. absurd (cc))))
+    (kept_moved plan m.state mv h free)
 
-makes_kept : (old new : Processor) (mv : Move) (before after : Streams) → row_bar old.plan old.state mv ≡ None → Makes old new mv before after → IsProcessor old.plan old.state → IsProcessor new.plan new.state
+makes_kept : (old new : Processor) (mv : Move) (before after : Streams) → row_bar old.plan old.state mv ≡ None → Makes old new mv before after →
+    IsProcessor old.plan old.state → IsProcessor new.plan new.state
 makes_kept old new mv before after free h k =
     subst (λ (l : Plan). IsProcessor l new.state) (sym h.plan)
     (subst (λ (m : Moment). IsProcessor old.plan m.state) h.is (next_kept old.plan (record { state = old.state; rest = h.rest; output = [] }) mv free k))
@@ -116,9 +124,11 @@ makes_kept old new mv before after free h k =
 read_kept : (old new : Processor) (before after : Streams) → FailsToRead old new before after → IsProcessor old.plan old.state → IsProcessor new.plan new.state
 read_kept old new before after h k =
     subst (λ (p : Processor). IsProcessor p.plan p.state) (sym h.processor)
-    (failed_kept old.plan (record old.state { mem = new.state.mem }) (kept_bounds old.plan old.state new.state.mem k (ap bounds_of h.fails.takes.memory ∙ bounds-memory_with old.state.mem (second_argument old.state.regs) (third_argument old.state.regs) h.fails.taken)))
+    (failed_kept old.plan (record old.state { mem = new.state.mem }) (kept_bounds old.plan old.state new.state.mem k (ap bounds_of h.fails.takes.memory
+    ∙ bounds-memory_with old.state.mem (second_argument old.state.regs) (third_argument old.state.regs) h.fails.taken)))
 
-write_kept : (old new : Processor) (before after : Streams) → FailsToWrite old new before after → IsProcessor old.plan old.state → IsProcessor new.plan new.state
+write_kept : (old new : Processor) (before after : Streams) → FailsToWrite old new before after → IsProcessor old.plan old.state →
+    IsProcessor new.plan new.state
 write_kept old new before after h k = subst (λ (p : Processor). IsProcessor p.plan p.state) (sym h.processor) (failed_kept old.plan old.state k)
 
 -- the row of an allowed move bars nothing
@@ -126,7 +136,8 @@ pub unbarred : (plan : Plan) (s : State) (mv : Move) → bar plan s mv ≡ None 
 unfolding bar
 unbarred plan s mv e = grind arith
 
-pub made-kept : (old new : Processor) (mv : Move) (before after : Streams) (r : Result Event Fault) → bar old.plan old.state mv ≡ None → MakesOrFails old new mv before after r → IsProcessor old.plan old.state → IsProcessor new.plan new.state
+pub made-kept : (old new : Processor) (mv : Move) (before after : Streams) (r : Result Event Fault) → bar old.plan old.state mv ≡ None →
+    MakesOrFails old new mv before after r → IsProcessor old.plan old.state → IsProcessor new.plan new.state
 unfolding MakesOrFails
 made-kept old new mv before after (Ok e) free h k = makes_kept old new mv before after (unbarred old.plan old.state mv free) h.0 k
 made-kept old new mv before after (Err fault.Read) free h k = read_kept old new before after h.1 k

@@ -44,7 +44,8 @@ unfolding kind_of
 kind-instruction p = kind-class p
 
 -- the operation of a passenger that does not trap
-operation-in : (plan : Plan) (s : State) (k : ℕ) (p : Passenger) → IsPassenger (isa_of plan) p → siding_of plan (kind p) ≡ Some k → launch_trap s p ≡ None → IsOp plan (bounds_of s.mem) k (operation p)
+operation-in : (plan : Plan) (s : State) (k : ℕ) (p : Passenger) → IsPassenger (isa_of plan) p → siding_of plan (kind p) ≡ Some k → launch_trap s p ≡ None →
+    IsOp plan (bounds_of s.mem) k (operation p)
 operation-in plan s k p h e free = record {
   instr = operation-of_set (isa_of plan) p h;
   siding = rw (kind-instruction p) at e;
@@ -52,7 +53,8 @@ operation-in plan s k p h e free = record {
 }
 
 -- an operation is what it was when it is answered
-answered-op : (plan : Plan) (s : State) (k : ℕ) (op : Op) (v : ℕ) → IsOp plan (bounds_of s.mem) k op → IsOp plan (bounds_of s.mem) k (record op { answer = Some v })
+answered-op : (plan : Plan) (s : State) (k : ℕ) (op : Op) (v : ℕ) → IsOp plan (bounds_of s.mem) k op →
+    IsOp plan (bounds_of s.mem) k (record op { answer = Some v })
 answered-op plan s k op v h = record { instr = h.instr; siding = h.siding; permitted = h.permitted }
 
 -- a load or a store keeps the bounds and flags of the regions
@@ -60,8 +62,10 @@ chosen-bounds : (b : Bool) (stored mem : Memory) → bounds_of stored ≡ bounds
 chosen-bounds true stored mem e = e
 chosen-bounds false stored mem e = refl
 
-access-bounds : (access : AccessMade) (mem : Memory) → bounds_of (if access.write then stored mem access.addr access.width access.value else mem) ≡ bounds_of mem
-access-bounds access mem = chosen-bounds access.write (stored mem access.addr access.width access.value) mem (bounds-stored mem access.addr access.width access.value)
+access-bounds : (access : AccessMade) (mem : Memory) → bounds_of (if access.write then stored mem access.addr access.width access.value else mem)
+    ≡ bounds_of mem
+access-bounds access mem = chosen-bounds access.write (stored mem access.addr access.width access.value) mem
+    (bounds-stored mem access.addr access.width access.value)
 
 pub bounds-after : (i : Instr) (a b : ℕ) (mem : Memory) → bounds_of (mem_after i a b mem) ≡ bounds_of mem
 unfolding mem_after
@@ -69,7 +73,9 @@ bounds-after i a b mem = access-bounds (access_made i a b) mem
 
 -- The moves --
 
-entered-kept : (plan : Plan) (s : State) (i : ℕ) (c : Cell) (p : Passenger) (k : ℕ) → IsProcessor plan s → IsCellOfSet (isa_of plan) c → IsPassenger (isa_of plan) p → launch_trap s p ≡ None → siding_of plan (kind p) ≡ Some k → IsProcessor plan (with_siding (with_cell s i (with_passenger c (record p { launched = true }))) k (slice_set (siding_at s k) 0 (Some (operation p))))
+entered-kept : (plan : Plan) (s : State) (i : ℕ) (c : Cell) (p : Passenger) (k : ℕ) → IsProcessor plan s → IsCellOfSet (isa_of plan) c →
+    IsPassenger (isa_of plan) p → launch_trap s p ≡ None → siding_of plan (kind p) ≡ Some k →
+    IsProcessor plan (with_siding (with_cell s i (with_passenger c (record p { launched = true }))) k (slice_set (siding_at s k) 0 (Some (operation p))))
 entered-kept plan s i c p k h stage rider free home =
     let q = record p { launched = true } in
     siding-kept plan (with_cell s i (with_passenger c q)) k (slice_set (siding_at s k) 0 (Some (operation p)))
@@ -83,7 +89,8 @@ launch-kept plan s i h =
     change-kept plan s i (launched plan s i) h (λ c p stage there rider.
     kept-or plan (launch_trap s p) _ _
     (λ free. kept-where plan s (siding_of plan (kind p)) _ h (λ k home. entered-kept plan s i c p k h stage rider free home))
-    (λ e trap. cell-kept plan s i (with_passenger c (trapped p e)) h (passenger-changed (isa_of plan) c (trapped p e) stage (trapped-passenger (isa_of plan) p e rider))))
+    (λ e trap. cell-kept plan s i (with_passenger c (trapped p e)) h (passenger-changed (isa_of plan) c (trapped p e) stage
+    (trapped-passenger (isa_of plan) p e rider))))
 
 pub slide-kept : (plan : Plan) (s : State) (k c : ℕ) → IsProcessor plan s → IsProcessor plan (moved plan s (Slide k c))
 unfolding moved
@@ -102,7 +109,8 @@ accessed-kept plan s op h p =
     let answered = Some (record op { answer = Some (answer_of op.instr op.a op.b s.mem) }) in
     kept_bounds plan (with_siding s (port plan) (set_last ops answered)) (mem_after op.instr op.a op.b s.mem)
     (siding-kept plan s (port plan) (set_last ops answered) h (length-set_last ops answered)
-    (last-set (λ o. IfSome o (IsOp plan (bounds_of s.mem) (port plan))) ops answered (answered-op plan s (port plan) op (answer_of op.instr op.a op.b s.mem) p) (h.ops (port plan))))
+    (last-set (λ o. IfSome o (IsOp plan (bounds_of s.mem) (port plan))) ops answered (answered-op plan s (port plan) op (answer_of op.instr op.a op.b s.mem) p)
+    (h.ops (port plan))))
     (bounds-after op.instr op.a op.b s.mem)
 
 pub access-kept : (plan : Plan) (s : State) → IsProcessor plan s → IsProcessor plan (moved plan s Access)
@@ -112,7 +120,8 @@ access-kept plan s h =
     let last = last-all (IsOp plan (bounds_of s.mem) (port plan)) (siding_at s (port plan)) (h.ops (port plan)) in
     accessed-kept plan s op h (rw e at last))
 
-returned-kept : (plan : Plan) (s : State) (i : ℕ) (c : Cell) (p : Passenger) (k : ℕ) (answer : Option ℕ) → IsProcessor plan s → IsCellOfSet (isa_of plan) c → IsPassenger (isa_of plan) p → IsProcessor plan (with_siding (with_cell s i (with_passenger c (back_in p answer))) k (set_last (siding_at s k) None))
+returned-kept : (plan : Plan) (s : State) (i : ℕ) (c : Cell) (p : Passenger) (k : ℕ) (answer : Option ℕ) → IsProcessor plan s → IsCellOfSet (isa_of plan) c →
+    IsPassenger (isa_of plan) p → IsProcessor plan (with_siding (with_cell s i (with_passenger c (back_in p answer))) k (set_last (siding_at s k) None))
 returned-kept plan s i c p k answer h stage rider =
     let q = back_in p answer in
     siding-kept plan (with_cell s i (with_passenger c q)) k (set_last (siding_at s k) None)

@@ -34,7 +34,8 @@ passenger-gone isa c h = record { passenger = tt; packet = h.packet; met = λ f.
 pub packet-gone : (isa : Isa) (c : Cell) → IsCellOfSet isa c → IsCellOfSet isa (without_packet c)
 packet-gone isa c h = record { passenger = h.passenger; packet = tt; met = λ f. absurd (cc) }
 
-pub passenger-new : (isa : Isa) (c : Cell) (o : Option Passenger) → IsCellOfSet isa c → IfSome o (IsPassenger isa) → IsCellOfSet isa (record c { passenger = o; met = false })
+pub passenger-new : (isa : Isa) (c : Cell) (o : Option Passenger) → IsCellOfSet isa c → IfSome o (IsPassenger isa) →
+    IsCellOfSet isa (record c { passenger = o; met = false })
 passenger-new isa c o h p = record { passenger = p; packet = h.packet; met = λ f. absurd (cc) }
 
 pub packet-new : (isa : Isa) (c : Cell) (o : Option Packet) → IsCellOfSet isa c → IfSome o IsPacket → IsCellOfSet isa (record c { packet = o; met = false })
@@ -78,7 +79,9 @@ fall-kept plan s i h =
     (packet-new (isa_of plan) d c.packet low high.packet)))
 
 -- a change of only the passenger of a stage
-pub change-kept : (plan : Plan) (s : State) (i : ℕ) (f : Cell → Passenger → State) → IsProcessor plan s → ((c : Cell) (p : Passenger) → IsCellOfSet (isa_of plan) c → c.passenger ≡ Some p → IsPassenger (isa_of plan) p → IsProcessor plan (f c p)) → IsProcessor plan (on (cell_at s.cells i) s (λ c. on c.passenger s (f c)))
+pub change-kept : (plan : Plan) (s : State) (i : ℕ) (f : Cell → Passenger → State) → IsProcessor plan s →
+    ((c : Cell) (p : Passenger) → IsCellOfSet (isa_of plan) c → c.passenger ≡ Some p → IsPassenger (isa_of plan) p → IsProcessor plan (f c p)) →
+    IsProcessor plan (on (cell_at s.cells i) s (λ c. on c.passenger s (f c)))
 change-kept plan s i f h g =
     kept-where plan s (cell_at s.cells i) _ h (λ c e. kept-where plan s c.passenger (f c) h (λ p there.
     let stage = stage-at plan s i c h e in
@@ -94,7 +97,8 @@ pub execute-kept : (plan : Plan) (s : State) (i : ℕ) → IsProcessor plan s �
 unfolding moved
 execute-kept plan s i h =
     change-kept plan s i _ h (λ c p stage there rider.
-    cell-kept plan s i (with_passenger c (finish p None)) h (passenger-changed (isa_of plan) c (finish p None) stage (finish-passenger (isa_of plan) p None rider)))
+    cell-kept plan s i (with_passenger c (finish p None)) h (passenger-changed (isa_of plan) c (finish p None) stage
+    (finish-passenger (isa_of plan) p None rider)))
 
 -- a passenger that owes nothing sends nothing
 send_owes : (c : Cell) (p : Passenger) → c.passenger ≡ Some p → send_bar c ≡ None → IsTrue (is_some p.owes)

@@ -17,14 +17,16 @@ use Rattle.cf_core.specs.Processors.{Processor}
 use Rattle.cf_core.specs.declared.marks.Marks.{Marks}
 
 -- a move is allowed where the processor goes on and its row is free
-pub allowed-as : (plan : Plan) (s : State) (mv : Move) (ended failed : Bool) → is_some s.ending ≡ ended → s.failed ≡ failed → is_allowed plan s mv ≡ ((not ended && not failed) && is_free plan s mv)
+pub allowed-as : (plan : Plan) (s : State) (mv : Move) (ended failed : Bool) → is_some s.ending ≡ ended → s.failed ≡ failed →
+    is_allowed plan s mv ≡ ((not ended && not failed) && is_free plan s mv)
 unfolding bar
 allowed-as plan s mv true f e g = rw e refl
 allowed-as plan s mv false true e g = rw (e, g) refl
 allowed-as plan s mv false false e g = rw (e, g) refl
 
 -- the word of a test where the processor goes on
-chosen : (plan : Plan) (s : State) (kind : ℕ → Move) (n : ℕ) (goes_on : Bool) → ((i : ℕ) → is_allowed plan s (kind i) ≡ (goes_on && is_free plan s (kind i))) → word_of (λ i. is_allowed plan s (kind i)) n ≡ (if goes_on then word_of (λ i. is_free plan s (kind i)) n else 0)
+chosen : (plan : Plan) (s : State) (kind : ℕ → Move) (n : ℕ) (goes_on : Bool) → ((i : ℕ) → is_allowed plan s (kind i) ≡ (goes_on && is_free plan s (kind i))) →
+    word_of (λ i. is_allowed plan s (kind i)) n ≡ (if goes_on then word_of (λ i. is_free plan s (kind i)) n else 0)
 chosen plan s kind n true same = word-agrees (λ i. is_allowed plan s (kind i)) (λ i. is_free plan s (kind i)) n (λ i low high. same i)
 chosen plan s kind n false same = word-agrees (λ i. is_allowed plan s (kind i)) (λ i. false) n (λ i low high. same i) ∙ word-none n
 
@@ -58,9 +60,11 @@ masks-are plan s marks goes_on is on =
     })
 
 -- the words that are seen, from what was read
-pub masks-seen : (p : Processor) (cells : List Cell) (marks : Marks) (goes_on : Bool) (riding flying met execute launch recover : ℕ) → marks ≡ marks_of p.plan p.state → goes_on ≡ (not (is_some p.state.ending) && not p.state.failed) → cells ≡ p.state.cells →
+pub masks-seen : (p : Processor) (cells : List Cell) (marks : Marks) (goes_on : Bool) (riding flying met execute launch recover : ℕ) →
+    marks ≡ marks_of p.plan p.state → goes_on ≡ (not (is_some p.state.ending) && not p.state.failed) → cells ≡ p.state.cells →
     riding ≡ passenger_word cells → flying ≡ packet_word cells → met ≡ met_word cells →
     execute ≡ (if goes_on then marks.execute else 0) → launch ≡ (if goes_on then marks.launch else 0) → recover ≡ (if goes_on then marks.recover else 0) →
-    record { passengers = riding; packets = flying; met = met; owes = marks.owes; stops = marks.stops; execute = execute; launch = launch; recover = recover } ≡ masks_of p.plan p.state
+    record { passengers = riding; packets = flying; met = met; owes = marks.owes; stops = marks.stops; execute = execute; launch = launch; recover = recover }
+    ≡ masks_of p.plan p.state
 masks-seen p cells marks goes_on riding flying met execute launch recover is on same a b c e l r =
     rw (a, b, c, e, l, r, same) (masks-are p.plan p.state marks goes_on is on)

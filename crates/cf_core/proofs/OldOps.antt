@@ -32,14 +32,17 @@ pub slide-cells : (plan : Plan) (s : State) (k c : ℕ) → row_bar plan s (Slid
 slide-cells plan s k c free = slides_within (siding_at s k) c (slice_get (siding_at s k) (c + 1)) refl free
 
 pub slide-few : (plan : Plan) (s : State) (k c : ℕ) → IsProcessor plan s → row_bar plan s (Slide k c) ≡ None → c + 1 ≤ 8
-slide-few plan s k c h free = let within = slide-cells plan s k c free in let n = length-siding plan s k h in let few = few-cells plan k h.accepted in omega (arith, within, n, few)
+slide-few plan s k c h free = let within = slide-cells plan s k c free in let n = length-siding plan s k h in let few = few-cells plan k h.accepted in
+    omega (arith, within, n, few)
 
 -- of a passenger that launches or recovers: those of its siding
-passengers_siding : (plan : Plan) (s : State) (k : ℕ) (o : Option Passenger) → IsProcessor plan s → on o None (λ p. siding_of plan (kind p)) ≡ Some k → (k < length plan.sidings) × (0 < length (siding_at s k))
+passengers_siding : (plan : Plan) (s : State) (k : ℕ) (o : Option Passenger) → IsProcessor plan s → on o None (λ p. siding_of plan (kind p)) ≡ Some k →
+    (k < length plan.sidings) × (0 < length (siding_at s k))
 passengers_siding plan s k None h e = absurd (cc)
 passengers_siding plan s k (Some p) h e = ((siding_found plan (kind p) k e).0, siding-cells plan s (kind p) k h e)
 
-there_siding : (plan : Plan) (s : State) (k : ℕ) (o : Option Cell) → IsProcessor plan s → on o None (λ c. on c.passenger None (λ p. siding_of plan (kind p))) ≡ Some k → (k < length plan.sidings) × (0 < length (siding_at s k))
+there_siding : (plan : Plan) (s : State) (k : ℕ) (o : Option Cell) → IsProcessor plan s → on o None (λ c. on c.passenger None (λ p. siding_of plan (kind p)))
+    ≡ Some k → (k < length plan.sidings) × (0 < length (siding_at s k))
 there_siding plan s k None h e = absurd (cc)
 there_siding plan s k (Some c) h e = passengers_siding plan s k c.passenger h e
 
@@ -50,12 +53,15 @@ pub there-cells : (plan : Plan) (s : State) (i k : ℕ) → IsProcessor plan s �
 there-cells plan s i k h e = (there_siding plan s k (cell_at s.cells i) h (sym e)).1
 
 -- the operation at the end of Memory's siding
-op_is_memory : (plan : Plan) (s : State) (op : Op) → IsProcessor plan s → siding_of plan (class_of op.instr) ≡ Some (port plan) → class_of op.instr ≡ MemoryClass
+op_is_memory : (plan : Plan) (s : State) (op : Op) → IsProcessor plan s → siding_of plan (class_of op.instr) ≡ Some (port plan) →
+    class_of op.instr ≡ MemoryClass
 op_is_memory plan s op h e = memory_alone plan h.accepted (port plan) (class_of op.instr) (memory-port plan h.accepted) e
 
-op_in_port : (plan : Plan) (s : State) (op : Op) (o : Option Op) → IsProcessor plan s → IfSome o (IsOp plan (bounds_of s.mem) (port plan)) → Some op ≡ o → class_of op.instr ≡ MemoryClass
+op_in_port : (plan : Plan) (s : State) (op : Op) (o : Option Op) → IsProcessor plan s → IfSome o (IsOp plan (bounds_of s.mem) (port plan)) → Some op ≡ o →
+    class_of op.instr ≡ MemoryClass
 unfolding kind_of
 op_in_port plan s op o h facts e = op_is_memory plan s op h (subst (λ (q : Option Op). IfSome q (IsOp plan (bounds_of s.mem) (port plan))) (sym e) facts).siding
 
 pub port-op : (plan : Plan) (s : State) (op : Op) → IsProcessor plan s → Some op ≡ last_op (siding_at s (port plan)) → class_of op.instr ≡ MemoryClass
-port-op plan s op h e = op_in_port plan s op (last_op (siding_at s (port plan))) h (last-all (IsOp plan (bounds_of s.mem) (port plan)) (siding_at s (port plan)) (h.ops (port plan))) e
+port-op plan s op h e = op_in_port plan s op (last_op (siding_at s (port plan))) h (last-all (IsOp plan (bounds_of s.mem) (port plan)) (siding_at s (port plan))
+    (h.ops (port plan))) e

@@ -42,12 +42,27 @@ cells_laid [] = refl
 cells_laid (s ∷ ss) = rw (cells_empty s, cells_laid ss) refl
 
 -- no cell of them holds an operation
-none_holds : (plan : Plan) (bounds : List Bounds) (n : ℕ) (sidings : List SidingPlan) (k : ℕ) → AreOps plan bounds n (on (slice_get (map empty_siding sidings) k) [] (λ ops. ops))
+none_holds : (plan : Plan) (bounds : List Bounds) (n : ℕ) (sidings : List SidingPlan) (k : ℕ) →
+    AreOps plan bounds n (on (slice_get (map empty_siding sidings) k) [] (λ ops. ops))
 none_holds plan bounds n [] k = All-nil (λ (o : Option Op). IfSome o (IsOp plan bounds n))
 none_holds plan bounds n (s ∷ ss) zero = All-replicate (λ (o : Option Op). IfSome o (IsOp plan bounds n)) s.cells None tt
 none_holds plan bounds n (s ∷ ss) (suc k) = none_holds plan bounds n ss k
 
-pub opened-processor : (plan : Plan) (fetch : Fetch) (cache : List (Option ℕ)) (regs : List ℕ) (mem : Memory) (retired : ℕ) (ending : Option End) (failed : Bool) → IsAccepted plan → IsProcessor plan (record { cells = replicate plan.stages empty_cell; sidings = empty_sidings plan; lane = []; fetch = fetch; cache = cache; regs = regs; mem = mem; retired = retired; ending = ending; failed = failed })
+pub opened-processor : (plan : Plan) (fetch : Fetch) (cache : List (Option ℕ)) (regs : List ℕ) (mem : Memory) (retired : ℕ) (ending : Option End)
+    (failed : Bool) → IsAccepted plan →
+    IsProcessor plan (record {
+      cells = replicate plan.stages empty_cell;
+      sidings = empty_sidings plan;
+      lane = [];
+      fetch = fetch;
+      cache = cache;
+      regs = regs;
+      mem = mem;
+      retired =
+          retired;
+      ending = ending;
+      failed = failed;
+    })
 unfolding empty_sidings
 opened-processor plan fetch cache regs mem retired ending failed acc = record {
   accepted = acc;
@@ -59,8 +74,10 @@ opened-processor plan fetch cache regs mem retired ending failed acc = record {
 }
 
 -- so it does of each whose stages, sidings and lane are empty
-pub opened-is : (plan : Plan) (s : State) → IsAccepted plan → s.cells ≡ replicate plan.stages empty_cell → s.sidings ≡ empty_sidings plan → s.lane ≡ [] → IsProcessor plan s
-opened-is plan s acc stages sidings lane = rw (← stages, ← sidings, ← lane) at (opened-processor plan s.fetch s.cache s.regs s.mem s.retired s.ending s.failed acc)
+pub opened-is : (plan : Plan) (s : State) → IsAccepted plan → s.cells ≡ replicate plan.stages empty_cell → s.sidings ≡ empty_sidings plan → s.lane ≡ [] →
+    IsProcessor plan s
+opened-is plan s acc stages sidings lane = rw (← stages, ← sidings, ← lane) at (opened-processor plan s.fetch s.cache s.regs s.mem s.retired s.ending s.failed
+    acc)
 
 pub ruleset opening = (opened-processor)
 
@@ -78,11 +95,14 @@ nothing_at plan s n i (Some c) e here =
     only_empty (suc n) (suc zero) c g = cc
     only_empty (suc n) (suc (suc k)) c g = only_empty n (suc k) c g
 
-nowhere : (plan : Plan) (s : State) (field : StageMark → Bool) → field no_mark ≡ false → s.cells ≡ replicate plan.stages empty_cell → 0 ≡ word_of (λ i. field (mark_at plan s i)) plan.stages
+nowhere : (plan : Plan) (s : State) (field : StageMark → Bool) → field no_mark ≡ false → s.cells ≡ replicate plan.stages empty_cell →
+    0 ≡ word_of (λ i. field (mark_at plan s i)) plan.stages
 nowhere plan s field off e =
-    sym (word-agrees (λ i. field (mark_at plan s i)) (λ i. false) plan.stages (λ i low high. ap field (nothing_at plan s plan.stages i (cell_at s.cells i) e refl) ∙ off) ∙ word-none plan.stages)
+    sym (word-agrees (λ i. field (mark_at plan s i)) (λ i. false) plan.stages (λ i low high. ap field
+    (nothing_at plan s plan.stages i (cell_at s.cells i) e refl) ∙ off) ∙ word-none plan.stages)
 
-pub opened-marks : (plan : Plan) (s : State) → s.cells ≡ replicate plan.stages empty_cell → record { owes = 0; stops = 0; execute = 0; launch = 0; recover = 0 } ≡ marks_of plan s
+pub opened-marks : (plan : Plan) (s : State) → s.cells ≡ replicate plan.stages empty_cell →
+    record { owes = 0; stops = 0; execute = 0; launch = 0; recover = 0 } ≡ marks_of plan s
 unfolding marks_of
 opened-marks plan s e =
     let owes = nowhere plan s (λ m. m.owes) refl e in

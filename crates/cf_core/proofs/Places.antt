@@ -99,7 +99,8 @@ old_cell plan s c h e =
       met = (cell-stage (isa_of plan) s.cells c.stage c.cell h.cells (sym e)).met;
     }
 
-old_cells : (plan : Plan) (s : State) (mv : Move) (few : Few OldCell) → IsProcessor plan s → map cell_kept (listed few) ≡ kept_cells plan s mv → Each (IsOldCell plan.stages) few
+old_cells : (plan : Plan) (s : State) (mv : Move) (few : Few OldCell) → IsProcessor plan s → map cell_kept (listed few) ≡ kept_cells plan s mv →
+    Each (IsOldCell plan.stages) few
 old_cells plan s mv few h e =
     each_weaker (λ c. StandsIn s (cell_kept c)) (IsOldCell plan.stages) few (λ c stands. old_cell plan s c h stands)
     (each_held cell_kept (StandsIn s) few (subst (Holds (StandsIn s)) (sym e) (cells_stand plan s mv)))
@@ -158,14 +159,16 @@ first_below : (l : List ℕ) (r : ℕ) (rest : List ℕ) → All IsWritable l �
 first_below [] r rest all e = absurd (cc)
 first_below (x ∷ xs) r rest all e = let is : r ≡ x = cc in let w = (all 0 x (omega arith)).1 in rw is w
 
-fits_lane : (p : Processor) (l : OldLane) (before : List ℕ) → All IsWritable before → length before ≤ p.plan.lane → lane_back (lane_kept l) p.state.lane ≡ before → FitsLane p l
+fits_lane : (p : Processor) (l : OldLane) (before : List ℕ) → All IsWritable before → length before ≤ p.plan.lane →
+    lane_back (lane_kept l) p.state.lane ≡ before → FitsLane p l
 fits_lane p old.Same before all room e = tt
 fits_lane p (old.Taken r) before all room e =
     let long : suc (length p.state.lane) ≡ length before = ap length e in
     (first_below before r p.state.lane all e, omega (arith, long, room))
 fits_lane p (old.Added n) before all room e = tt
 
-dst_register : (s : State) (d : Option Binding) → IfSome d IsBinding → IfSome {T = KeptRegister} (on (reg_in d) None (λ r. Some (record { reg = r; value = slice_index s.regs r }))) (λ k. IsWritable k.reg)
+dst_register : (s : State) (d : Option Binding) → IfSome d IsBinding → IfSome {T = KeptRegister}
+    (on (reg_in d) None (λ r. Some (record { reg = r; value = slice_index s.regs r }))) (λ k. IsWritable k.reg)
 dst_register s None h = tt
 dst_register s (Some b) h = h
 
@@ -203,8 +206,10 @@ can-return p u now h =
     let k = h.is in
     record {
       cells = subst (λ (n : ℕ). Each (IsOldCell n) u.cells) (sym now.stages) (old_cells p.plan s mv u.cells h.stood.facts (ap (λ (x : Kept). x.cells) k));
-      ops = subst (λ (sizes : List ℕ). Each (IsOldOp sizes) u.ops) (same_sizes p.plan s p.state h.stood.facts now) (old_ops p.plan s mv u.ops (ap (λ (x : Kept). x.ops) k));
+      ops = subst (λ (sizes : List ℕ). Each (IsOldOp sizes) u.ops) (same_sizes p.plan s p.state h.stood.facts now)
+          (old_ops p.plan s mv u.ops (ap (λ (x : Kept). x.ops) k));
       lane = fits_lane p u.lane s.lane h.stood.facts.lane h.stood.room (ap (λ (t : State). t.lane) (earlier-restored p (kept_by u) h));
       zero = subst (λ (l : List (Option ℕ)). slice_get l 0 ≡ Some None) (sym (ap (λ (x : Kept). x.cache) k)) h.stood.zero;
-      register = old_writable u.register (subst (λ (o : Option KeptRegister). IfSome o (λ r. IsWritable r.reg)) (sym (ap (λ (x : Kept). x.register) k)) (kept_writable p.plan s mv h.stood.facts));
+      register = old_writable u.register (subst (λ (o : Option KeptRegister). IfSome o (λ r. IsWritable r.reg)) (sym (ap (λ (x : Kept). x.register) k))
+          (kept_writable p.plan s mv h.stood.facts));
     }

@@ -50,11 +50,14 @@ ready plan mem op a h e =
     record { memory = m; unanswered = e; permitted = h.permitted (rw m refl) }
 
 -- and it can be made where nothing bars that
-ready_last : (plan : Plan) (mem : Memory) (o : Option Op) → IsAccepted plan → IfSome o (IsOp plan (bounds_of mem) (port plan)) → access_bar o ≡ None → CanAccess o mem
+ready_last : (plan : Plan) (mem : Memory) (o : Option Op) → IsAccepted plan → IfSome o (IsOp plan (bounds_of mem) (port plan)) → access_bar o ≡ None →
+    CanAccess o mem
 ready_last plan mem None a h e = absurd (cc)
 ready_last plan mem (Some op) a h e = ready plan mem op a h (grind arith)
 
-pub port-ready : (plan : Plan) (s : State) (k : ℕ) (sidings : List (List (Option Op))) (mem : Memory) → IsProcessor plan s → row_bar plan s Access ≡ None → k ≡ port plan → sidings ≡ s.sidings → mem ≡ s.mem → CanAccess (last_in sidings k) mem
-port-ready plan s k sidings mem h e at same kept = rw (at, same, kept) (ready_last plan s.mem (last_op (siding_at s (port plan))) h.accepted (last-all (IsOp plan (bounds_of s.mem) (port plan)) (siding_at s (port plan)) (h.ops (port plan))) e)
+pub port-ready : (plan : Plan) (s : State) (k : ℕ) (sidings : List (List (Option Op))) (mem : Memory) → IsProcessor plan s → row_bar plan s Access ≡ None →
+    k ≡ port plan → sidings ≡ s.sidings → mem ≡ s.mem → CanAccess (last_in sidings k) mem
+port-ready plan s k sidings mem h e at same kept = rw (at, same, kept) (ready_last plan s.mem (last_op (siding_at s (port plan))) h.accepted
+    (last-all (IsOp plan (bounds_of s.mem) (port plan)) (siding_at s (port plan)) (h.ops (port plan))) e)
 
 pub ruleset ported = (port-cells, siding-cells, port-ready)

@@ -12,7 +12,8 @@ use Rattle.cf_core.specs.Stepping.{Makes}
 abbrev pub with_rest : Processor → List ℕ → Moment
 with_rest p rest = record { state = p.state; rest = rest; output = [] }
 
-pub still-makes : (old new : Processor) (mv : Move) (streams : Streams) → ((rest : List ℕ) → next old.plan (with_rest old rest) mv ≡ with_rest new rest) → new.plan ≡ old.plan → Makes old new mv streams streams
+pub still-makes : (old new : Processor) (mv : Move) (streams : Streams) → ((rest : List ℕ) → next old.plan (with_rest old rest) mv ≡ with_rest new rest) →
+    new.plan ≡ old.plan → Makes old new mv streams streams
 still-makes old new mv streams is plan = record {
   rest = some_rest streams.input;
   told = rest-told streams.input;

@@ -14,7 +14,8 @@ unanswered : (b : Bool) (answer : Option ℕ) → (b && not (is_some answer)) �
 unanswered true answer e n = grind arith
 unanswered false answer e n = refl
 
-pub computed : (plan : Plan) (c : Class) (k : ℕ) (answer : Option ℕ) → IsAccepted plan → siding_of plan c ≡ Some k → (is_memory c && not (is_some answer)) ≡ false → IfNone answer (IsTrue (computes c))
+pub computed : (plan : Plan) (c : Class) (k : ℕ) (answer : Option ℕ) → IsAccepted plan → siding_of plan c ≡ Some k →
+    (is_memory c && not (is_some answer)) ≡ false → IfNone answer (IsTrue (computes c))
 computed plan c k (Some v) a e h = tt
 computed plan c k None a e h = siding-computes plan c k a e (unanswered (is_memory c) None h refl)
 

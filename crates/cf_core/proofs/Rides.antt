@@ -28,19 +28,22 @@ here-by (Some c) p e = (c, refl, e)
 sources_row : (p : Passenger) (rest : Option Bar) → not (is_some (source_bar p rest)) ≡ (has_sources p && not (is_some rest))
 sources_row p rest = by (missing p.src1) (missing p.src2)
   where
-    by : (a b : Option ℕ) → not (is_some (on a (on b rest (λ r. Some (SourceMissing r))) (λ r. Some (SourceMissing r)))) ≡ (not (is_some (on a b Some)) && not (is_some rest))
+    by : (a b : Option ℕ) → not (is_some (on a (on b rest (λ r. Some (SourceMissing r))) (λ r. Some (SourceMissing r))))
+        ≡ (not (is_some (on a b Some)) && not (is_some rest))
     by None None = refl
     by None (Some r) = refl
     by (Some r) b = refl
 
-execute_row : (dead done unit : Bool) (rest : Option Bar) (known : Bool) → not (is_some rest) ≡ known → not (is_some (first dead Dead (first done AlreadyDone (first (not unit) NoUnit rest)))) ≡ ((not dead && not done) && (unit && known))
+execute_row : (dead done unit : Bool) (rest : Option Bar) (known : Bool) → not (is_some rest) ≡ known →
+    not (is_some (first dead Dead (first done AlreadyDone (first (not unit) NoUnit rest)))) ≡ ((not dead && not done) && (unit && known))
 execute_row true done unit rest known e = refl
 execute_row false true unit rest known e = refl
 execute_row false false false rest known e = refl
 execute_row false false true rest known e = e
 
 launch_row : (dead done launched site full : Bool) (rest : Option Bar) (free : Bool) → not (is_some rest) ≡ free →
-    not (is_some (first dead Dead (first (done || launched) AlreadyDone (first (not site) NoUnit (first full NotMet rest))))) ≡ (((not dead && not done) && (not launched && site)) && (not full && free))
+    not (is_some (first dead Dead (first (done || launched) AlreadyDone (first (not site) NoUnit (first full NotMet rest)))))
+    ≡ (((not dead && not done) && (not launched && site)) && (not full && free))
 launch_row true done launched site full rest free e = refl
 launch_row false true launched site full rest free e = refl
 launch_row false false true site full rest free e = refl
@@ -48,7 +51,8 @@ launch_row false false false false full rest free e = refl
 launch_row false false false true true rest free e = refl
 launch_row false false false true false rest free e = e
 
-recover_row : (site launched recovered : Bool) (rest : Option Bar) → not (is_some (first (not site) NoUnit (first (not launched || recovered) AlreadyDone rest))) ≡ (((launched && not recovered) && site) && not (is_some rest))
+recover_row : (site launched recovered : Bool) (rest : Option Bar) →
+    not (is_some (first (not site) NoUnit (first (not launched || recovered) AlreadyDone rest))) ≡ (((launched && not recovered) && site) && not (is_some rest))
 recover_row false false recovered rest = refl
 recover_row false true false rest = refl
 recover_row false true true rest = refl
@@ -60,17 +64,20 @@ always : (b : Bool) → b ≡ (b && true)
 always true = refl
 always false = refl
 
-pub execute-free : (plan : Plan) (s : State) (i : ℕ) (p : Passenger) → passenger_at s.cells i ≡ Some p → is_free plan s (Execute i) ≡ (is_undone p && (unit_at plan (kind p) i && has_sources p))
+pub execute-free : (plan : Plan) (s : State) (i : ℕ) (p : Passenger) → passenger_at s.cells i ≡ Some p →
+    is_free plan s (Execute i) ≡ (is_undone p && (unit_at plan (kind p) i && has_sources p))
 execute-free plan s i p e =
     let h = here-by (cell_at s.cells i) p e in
     rw (h.1, h.2) (execute_row p.dead p.done (unit_at plan (kind p) i) (source_bar p None) (has_sources p) (sources_row p None ∙ sym (always (has_sources p))))
 
 pub launch-free : (plan : Plan) (s : State) (i k : ℕ) (p : Passenger) → passenger_at s.cells i ≡ Some p → siding_of plan (kind p) ≡ Some k →
-    is_free plan s (Launch i) ≡ ((is_undone p && (not p.launched && (launch_stage plan k == i))) && (not (is_memory (kind p) && is_full_at s.cells i) && (has_sources p && not (is_some (entry_bar plan s p)))))
+    is_free plan s (Launch i) ≡ ((is_undone p && (not p.launched && (launch_stage plan k == i)))
+    && (not (is_memory (kind p) && is_full_at s.cells i) && (has_sources p && not (is_some (entry_bar plan s p)))))
 launch-free plan s i k p e at =
     let h = here-by (cell_at s.cells i) p e in
     let site : launches plan (kind p) i ≡ (launch_stage plan k == i) = rw at refl in
-    rw (h.1, h.2, site) (launch_row p.dead p.done p.launched (launch_stage plan k == i) (is_memory (kind p) && is_full (record h.0 { passenger = Some p })) (source_bar p (entry_bar plan s p)) (has_sources p && not (is_some (entry_bar plan s p))) (sources_row p (entry_bar plan s p)))
+    rw (h.1, h.2, site) (launch_row p.dead p.done p.launched (launch_stage plan k == i) (is_memory (kind p) && is_full (record h.0 { passenger = Some p }))
+    (source_bar p (entry_bar plan s p)) (has_sources p && not (is_some (entry_bar plan s p))) (sources_row p (entry_bar plan s p)))
 
 pub recover-free : (plan : Plan) (s : State) (i k : ℕ) (p : Passenger) → passenger_at s.cells i ≡ Some p → siding_of plan (kind p) ≡ Some k →
     is_free plan s (Recover i) ≡ ((is_out p && (recover_stage plan k == i)) && not (is_some (exit_op_bar plan s p)))
@@ -90,7 +97,8 @@ stops-siding plan s i k p e at =
     let h = here-by (cell_at s.cells i) p e in
     rw (h.1, h.2, at) (ap (λ (b : Bool). (is_out p && (recover_stage plan k == i)) || b) (in_turn (is_undone p) (not p.launched) (launch_stage plan k == i)))
 
-by_units : (launched back undone ends : Bool) → ((launched && back && false) || (undone && not launched && (ends || false))) ≡ (undone && (not launched && ends))
+by_units : (launched back undone ends : Bool) → ((launched && back && false) || (undone && not launched && (ends || false)))
+    ≡ (undone && (not launched && ends))
 by_units false back false ends = refl
 by_units false back true true = refl
 by_units false back true false = refl
@@ -106,19 +114,23 @@ stops-units plan s i p e at =
     rw (h.1, h.2, at) (by_units p.launched (not p.recovered) (is_undone p) (last_stage plan (kind p) == i))
 
 -- without a siding nothing is launched and nothing comes back
-no_launch : (dead done launched full : Bool) (rest : Option Bar) → not (is_some (first dead Dead (first (done || launched) AlreadyDone (first true NoUnit (first full NotMet rest))))) ≡ false
+no_launch : (dead done launched full : Bool) (rest : Option Bar) →
+    not (is_some (first dead Dead (first (done || launched) AlreadyDone (first true NoUnit (first full NotMet rest))))) ≡ false
 no_launch true done launched full rest = refl
 no_launch false true launched full rest = refl
 no_launch false false true full rest = refl
 no_launch false false false full rest = refl
 
-pub launch-none : (plan : Plan) (s : State) (i : ℕ) (p : Passenger) → passenger_at s.cells i ≡ Some p → siding_of plan (kind p) ≡ None → false ≡ is_free plan s (Launch i)
+pub launch-none : (plan : Plan) (s : State) (i : ℕ) (p : Passenger) → passenger_at s.cells i ≡ Some p → siding_of plan (kind p) ≡ None →
+    false ≡ is_free plan s (Launch i)
 launch-none plan s i p e at =
     let h = here-by (cell_at s.cells i) p e in
     let site : launches plan (kind p) i ≡ false = rw at refl in
-    rw (h.1, h.2, site) (sym (no_launch p.dead p.done p.launched (is_memory (kind p) && is_full (record h.0 { passenger = Some p })) (source_bar p (entry_bar plan s p))))
+    rw (h.1, h.2, site) (sym (no_launch p.dead p.done p.launched (is_memory (kind p) && is_full (record h.0 { passenger = Some p }))
+    (source_bar p (entry_bar plan s p))))
 
-pub recover-none : (plan : Plan) (s : State) (i : ℕ) (p : Passenger) → passenger_at s.cells i ≡ Some p → siding_of plan (kind p) ≡ None → false ≡ is_free plan s (Recover i)
+pub recover-none : (plan : Plan) (s : State) (i : ℕ) (p : Passenger) → passenger_at s.cells i ≡ Some p → siding_of plan (kind p) ≡ None →
+    false ≡ is_free plan s (Recover i)
 recover-none plan s i p e at =
     let h = here-by (cell_at s.cells i) p e in
     let site : recovers plan (kind p) i ≡ false = rw at refl in
@@ -128,7 +140,8 @@ pub owes-here : (s : State) (i : ℕ) (p : Passenger) → passenger_at s.cells i
 owes-here s i p e = let h = here-by (cell_at s.cells i) p e in rw (h.1, h.2) refl
 
 -- and where there is no passenger
-none_row : (o : Option Cell) (row : Cell → Option Bar) → ((c : Cell) → c.passenger ≡ None → row c ≡ Some NoPassenger) → on o None (λ c. c.passenger) ≡ None → false ≡ not (is_some (on o (Some NoSuchSite) row))
+none_row : (o : Option Cell) (row : Cell → Option Bar) → ((c : Cell) → c.passenger ≡ None → row c ≡ Some NoPassenger) → on o None (λ c. c.passenger) ≡ None →
+    false ≡ not (is_some (on o (Some NoSuchSite) row))
 none_row None row bars e = refl
 none_row (Some c) row bars e = rw (bars c e) refl
 
@@ -148,7 +161,8 @@ mark-none plan s i e =
     λ x. record { owes = owes x; stops = stops x; execute = execute x; launch = launch x; recover = recover x }
 
 -- and of one with which no unit and no siding has anything left to do
-idle_parts : (dead done launched recovered : Bool) → (not (not dead && not done) && not (launched && not recovered)) ≡ true → ((not dead && not done) ≡ false) × ((launched && not recovered) ≡ false)
+idle_parts : (dead done launched recovered : Bool) → (not (not dead && not done) && not (launched && not recovered)) ≡ true →
+    ((not dead && not done) ≡ false) × ((launched && not recovered) ≡ false)
 idle_parts false false launched recovered e = absurd (cc)
 idle_parts true done true false e = absurd (cc)
 idle_parts false true true false e = absurd (cc)
@@ -157,23 +171,27 @@ idle_parts false true false recovered e = (refl, refl)
 idle_parts true done true true e = (refl, refl)
 idle_parts false true true true e = (refl, refl)
 
-no_unit : (dead done unit : Bool) (rest : Option Bar) → (not dead && not done) ≡ false → false ≡ not (is_some (first dead Dead (first done AlreadyDone (first (not unit) NoUnit rest))))
+no_unit : (dead done unit : Bool) (rest : Option Bar) → (not dead && not done) ≡ false → false
+    ≡ not (is_some (first dead Dead (first done AlreadyDone (first (not unit) NoUnit rest))))
 no_unit true done unit rest e = refl
 no_unit false true unit rest e = refl
 no_unit false false unit rest e = absurd (cc)
 
-no_entry : (dead done launched site full : Bool) (rest : Option Bar) → (not dead && not done) ≡ false → false ≡ not (is_some (first dead Dead (first (done || launched) AlreadyDone (first (not site) NoUnit (first full NotMet rest)))))
+no_entry : (dead done launched site full : Bool) (rest : Option Bar) → (not dead && not done) ≡ false →
+    false ≡ not (is_some (first dead Dead (first (done || launched) AlreadyDone (first (not site) NoUnit (first full NotMet rest)))))
 no_entry true done launched site full rest e = refl
 no_entry false true launched site full rest e = refl
 no_entry false false launched site full rest e = absurd (cc)
 
-no_exit : (site launched recovered : Bool) (rest : Option Bar) → (launched && not recovered) ≡ false → false ≡ not (is_some (first (not site) NoUnit (first (not launched || recovered) AlreadyDone rest)))
+no_exit : (site launched recovered : Bool) (rest : Option Bar) → (launched && not recovered) ≡ false →
+    false ≡ not (is_some (first (not site) NoUnit (first (not launched || recovered) AlreadyDone rest)))
 no_exit site launched recovered rest e = rw (recover_row site launched recovered rest, e) refl
 
 no_stop : (out back undone launched site : Bool) → out ≡ false → undone ≡ false → false ≡ ((out && back) || (undone && not launched && site))
 no_stop out back undone launched site e f = rw (e, f) refl
 
-pub mark-idle : (plan : Plan) (s : State) (i : ℕ) (p : Passenger) → passenger_at s.cells i ≡ Some p → is_idle p ≡ true → record no_mark { owes = is_some p.owes } ≡ mark_at plan s i
+pub mark-idle : (plan : Plan) (s : State) (i : ℕ) (p : Passenger) → passenger_at s.cells i ≡ Some p → is_idle p ≡ true →
+    record no_mark { owes = is_some p.owes } ≡ mark_at plan s i
 unfolding mark_at
 mark-idle plan s i p e idle =
     let h = here-by (cell_at s.cells i) p e in
@@ -181,8 +199,10 @@ mark-idle plan s i p e idle =
     let owes = owes-here s i p e in
     let stops : false ≡ stops_there plan s i = rw (h.1, h.2) (no_stop (is_out p) (recovers plan (kind p) i) (is_undone p) p.launched _ parts.1 parts.0) in
     let execute : false ≡ is_free plan s (Execute i) = rw (h.1, h.2) (no_unit p.dead p.done (unit_at plan (kind p) i) (source_bar p None) parts.0) in
-    let launch : false ≡ is_free plan s (Launch i) = rw (h.1, h.2) (no_entry p.dead p.done p.launched (launches plan (kind p) i) (is_memory (kind p) && is_full (record h.0 { passenger = Some p })) (source_bar p (entry_bar plan s p)) parts.0) in
-    let recover : false ≡ is_free plan s (Recover i) = rw (h.1, h.2) (no_exit (recovers plan (kind p) i) p.launched p.recovered (exit_op_bar plan s p) parts.1) in
+    let launch : false ≡ is_free plan s (Launch i) = rw (h.1, h.2) (no_entry p.dead p.done p.launched (launches plan (kind p) i) (is_memory (kind p)
+    && is_full (record h.0 { passenger = Some p })) (source_bar p (entry_bar plan s p)) parts.0) in
+    let recover : false ≡ is_free plan s (Recover i) = rw (h.1, h.2) (no_exit (recovers plan (kind p) i) p.launched p.recovered (exit_op_bar plan s p) parts.1)
+    in
     λ x. record { owes = (sym owes) x; stops = stops x; execute = execute x; launch = launch x; recover = recover x }
 
 pub ruleset execute_free = (execute-free)

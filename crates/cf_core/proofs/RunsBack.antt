@@ -11,7 +11,8 @@ use Rattle.cf_semantics.specs.runs.Runs.{IsRun, run}
 use Rattle.cf_semantics.specs.state.State.{Moment}
 use Rattle.cf_core.specs.Undo.{all_taken_back, kept_along}
 
-pub run-back : (plan : Plan) (m : Moment) (moves : List Move) → IsRun plan m moves → All (λ mv. mv ≢ Serve) moves → all_taken_back (run plan m moves) (kept_along plan m moves) ≡ m
+pub run-back : (plan : Plan) (m : Moment) (moves : List Move) → IsRun plan m moves → All (λ mv. mv ≢ Serve) moves →
+    all_taken_back (run plan m moves) (kept_along plan m moves) ≡ m
 unfolding IsRun run kept_along all_taken_back
 run-back plan m [] runs other = refl
 run-back plan m (mv ∷ moves) runs other =

@@ -52,13 +52,15 @@ on_same None d f g same = refl
 on_same (Some a) d f g same = same a
 
 -- where no siding of the class launches, the first cell does not matter
-no_launch : (a b l m : Bool) (r q : Option Bar) → l ≡ false → first_of ((a, Dead) ∷ (b, AlreadyDone) ∷ (not l, NoUnit) ∷ (m, NotMet) ∷ []) r ≡ first_of ((a, Dead) ∷ (b, AlreadyDone) ∷ (not l, NoUnit) ∷ (m, NotMet) ∷ []) q
+no_launch : (a b l m : Bool) (r q : Option Bar) → l ≡ false → first_of ((a, Dead) ∷ (b, AlreadyDone) ∷ (not l, NoUnit) ∷ (m, NotMet) ∷ []) r
+    ≡ first_of ((a, Dead) ∷ (b, AlreadyDone) ∷ (not l, NoUnit) ∷ (m, NotMet) ∷ []) q
 no_launch true b l m r q e = refl
 no_launch false true l m r q e = refl
 no_launch false false l m r q e = rw e refl
 
 -- where none recovers, the last does not
-no_return : (l b : Bool) (r q : Option Bar) → l ≡ false → first_of ((not l, NoUnit) ∷ (b, AlreadyDone) ∷ []) r ≡ first_of ((not l, NoUnit) ∷ (b, AlreadyDone) ∷ []) q
+no_return : (l b : Bool) (r q : Option Bar) → l ≡ false → first_of ((not l, NoUnit) ∷ (b, AlreadyDone) ∷ []) r
+    ≡ first_of ((not l, NoUnit) ∷ (b, AlreadyDone) ∷ []) q
 no_return l b r q e = rw e refl
 
 -- the rows of Launch and Recover for a passenger
@@ -81,7 +83,8 @@ other_siding s k h ops off = put_other s.sidings k h ops off
 elsewhere : (a b : ℕ) → b ≢ a → (a == b) ≡ false
 elsewhere a b off = grind (arith, nat_tests)
 
-launch_row_same : (plan : Plan) (s : State) (k : ℕ) (ops : List (Option Op)) (c : Cell) (j : ℕ) (p : Passenger) → j ≢ launch_stage plan k → (h : Option ℕ) → siding_of plan (kind p) ≡ h → launch_row plan (with_siding s k ops) c j p ≡ launch_row plan s c j p
+launch_row_same : (plan : Plan) (s : State) (k : ℕ) (ops : List (Option Op)) (c : Cell) (j : ℕ) (p : Passenger) → j ≢ launch_stage plan k → (h : Option ℕ) →
+    siding_of plan (kind p) ≡ h → launch_row plan (with_siding s k ops) c j p ≡ launch_row plan s c j p
 unfolding launch_row
 launch_row_same plan s k ops c j p off None e = rw e refl
 launch_row_same plan s k ops c j p off (Some h) e = by_number (nat_eq h k) refl
@@ -90,12 +93,14 @@ launch_row_same plan s k ops c j p off (Some h) e = by_number (nat_eq h k) refl
     by_number true f =
         let at : h ≡ k = grind (arith, nat_tests) in
         let far : launches plan (kind p) j ≡ false = rw (e, at) (elsewhere (launch_stage plan k) j off) in
-        no_launch p.dead (p.done || p.launched) (launches plan (kind p) j) (is_memory (kind p) && is_full c) (source_bar p (entry_bar plan (with_siding s k ops) p)) (source_bar p (entry_bar plan s p)) far
+        no_launch p.dead (p.done || p.launched) (launches plan (kind p) j) (is_memory (kind p) && is_full c)
+        (source_bar p (entry_bar plan (with_siding s k ops) p)) (source_bar p (entry_bar plan s p)) far
     by_number false f =
         let other : h ≢ k = grind (arith, nat_tests) in
         rw (e, other_siding s k h ops other) refl
 
-return_row_same : (plan : Plan) (s : State) (k : ℕ) (ops : List (Option Op)) (j : ℕ) (p : Passenger) → j ≢ recover_stage plan k → (h : Option ℕ) → siding_of plan (kind p) ≡ h → return_row plan (with_siding s k ops) j p ≡ return_row plan s j p
+return_row_same : (plan : Plan) (s : State) (k : ℕ) (ops : List (Option Op)) (j : ℕ) (p : Passenger) → j ≢ recover_stage plan k → (h : Option ℕ) →
+    siding_of plan (kind p) ≡ h → return_row plan (with_siding s k ops) j p ≡ return_row plan s j p
 unfolding return_row
 return_row_same plan s k ops j p off None e = rw e refl
 return_row_same plan s k ops j p off (Some h) e = by_number (nat_eq h k) refl
@@ -109,28 +114,35 @@ return_row_same plan s k ops j p off (Some h) e = by_number (nat_eq h k) refl
         let other : h ≢ k = grind (arith, nat_tests) in
         rw (e, other_siding s k h ops other) refl
 
-launch_same : (plan : Plan) (s : State) (k : ℕ) (ops : List (Option Op)) (j : ℕ) (c : Cell) → j ≢ launch_stage plan k → launch_bar plan (with_siding s k ops) c j ≡ launch_bar plan s c j
+launch_same : (plan : Plan) (s : State) (k : ℕ) (ops : List (Option Op)) (j : ℕ) (c : Cell) → j ≢ launch_stage plan k →
+    launch_bar plan (with_siding s k ops) c j ≡ launch_bar plan s c j
 unfolding launch_row
-launch_same plan s k ops j c off = on_same c.passenger (Some NoPassenger) (launch_row plan (with_siding s k ops) c j) (launch_row plan s c j) (λ p. launch_row_same plan s k ops c j p off (siding_of plan (kind p)) refl)
+launch_same plan s k ops j c off = on_same c.passenger (Some NoPassenger) (launch_row plan (with_siding s k ops) c j) (launch_row plan s c j)
+    (λ p. launch_row_same plan s k ops c j p off (siding_of plan (kind p)) refl)
 
-return_same : (plan : Plan) (s : State) (k : ℕ) (ops : List (Option Op)) (j : ℕ) (c : Cell) → j ≢ recover_stage plan k → recover_bar plan (with_siding s k ops) c j ≡ recover_bar plan s c j
+return_same : (plan : Plan) (s : State) (k : ℕ) (ops : List (Option Op)) (j : ℕ) (c : Cell) → j ≢ recover_stage plan k →
+    recover_bar plan (with_siding s k ops) c j ≡ recover_bar plan s c j
 unfolding return_row
-return_same plan s k ops j c off = on_same c.passenger (Some NoPassenger) (return_row plan (with_siding s k ops) j) (return_row plan s j) (λ p. return_row_same plan s k ops j p off (siding_of plan (kind p)) refl)
+return_same plan s k ops j c off = on_same c.passenger (Some NoPassenger) (return_row plan (with_siding s k ops) j) (return_row plan s j)
+    (λ p. return_row_same plan s k ops j p off (siding_of plan (kind p)) refl)
 
 -- other cells of a siding change no stage but those where it launches and recovers
 pub siding-but : (plan : Plan) (s : State) (k : ℕ) (ops : List (Option Op)) → SameBut plan s (with_siding s k ops) (launch_stage plan k) (recover_stage plan k)
 unfolding mark_by
 siding-but plan s k ops j off far =
     let o = cell_at s.cells j in
-    let launch = ap (λ (b : Option Bar). not (is_some b)) (on_same o (Some NoSuchSite) (λ c. launch_bar plan (with_siding s k ops) c j) (λ c. launch_bar plan s c j) (λ c. launch_same plan s k ops j c off)) in
-    let recover = ap (λ (b : Option Bar). not (is_some b)) (on_same o (Some NoSuchSite) (λ c. recover_bar plan (with_siding s k ops) c j) (λ c. recover_bar plan s c j) (λ c. return_same plan s k ops j c far)) in
+    let launch = ap (λ (b : Option Bar). not (is_some b)) (on_same o (Some NoSuchSite) (λ c. launch_bar plan (with_siding s k ops) c j)
+    (λ c. launch_bar plan s c j) (λ c. launch_same plan s k ops j c off)) in
+    let recover = ap (λ (b : Option Bar). not (is_some b)) (on_same o (Some NoSuchSite) (λ c. recover_bar plan (with_siding s k ops) c j)
+    (λ c. recover_bar plan s c j) (λ c. return_same plan s k ops j c far)) in
     let m = mark_by plan s j o in
     mark_is plan (with_siding s k ops) j
     ∙ (λ x. record { owes = m.owes; stops = m.stops; execute = m.execute; launch = launch x; recover = recover x })
     ∙ sym (mark_is plan s j)
 
 -- nor does what stands beside the pipes and the sidings
-among : (plan : Plan) (s : State) (sidings : List (List (Option Op))) (i : ℕ) (o : Option Cell) → sidings ≡ s.sidings → mark_by plan (record s { sidings = sidings }) i o ≡ mark_by plan s i o
+among : (plan : Plan) (s : State) (sidings : List (List (Option Op))) (i : ℕ) (o : Option Cell) → sidings ≡ s.sidings →
+    mark_by plan (record s { sidings = sidings }) i o ≡ mark_by plan s i o
 among plan s sidings i o same = ap (λ (x : List (List (Option Op))). mark_by plan (record s { sidings = x }) i o) same
 
 pub rest-same : (plan : Plan) (s t : State) → t.cells ≡ s.cells → t.sidings ≡ s.sidings → (k : ℕ) → mark_at plan t k ≡ mark_at plan s k

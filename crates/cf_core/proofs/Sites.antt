@@ -36,11 +36,13 @@ there : (plan : Plan) (s : State) (i : ℕ) (c : Cell) → IsProcessor plan s �
 there plan s i c h e = let a = stage-low s.cells i c e in let b = stage-high s.cells i c e in let n = h.stages in (a, omega arith)
 
 -- a row that names a stage names one that exists
-cell_in : (cells : List Cell) (i : ℕ) (f : Cell → Option Bar) (o : Option Cell) → cell_at cells i ≡ o → on o (Some NoSuchSite) f ≡ None → (c : Cell) × (cell_at cells i ≡ Some c) × (f c ≡ None)
+cell_in : (cells : List Cell) (i : ℕ) (f : Cell → Option Bar) (o : Option Cell) → cell_at cells i ≡ o → on o (Some NoSuchSite) f ≡ None →
+    (c : Cell) × (cell_at cells i ≡ Some c) × (f c ≡ None)
 cell_in cells i f None e free = absurd (cc)
 cell_in cells i f (Some c) e free = (c, e, free)
 
-at_stage : (plan : Plan) (s : State) (i : ℕ) (f : Cell → Option Bar) → IsProcessor plan s → on (cell_at s.cells i) (Some NoSuchSite) f ≡ None → Within plan (alone i)
+at_stage : (plan : Plan) (s : State) (i : ℕ) (f : Cell → Option Bar) → IsProcessor plan s → on (cell_at s.cells i) (Some NoSuchSite) f ≡ None →
+    Within plan (alone i)
 at_stage plan s i f h free =
     let c = cell_in s.cells i f (cell_at s.cells i) refl free in
     let t = there plan s i c.0 h c.1 in
@@ -60,7 +62,8 @@ home_number : (plan : Plan) (o : Option Passenger) (k : ℕ) → on o None (λ p
 home_number plan None k e = absurd (cc)
 home_number plan (Some p) k e = (siding_found plan (kind p) k e).0
 
-home_within : (plan : Plan) (s : State) (i : ℕ) (f : Cell → Option Bar) (o : Option ℕ) → IsProcessor plan s → home_at plan s i ≡ o → on (cell_at s.cells i) (Some NoSuchSite) f ≡ None → Within plan (on o (alone i) (sites plan))
+home_within : (plan : Plan) (s : State) (i : ℕ) (f : Cell → Option Bar) (o : Option ℕ) → IsProcessor plan s → home_at plan s i ≡ o →
+    on (cell_at s.cells i) (Some NoSuchSite) f ≡ None → Within plan (on o (alone i) (sites plan))
 home_within plan s i f None h e free = at_stage plan s i f h free
 home_within plan s i f (Some k) h e free = siding_within plan k h.accepted (home_number plan (passenger_at s.cells i) k e)
 
@@ -69,7 +72,8 @@ cell_there : (ops : List (Option Op)) (c : ℕ) (o : Option (Option Op)) → sli
 cell_there ops c None e free = absurd (grind arith)
 cell_there ops c (Some op) e free = let w = slice_get_within ops (c + 1) op e in omega arith
 
-number_within : (plan : Plan) (s : State) (k : ℕ) (b : Bool) → nat_lt k (length plan.sidings) ≡ b → IsProcessor plan s → 0 < length (siding_at s k) → k < length plan.sidings
+number_within : (plan : Plan) (s : State) (k : ℕ) (b : Bool) → nat_lt k (length plan.sidings) ≡ b → IsProcessor plan s → 0 < length (siding_at s k) →
+    k < length plan.sidings
 number_within plan s k true e h some = grind (arith, nat_tests)
 number_within plan s k false e h some =
     let far : length plan.sidings ≤ k = grind (arith, nat_tests) in
@@ -78,13 +82,15 @@ number_within plan s k false e h some =
     absurd (omega arith)
 
 pub slide-number : (plan : Plan) (s : State) (k c : ℕ) → IsProcessor plan s → row_bar plan s (Slide k c) ≡ None → k < length plan.sidings
-slide-number plan s k c h free = number_within plan s k (nat_lt k (length plan.sidings)) refl h (cell_there (siding_at s k) c (slice_get (siding_at s k) (c + 1)) refl free)
+slide-number plan s k c h free = number_within plan s k (nat_lt k (length plan.sidings)) refl h
+    (cell_there (siding_at s k) c (slice_get (siding_at s k) (c + 1)) refl free)
 
 pub port-number : (plan : Plan) (s : State) → IsProcessor plan s → port plan < length plan.sidings
 port-number plan s h = (siding_found plan MemoryClass (port plan) (memory-port plan h.accepted)).0
 
 -- the stage above, and the one below
-next_within : (plan : Plan) (s : State) (j : ℕ) (f : Cell → Option Bar) → IsProcessor plan s → on (cell_at s.cells j) (Some NoSuchSite) f ≡ None → (0 < j) × (j ≤ plan.stages)
+next_within : (plan : Plan) (s : State) (j : ℕ) (f : Cell → Option Bar) → IsProcessor plan s → on (cell_at s.cells j) (Some NoSuchSite) f ≡ None →
+    (0 < j) × (j ≤ plan.stages)
 next_within plan s j f h free = let w = at_stage plan s j f h free in (w.low, w.low_in)
 
 climb_within : (plan : Plan) (s : State) (i : ℕ) → IsProcessor plan s → row_bar plan s (Climb i) ≡ None → Within plan (record { low = i; high = i + 1 })

@@ -17,6 +17,7 @@ next_moved plan m Serve other = absurd (other refl)
 next_moved plan m _ other = refl
 
 pub move-makes : (old new : Processor) (mv : Move) (streams : Streams) → mv ≢ Serve → new ≡ after_move old mv → Makes old new mv streams streams
-move-makes old new mv streams other is = still-makes old new mv streams (λ rest. next_moved old.plan (with_rest old rest) mv other ∙ ap (λ (p : Processor). with_rest p rest) (sym is)) (ap (λ (p : Processor). p.plan) is)
+move-makes old new mv streams other is = still-makes old new mv streams (λ rest. next_moved old.plan (with_rest old rest) mv other
+    ∙ ap (λ (p : Processor). with_rest p rest) (sym is)) (ap (λ (p : Processor). p.plan) is)
 
 pub ruleset stepping = (move-makes)

@@ -1,4 +1,5 @@
--- The moves that leave what holds of each stage as it is: those of a passenger that is spent, meetings that leave the passenger as it was, and those of a packet.
+-- The moves that leave what holds of each stage as it is: those of a passenger that is spent, meetings that leave the
+-- passenger as it was, and those of a packet.
 use Rattle.std.proofs.Common.{◌≡◌, ◌≢◌, ◌∙◌, ℕ, suc, ◌+◌, ◌-◌, ◌<◌, ◌≤◌, List, [], ◌∷◌, Option, Some, None, Bool, true, false, refl, sym, ap, subst, arith}
 use Rattle.std.specs.Prelude.{◌&&◌, ◌||◌, ◌==◌, nat_eq, not, if◌then◌else◌}
 use Rattle.std.proofs.lemmas.Bool.Decides.{nat_tests}
@@ -58,7 +59,8 @@ mark_put plan s i b c here =
     ∙ ap (mark_by plan (with_cell s i c) i) (cell-put s.cells i c (stage-low s.cells i b here) (stage-high s.cells i b here))
     ∙ beside plan s (put_cell s.cells i c) i (Some c)
 
-put_same : (plan : Plan) (s : State) (i : ℕ) (b c : Cell) → cell_at s.cells i ≡ Some b → mark_by plan s i (Some c) ≡ mark_by plan s i (Some b) → Same plan s (with_cell s i c)
+put_same : (plan : Plan) (s : State) (i : ℕ) (b c : Cell) → cell_at s.cells i ≡ Some b → mark_by plan s i (Some c) ≡ mark_by plan s i (Some b) →
+    Same plan s (with_cell s i c)
 put_same plan s i b c here same =
     one_stage plan s (with_cell s i c) i (cell-but plan s i i c) (mark_put plan s i b c here ∙ same ∙ sym (mark_is plan s i ∙ ap (mark_by plan s i) here))
 
@@ -91,7 +93,8 @@ gone_full c e = grind arith
 
 packet_gone : (plan : Plan) (s : State) (i : ℕ) (c : Cell) → cell_at s.cells i ≡ Some c → is_full c ≡ false → Same plan s (with_cell s i (without_packet c))
 packet_gone plan s i c here clear =
-    put_same plan s i c (without_packet c) here (packet_mark plan s i c None false (as_full plan s i c.passenger (is_full (without_packet c)) (is_full c) (gone_full c clear)))
+    put_same plan s i c (without_packet c) here (packet_mark plan s i c None false (as_full plan s i c.passenger (is_full (without_packet c)) (is_full c)
+    (gone_full c clear)))
 
 -- nor where none can be launched
 still_barred : (dead done site memory full : Bool) (rest : Option Bar) →
@@ -107,16 +110,19 @@ still_barred false false true false full rest e = e
 rider_barred : (plan : Plan) (s : State) (i : ℕ) (o : Option Passenger) (full : Bool) →
     not (is_some (on o (Some NoPassenger) (entry_row plan s false i))) ≡ false → not (is_some (on o (Some NoPassenger) (entry_row plan s full i))) ≡ false
 rider_barred plan s i None full e = refl
-rider_barred plan s i (Some p) full e = still_barred p.dead (p.done || p.launched) (launches plan (kind p) i) (is_memory (kind p)) full (source_bar p (entry_bar plan s p)) e
+rider_barred plan s i (Some p) full e = still_barred p.dead (p.done || p.launched) (launches plan (kind p) i) (is_memory (kind p)) full
+    (source_bar p (entry_bar plan s p)) e
 
 no_packet : (c : Cell) → is_some c.packet ≡ false → is_full c ≡ false
 no_packet c e = grind arith
 
-packet_comes : (plan : Plan) (s : State) (i : ℕ) (c : Cell) (q : Option Packet) → cell_at s.cells i ≡ Some c → is_some c.packet ≡ false → not (is_some (launch_bar plan s c i)) ≡ false →
+packet_comes : (plan : Plan) (s : State) (i : ℕ) (c : Cell) (q : Option Packet) → cell_at s.cells i ≡ Some c → is_some c.packet ≡ false →
+    not (is_some (launch_bar plan s c i)) ≡ false →
     Same plan s (with_cell s i (record c { packet = q; met = false }))
 packet_comes plan s i c q here none barred =
     let clear = no_packet c none in
-    let before : not (is_some (on c.passenger (Some NoPassenger) (entry_row plan s false i))) ≡ false = as_full plan s i c.passenger false (is_full c) (sym clear) ∙ barred in
+    let before : not (is_some (on c.passenger (Some NoPassenger) (entry_row plan s false i))) ≡ false =
+    as_full plan s i c.passenger false (is_full c) (sym clear) ∙ barred in
     let after = rider_barred plan s i c.passenger (is_full (record c { packet = q; met = false })) before in
     put_same plan s i c (record c { packet = q; met = false }) here (packet_mark plan s i c q false (after ∙ sym barred))
 
@@ -146,7 +152,8 @@ fall_keeps plan s i free barred = by_cells (cell_at s.cells i) (cell_at s.cells 
         let low = stage-low s.cells i c e in
         let off : i - 1 ≢ i = λ g. absurd (omega (arith, g, low)) in
         let t = with_cell s i (without_packet c) in
-        both plan s t (fallen s i c d) (packet_gone plan s i c e tests.0) (packet_comes plan t (i - 1) d c.packet (cell-put-other s.cells i (i - 1) (without_packet c) off ∙ f) tests.1 bars)
+        both plan s t (fallen s i c d) (packet_gone plan s i c e tests.0) (packet_comes plan t (i - 1) d c.packet
+        (cell-put-other s.cells i (i - 1) (without_packet c) off ∙ f) tests.1 bars)
 
 emit_tests : (r : ℕ) (lane : List ℕ) (c : Cell) → emit_bar (r ∷ lane) c ≡ None → is_some c.packet ≡ false
 emit_tests r lane c e = tests (is_some c.packet) e
@@ -168,7 +175,8 @@ emit_keeps plan s free barred = by_cell (cell_at s.cells plan.stages) s.lane ref
     by_cell (Some c) [] e row bars = unchanged plan s
     by_cell (Some c) (r ∷ lane) e row bars =
         let t = emitted s n (r ∷ lane) c in
-        both plan s (record t { lane = s.lane }) t (packet_comes plan s n c _ e (emit_tests r lane c row) bars) (rest-same plan (record t { lane = s.lane }) t refl refl)
+        both plan s (record t { lane = s.lane }) t (packet_comes plan s n c _ e (emit_tests r lane c row) bars)
+        (rest-same plan (record t { lane = s.lane }) t refl refl)
 
 exit_tests : (c : Cell) → exit_bar c ≡ None → is_full c ≡ false
 exit_tests c e = tests (is_some c.packet) (is_full c) e
@@ -207,7 +215,8 @@ blank_mark plan s i (Some p) e blank =
     let parts = spent_parts (is_idle p) (is_some p.owes) blank in
     sym (mark-idle plan s i p e parts.0) ∙ ap (λ (b : Bool). record no_mark { owes = b }) parts.1
 
-blank_same : (plan : Plan) (s : State) (i : ℕ) (b c : Cell) → cell_at s.cells i ≡ Some b → is_blank b.passenger ≡ true → is_blank c.passenger ≡ true → Same plan s (with_cell s i c)
+blank_same : (plan : Plan) (s : State) (i : ℕ) (b c : Cell) → cell_at s.cells i ≡ Some b → is_blank b.passenger ≡ true → is_blank c.passenger ≡ true →
+    Same plan s (with_cell s i c)
 blank_same plan s i b c here before after =
     let there = cell-put s.cells i c (stage-low s.cells i b here) (stage-high s.cells i b here) in
     let riders = λ (o : Option Cell). on o None (λ (d : Cell). d.passenger) in
@@ -218,18 +227,21 @@ blank_same plan s i b c here before after =
 climb_tests : (plan : Plan) (c d : Cell) (i : ℕ) (p : Passenger) → c.passenger ≡ Some p → climb_bar plan c i (Some d) ≡ None → d.passenger ≡ None
 climb_tests plan c d i p e free = grind arith
 
-climb_keeps : (plan : Plan) (s : State) (i : ℕ) → row_bar plan s (Climb i) ≡ None → on (cell_at s.cells i) false (λ c. on c.passenger false is_spent) ≡ true → Same plan s (moved plan s (Climb i))
+climb_keeps : (plan : Plan) (s : State) (i : ℕ) → row_bar plan s (Climb i) ≡ None → on (cell_at s.cells i) false (λ c. on c.passenger false is_spent) ≡ true →
+    Same plan s (moved plan s (Climb i))
 unfolding moved
 climb_keeps plan s i free spent = by_cells (cell_at s.cells i) (cell_at s.cells (i + 1)) refl refl free spent
   where
-    by_rider : (c d : Cell) (o : Option Passenger) → cell_at s.cells i ≡ Some c → cell_at s.cells (i + 1) ≡ Some d → c.passenger ≡ o → climb_bar plan c i (Some d) ≡ None → on o false is_spent ≡ true → Same plan s (climbed s i c d)
+    by_rider : (c d : Cell) (o : Option Passenger) → cell_at s.cells i ≡ Some c → cell_at s.cells (i + 1) ≡ Some d → c.passenger ≡ o →
+        climb_bar plan c i (Some d) ≡ None → on o false is_spent ≡ true → Same plan s (climbed s i c d)
     by_rider c d None e f rides row spent = absurd (cc)
     by_rider c d (Some p) e f rides row spent =
         let t = with_cell s i (without_passenger c) in
         let off : i + 1 ≢ i = λ g. absurd (omega (arith, g)) in
         let first = blank_same plan s i c (without_passenger c) e (rw rides spent) refl in
         let free : is_blank d.passenger ≡ true = rw (climb_tests plan c d i p rides row) refl in
-        let second = blank_same plan t (i + 1) d (record d { passenger = c.passenger; met = false }) (cell-put-other s.cells i (i + 1) (without_passenger c) off ∙ f) free (rw rides spent) in
+        let second = blank_same plan t (i + 1) d (record d { passenger = c.passenger; met = false }) (cell-put-other s.cells i (i + 1) (without_passenger c) off
+        ∙ f) free (rw rides spent) in
         both plan s t (climbed s i c d) first second
 
     by_cells : (o a : Option Cell) → cell_at s.cells i ≡ o → cell_at s.cells (i + 1) ≡ a → on o (Some NoSuchSite) (λ c. climb_bar plan c i a) ≡ None →
@@ -239,7 +251,8 @@ climb_keeps plan s i free spent = by_cells (cell_at s.cells i) (cell_at s.cells 
     by_cells (Some c) (Some d) e f row spent = by_rider c d c.passenger e f refl row spent
 
 -- a meeting leaves it spent
-cancelled_spent : (dead done out owes : Bool) → ((not (not dead && not done) && not out) && not owes) ≡ true → ((not (not true && not done) && not out) && not false) ≡ true
+cancelled_spent : (dead done out owes : Bool) → ((not (not dead && not done) && not out) && not owes) ≡ true →
+    ((not (not true && not done) && not out) && not false) ≡ true
 cancelled_spent dead done out owes e = grind arith
 
 abbrev IsSpentIn : Met → Type 0
@@ -254,7 +267,8 @@ met_spent p k spent = by_dead p.dead
     by_packet (Turn pc) = cancelled_spent p.dead p.done (is_out p) (is_some p.owes) spent
     by_packet Halt = cancelled_spent p.dead p.done (is_out p) (is_some p.owes) spent
 
-    by_dead : (dead : Bool) → IsSpentIn (if dead then record { passenger = p; packet = Some k } else record { passenger = passenger_met k p; packet = packet_met k p })
+    by_dead : (dead : Bool) → IsSpentIn (if dead then record { passenger = p; packet = Some k } else
+        record { passenger = passenger_met k p; packet = packet_met k p })
     by_dead true = spent
     by_dead false = by_packet k
 
@@ -262,15 +276,18 @@ meet_keeps : (plan : Plan) (s : State) (i : ℕ) → on (cell_at s.cells i) fals
 unfolding moved
 meet_keeps plan s i spent = by_cell (cell_at s.cells i) refl spent
   where
-    by_packet : (c : Cell) (p : Passenger) (o : Option Packet) → cell_at s.cells i ≡ Some c → c.passenger ≡ Some p → is_spent p ≡ true → Same plan s (on o s (λ k. with_cell s i (cell_met c p k)))
+    by_packet : (c : Cell) (p : Passenger) (o : Option Packet) → cell_at s.cells i ≡ Some c → c.passenger ≡ Some p → is_spent p ≡ true →
+        Same plan s (on o s (λ k. with_cell s i (cell_met c p k)))
     by_packet c p None e rides spent = unchanged plan s
     by_packet c p (Some k) e rides spent = blank_same plan s i c (cell_met c p k) e (rw rides spent) (met_spent p k spent)
 
-    by_rider : (c : Cell) (o : Option Passenger) → cell_at s.cells i ≡ Some c → c.passenger ≡ o → on o false is_spent ≡ true → Same plan s (on o s (λ p. on c.packet s (λ k. with_cell s i (cell_met c p k))))
+    by_rider : (c : Cell) (o : Option Passenger) → cell_at s.cells i ≡ Some c → c.passenger ≡ o → on o false is_spent ≡ true →
+        Same plan s (on o s (λ p. on c.packet s (λ k. with_cell s i (cell_met c p k))))
     by_rider c None e rides spent = unchanged plan s
     by_rider c (Some p) e rides spent = by_packet c p c.packet e rides spent
 
-    by_cell : (o : Option Cell) → cell_at s.cells i ≡ o → on o false (λ c. on c.passenger false is_spent) ≡ true → Same plan s (on o s (λ c. on c.passenger s (λ p. on c.packet s (λ k. with_cell s i (cell_met c p k)))))
+    by_cell : (o : Option Cell) → cell_at s.cells i ≡ o → on o false (λ c. on c.passenger false is_spent) ≡ true →
+        Same plan s (on o s (λ c. on c.passenger s (λ p. on c.packet s (λ k. with_cell s i (cell_met c p k)))))
     by_cell None e spent = unchanged plan s
     by_cell (Some c) e spent = by_rider c c.passenger e refl spent
 
@@ -306,12 +323,14 @@ met_passing p (Value r v) passed = by_dead p.dead
         ap (λ (o : Option Binding). record p { src1 = o; src2 = garnered r v p.src2 }) (kept_source r v p.src1 none.0)
         ∙ ap (λ (o : Option Binding). record p { src2 = o }) (kept_source r v p.src2 none.1)
 
-    by_dead : (dead : Bool) → KeepsRider p (if dead then record { passenger = p; packet = Some (Value r v) } else record { passenger = passenger_met (Value r v) p; packet = packet_met (Value r v) p })
+    by_dead : (dead : Bool) → KeepsRider p (if dead then record { passenger = p; packet = Some (Value r v) } else
+        record { passenger = passenger_met (Value r v) p; packet = packet_met (Value r v) p })
     by_dead true = refl
     by_dead false = garners
 
 -- what does not stop cannot be launched
-unlaunched : (dead done launched out ends site memory full : Bool) (rest : Option Bar) → (out || (not dead && not done && not launched && (ends || site))) ≡ false →
+unlaunched : (dead done launched out ends site memory full : Bool) (rest : Option Bar) → (out || (not dead && not done && not launched && (ends || site)))
+    ≡ false →
     not (is_some (first_of ((dead, Dead) ∷ (done || launched, AlreadyDone) ∷ (not site, NoUnit) ∷ (memory && full, NotMet) ∷ []) rest)) ≡ false
 unlaunched true done launched out ends site memory full rest e = refl
 unlaunched false true launched out ends site memory full rest e = refl
@@ -321,15 +340,18 @@ unlaunched false false false true ends true memory full rest e = absurd (cc)
 unlaunched false false false false true true memory full rest e = absurd (cc)
 unlaunched false false false false false true memory full rest e = absurd (cc)
 
-rider_unlaunched : (plan : Plan) (s : State) (i : ℕ) (p : Passenger) (full : Bool) → stops_at plan p i ≡ false → not (is_some (entry_row plan s full i p)) ≡ false
+rider_unlaunched : (plan : Plan) (s : State) (i : ℕ) (p : Passenger) (full : Bool) → stops_at plan p i ≡ false →
+    not (is_some (entry_row plan s full i p)) ≡ false
 rider_unlaunched plan s i p full stays =
-    unlaunched p.dead p.done p.launched (p.launched && not p.recovered && recovers plan (kind p) i) (ends_units plan (kind p) i) (launches plan (kind p) i) (is_memory (kind p)) full (source_bar p (entry_bar plan s p)) stays
+    unlaunched p.dead p.done p.launched (p.launched && not p.recovered && recovers plan (kind p) i) (ends_units plan (kind p) i) (launches plan (kind p) i)
+    (is_memory (kind p)) full (source_bar p (entry_bar plan s p)) stays
 
 passing_keeps : (plan : Plan) (s : State) (i : ℕ) → stops_there plan s i ≡ false → passes_by s i ≡ true → Same plan s (moved plan s (Meet i))
 unfolding moved
 passing_keeps plan s i stays passed = by_cell (cell_at s.cells i) refl stays passed
   where
-    by_packet : (c : Cell) (p : Passenger) (o : Option Packet) → cell_at s.cells i ≡ Some c → c.passenger ≡ Some p → stops_at plan p i ≡ false → on o false (is_passed_by p) ≡ true →
+    by_packet : (c : Cell) (p : Passenger) (o : Option Packet) → cell_at s.cells i ≡ Some c → c.passenger ≡ Some p → stops_at plan p i ≡ false →
+        on o false (is_passed_by p) ≡ true →
         Same plan s (on o s (λ k. with_cell s i (cell_met c p k)))
     by_packet c p None e rides stays passed = unchanged plan s
     by_packet c p (Some k) e rides stays passed =
@@ -338,12 +360,14 @@ passing_keeps plan s i stays passed = by_cell (cell_at s.cells i) refl stays pas
         let is : cell_met c p k ≡ other = ap (λ (o : Option Passenger). record other { passenger = o }) (ap Some (met_passing p k passed) ∙ sym rides) in
         let before = riding (is_full c) c.passenger rides in
         let after = riding (is_full other) c.passenger rides in
-        subst (λ (d : Cell). Same plan s (with_cell s i d)) (sym is) (put_same plan s i c other e (packet_mark plan s i c m.packet (is_some m.packet) (after ∙ sym before)))
+        subst (λ (d : Cell). Same plan s (with_cell s i d)) (sym is) (put_same plan s i c other e
+        (packet_mark plan s i c m.packet (is_some m.packet) (after ∙ sym before)))
       where
         riding : (full : Bool) (o : Option Passenger) → o ≡ Some p → not (is_some (on o (Some NoPassenger) (entry_row plan s full i))) ≡ false
         riding full o is = rw is (rider_unlaunched plan s i p full stays)
 
-    by_rider : (c : Cell) (o : Option Passenger) → cell_at s.cells i ≡ Some c → c.passenger ≡ o → on o false (λ p. stops_at plan p i) ≡ false → on o false (λ p. on c.packet false (is_passed_by p)) ≡ true →
+    by_rider : (c : Cell) (o : Option Passenger) → cell_at s.cells i ≡ Some c → c.passenger ≡ o → on o false (λ p. stops_at plan p i) ≡ false →
+        on o false (λ p. on c.packet false (is_passed_by p)) ≡ true →
         Same plan s (on o s (λ p. on c.packet s (λ k. with_cell s i (cell_met c p k))))
     by_rider c None e rides stays passed = unchanged plan s
     by_rider c (Some p) e rides stays passed = by_packet c p c.packet e rides stays passed
@@ -354,7 +378,8 @@ passing_keeps plan s i stays passed = by_cell (cell_at s.cells i) refl stays pas
     by_cell None e stays passed = unchanged plan s
     by_cell (Some c) e stays passed = by_rider c c.passenger e refl stays passed
 
-meeting_keeps : (plan : Plan) (s : State) (i : ℕ) (spent stops : Bool) → rides s i is_spent ≡ spent → stops_there plan s i ≡ stops → (spent || (not stops && passes_by s i)) ≡ true → Same plan s (moved plan s (Meet i))
+meeting_keeps : (plan : Plan) (s : State) (i : ℕ) (spent stops : Bool) → rides s i is_spent ≡ spent → stops_there plan s i ≡ stops →
+    (spent || (not stops && passes_by s i)) ≡ true → Same plan s (moved plan s (Meet i))
 meeting_keeps plan s i true stops e f keeps = meet_keeps plan s i e
 meeting_keeps plan s i false true e f keeps = absurd (cc)
 meeting_keeps plan s i false false e f keeps = passing_keeps plan s i f keeps
@@ -363,7 +388,8 @@ meeting_keeps plan s i false false e f keeps = passing_keeps plan s i f keeps
 leave_spent : (c : Cell) (p : Passenger) → c.passenger ≡ Some p → leave_bar c ≡ None → is_spent p ≡ true
 leave_spent c p rides free = tests (is_some c.packet && not c.met) (is_some p.owes) (is_undone p) (is_out p) (rw rides at free)
   where
-    tests : (full owes undone out : Bool) → first full NotMet (first owes Owes (first (undone || out) NotDone None)) ≡ None → ((not undone && not out) && not owes) ≡ true
+    tests : (full owes undone out : Bool) → first full NotMet (first owes Owes (first (undone || out) NotDone None)) ≡ None →
+        ((not undone && not out) && not owes) ≡ true
     tests true owes undone out g = absurd (cc)
     tests false true undone out g = absurd (cc)
     tests false false true out g = absurd (cc)
@@ -414,7 +440,8 @@ moved-same plan s (Recover i) free keeps = absurd (cc)
 moved-same plan s Serve free keeps = absurd (cc)
 
 -- the bit of a stage says whether an operation can be launched there
-pub launch-bit : (plan : Plan) (s : State) (marks : Marks) (i : ℕ) → marks ≡ marks_of plan s → 0 < i → i ≤ plan.stages → has_bit marks.launch (i - 1) ≡ is_free plan s (Launch i)
+pub launch-bit : (plan : Plan) (s : State) (marks : Marks) (i : ℕ) → marks ≡ marks_of plan s → 0 < i → i ≤ plan.stages →
+    has_bit marks.launch (i - 1) ≡ is_free plan s (Launch i)
 unfolding marks_of mark_at
 launch-bit plan s marks i is low within =
     let bit = word-bit (λ k. (mark_at plan s k).launch) plan.stages (i - 1) (omega (arith, low, within)) in
@@ -422,7 +449,8 @@ launch-bit plan s marks i is low within =
     rw is (bit ∙ ap (λ (n : ℕ). (mark_at plan s n).launch) z)
 
 -- and whether the passenger stops there
-pub stop-bit : (plan : Plan) (s : State) (marks : Marks) (i : ℕ) → marks ≡ marks_of plan s → 0 < i → i ≤ plan.stages → has_bit marks.stops (i - 1) ≡ stops_there plan s i
+pub stop-bit : (plan : Plan) (s : State) (marks : Marks) (i : ℕ) → marks ≡ marks_of plan s → 0 < i → i ≤ plan.stages →
+    has_bit marks.stops (i - 1) ≡ stops_there plan s i
 unfolding marks_of mark_at
 stop-bit plan s marks i is low within =
     let bit = word-bit (λ k. (mark_at plan s k).stops) plan.stages (i - 1) (omega (arith, low, within)) in

@@ -32,7 +32,8 @@ both plan s t u i j first second k off far = second k off far ∙ first k off fa
 swapped : (plan : Plan) (s t : State) (i j : ℕ) → SameBut plan s t i j → SameBut plan s t j i
 swapped plan s t i j same k off far = same k far off
 
-where_there : {A : Type 0} (plan : Plan) (s : State) (i j : ℕ) (o : Option A) (f : A → State) → ((a : A) → o ≡ Some a → SameBut plan s (f a) i j) → SameBut plan s (on o s f) i j
+where_there : {A : Type 0} (plan : Plan) (s : State) (i j : ℕ) (o : Option A) (f : A → State) → ((a : A) → o ≡ Some a → SameBut plan s (f a) i j) →
+    SameBut plan s (on o s f) i j
 where_there plan s i j None f same = unchanged plan s i j
 where_there plan s i j (Some a) f same = same a refl
 
@@ -46,18 +47,21 @@ issue-but plan s g =
 
 emitted_but : (plan : Plan) (s : State) (n : ℕ) (lane : List ℕ) (c : Cell) → SameBut plan s (emitted s n lane c) n n
 emitted_but plan s n [] c = unchanged plan s n n
-emitted_but plan s n (r ∷ lane) c = both plan s _ (emitted s n (r ∷ lane) c) n n (cell-but plan s n n _) (rest-but plan _ (emitted s n (r ∷ lane) c) n n refl refl)
+emitted_but plan s n (r ∷ lane) c = both plan s _ (emitted s n (r ∷ lane) c) n n (cell-but plan s n n _)
+    (rest-but plan _ (emitted s n (r ∷ lane) c) n n refl refl)
 
 emit-but : (plan : Plan) (s : State) → SameBut plan s (moved plan s Emit) plan.stages plan.stages
 unfolding moved
-emit-but plan s = where_there plan s plan.stages plan.stages (cell_at s.cells plan.stages) (emitted s plan.stages s.lane) (λ c e. emitted_but plan s plan.stages s.lane c)
+emit-but plan s = where_there plan s plan.stages plan.stages (cell_at s.cells plan.stages) (emitted s plan.stages s.lane)
+    (λ c e. emitted_but plan s plan.stages s.lane c)
 
 climb-but : (plan : Plan) (s : State) (i : ℕ) → SameBut plan s (moved plan s (Climb i)) i (i + 1)
 unfolding moved
 climb-but plan s i =
     where_there plan s i (i + 1) (cell_at s.cells i) _ (λ c e. where_there plan s i (i + 1) (cell_at s.cells (i + 1)) (climbed s i c) (λ d f.
     let t = with_cell s i (without_passenger c) in
-    both plan s t (climbed s i c d) i (i + 1) (cell-but plan s i (i + 1) (without_passenger c)) (swapped plan t (climbed s i c d) (i + 1) i (cell-but plan t (i + 1) i _))))
+    both plan s t (climbed s i c d) i (i + 1) (cell-but plan s i (i + 1) (without_passenger c))
+    (swapped plan t (climbed s i c d) (i + 1) i (cell-but plan t (i + 1) i _))))
 
 fall-but : (plan : Plan) (s : State) (i : ℕ) → SameBut plan s (moved plan s (Fall i)) (i - 1) i
 unfolding moved
@@ -69,12 +73,14 @@ fall-but plan s i =
 meet-but : (plan : Plan) (s : State) (i : ℕ) → SameBut plan s (moved plan s (Meet i)) i i
 unfolding moved
 meet-but plan s i =
-    where_there plan s i i (cell_at s.cells i) _ (λ c e. where_there plan s i i c.passenger _ (λ p f. where_there plan s i i c.packet (λ k. with_cell s i (cell_met c p k)) (λ k g. cell-but plan s i i (cell_met c p k))))
+    where_there plan s i i (cell_at s.cells i) _ (λ c e. where_there plan s i i c.passenger _
+    (λ p f. where_there plan s i i c.packet (λ k. with_cell s i (cell_met c p k)) (λ k g. cell-but plan s i i (cell_met c p k))))
 
 execute-but : (plan : Plan) (s : State) (i : ℕ) → SameBut plan s (moved plan s (Execute i)) i i
 unfolding moved
 execute-but plan s i =
-    where_there plan s i i (cell_at s.cells i) _ (λ c e. where_there plan s i i c.passenger (λ p. with_cell s i (with_passenger c (finish p None))) (λ p f. cell-but plan s i i (with_passenger c (finish p None))))
+    where_there plan s i i (cell_at s.cells i) _ (λ c e. where_there plan s i i c.passenger (λ p. with_cell s i (with_passenger c (finish p None)))
+    (λ p f. cell-but plan s i i (with_passenger c (finish p None))))
 
 send-but : (plan : Plan) (s : State) (i : ℕ) → SameBut plan s (moved plan s (Send i)) i i
 unfolding moved
@@ -101,7 +107,8 @@ exit-but : (plan : Plan) (s : State) → SameBut plan s (moved plan s Exit) 1 1
 unfolding moved
 exit-but plan s =
     where_there plan s 1 1 (cell_at s.cells 1) (exited plan s) (λ c e. where_there plan s 1 1 c.packet _ (λ k f.
-    both plan s (with_cell s 1 (without_packet c)) _ 1 1 (cell-but plan s 1 1 (without_packet c)) (rest-but plan (with_cell s 1 (without_packet c)) _ 1 1 refl refl)))
+    both plan s (with_cell s 1 (without_packet c)) _ 1 1 (cell-but plan s 1 1 (without_packet c))
+    (rest-but plan (with_cell s 1 (without_packet c)) _ 1 1 refl refl)))
 
 -- The moves beside them --
 
@@ -118,63 +125,79 @@ access-but plan s =
     both plan s _ (accessed plan s op) i j (siding-but plan s (port plan) _) (rest-but plan _ (accessed plan s op) i j refl refl))
 
 -- an operation is launched from the stage of its siding, and recovered at the other
-launch_site : (plan : Plan) (s : State) (i : ℕ) (c : Cell) (p : Passenger) (k : ℕ) → launch_bar plan s c i ≡ None → c.passenger ≡ Some p → siding_of plan (kind p) ≡ Some k → launch_stage plan k ≡ i
+launch_site : (plan : Plan) (s : State) (i : ℕ) (c : Cell) (p : Passenger) (k : ℕ) → launch_bar plan s c i ≡ None → c.passenger ≡ Some p →
+    siding_of plan (kind p) ≡ Some k → launch_stage plan k ≡ i
 launch_site plan s i c p k free rides home = grind (arith, nat_tests)
 
-recover_site : (plan : Plan) (s : State) (i : ℕ) (c : Cell) (p : Passenger) (k : ℕ) → recover_bar plan s c i ≡ None → c.passenger ≡ Some p → siding_of plan (kind p) ≡ Some k → recover_stage plan k ≡ i
+recover_site : (plan : Plan) (s : State) (i : ℕ) (c : Cell) (p : Passenger) (k : ℕ) → recover_bar plan s c i ≡ None → c.passenger ≡ Some p →
+    siding_of plan (kind p) ≡ Some k → recover_stage plan k ≡ i
 recover_site plan s i c p k free rides home = grind (arith, nat_tests)
 
-home_is : (plan : Plan) (s : State) (i : ℕ) (c : Cell) (p : Passenger) → cell_at s.cells i ≡ Some c → c.passenger ≡ Some p → home_at plan s i ≡ siding_of plan (kind p)
+home_is : (plan : Plan) (s : State) (i : ℕ) (c : Cell) (p : Passenger) → cell_at s.cells i ≡ Some c → c.passenger ≡ Some p →
+    home_at plan s i ≡ siding_of plan (kind p)
 home_is plan s i c p here rides = rw (here, rides) refl
 
 -- the stages of a siding, or one alone
 abbrev SameButAt : Plan → State → State → Touched → Type 0
 SameButAt plan s t at = SameBut plan s t at.low at.high
 
-launched_but : (plan : Plan) (s : State) (i : ℕ) (c : Cell) (p : Passenger) (trap : Option End) (home : Option ℕ) → launch_bar plan s c i ≡ None → c.passenger ≡ Some p → siding_of plan (kind p) ≡ home → launch_trap s p ≡ trap →
+launched_but : (plan : Plan) (s : State) (i : ℕ) (c : Cell) (p : Passenger) (trap : Option End) (home : Option ℕ) → launch_bar plan s c i ≡ None →
+    c.passenger ≡ Some p → siding_of plan (kind p) ≡ home → launch_trap s p ≡ trap →
     SameButAt plan s (launched plan s i c p) (on home (alone i) (sites plan))
 launched_but plan s i c p (Some e) None free rides home trap = rw trap (cell-but plan s i i (with_passenger c (trapped p e)))
-launched_but plan s i c p (Some e) (Some k) free rides home trap = rw (trap, launch_site plan s i c p k free rides home) (cell-but plan s i (recover_stage plan k) (with_passenger c (trapped p e)))
+launched_but plan s i c p (Some e) (Some k) free rides home trap = rw (trap, launch_site plan s i c p k free rides home)
+    (cell-but plan s i (recover_stage plan k) (with_passenger c (trapped p e)))
 launched_but plan s i c p None None free rides home trap = rw (trap, home) (unchanged plan s i i)
 launched_but plan s i c p None (Some k) free rides home trap =
     let t = with_cell s i (with_passenger c (record p { launched = true })) in
     let site = launch_site plan s i c p k free rides home in
-    let first : SameBut plan s t (launch_stage plan k) (recover_stage plan k) = λ j off far. cell-but plan s i (recover_stage plan k) (with_passenger c (record p { launched = true })) j (λ g. off (g ∙ sym site)) far in
-    rw (trap, home) (both plan s t (with_siding t k (slice_set (siding_at s k) 0 (Some (operation p)))) (launch_stage plan k) (recover_stage plan k) first (siding-but plan t k (slice_set (siding_at s k) 0 (Some (operation p)))))
+    let first : SameBut plan s t (launch_stage plan k) (recover_stage plan k) = λ j off far. cell-but plan s i (recover_stage plan k)
+    (with_passenger c (record p { launched = true })) j (λ g. off (g ∙ sym site)) far in
+    rw (trap, home) (both plan s t (with_siding t k (slice_set (siding_at s k) 0 (Some (operation p)))) (launch_stage plan k) (recover_stage plan k) first
+    (siding-but plan t k (slice_set (siding_at s k) 0 (Some (operation p)))))
 
-recovered_but : (plan : Plan) (s : State) (i : ℕ) (c : Cell) (p : Passenger) (home : Option ℕ) → recover_bar plan s c i ≡ None → c.passenger ≡ Some p → siding_of plan (kind p) ≡ home →
+recovered_but : (plan : Plan) (s : State) (i : ℕ) (c : Cell) (p : Passenger) (home : Option ℕ) → recover_bar plan s c i ≡ None → c.passenger ≡ Some p →
+    siding_of plan (kind p) ≡ home →
     SameButAt plan s (recovered plan s i c p) (on home (alone i) (sites plan))
 recovered_but plan s i c p None free rides home = rw home (unchanged plan s i i)
 recovered_but plan s i c p (Some k) free rides home =
     let site = recover_site plan s i c p k free rides home in
     rw home (where_there plan s (launch_stage plan k) (recover_stage plan k) (last_op (siding_at s k)) _ (λ op e.
     let t = with_cell s i (with_passenger c (back_in p op.answer)) in
-    let first : SameBut plan s t (launch_stage plan k) (recover_stage plan k) = λ j off far. cell-but plan s i (launch_stage plan k) (with_passenger c (back_in p op.answer)) j (λ g. far (g ∙ sym site)) off in
-    both plan s t (with_siding t k (set_last (siding_at s k) None)) (launch_stage plan k) (recover_stage plan k) first (siding-but plan t k (set_last (siding_at s k) None))))
+    let first : SameBut plan s t (launch_stage plan k) (recover_stage plan k) = λ j off far. cell-but plan s i (launch_stage plan k)
+    (with_passenger c (back_in p op.answer)) j (λ g. far (g ∙ sym site)) off in
+    both plan s t (with_siding t k (set_last (siding_at s k) None)) (launch_stage plan k) (recover_stage plan k) first
+    (siding-but plan t k (set_last (siding_at s k) None))))
 
-launch-but : (plan : Plan) (s : State) (i : ℕ) → row_bar plan s (Launch i) ≡ None → SameButAt plan s (moved plan s (Launch i)) (on (home_at plan s i) (alone i) (sites plan))
+launch-but : (plan : Plan) (s : State) (i : ℕ) → row_bar plan s (Launch i) ≡ None → SameButAt plan s (moved plan s (Launch i))
+    (on (home_at plan s i) (alone i) (sites plan))
 unfolding moved
 launch-but plan s i free = by_cell (cell_at s.cells i) refl free
   where
-    by_rider : (c : Cell) (o : Option Passenger) → cell_at s.cells i ≡ Some c → c.passenger ≡ o → launch_bar plan s c i ≡ None → SameButAt plan s (on o s (launched plan s i c)) (on (on o None (λ p. siding_of plan (kind p))) (alone i) (sites plan))
+    by_rider : (c : Cell) (o : Option Passenger) → cell_at s.cells i ≡ Some c → c.passenger ≡ o → launch_bar plan s c i ≡ None →
+        SameButAt plan s (on o s (launched plan s i c)) (on (on o None (λ p. siding_of plan (kind p))) (alone i) (sites plan))
     by_rider c None here rides row = unchanged plan s i i
     by_rider c (Some p) here rides row = launched_but plan s i c p (launch_trap s p) (siding_of plan (kind p)) row rides refl refl
 
     by_cell : (o : Option Cell) → cell_at s.cells i ≡ o → on o (Some NoSuchSite) (λ c. launch_bar plan s c i) ≡ None →
-        SameButAt plan s (on o s (λ c. on c.passenger s (launched plan s i c))) (on (on (on o None (λ c. c.passenger)) None (λ p. siding_of plan (kind p))) (alone i) (sites plan))
+        SameButAt plan s (on o s (λ c. on c.passenger s (launched plan s i c))) (on (on (on o None (λ c. c.passenger)) None (λ p. siding_of plan (kind p)))
+        (alone i) (sites plan))
     by_cell None here row = unchanged plan s i i
     by_cell (Some c) here row = by_rider c c.passenger here refl row
 
-recover-but : (plan : Plan) (s : State) (i : ℕ) → row_bar plan s (Recover i) ≡ None → SameButAt plan s (moved plan s (Recover i)) (on (home_at plan s i) (alone i) (sites plan))
+recover-but : (plan : Plan) (s : State) (i : ℕ) → row_bar plan s (Recover i) ≡ None → SameButAt plan s (moved plan s (Recover i))
+    (on (home_at plan s i) (alone i) (sites plan))
 unfolding moved
 recover-but plan s i free = by_cell (cell_at s.cells i) refl free
   where
-    by_rider : (c : Cell) (o : Option Passenger) → cell_at s.cells i ≡ Some c → c.passenger ≡ o → recover_bar plan s c i ≡ None → SameButAt plan s (on o s (recovered plan s i c)) (on (on o None (λ p. siding_of plan (kind p))) (alone i) (sites plan))
+    by_rider : (c : Cell) (o : Option Passenger) → cell_at s.cells i ≡ Some c → c.passenger ≡ o → recover_bar plan s c i ≡ None →
+        SameButAt plan s (on o s (recovered plan s i c)) (on (on o None (λ p. siding_of plan (kind p))) (alone i) (sites plan))
     by_rider c None here rides row = unchanged plan s i i
     by_rider c (Some p) here rides row = recovered_but plan s i c p (siding_of plan (kind p)) row rides refl
 
     by_cell : (o : Option Cell) → cell_at s.cells i ≡ o → on o (Some NoSuchSite) (λ c. recover_bar plan s c i) ≡ None →
-        SameButAt plan s (on o s (λ c. on c.passenger s (recovered plan s i c))) (on (on (on o None (λ c. c.passenger)) None (λ p. siding_of plan (kind p))) (alone i) (sites plan))
+        SameButAt plan s (on o s (λ c. on c.passenger s (recovered plan s i c))) (on (on (on o None (λ c. c.passenger)) None (λ p. siding_of plan (kind p)))
+        (alone i) (sites plan))
     by_cell None here row = unchanged plan s i i
     by_cell (Some c) here row = by_rider c c.passenger here refl row
 

@@ -78,12 +78,14 @@ few-ops plan s k ops h e = rw (e, length-siding plan s k h) (few-cells plan k h.
 pub ruleset weights = (weight-next, sidings-counted, few-cells, few-ops)
 
 -- the next stage joins those before it
-stage_next : (n d i : ℕ) (cells : List Cell) (k : ℕ) (c : Cell) → slice_get cells k ≡ Some c → cells_weight n d i (drop k cells) ≡ cell_weight n d i c + cells_weight n d (suc i) (drop (suc k) cells)
+stage_next : (n d i : ℕ) (cells : List Cell) (k : ℕ) (c : Cell) → slice_get cells k ≡ Some c →
+    cells_weight n d i (drop k cells) ≡ cell_weight n d i c + cells_weight n d (suc i) (drop (suc k) cells)
 stage_next n d i [] k c e = absurd (cc)
 stage_next n d i (x ∷ cells) zero c e = let g : x ≡ c = cc in rw g refl
 stage_next n d i (x ∷ cells) (suc k) c e = stage_next n d i cells k c e
 
-pub stage-next : (n d : ℕ) (cells : List Cell) (k : ℕ) (c : Cell) → Some c ≡ cell_at cells (k + 1) → cells_weight n d (1 + k) (drop k cells) ≡ cell_weight n d (k + 1) c + cells_weight n d (1 + (k + 1)) (drop (k + 1) cells)
+pub stage-next : (n d : ℕ) (cells : List Cell) (k : ℕ) (c : Cell) → Some c ≡ cell_at cells (k + 1) →
+    cells_weight n d (1 + k) (drop k cells) ≡ cell_weight n d (k + 1) c + cells_weight n d (1 + (k + 1)) (drop (k + 1) cells)
 stage-next n d cells k c e =
     let z : k + 1 ≡ suc k = omega arith in
     let y : 1 + k ≡ suc k = omega arith in

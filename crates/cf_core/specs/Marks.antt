@@ -66,7 +66,8 @@ sites plan k = record { low = launch_stage plan k; high = recover_stage plan k }
 abbrev pub home_at : Plan → State → ℕ → Option ℕ
 home_at plan s i = on (passenger_at s.cells i) None (λ p. siding_of plan (kind p))
 
--- the stages for which what holds can change with the move: where the contents changed, and where the siding launches and recovers whose first or last cell may have changed
+-- the stages for which what holds can change with the move: where the contents changed, and where the siding launches
+-- and recovers whose first or last cell may have changed
 unfoldable pub touched : Plan → State → Move → Touched
 touched plan s (Issue g) = alone 1
 touched plan s Emit = alone plan.stages
@@ -98,7 +99,9 @@ remarked plan s marks t = marked (marked marks t.low (mark_at plan s t.low)) t.h
 abbrev pub passes_by : State → ℕ → Bool
 passes_by s i = on (passenger_at s.cells i) false (λ p. on (packet_at s.cells i) false (is_passed_by p))
 
--- the moves after which the same holds of each stage: those of a passenger that is spent, a meeting with a value that is not awaited where the passenger does not stop, and those of a packet, unless it comes to where an operation can be launched, which it may bar
+-- the moves after which the same holds of each stage: those of a passenger that is spent, a meeting with a value that
+-- is not awaited where the passenger does not stop, and those of a packet, unless it comes to where an operation can be
+-- launched, which it may bar
 unfoldable pub keeps_marks : Plan → State → Move → Bool
 keeps_marks plan s (Climb i) = rides s i is_spent
 keeps_marks plan s (Meet i) = rides s i is_spent || (not (stops_there plan s i) && passes_by s i)

@@ -1,4 +1,5 @@
--- Words of what stands at each stage and of what can be done there: bit i - 1 stands for stage i ("Counterflow Pipeline Processor Architecture", 1994: each stage decides by itself).
+-- Words of what stands at each stage and of what can be done there: bit i - 1 stands for stage i ("Counterflow Pipeline
+-- Processor Architecture", 1994: each stage decides by itself).
 use Rattle.std.specs.Prelude.{ℕ, Bool, false, not}
 use Rattle.cf_layout.specs.Layout.{Plan}
 use Rattle.cf_bind.specs.declared.passenger.Passenger.{Passenger}
@@ -26,7 +27,8 @@ stops_there plan s i = rides s i (λ p. stops_at plan p i)
 abbrev pub is_allowed : Plan → State → Move → Bool
 is_allowed plan s mv = not (is_some (bar plan s mv))
 
--- the words of a state: where a passenger is, where a packet is, and where the two have met; where a passenger owes a packet, and where it stops; and where Execute, Launch and Recover are allowed
+-- the words of a state: where a passenger is, where a packet is, and where the two have met; where a passenger owes a
+-- packet, and where it stops; and where Execute, Launch and Recover are allowed
 unfoldable pub masks_of : Plan → State → Masks
 masks_of plan s = record {
   passengers = passenger_word s.cells;

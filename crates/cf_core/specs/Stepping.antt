@@ -61,7 +61,8 @@ ServesOrFails old new before after (Err fault.Write) = FailsToWrite old new befo
 -- the state after the passenger of the highest stage took the answer of the environment
 abbrev pub taken : Processor → Passenger → Served → State
 taken old p (served.Value v) = record old.state { cells = changed old.state.cells old.plan.stages (λ c. with_passenger c (answered p v)) }
-taken old p (served.Exit status) = record old.state { cells = changed old.state.cells old.plan.stages (λ c. with_passenger c (record p { done = true; ending = Some (ending.Exit status) })) }
+taken old p (served.Exit status) =
+    record old.state { cells = changed old.state.cells old.plan.stages (λ c. with_passenger c (record p { done = true; ending = Some (ending.Exit status) })) }
 taken old p served.ReadFault = record old.state { failed = true }
 taken old p served.WriteFault = record old.state { failed = true }
 
@@ -82,7 +83,8 @@ MakesOrFails old new mv before after (Ok e) = Makes old new mv before after × I
 MakesOrFails old new mv before after (Err fault.Read) = (mv ≡ Serve) × FailsToRead old new before after
 MakesOrFails old new mv before after (Err fault.Write) = (mv ≡ Serve) × FailsToWrite old new before after
 
--- the move was made, with its event; or it was barred by the first bar of its row, and nothing changed; or the input or the output failed it, which only Serve asks
+-- the move was made, with its event; or it was barred by the first bar of its row, and nothing changed; or the input or
+-- the output failed it, which only Serve asks
 unfoldable pub StepsOrBarred : Processor → Processor → Move → Streams → Streams → Step → Type 0
 StepsOrBarred old new mv before after (Moved e) = (bar old.plan old.state mv ≡ None) × Makes old new mv before after × IsEvent old.plan old.state mv e
 StepsOrBarred old new mv before after (Barred b) = (bar old.plan old.state mv ≡ Some b) × (new ≡ old) × (after ≡ before)

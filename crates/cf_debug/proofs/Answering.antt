@@ -37,7 +37,9 @@ use Rattle.cf_debug.proofs.Standing.{stands-back, stands-on_run}
 -- Commands --
 
 -- a command that makes no move
-pub carries-told : (command : DebugCommand) (now new : DebuggerState) (text : List ℕ) (written after : Option (List ℕ)) (i j : ℕ) (answer : Result (Unit {0}) Failed) → CommandAnswers command now new text → CommandAnswersPart command now new text → PutsText written after i j text answer → CommandLeaves command now new written after (of_report answer)
+pub carries-told : (command : DebugCommand) (now new : DebuggerState) (text : List ℕ) (written after : Option (List ℕ)) (i j : ℕ)
+    (answer : Result (Unit {0}) Failed) → CommandAnswers command now new text → CommandAnswersPart command now new text →
+    PutsText written after i j text answer → CommandLeaves command now new written after (of_report answer)
 unfolding CommandLeaves
 carries-told command now new text written after i j (Ok done) all part put = (text, all, put.all)
 carries-told command now new text written after i j (Err failed) all part put = (text, part, put.front)
@@ -56,16 +58,20 @@ nothing_put None = tt
 nothing_put (Some told) = ap Some (sym (append-nil told))
 
 -- a command that does nothing
-pub carries-nothing : (command : DebugCommand) (now : DebuggerState) (written : Option (List ℕ)) → CommandAnswers command now now [] → CommandLeaves command now now written written (Ok tt)
+pub carries-nothing : (command : DebugCommand) (now : DebuggerState) (written : Option (List ℕ)) → CommandAnswers command now now [] →
+    CommandLeaves command now now written written (Ok tt)
 unfolding CommandLeaves
 carries-nothing command now written h = ([], h, nothing_put written)
 
 -- with the answer that is told
-pub as-told : (command : DebugCommand) (now new : DebuggerState) (written after : Option (List ℕ)) (answer : Result (Unit {0}) Failed) (told : Result (Unit {0}) Broken) → told ≡ of_report answer → CommandLeaves command now new written after (of_report answer) → CommandLeaves command now new written after told
+pub as-told : (command : DebugCommand) (now new : DebuggerState) (written after : Option (List ℕ)) (answer : Result (Unit {0}) Failed)
+    (told : Result (Unit {0}) Broken) → told ≡ of_report answer → CommandLeaves command now new written after (of_report answer) →
+    CommandLeaves command now new written after told
 as-told command now new written after answer told is h = subst (CommandLeaves command now new written after) (sym is) h
 
 -- of the command that it is
-pub as-command : (command other : DebugCommand) (now new : DebuggerState) (written after : Option (List ℕ)) (answer : Result (Unit {0}) Broken) → command ≡ other → CommandLeaves other now new written after answer → CommandLeaves command now new written after answer
+pub as-command : (command other : DebugCommand) (now new : DebuggerState) (written after : Option (List ℕ)) (answer : Result (Unit {0}) Broken) →
+    command ≡ other → CommandLeaves other now new written after answer → CommandLeaves command now new written after answer
 as-command command other now new written after answer is h = subst (λ (c : DebugCommand). CommandLeaves c now new written after answer) (sym is) h
 
 -- the limit is reached
@@ -73,67 +79,106 @@ pub moves-spent : (mv : AnyMove) (now : ProcessorState) → IsAtLimit now → Mo
 moves-spent mv now spent = inl (spent, (refl, refl))
 
 -- the move is barred
-pub moves-barred : (mv : AnyMove) (b : Bar) (now : ProcessorState) → SessionGoesOn now → bar now.core.plan now.core.state mv ≡ Some b → Moves mv now now (refused_line (bar_text b))
+pub moves-barred : (mv : AnyMove) (b : Bar) (now : ProcessorState) → SessionGoesOn now → bar now.core.plan now.core.state mv ≡ Some b →
+    Moves mv now now (refused_line (bar_text b))
 moves-barred mv b now below is = inr (inl (below, (b, is, (refl, refl))))
 
 -- or it is made
-pub moves-made : (mv : AnyMove) (e : Event) (now new : ProcessorState) → SessionGoesOn now → MakesKeptOrFails mv now new (Ok e) → Moves mv now new (moved_text new e)
+pub moves-made : (mv : AnyMove) (e : Event) (now new : ProcessorState) → SessionGoesOn now → MakesKeptOrFails mv now new (Ok e) →
+    Moves mv now new (moved_text new e)
 unfolding MakesKeptOrFails
 moves-made mv e now new below makes = inr (inr (below, (e, makes, refl)))
 
-pub carries-move : (mv : AnyMove) (now new : ProcessorState) (stop : Option ℕ) (text : List ℕ) (written after : Option (List ℕ)) (i j : ℕ) (answer : Result (Unit {0}) Failed) → Moves mv now new text → PutsText written after i j text answer → CommandLeaves (Move mv) (debugger_state now stop) (debugger_state new stop) written after (of_report answer)
+pub carries-move : (mv : AnyMove) (now new : ProcessorState) (stop : Option ℕ) (text : List ℕ) (written after : Option (List ℕ)) (i j : ℕ)
+    (answer : Result (Unit {0}) Failed) → Moves mv now new text → PutsText written after i j text answer →
+    CommandLeaves (Move mv) (debugger_state now stop) (debugger_state new stop) written after (of_report answer)
 unfolding CommandAnswers CommandAnswersPart
-carries-move mv now new stop text written after i j answer moves put = carries-told (Move mv) (debugger_state now stop) (debugger_state new stop) text written after i j answer (refl, moves) (refl, moves) put
+carries-move mv now new stop text written after i j answer moves put = carries-told (Move mv) (debugger_state now stop)
+    (debugger_state new stop) text written after i j answer (refl, moves) (refl, moves) put
 
-pub move-aground : (mv : AnyMove) (now new : ProcessorState) (stop : Option ℕ) (written : Option (List ℕ)) (failed : Failed) → MakesKeptOrFails mv now new (Err failed) → CommandLeaves (Move mv) (debugger_state now stop) (debugger_state new stop) written written (Err broken.Output)
+pub move-aground : (mv : AnyMove) (now new : ProcessorState) (stop : Option ℕ) (written : Option (List ℕ)) (failed : Failed) →
+    MakesKeptOrFails mv now new (Err failed) → CommandLeaves (Move mv) (debugger_state now stop) (debugger_state new stop) written written (Err broken.Output)
 unfolding CommandLeaves RunsAground MakesKeptOrFails
 move-aground mv now new stop written failed fails = ([], (refl, fails), nothing_put written)
 
 -- `auto` at the limit
-pub auto-spent : (n : ℕ) (now : ProcessorState) (stop : Option ℕ) (written after : Option (List ℕ)) (i j : ℕ) (answer : Result (Unit {0}) Failed) → IsAtLimit now → PutsText written after i j (refused_line (codes "Limit")) answer → CommandLeaves (Auto n) (debugger_state now stop) (debugger_state now stop) written after (of_report answer)
+pub auto-spent : (n : ℕ) (now : ProcessorState) (stop : Option ℕ) (written after : Option (List ℕ)) (i j : ℕ) (answer : Result (Unit {0}) Failed) →
+    IsAtLimit now → PutsText written after i j (refused_line (codes "Limit")) answer → CommandLeaves (Auto n) (debugger_state now stop)
+    (debugger_state now stop) written after (of_report answer)
 unfolding CommandAnswers CommandAnswersPart
 auto-spent n now stop written after i j answer spent put =
     let h : Automates n stop now now (refused_line (codes "Limit")) = inl (spent, (refl, refl)) in
-    carries-told (Auto n) (debugger_state now stop) (debugger_state now stop) (refused_line (codes "Limit")) written after i j answer (refl, h) (inl (refl, h)) put
+    carries-told (Auto n) (debugger_state now stop) (debugger_state now stop) (refused_line (codes "Limit")) written after i j answer (refl, h)
+    (inl (refl, h)) put
 
 -- its moves were made, and how many is put
-pub auto-made : (n : ℕ) (now new : ProcessorState) (stop : Option ℕ) (written between after : Option (List ℕ)) (count number i j : ℕ) (answer : Result (Unit {0}) Failed) → SessionGoesOn now → DrivesOut n stop now new written between (Ok count) → number ≡ count → PutsText between after i j (counted_line (codes "auto ") number) answer → CommandLeaves (Auto n) (debugger_state now stop) (debugger_state new stop) written after (of_report answer)
+pub auto-made : (n : ℕ) (now new : ProcessorState) (stop : Option ℕ) (written between after : Option (List ℕ)) (count number i j : ℕ)
+    (answer : Result (Unit {0}) Failed) → SessionGoesOn now → DrivesOut n stop now new written between (Ok count) → number ≡ count →
+    PutsText between after i j (counted_line (codes "auto ") number) answer → CommandLeaves (Auto n) (debugger_state now stop)
+    (debugger_state new stop) written after (of_report answer)
 unfolding CommandLeaves CommandAnswers CommandAnswersPart DrivesOut
-auto-made n now new stop written between after count number i j (Ok done) below (lines, drives, told) same put =
-    (lines ++ counted_line (codes "auto ") number, (refl, inr (below, (count, lines, drives, ap (λ (k : ℕ). lines ++ counted_line (codes "auto ") k) same))), writes-again written between after lines (counted_line (codes "auto ") number) told put.all)
-auto-made n now new stop written between after count number i j (Err failed) below (lines, drives, told) same put =
-    (lines ++ counted_line (codes "auto ") number, inl (refl, inr (below, (count, lines, drives, ap (λ (k : ℕ). lines ++ counted_line (codes "auto ") k) same))), front-again written between after lines (counted_line (codes "auto ") number) told put.front)
+auto-made n now new stop written between after count number i j (Ok done) below (lines, drives, told) same put = (
+  lines ++ counted_line (codes "auto ") number,
+  (refl, inr (below, (count, lines, drives, ap (λ (k : ℕ). lines ++ counted_line (codes "auto ") k) same))),
+  writes-again written between after lines (counted_line (codes "auto ") number) told put.all,
+)
+auto-made n now new stop written between after count number i j (Err failed) below (lines, drives, told) same put = (
+  lines ++ counted_line (codes "auto ") number,
+  inl (
+    refl,
+    inr (
+      below,
+      (
+        count,
+        lines,
+        drives,
+        ap (λ (k : ℕ). lines ++ counted_line (codes "auto ") k) same,
+      ),
+    ),
+  ),
+  front-again written between after lines
+      (counted_line (codes "auto ") number) told put.front,
+)
 
 -- or they broke off
-auto-broken : (n : ℕ) (now new : ProcessorState) (stop : Option ℕ) (written after : Option (List ℕ)) (b : Broken) → DrivesOut n stop now new written after (Err b) → CommandLeaves (Auto n) (debugger_state now stop) (debugger_state new stop) written after (Err b)
+auto-broken : (n : ℕ) (now new : ProcessorState) (stop : Option ℕ) (written after : Option (List ℕ)) (b : Broken) →
+    DrivesOut n stop now new written after (Err b) → CommandLeaves (Auto n) (debugger_state now stop) (debugger_state new stop) written after (Err b)
 unfolding CommandLeaves CommandAnswersPart DrivesOut RunsAground
 auto-broken n now new stop written after broken.Report (lines, drives, put) = (lines, inr (refl, drives), put)
 auto-broken n now new stop written after broken.Output (lines, drives, put) = (lines, drives, put)
 
 -- and what broke them off is passed on
-pub auto-stopped : (n : ℕ) (now new : ProcessorState) (stop : Option ℕ) (written after : Option (List ℕ)) (b : Broken) (answer : Result (Unit {0}) Broken) → IsErrAnd answer (λ e. e ≡ b) → DrivesOut n stop now new written after (Err b) → CommandLeaves (Auto n) (debugger_state now stop) (debugger_state new stop) written after answer
+pub auto-stopped : (n : ℕ) (now new : ProcessorState) (stop : Option ℕ) (written after : Option (List ℕ)) (b : Broken) (answer : Result (Unit {0}) Broken) →
+    IsErrAnd answer (λ e. e ≡ b) → DrivesOut n stop now new written after (Err b) → CommandLeaves (Auto n) (debugger_state now stop)
+    (debugger_state new stop) written after answer
 auto-stopped n now new stop written after b (Ok done) same h = absurd same
-auto-stopped n now new stop written after b (Err e) same h = subst (λ (by : Broken). CommandLeaves (Auto n) (debugger_state now stop) (debugger_state new stop) written after (Err by)) (sym same) (auto-broken n now new stop written after b h)
+auto-stopped n now new stop written after b (Err e) same h = subst (λ (by : Broken). CommandLeaves (Auto n) (debugger_state now stop)
+    (debugger_state new stop) written after (Err by)) (sym same) (auto-broken n now new stop written after b h)
 
 -- `back`, whatever the output tells
-pub carries-back : (core new : Processor) (ring later : List Kept) (output : Option (List ℕ)) (stop : Option ℕ) (written after : Option (List ℕ)) (i j : ℕ) (answer : Result (Unit {0}) Failed) → PutsBack (processor_state core ring None) (processor_state new later None) written after i j answer
-    → CommandLeaves Back (debugger_state (processor_state core ring output) stop) (debugger_state (processor_state new later output) stop) written after (of_report answer)
+pub carries-back : (core new : Processor) (ring later : List Kept) (output : Option (List ℕ)) (stop : Option ℕ) (written after : Option (List ℕ)) (i j : ℕ)
+    (answer : Result (Unit {0}) Failed) → PutsBack (processor_state core ring None) (processor_state new later None) written after i j answer
+    → CommandLeaves Back (debugger_state (processor_state core ring output) stop) (debugger_state (processor_state new later output) stop) written after
+    (of_report answer)
 unfolding CommandAnswers CommandAnswersPart
 carries-back core new ring later output stop written after i j answer (text, h, put) =
     let back : TakesBack (processor_state core ring output) (processor_state new later output) text = of h in
-    carries-told Back (debugger_state (processor_state core ring output) stop) (debugger_state (processor_state new later output) stop) text written after i j answer (refl, back) (refl, back) put
+    carries-told Back (debugger_state (processor_state core ring output) stop) (debugger_state (processor_state new later output) stop) text written after i j
+    answer (refl, back) (refl, back) put
   where
     at : ProcessorState → ProcessorState
     at b = processor_state b.core b.ring output
 
-    of : TakesBack (processor_state core ring None) (processor_state new later None) text → TakesBack (processor_state core ring output) (processor_state new later output) text
+    of : TakesBack (processor_state core ring None) (processor_state new later None) text →
+        TakesBack (processor_state core ring output) (processor_state new later output) text
     of (inl (none, (same, is))) = inl (none, (ap at same, is))
     of (inr (older, k, there, same, is)) = inr (older, k, there, ap at same, is)
 
 -- Lines --
 
 -- what a command leaves ends the session in this way
-pub ends-command : (line : List ℕ) (command : DebugCommand) (now new : DebuggerState) (written after : Option (List ℕ)) (answer : Result (Unit {0}) Broken) → command_in line ≡ Ok command → command ≢ End → CommandLeaves command now new written after answer → LineLeaves line now new written after (ended_by answer)
+pub ends-command : (line : List ℕ) (command : DebugCommand) (now new : DebuggerState) (written after : Option (List ℕ)) (answer : Result (Unit {0}) Broken) →
+    command_in line ≡ Ok command → command ≢ End → CommandLeaves command now new written after answer → LineLeaves line now new written after (ended_by answer)
 unfolding LineLeaves CommandLeaves AnswersLine AnswersPart FailsAnswer
 ends-command line command now new written after (Ok done) is other (text, h, put) =
     (text, subst (λ (told : Result DebugCommand Refusal). AnswersLine told now new text) (sym is) (other, h), put)
@@ -143,47 +188,73 @@ ends-command line command now new written after (Err broken.Output) is other (te
     (text, subst (λ (told : Result DebugCommand Refusal). FailsAnswer told now new text) (sym is) h, put)
 
 -- so in the words of the session
-pub ends-told : (line : List ℕ) (command : DebugCommand) (now new : DebuggerState) (written after : Option (List ℕ)) (answer : Result (Unit {0}) Broken) (end : Option Debugged) → end ≡ ended_by answer → command_in line ≡ Ok command → command ≢ End → CommandLeaves command now new written after answer → LineLeaves line now new written after end
-ends-told line command now new written after answer end told is other h = subst (LineLeaves line now new written after) (sym told) (ends-command line command now new written after answer is other h)
+pub ends-told : (line : List ℕ) (command : DebugCommand) (now new : DebuggerState) (written after : Option (List ℕ)) (answer : Result (Unit {0}) Broken)
+    (end : Option Debugged) → end ≡ ended_by answer → command_in line ≡ Ok command → command ≢ End → CommandLeaves command now new written after answer →
+    LineLeaves line now new written after end
+ends-told line command now new written after answer end told is other h = subst (LineLeaves line now new written after) (sym told)
+    (ends-command line command now new written after answer is other h)
 
-pub ended-output : (before now : ℕ) (answer : Result (Unit {0}) Broken) (end : Option Debugged) → end ≡ ended_by answer → HasCause before now (output_broken answer) → HasCause before now (output_ended end)
+pub ended-output : (before now : ℕ) (answer : Result (Unit {0}) Broken) (end : Option Debugged) → end ≡ ended_by answer →
+    HasCause before now (output_broken answer) → HasCause before now (output_ended end)
 ended-output before now (Ok done) end is h = subst (λ (e : Option Debugged). HasCause before now (output_ended e)) (sym is) h
 ended-output before now (Err broken.Output) end is h = subst (λ (e : Option Debugged). HasCause before now (output_ended e)) (sym is) h
 ended-output before now (Err broken.Report) end is h = subst (λ (e : Option Debugged). HasCause before now (output_ended e)) (sym is) h
 
-pub ended-report : (before now : ℕ) (answer : Result (Unit {0}) Broken) (end : Option Debugged) → end ≡ ended_by answer → HasCause before now (report_broken answer) → HasCause before now (report_ended end)
+pub ended-report : (before now : ℕ) (answer : Result (Unit {0}) Broken) (end : Option Debugged) → end ≡ ended_by answer →
+    HasCause before now (report_broken answer) → HasCause before now (report_ended end)
 ended-report before now (Ok done) end is h = subst (λ (e : Option Debugged). HasCause before now (report_ended e)) (sym is) h
 ended-report before now (Err broken.Output) end is h = subst (λ (e : Option Debugged). HasCause before now (report_ended e)) (sym is) h
 ended-report before now (Err broken.Report) end is h = subst (λ (e : Option Debugged). HasCause before now (report_ended e)) (sym is) h
 
 -- a refusal was put, or failed
-ends_refused : {E : Type 0} (line : List ℕ) (refusal : Refusal) (now : DebuggerState) (written after : Option (List ℕ)) (i j : ℕ) (done : Unit {0}) → command_in line ≡ Err refusal → PutsText {E = E} written after i j (refused_line (refusal_text refusal)) (Ok done) → LineLeaves line now now written after None
+ends_refused : {E : Type 0} (line : List ℕ) (refusal : Refusal) (now : DebuggerState) (written after : Option (List ℕ)) (i j : ℕ) (done : Unit {0}) →
+    command_in line ≡ Err refusal → PutsText {E = E} written after i j (refused_line (refusal_text refusal)) (Ok done) →
+    LineLeaves line now now written after None
 unfolding LineLeaves AnswersLine
-ends_refused line refusal now written after i j done is put =
-    (refused_line (refusal_text refusal), subst (λ (told : Result DebugCommand Refusal). AnswersLine told now now (refused_line (refusal_text refusal))) (sym is) (refl, refl), put.all)
+ends_refused line refusal now written after i j done is put = (
+  refused_line (refusal_text refusal),
+  subst (λ (told : Result DebugCommand Refusal). AnswersLine told now now (refused_line (refusal_text refusal)))
+      (sym is) (refl, refl),
+  put.all,
+)
 
-ends_unrefused : {T E : Type 0} (line : List ℕ) (refusal : Refusal) (now : DebuggerState) (written after : Option (List ℕ)) (i j : ℕ) (failed : E) → command_in line ≡ Err refusal → PutsText {T = T} written after i j (refused_line (refusal_text refusal)) (Err failed) → LineLeaves line now now written after (Some ReportFault)
+ends_unrefused : {T E : Type 0} (line : List ℕ) (refusal : Refusal) (now : DebuggerState) (written after : Option (List ℕ)) (i j : ℕ) (failed : E) →
+    command_in line ≡ Err refusal → PutsText {T = T} written after i j (refused_line (refusal_text refusal)) (Err failed) →
+    LineLeaves line now now written after (Some ReportFault)
 unfolding LineLeaves AnswersPart
-ends_unrefused line refusal now written after i j failed is put =
-    (refused_line (refusal_text refusal), subst (λ (told : Result DebugCommand Refusal). AnswersPart told now now (refused_line (refusal_text refusal))) (sym is) (refl, refl), put.front)
+ends_unrefused line refusal now written after i j failed is put = (
+  refused_line (refusal_text refusal),
+  subst (λ (told : Result DebugCommand Refusal). AnswersPart told now now (refused_line (refusal_text refusal)))
+      (sym is) (refl, refl),
+  put.front,
+)
 
 -- so in the words of the session
-pub ends-refusal : (line : List ℕ) (refusal : Refusal) (now : DebuggerState) (written after : Option (List ℕ)) (i j : ℕ) (answer : Result (Unit {0}) Failed) (told : Result (Unit {0}) Broken) (end : Option Debugged) → end ≡ ended_by told → told ≡ of_report answer → command_in line ≡ Err refusal → PutsText written after i j (refused_line (refusal_text refusal)) answer → LineLeaves line now now written after end
-ends-refusal line refusal now written after i j (Ok done) told end ends told_is is put = rw (ends, told_is) (ends_refused line refusal now written after i j done is put)
-ends-refusal line refusal now written after i j (Err failed) told end ends told_is is put = rw (ends, told_is) (ends_unrefused line refusal now written after i j failed is put)
+pub ends-refusal : (line : List ℕ) (refusal : Refusal) (now : DebuggerState) (written after : Option (List ℕ)) (i j : ℕ) (answer : Result (Unit {0}) Failed)
+    (told : Result (Unit {0}) Broken) (end : Option Debugged) → end ≡ ended_by told → told ≡ of_report answer → command_in line ≡ Err refusal →
+    PutsText written after i j (refused_line (refusal_text refusal)) answer → LineLeaves line now now written after end
+ends-refusal line refusal now written after i j (Ok done) told end ends told_is is put = rw (ends, told_is)
+    (ends_refused line refusal now written after i j done is put)
+ends-refusal line refusal now written after i j (Err failed) told end ends told_is is put =
+    rw (ends, told_is) (ends_unrefused line refusal now written after i j failed is put)
 
 -- a line that tells the same ends the session in the same way
-pub ends-same : (line other : List ℕ) (now new : DebuggerState) (written after : Option (List ℕ)) (answer : Option Debugged) → command_in line ≡ command_in other → LineLeaves line now new written after answer → LineLeaves other now new written after answer
+pub ends-same : (line other : List ℕ) (now new : DebuggerState) (written after : Option (List ℕ)) (answer : Option Debugged) →
+    command_in line ≡ command_in other → LineLeaves line now new written after answer → LineLeaves other now new written after answer
 unfolding LineLeaves
-ends-same line other now new written after None same (text, h, put) = (text, subst (λ (told : Result DebugCommand Refusal). AnswersLine told now new text) same h, put)
+ends-same line other now new written after None same (text, h, put) =
+    (text, subst (λ (told : Result DebugCommand Refusal). AnswersLine told now new text) same h, put)
 ends-same line other now new written after (Some Done) same (is, still, put) = (sym same ∙ is, still, put)
-ends-same line other now new written after (Some WriteFault) same (text, h, put) = (text, subst (λ (told : Result DebugCommand Refusal). FailsAnswer told now new text) same h, put)
-ends-same line other now new written after (Some ReportFault) same (text, h, put) = (text, subst (λ (told : Result DebugCommand Refusal). AnswersPart told now new text) same h, put)
+ends-same line other now new written after (Some WriteFault) same (text, h, put) =
+    (text, subst (λ (told : Result DebugCommand Refusal). FailsAnswer told now new text) same h, put)
+ends-same line other now new written after (Some ReportFault) same (text, h, put) =
+    (text, subst (λ (told : Result DebugCommand Refusal). AnswersPart told now new text) same h, put)
 ends-same line other now new written after (Some Limit) same h = absurd h
 ends-same line other now new written after (Some ReadFault) same h = absurd h
 
 -- one more line
-pub answers-more : (lines : List (List ℕ)) (line : List ℕ) (begin now new : DebuggerState) (first text : List ℕ) → AnswersAll lines begin now first → AnswersLine (command_in line) now new text → AnswersAll (lines ++ line ∷ []) begin new (first ++ text)
+pub answers-more : (lines : List (List ℕ)) (line : List ℕ) (begin now new : DebuggerState) (first text : List ℕ) → AnswersAll lines begin now first →
+    AnswersLine (command_in line) now new text → AnswersAll (lines ++ line ∷ []) begin new (first ++ text)
 unfolding AnswersAll
 answers-more [] line begin now new first text (same, none) h =
     let here : AnswersLine (command_in line) begin new text = subst (λ (d : DebuggerState). AnswersLine (command_in line) d new text) same h in
@@ -193,13 +264,15 @@ answers-more (one ∷ lines) line begin now new first text (next, front, rest, h
 
 -- Runs --
 
-passes_stand : (start : Processor) (stop : Option ℕ) (first last : Turn) (now new : ProcessorState) (trace : List Made) → StandsAfterMoves start now.core now.ring → Passes stop first now trace last new → StandsAfterMoves start new.core new.ring
+passes_stand : (start : Processor) (stop : Option ℕ) (first last : Turn) (now new : ProcessorState) (trace : List Made) →
+    StandsAfterMoves start now.core now.ring → Passes stop first now trace last new → StandsAfterMoves start new.core new.ring
 unfolding Passes
 passes_stand start stop first last now new [] h (same, is) = subst (λ (b : ProcessorState). StandsAfterMoves start b.core b.ring) (sym is) h
 passes_stand start stop first last now new (made ∷ trace) h (next, takes, free, more) =
     passes_stand start stop (next_turn first now made) last next new trace (makes-stands start made.move made.event now next h takes.makes) more
 
-pauses_stand : (start : Processor) (n : ℕ) (stop : Option ℕ) (count : ℕ) (at : Turn) (now new : ProcessorState) (last : List Made) → StandsAfterMoves start now.core now.ring → Pauses n stop count at now new last → StandsAfterMoves start new.core new.ring
+pauses_stand : (start : Processor) (n : ℕ) (stop : Option ℕ) (count : ℕ) (at : Turn) (now new : ProcessorState) (last : List Made) →
+    StandsAfterMoves start now.core now.ring → Pauses n stop count at now new last → StandsAfterMoves start new.core new.ring
 pauses_stand start n stop count at now new [] h (same, why) = subst (λ (b : ProcessorState). StandsAfterMoves start b.core b.ring) (sym same) h
 pauses_stand start n stop count at now new (made ∷ []) h (few, takes, hit) = makes-stands start made.move made.event now new h takes.makes
 pauses_stand start n stop count at now new (made ∷ other ∷ more) h none = absurd none
@@ -207,11 +280,14 @@ pauses_stand start n stop count at now new (made ∷ other ∷ more) h none = ab
 same_stands : (start : Processor) (now new : ProcessorState) → StandsAfterMoves start now.core now.ring → new ≡ now → StandsAfterMoves start new.core new.ring
 same_stands start now new h same = subst (λ (b : ProcessorState). StandsAfterMoves start b.core b.ring) (sym same) h
 
-processor_same : (start : Processor) (now new : DebuggerState) → StandsAfterMoves start now.processor.core now.processor.ring → new ≡ now → StandsAfterMoves start new.processor.core new.processor.ring
+processor_same : (start : Processor) (now new : DebuggerState) → StandsAfterMoves start now.processor.core now.processor.ring → new ≡ now →
+    StandsAfterMoves start new.processor.core new.processor.ring
 processor_same start now new h same = subst (λ (d : DebuggerState). StandsAfterMoves start d.processor.core d.processor.ring) (sym same) h
 
 -- each command keeps a session on its run
-carries_stand : (start : Processor) (command : DebugCommand) (now new : DebuggerState) (text : List ℕ) → StandsAfterMoves start now.processor.core now.processor.ring → CommandAnswers command now new text → StandsAfterMoves start new.processor.core new.processor.ring
+carries_stand : (start : Processor) (command : DebugCommand) (now new : DebuggerState) (text : List ℕ) →
+    StandsAfterMoves start now.processor.core now.processor.ring → CommandAnswers command now new text →
+    StandsAfterMoves start new.processor.core new.processor.ring
 unfolding CommandAnswers
 carries_stand start Nothing now new text h c = processor_same start now new h c.0
 carries_stand start (Move mv) now new text h (same, inl (spent, r)) = same_stands start now.processor new.processor h r.0
@@ -219,23 +295,28 @@ carries_stand start (Move mv) now new text h (same, inr (inl (below, (b, is, r))
 carries_stand start (Move mv) now new text h (same, inr (inr (below, (e, makes, is)))) = makes-stands start mv e now.processor new.processor h makes
 carries_stand start (Auto n) now new text h (same, inl (spent, r)) = same_stands start now.processor new.processor h r.0
 carries_stand start (Auto n) now new text h (same, inr (below, (count, lines, d, is))) =
-    pauses_stand start n now.stop (length d.trace) d.at d.now new.processor d.last (passes_stand start now.stop first_turn d.at now.processor d.now d.trace h d.passes) d.pauses
+    pauses_stand start n now.stop (length d.trace) d.at d.now new.processor d.last (passes_stand start now.stop first_turn d.at now.processor d.now d.trace h
+    d.passes) d.pauses
 carries_stand start (Show view) now new text h c = processor_same start now new h c.0
 carries_stand start (Break stop) now new text h c = same_stands start now.processor new.processor h (ap (λ (d : DebuggerState). d.processor) c.0)
 carries_stand start Back now new text h (same, inl (none, r)) = same_stands start now.processor new.processor h r.0
 carries_stand start Back now new text h (same, inr (older, k, there, is, t)) =
     let before : StandsAfterMoves start now.processor.core (older ++ k ∷ []) = subst (StandsAfterMoves start now.processor.core) there h in
-    subst (StandsAfterMoves start new.processor.core) (sym (ap (λ (b : ProcessorState). b.ring) is)) (stands-back start now.processor.core new.processor.core older k before (ap (λ (b : ProcessorState). b.core) is))
+    subst (StandsAfterMoves start new.processor.core) (sym (ap (λ (b : ProcessorState). b.ring) is))
+    (stands-back start now.processor.core new.processor.core older k before (ap (λ (b : ProcessorState). b.core) is))
 carries_stand start End now new text h c = processor_same start now new h c.0
 
 -- so does each line that is answered
-pub answers-stand : (start : Processor) (told : Result DebugCommand Refusal) (now new : DebuggerState) (text : List ℕ) → StandsAfterMoves start now.processor.core now.processor.ring → AnswersLine told now new text → StandsAfterMoves start new.processor.core new.processor.ring
+pub answers-stand : (start : Processor) (told : Result DebugCommand Refusal) (now new : DebuggerState) (text : List ℕ) →
+    StandsAfterMoves start now.processor.core now.processor.ring → AnswersLine told now new text → StandsAfterMoves start new.processor.core new.processor.ring
 unfolding AnswersLine
 answers-stand start (Ok command) now new text h a = carries_stand start command now new text h a.1
 answers-stand start (Err refusal) now new text h a = processor_same start now new h a.0
 
 -- and a line that ends the session leaves it there
-pub ends-on_run : (start : Processor) (line : List ℕ) (now new : DebuggerState) (written after : Option (List ℕ)) (answer : Debugged) → StandsAfterMoves start now.processor.core now.processor.ring → LineLeaves line now new written after (Some answer) → StaysOnRun start new.processor.core answer
+pub ends-on_run : (start : Processor) (line : List ℕ) (now new : DebuggerState) (written after : Option (List ℕ)) (answer : Debugged) →
+    StandsAfterMoves start now.processor.core now.processor.ring → LineLeaves line now new written after (Some answer) →
+    StaysOnRun start new.processor.core answer
 unfolding LineLeaves
 ends-on_run start line now new written after Done h e = stands-on_run start new.processor.core new.processor.ring (processor_same start now new h e.1)
 ends-on_run start line now new written after Limit h e = absurd e
@@ -244,7 +325,8 @@ ends-on_run start line now new written after WriteFault h e = tt
 ends-on_run start line now new written after ReportFault h e = tt
 
 -- the commands did not fail there
-pub ends-fed : (line : List ℕ) (now new : DebuggerState) (written after : Option (List ℕ)) (answer : Debugged) (before faults : ℕ) → faults ≡ before → LineLeaves line now new written after (Some answer) → HasCause before faults (commands_ended (Some answer))
+pub ends-fed : (line : List ℕ) (now new : DebuggerState) (written after : Option (List ℕ)) (answer : Debugged) (before faults : ℕ) → faults ≡ before →
+    LineLeaves line now new written after (Some answer) → HasCause before faults (commands_ended (Some answer))
 unfolding LineLeaves
 ends-fed line now new written after Done before faults still e = record { never_falls = omega (arith, still); rose = tt; still = still }
 ends-fed line now new written after Limit before faults still e = absurd e
@@ -253,28 +335,46 @@ ends-fed line now new written after WriteFault before faults still e = record { 
 ends-fed line now new written after ReportFault before faults still e = record { never_falls = omega (arith, still); rose = tt; still = still }
 
 -- a byte that is used keeps a session on its run too
-pub uses-stand : (start : Processor) (byte : ℕ) (line later : List ℕ) (now new : DebuggerState) (written after : Option (List ℕ)) → StandsAfterMoves start now.processor.core now.processor.ring → UsesByte byte line later now new written after None → StandsAfterMoves start new.processor.core new.processor.ring
+pub uses-stand : (start : Processor) (byte : ℕ) (line later : List ℕ) (now new : DebuggerState) (written after : Option (List ℕ)) →
+    StandsAfterMoves start now.processor.core now.processor.ring → UsesByte byte line later now new written after None →
+    StandsAfterMoves start new.processor.core new.processor.ring
 unfolding LineLeaves
 uses-stand start byte line later now new written after h (inl (other, held_is, same, still, goes)) = processor_same start now new h same
-uses-stand start byte line later now new written after h (inr (end, empty, (text, a, put))) = answers-stand start (command_in (without_return line)) now new text h a
+uses-stand start byte line later now new written after h (inr (end, empty, (text, a, put))) =
+    answers-stand start (command_in (without_return line)) now new text h a
 
-pub uses-on_run : (start : Processor) (byte : ℕ) (line later : List ℕ) (now new : DebuggerState) (written after : Option (List ℕ)) (answer : Debugged) → StandsAfterMoves start now.processor.core now.processor.ring → UsesByte byte line later now new written after (Some answer) → StaysOnRun start new.processor.core answer
+pub uses-on_run : (start : Processor) (byte : ℕ) (line later : List ℕ) (now new : DebuggerState) (written after : Option (List ℕ)) (answer : Debugged) →
+    StandsAfterMoves start now.processor.core now.processor.ring → UsesByte byte line later now new written after (Some answer) →
+    StaysOnRun start new.processor.core answer
 uses-on_run start byte line later now new written after answer h (inl (other, held_is, same, still, goes)) = absurd (cc)
-uses-on_run start byte line later now new written after answer h (inr (end, empty, ends)) = ends-on_run start (without_return line) now new written after answer h ends
+uses-on_run start byte line later now new written after answer h (inr (end, empty, ends)) =
+    ends-on_run start (without_return line) now new written after answer h ends
 
-pub uses-fed : (byte : ℕ) (line later : List ℕ) (now new : DebuggerState) (written after : Option (List ℕ)) (answer : Debugged) (before faults : ℕ) → faults ≡ before → UsesByte byte line later now new written after (Some answer) → HasCause before faults (commands_ended (Some answer))
+pub uses-fed : (byte : ℕ) (line later : List ℕ) (now new : DebuggerState) (written after : Option (List ℕ)) (answer : Debugged) (before faults : ℕ) →
+    faults ≡ before → UsesByte byte line later now new written after (Some answer) → HasCause before faults (commands_ended (Some answer))
 uses-fed byte line later now new written after answer before faults still (inl (other, held_is, same, none, goes)) = absurd (cc)
-uses-fed byte line later now new written after answer before faults still (inr (end, empty, ends)) = ends-fed (without_return line) now new written after answer before faults still ends
+uses-fed byte line later now new written after answer before faults still (inr (end, empty, ends)) =
+    ends-fed (without_return line) now new written after answer before faults still ends
 
 -- and at the end of the commands
-pub finishes-on_run : (start : Processor) (line : List ℕ) (now new : DebuggerState) (written after : Option (List ℕ)) (answer : Debugged) → StandsAfterMoves start now.processor.core now.processor.ring → FinishesSession line now new written after answer → StaysOnRun start new.processor.core answer
+pub finishes-on_run : (start : Processor) (line : List ℕ) (now new : DebuggerState) (written after : Option (List ℕ)) (answer : Debugged) →
+    StandsAfterMoves start now.processor.core now.processor.ring → FinishesSession line now new written after answer →
+    StaysOnRun start new.processor.core answer
 unfolding LineLeaves
-finishes-on_run start line now new written after answer h (inl (empty, done, same, still)) = subst (StaysOnRun start new.processor.core) (sym done) (stands-on_run start new.processor.core new.processor.ring (processor_same start now new h same))
+finishes-on_run start line now new written after answer h (inl (empty, done, same, still)) =
+    subst (StaysOnRun start new.processor.core) (sym done) (stands-on_run start new.processor.core new.processor.ring (processor_same start now new h same))
 finishes-on_run start line now new written after answer h (inr (inl (some, done, (text, a, put)))) =
-    subst (StaysOnRun start new.processor.core) (sym done) (stands-on_run start new.processor.core new.processor.ring (answers-stand start (command_in line) now new text h a))
+    subst (StaysOnRun start new.processor.core) (sym done) (stands-on_run start new.processor.core new.processor.ring
+    (answers-stand start (command_in line) now new text h a))
 finishes-on_run start line now new written after answer h (inr (inr (some, ends))) = ends-on_run start line now new written after answer h ends
 
-pub finishes-fed : (line : List ℕ) (now new : DebuggerState) (written after : Option (List ℕ)) (answer : Debugged) (before faults : ℕ) → faults ≡ before → FinishesSession line now new written after answer → HasCause before faults (commands_ended (Some answer))
-finishes-fed line now new written after answer before faults still (inl (empty, done, same, none)) = subst (λ (a : Debugged). HasCause before faults (commands_ended (Some a))) (sym done) (record { never_falls = omega (arith, still); rose = tt; still = still })
-finishes-fed line now new written after answer before faults still (inr (inl (some, done, ends))) = subst (λ (a : Debugged). HasCause before faults (commands_ended (Some a))) (sym done) (record { never_falls = omega (arith, still); rose = tt; still = still })
-finishes-fed line now new written after answer before faults still (inr (inr (some, ends))) = ends-fed line now new written after answer before faults still ends
+pub finishes-fed : (line : List ℕ) (now new : DebuggerState) (written after : Option (List ℕ)) (answer : Debugged) (before faults : ℕ) → faults ≡ before →
+    FinishesSession line now new written after answer → HasCause before faults (commands_ended (Some answer))
+finishes-fed line now new written after answer before faults still (inl (empty, done, same, none)) =
+    subst (λ (a : Debugged). HasCause before faults (commands_ended (Some a))) (sym done) (record
+    { never_falls = omega (arith, still); rose = tt; still = still })
+finishes-fed line now new written after answer before faults still (inr (inl (some, done, ends))) =
+    subst (λ (a : Debugged). HasCause before faults (commands_ended (Some a))) (sym done) (record
+    { never_falls = omega (arith, still); rose = tt; still = still })
+finishes-fed line now new written after answer before faults still (inr (inr (some, ends))) =
+    ends-fed line now new written after answer before faults still ends

@@ -19,12 +19,14 @@ use Rattle.cf_debug.specs.Limits.{most_taken}
 joined_byte : (pieces : List (List ℕ)) (line : List ℕ) (byte : ℕ) → joined pieces (line ++ byte ∷ []) ≡ joined pieces line ++ byte ∷ []
 unfolding joined
 joined_byte [] line byte = refl
-joined_byte (piece ∷ pieces) line byte = ap (λ (rest : List ℕ). piece ++ 10 ∷ rest) (joined_byte pieces line byte) ∙ sym (append_assoc piece (10 ∷ joined pieces line) (byte ∷ []))
+joined_byte (piece ∷ pieces) line byte = ap (λ (rest : List ℕ). piece ++ 10 ∷ rest) (joined_byte pieces line byte)
+    ∙ sym (append_assoc piece (10 ∷ joined pieces line) (byte ∷ []))
 
 joined_end : (pieces : List (List ℕ)) (line : List ℕ) → joined (pieces ++ line ∷ []) [] ≡ joined pieces line ++ 10 ∷ []
 unfolding joined
 joined_end [] line = refl
-joined_end (piece ∷ pieces) line = ap (λ (rest : List ℕ). piece ++ 10 ∷ rest) (joined_end pieces line) ∙ sym (append_assoc piece (10 ∷ joined pieces line) (10 ∷ []))
+joined_end (piece ∷ pieces) line = ap (λ (rest : List ℕ). piece ++ 10 ∷ rest) (joined_end pieces line)
+    ∙ sym (append_assoc piece (10 ∷ joined pieces line) (10 ∷ []))
 
 no_pieces : {X : Type 0} (P : X → Type 0) → All P []
 no_pieces P i x low = absurd (omega (arith, low))
@@ -39,7 +41,8 @@ unfolding joined
 has-none = record { pieces = []; are_pieces = no_pieces IsPiece; is_piece = no_pieces (λ (byte : ℕ). byte ≢ 10); bytes_are = refl; lines_are = refl }
 
 -- one more byte of the unfinished line
-pub has-byte : (bytes : List ℕ) (lines : List (List ℕ)) (line : List ℕ) (byte : ℕ) → HasLines bytes lines line → byte ≢ 10 → HasLines (bytes ++ byte ∷ []) lines (line ++ byte ∷ [])
+pub has-byte : (bytes : List ℕ) (lines : List (List ℕ)) (line : List ℕ) (byte : ℕ) → HasLines bytes lines line → byte ≢ 10 →
+    HasLines (bytes ++ byte ∷ []) lines (line ++ byte ∷ [])
 has-byte bytes lines line byte h other = record {
   pieces = h.pieces;
   are_pieces = h.are_pieces;
@@ -49,7 +52,8 @@ has-byte bytes lines line byte h other = record {
 }
 
 -- or the line is ended
-pub has-end : (bytes : List ℕ) (lines : List (List ℕ)) (line : List ℕ) → HasLines bytes lines line → HasLines (bytes ++ 10 ∷ []) (lines ++ without_return line ∷ []) []
+pub has-end : (bytes : List ℕ) (lines : List (List ℕ)) (line : List ℕ) → HasLines bytes lines line →
+    HasLines (bytes ++ 10 ∷ []) (lines ++ without_return line ∷ []) []
 has-end bytes lines line h = record {
   pieces = h.pieces ++ line ∷ [];
   are_pieces = All-append IsPiece h.pieces (line ∷ []) h.are_pieces (alone IsPiece line h.is_piece);
@@ -68,7 +72,8 @@ held-more line byte = of (nat_lt 258 (length line)) refl
     of true long =
         let more : 258 < length line = grind (arith, nat_tests, long) in
         let full : length (held line) ≡ 258 = length-take-le 258 line (omega (arith, more)) in
-        take-append-le 258 (held line) (byte ∷ []) (omega (arith, full)) ∙ take_all 258 (held line) (omega (arith, full)) ∙ sym (take-append-le 258 line (byte ∷ []) (omega (arith, more)))
+        take-append-le 258 (held line) (byte ∷ []) (omega (arith, full)) ∙ take_all 258 (held line) (omega (arith, full))
+        ∙ sym (take-append-le 258 line (byte ∷ []) (omega (arith, more)))
     of false short =
         let few : length line ≤ 258 = grind (arith, nat_tests, short) in
         ap (λ (front : List ℕ). held (front ++ byte ∷ [])) (take_all 258 line few)
@@ -99,7 +104,8 @@ held-whole line = of (nat_lt 258 (length line)) refl
     of true long =
         let more : 258 < length line = grind (arith, nat_tests, long) in
         let full : length (held line) ≡ 258 = length-take-le 258 line (omega (arith, more)) in
-        too_long (without_return (held line)) (omega (arith, full, nearly (held line))) ∙ sym (too_long (without_return line) (omega (arith, more, nearly line)))
+        too_long (without_return (held line)) (omega (arith, full, nearly (held line))) ∙ sym
+        (too_long (without_return line) (omega (arith, more, nearly line)))
     of false short =
         let few : length line ≤ 258 = grind (arith, nat_tests, short) in
         ap (λ (front : List ℕ). command_in (without_return front)) (take_all 258 line few)
@@ -161,31 +167,42 @@ full_before n line byte full = take-append-le n line (byte ∷ []) (omega (arith
 -- What comes next --
 
 -- a byte that was taken before
-pub feeds-used : (told : Option (List ℕ)) (now new : Feeding) (byte : ℕ) → now.rest ≡ byte ∷ new.rest → new.left ≡ now.left → length now.rest ≤ most_taken → Feeds told told now new (Byte byte)
+pub feeds-used : (told : Option (List ℕ)) (now new : Feeding) (byte : ℕ) → now.rest ≡ byte ∷ new.rest → new.left ≡ now.left → length now.rest ≤ most_taken →
+    Feeds told told now new (Byte byte)
 unfolding Feeds
 feeds-used told now new byte is left few = ([], gives-none told, append-nil now.rest ∙ is, omega (arith, left), omega (arith, few, ap length is))
 
 -- the first byte of those that were taken just now
-pub feeds-taken : (before after : Option (List ℕ)) (now filled new : Feeding) (byte : ℕ) → now.rest ≡ [] → GivesInput before after filled.rest → filled.left + length filled.rest ≡ now.left → length filled.rest ≤ most_taken → filled.rest ≡ byte ∷ new.rest → new.left ≡ filled.left → Feeds before after now new (Byte byte)
+pub feeds-taken : (before after : Option (List ℕ)) (now filled new : Feeding) (byte : ℕ) → now.rest ≡ [] → GivesInput before after filled.rest →
+    filled.left + length filled.rest ≡ now.left → length filled.rest ≤ most_taken → filled.rest ≡ byte ∷ new.rest → new.left ≡ filled.left →
+    Feeds before after now new (Byte byte)
 unfolding Feeds
 feeds-taken before after now filled new byte none gives left few is still =
     (filled.rest, gives, ap (λ (r : List ℕ). r ++ filled.rest) none ∙ is, omega (arith, left, still), omega (arith, few, ap length is))
 
 -- nothing was taken, for the commands are at their end
-pub feeds-end : (before after : Option (List ℕ)) (now filled : Feeding) → now.rest ≡ [] → IsAtEnd before → GivesInput before after filled.rest → length filled.rest ≡ 0 → filled.left + length filled.rest ≡ now.left → Feeds before after now filled AtEnd
+pub feeds-end : (before after : Option (List ℕ)) (now filled : Feeding) → now.rest ≡ [] → IsAtEnd before → GivesInput before after filled.rest →
+    length filled.rest ≡ 0 → filled.left + length filled.rest ≡ now.left → Feeds before after now filled AtEnd
 unfolding Feeds
 feeds-end before after now filled none end gives empty_rest left =
     let nothing : filled.rest ≡ [] = empty filled.rest empty_rest in
-    let still : filled.left ≡ now.left = omega (arith, left, empty_rest) in
-    (none, end, subst (GivesInput before after) nothing gives, ap (λ (r : List ℕ). record { rest = r; left = filled.left }) (nothing ∙ sym none) ∙ ap (λ (n : ℕ). record { rest = now.rest; left = n }) still)
+    let still : filled.left ≡ now.left = omega (arith, left, empty_rest) in (
+      none,
+      end,
+      subst (GivesInput before after) nothing gives,
+      ap (λ (r : List ℕ). record { rest = r; left = filled.left }) (nothing ∙ sym none)
+          ∙ ap (λ (n : ℕ). record { rest = now.rest; left = n }) still,
+    )
 
 -- or the take failed
-pub feeds-fault : (before after : Option (List ℕ)) (now filled : Feeding) → now.rest ≡ [] → filled ≡ now → GivesInput before after [] → Feeds before after now filled Fault
+pub feeds-fault : (before after : Option (List ℕ)) (now filled : Feeding) → now.rest ≡ [] → filled ≡ now → GivesInput before after [] →
+    Feeds before after now filled Fault
 unfolding Feeds
 feeds-fault before after now filled none same gives = (none, gives, same)
 
 -- a take of one byte
-pub one-more : {E : Type 0} (before after : Option (List ℕ)) (into new : List ℕ) (n : ℕ) (feed : Feeding) → length into ≡ 1 → length new ≡ 1 → Takes {E = E} before after into new (Ok n) → (n ≡ 0 → ⊥) → feed.rest ≡ [] → feed.left ≡ 0 → Feeds before after feed feed TooMany
+pub one-more : {E : Type 0} (before after : Option (List ℕ)) (into new : List ℕ) (n : ℕ) (feed : Feeding) → length into ≡ 1 → length new ≡ 1 →
+    Takes {E = E} before after into new (Ok n) → (n ≡ 0 → ⊥) → feed.rest ≡ [] → feed.left ≡ 0 → Feeds before after feed feed TooMany
 unfolding Feeds
 one-more before after into new n feed one one_new takes some none spent =
     let is_one : n ≡ 1 = omega (arith, takes.count, one, some_is n some) in
@@ -204,7 +221,8 @@ one-more before after into new n feed one one_new takes some none spent =
         front (Some left) after byte rest (within, same, left_is) =
             (drop 1 left, sym (take-append-drop 1 left) ∙ ap (λ (t : List ℕ). t ++ drop 1 left) (sym same), left_is)
 
-pub one-none : {E : Type 0} (before after : Option (List ℕ)) (into new : List ℕ) (n : ℕ) (feed : Feeding) → length into ≡ 1 → Takes {E = E} before after into new (Ok n) → n ≡ 0 → feed.rest ≡ [] → Feeds before after feed feed AtEnd
+pub one-none : {E : Type 0} (before after : Option (List ℕ)) (into new : List ℕ) (n : ℕ) (feed : Feeding) → length into ≡ 1 →
+    Takes {E = E} before after into new (Ok n) → n ≡ 0 → feed.rest ≡ [] → Feeds before after feed feed AtEnd
 unfolding Feeds
 one-none before after into new n feed one takes zero_taken none =
     (none, takes.end zero_taken (omega (arith, one)), nothing before after new (subst (λ (k : ℕ). GivesFront before after new k) zero_taken takes.told), refl)
@@ -213,18 +231,22 @@ one-none before after into new n feed one takes zero_taken none =
     nothing None after new gives = tt
     nothing (Some left) after new (within, same, left_is) = (left, refl, left_is)
 
-pub one-failed : {E : Type 0} (before after : Option (List ℕ)) (into new : List ℕ) (e : E) (feed : Feeding) → Takes before after into new (Err e) → feed.rest ≡ [] → Feeds before after feed feed Fault
+pub one-failed : {E : Type 0} (before after : Option (List ℕ)) (into new : List ℕ) (e : E) (feed : Feeding) → Takes before after into new (Err e) →
+    feed.rest ≡ [] → Feeds before after feed feed Fault
 unfolding Feeds
-one-failed before after into new e feed takes none = (none, subst (λ (o : Option (List ℕ)). GivesInput before o []) (sym takes.unchanged.1) (gives-none before), refl)
+one-failed before after into new e feed takes none =
+    (none, subst (λ (o : Option (List ℕ)). GivesInput before o []) (sym takes.unchanged.1) (gives-none before), refl)
 
 -- One more byte, where a line has room for n --
 
-pub pushed : (n : ℕ) (line items new : List ℕ) (byte : ℕ) (full : Bool) → full ≡ (length items == n) → length items ≤ n → full ≡ false → items ≡ line → new ≡ items ++ byte ∷ [] → new ≡ take n (line ++ byte ∷ [])
+pub pushed : (n : ℕ) (line items new : List ℕ) (byte : ℕ) (full : Bool) → full ≡ (length items == n) → length items ≤ n → full ≡ false → items ≡ line →
+    new ≡ items ++ byte ∷ [] → new ≡ take n (line ++ byte ∷ [])
 pushed n line items new byte full is fits room seen new_is =
     let low : length items < n = grind (arith, nat_tests, is, fits, room) in
     new_is ∙ sym (fits_more n items byte low) ∙ ap (λ (l : List ℕ). take n (l ++ byte ∷ [])) seen
 
-pub stays-full : (n : ℕ) (line items : List ℕ) (byte : ℕ) (full : Bool) → full ≡ (length items == n) → full ≡ true → items ≡ line → line ≡ take n (line ++ byte ∷ [])
+pub stays-full : (n : ℕ) (line items : List ℕ) (byte : ℕ) (full : Bool) → full ≡ (length items == n) → full ≡ true → items ≡ line →
+    line ≡ take n (line ++ byte ∷ [])
 stays-full n line items byte full is no_room seen =
     let all : length items ≡ n = grind (arith, nat_tests, is, no_room) in
     sym (full_before n line byte (ap length (sym seen) ∙ all))

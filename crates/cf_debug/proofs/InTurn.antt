@@ -37,16 +37,20 @@ abbrev made_of : Move → Event → ProcessorState → Made
 made_of mv e new = record { move = mv; event = e; state = new.core.state }
 
 -- the move that is picked was made, and its line put
-pub steers-on : (stop : Option ℕ) (at later : Turn) (now new : ProcessorState) (mv : Move) (e : Event) (last : Bool) (written after : Option (List ℕ)) (i j : ℕ) (answer : Unit {0})
-    → GoesOn most_retired now.core.state → pick at now ≡ Some mv → MakesKeptOrFails mv now new (Ok e) → last ≡ breaks stop now.core.state mv → IsNextTurn at later now (made_of mv e new) → PutsText {E = Failed} written after i j (retirement new.core.state.retired e) (Ok answer)
+pub steers-on : (stop : Option ℕ) (at later : Turn) (now new : ProcessorState) (mv : Move) (e : Event) (last : Bool) (written after : Option (List ℕ)) (i j : ℕ)
+    (answer : Unit {0})
+    → GoesOn most_retired now.core.state → pick at now ≡ Some mv → MakesKeptOrFails mv now new (Ok e) → last ≡ breaks stop now.core.state mv →
+    IsNextTurn at later now (made_of mv e new) → PutsText {E = Failed} written after i j (retirement new.core.state.retired e) (Ok answer)
     → Steers stop at later now new written after (Ok last)
 unfolding Steers MakesKeptOrFails
 steers-on stop at later now new mv e last written after i j answer goes is makes ends next put =
     (made_of mv e new, record { goes = goes; pick_is = is; makes = makes; state = refl }, sym ends, next, put.all)
 
 -- or the report failed after it
-pub steers-unshown : {T : Type 0} (stop : Option ℕ) (at later : Turn) (now new : ProcessorState) (mv : Move) (e : Event) (written after : Option (List ℕ)) (i j : ℕ) (failed : Failed)
-    → GoesOn most_retired now.core.state → pick at now ≡ Some mv → MakesKeptOrFails mv now new (Ok e) → PutsText {T = T} written after i j (retirement new.core.state.retired e) (Err failed)
+pub steers-unshown : {T : Type 0} (stop : Option ℕ) (at later : Turn) (now new : ProcessorState) (mv : Move) (e : Event) (written after : Option (List ℕ))
+    (i j : ℕ) (failed : Failed)
+    → GoesOn most_retired now.core.state → pick at now ≡ Some mv → MakesKeptOrFails mv now new (Ok e) →
+    PutsText {T = T} written after i j (retirement new.core.state.retired e) (Err failed)
     → Steers stop at later now new written after (Err broken.Report)
 unfolding Steers MakesKeptOrFails
 steers-unshown stop at later now new mv e written after i j failed goes is makes put =
@@ -54,13 +58,16 @@ steers-unshown stop at later now new mv e written after i j failed goes is makes
 
 -- or the output failed it
 pub steers-aground : (stop : Option ℕ) (at later : Turn) (now new : ProcessorState) (mv : Move) (written : Option (List ℕ)) (failed : Failed)
-    → GoesOn most_retired now.core.state → pick at now ≡ Some mv → MakesKeptOrFails mv now new (Err failed) → Steers stop at later now new written written (Err broken.Output)
+    → GoesOn most_retired now.core.state → pick at now ≡ Some mv → MakesKeptOrFails mv now new (Err failed) →
+    Steers stop at later now new written written (Err broken.Output)
 unfolding Steers MakesKeptOrFails
 steers-aground stop at later now new mv written failed goes is fails =
     (goes, is ∙ ap Some fails.serves, subst (λ (v : Move). FailsOne v now new) fails.serves fails, refl)
 
 -- the turn after it
-pub next-is : (at : Turn) (now : ProcessorState) (made : Made) (c later : PaceCount) (policy : Option Move) (drained : Bool) → at.count ≡ c.count → c.stages ≡ now.core.plan.stages → drained ≡ is_drained made.state → later ≡ saw c made.move made.event drained → policy ≡ round_on at.policy (offered_to now.core.plan at now.core.state)
+pub next-is : (at : Turn) (now : ProcessorState) (made : Made) (c later : PaceCount) (policy : Option Move) (drained : Bool) → at.count ≡ c.count →
+    c.stages ≡ now.core.plan.stages → drained ≡ is_drained made.state → later ≡ saw c made.move made.event drained →
+    policy ≡ round_on at.policy (offered_to now.core.plan at now.core.state)
     → IsNextTurn at (chooser policy later.count) now made
 next-is at now made c later policy drained count beside drained_is later_is on = record {
   policy = on;
@@ -74,18 +81,27 @@ pub offered-offers : (c : PaceCount) (plan : Plan) (s : State) → c.stages ≡ 
 offered-offers c plan s beside some = subst (λ (moves : List Move). 0 < length moves) (sym (offers-offered c plan s beside)) some
 
 -- the move that is chosen is the one that is picked
-pub chosen-pick : (last : Option Move) (c : PaceCount) (now : ProcessorState) (mv : Move) → c.stages ≡ now.core.plan.stages → Some mv ≡ slice_get (offers_by c now.core.plan now.core.state) (round_pick last (offers_by c now.core.plan now.core.state)) → pick (chooser last c.count) now ≡ Some mv
-chosen-pick last c now mv beside is = sym (is ∙ ap (λ (moves : List Move). slice_get moves (round_pick last moves)) (offers-offered c now.core.plan now.core.state beside))
+pub chosen-pick : (last : Option Move) (c : PaceCount) (now : ProcessorState) (mv : Move) → c.stages ≡ now.core.plan.stages →
+    Some mv ≡ slice_get (offers_by c now.core.plan now.core.state) (round_pick last (offers_by c now.core.plan now.core.state)) →
+    pick (chooser last c.count) now ≡ Some mv
+chosen-pick last c now mv beside is = sym (is ∙ ap (λ (moves : List Move). slice_get moves (round_pick last moves))
+    (offers-offered c now.core.plan now.core.state beside))
 
 -- and allowed
-pub chosen-allowed : (last : Option Move) (c : PaceCount) (now : ProcessorState) (mv : Move) → c.stages ≡ now.core.plan.stages → Some mv ≡ slice_get (offers_by c now.core.plan now.core.state) (round_pick last (offers_by c now.core.plan now.core.state)) → bar now.core.plan now.core.state mv ≡ None
-chosen-allowed last c now mv beside is = offered_allowed now.core.plan c.count now.core.state (round_pick last (offered now.core.plan c.count now.core.state)) mv (chosen-pick last c now mv beside is)
+pub chosen-allowed : (last : Option Move) (c : PaceCount) (now : ProcessorState) (mv : Move) → c.stages ≡ now.core.plan.stages →
+    Some mv ≡ slice_get (offers_by c now.core.plan now.core.state) (round_pick last (offers_by c now.core.plan now.core.state)) →
+    bar now.core.plan now.core.state mv ≡ None
+chosen-allowed last c now mv beside is = offered_allowed now.core.plan c.count now.core.state
+    (round_pick last (offered now.core.plan c.count now.core.state)) mv (chosen-pick last c now mv beside is)
 
 -- and after it comes the next turn
-pub chosen-next : (last policy : Option Move) (c later : PaceCount) (now new : ProcessorState) (mv : Move) (e : Event) (drained : Bool) → c.stages ≡ now.core.plan.stages → drained ≡ is_drained new.core.state → later ≡ saw c mv e drained → policy ≡ round_on last (offers_by c now.core.plan now.core.state)
+pub chosen-next : (last policy : Option Move) (c later : PaceCount) (now new : ProcessorState) (mv : Move) (e : Event) (drained : Bool) →
+    c.stages ≡ now.core.plan.stages → drained ≡ is_drained new.core.state → later ≡ saw c mv e drained →
+    policy ≡ round_on last (offers_by c now.core.plan now.core.state)
     → IsNextTurn (chooser last c.count) (chooser policy later.count) now (made_of mv e new)
 chosen-next last policy c later now new mv e drained beside drained_is later_is on =
-    next-is (chooser last c.count) now (made_of mv e new) c later policy drained refl beside drained_is later_is (on ∙ ap (round_on last) (offers-offered c now.core.plan now.core.state beside))
+    next-is (chooser last c.count) now (made_of mv e new) c later policy drained refl beside drained_is later_is (on
+    ∙ ap (round_on last) (offers-offered c now.core.plan now.core.state beside))
 
 -- Moves so far --
 
@@ -103,7 +119,8 @@ nothing_put : (told : Option (List ℕ)) → Writes told told []
 nothing_put None = tt
 nothing_put (Some told) = ap Some (sym (append-nil told))
 
-pub comes-first : (stop : Option ℕ) (start : ProcessorState) (policy : Option Move) (held stages : ℕ) (written : Option (List ℕ)) → policy ≡ None → held ≡ stopped stages 0 → stages ≡ start.core.plan.stages → Comes stop start start (chooser policy held) written written 0
+pub comes-first : (stop : Option ℕ) (start : ProcessorState) (policy : Option Move) (held stages : ℕ) (written : Option (List ℕ)) → policy ≡ None →
+    held ≡ stopped stages 0 → stages ≡ start.core.plan.stages → Comes stop start start (chooser policy held) written written 0
 unfolding Passes retirements
 comes-first stop start policy held stages written fresh_policy zero_held beside = record {
   trace = [];
@@ -116,22 +133,27 @@ comes-first stop start policy held stages written fresh_policy zero_held beside 
 }
 
 -- the same is offered by the whole count
-offers : (stop : Option ℕ) (start now : ProcessorState) (held : Turn) (written after : Option (List ℕ)) (count : ℕ) → (c : Comes stop start now held written after count) → offered_to now.core.plan held now.core.state ≡ offered_to now.core.plan c.at now.core.state
+offers : (stop : Option ℕ) (start now : ProcessorState) (held : Turn) (written after : Option (List ℕ)) (count : ℕ) →
+    (c : Comes stop start now held written after count) → offered_to now.core.plan held now.core.state ≡ offered_to now.core.plan c.at now.core.state
 offers stop start now held written after count c =
     ap (λ (n : ℕ). offered now.core.plan n now.core.state) c.count_is ∙ offered-stopped now.core.plan c.at.count now.core.state
 
-picks_same : (stop : Option ℕ) (start now : ProcessorState) (held : Turn) (written after : Option (List ℕ)) (count : ℕ) → (c : Comes stop start now held written after count) → pick held now ≡ pick c.at now
+picks_same : (stop : Option ℕ) (start now : ProcessorState) (held : Turn) (written after : Option (List ℕ)) (count : ℕ) →
+    (c : Comes stop start now held written after count) → pick held now ≡ pick c.at now
 picks_same stop start now held written after count c =
     ap (λ (moves : List Move). slice_get moves (round_pick held.policy moves)) (offers stop start now held written after count c)
     ∙ ap (λ (p : Option Move). slice_get (offered_to now.core.plan c.at now.core.state) (round_pick p (offered_to now.core.plan c.at now.core.state))) c.policy
 
-onward_same : (stop : Option ℕ) (start now : ProcessorState) (held : Turn) (written after : Option (List ℕ)) (count : ℕ) → (c : Comes stop start now held written after count) → round_on held.policy (offered_to now.core.plan held now.core.state) ≡ round_on c.at.policy (offered_to now.core.plan c.at now.core.state)
+onward_same : (stop : Option ℕ) (start now : ProcessorState) (held : Turn) (written after : Option (List ℕ)) (count : ℕ) →
+    (c : Comes stop start now held written after count) → round_on held.policy (offered_to now.core.plan held now.core.state)
+    ≡ round_on c.at.policy (offered_to now.core.plan c.at now.core.state)
 onward_same stop start now held written after count c =
     ap (λ (moves : List Move). round_on held.policy moves) (offers stop start now held written after count c)
     ∙ ap (λ (p : Option Move). round_on p (offered_to now.core.plan c.at now.core.state)) c.policy
 
 -- so the move that is taken is taken by the whole count
-took : (stop : Option ℕ) (start now new : ProcessorState) (held : Turn) (written after : Option (List ℕ)) (count : ℕ) (made : Made) → (c : Comes stop start now held written after count) → DriveTakes held made now new → DriveTakes c.at made now new
+took : (stop : Option ℕ) (start now new : ProcessorState) (held : Turn) (written after : Option (List ℕ)) (count : ℕ) (made : Made) →
+    (c : Comes stop start now held written after count) → DriveTakes held made now new → DriveTakes c.at made now new
 took stop start now new held written after count made c t = record {
   goes = t.goes;
   pick_is = sym (picks_same stop start now held written after count c) ∙ t.pick_is;
@@ -139,11 +161,13 @@ took stop start now new held written after count made c t = record {
   state = t.state;
 }
 
-passes_more : (stop : Option ℕ) (first : Turn) (start : ProcessorState) (trace : List Made) (at : Turn) (now : ProcessorState) (made : Made) (new : ProcessorState) → Passes stop first start trace at now → DriveTakes at made now new → breaks stop now.core.state made.move ≡ false
+passes_more : (stop : Option ℕ) (first : Turn) (start : ProcessorState) (trace : List Made) (at : Turn) (now : ProcessorState) (made : Made)
+    (new : ProcessorState) → Passes stop first start trace at now → DriveTakes at made now new → breaks stop now.core.state made.move ≡ false
     → Passes stop first start (trace ++ made ∷ []) (next_turn at now made) new
 unfolding Passes
 passes_more stop first start [] at now made new (same, here) takes free =
-    let P : Turn → ProcessorState → Type 0 = λ q b. DriveTakes q made b new × (breaks stop b.core.state made.move ≡ false) × (next_turn at now made ≡ next_turn q b made) in
+    let P : Turn → ProcessorState → Type 0 = λ q b. DriveTakes q made b new × (breaks stop b.core.state made.move ≡ false)
+    × (next_turn at now made ≡ next_turn q b made) in
     let k : P first start = subst (λ (b : ProcessorState). P first b) here (subst (λ (q : Turn). P q now) same (takes, free, refl)) in
     (new, k.0, k.1, (k.2, refl))
 passes_more stop first start (one ∷ trace) at now made new (next, t, f, more) takes free =
@@ -154,13 +178,15 @@ retirements_more : (trace : List Made) (made : Made) → retirements (trace ++ m
 unfolding retirements
 retirements_more [] made = append-nil (retirement made.state.retired made.event)
 retirements_more (first ∷ trace) made =
-    ap (λ (lines : List ℕ). retirement first.state.retired first.event ++ lines) (retirements_more trace made) ∙ sym (append_assoc (retirement first.state.retired first.event) (retirements trace) (retirement made.state.retired made.event))
+    ap (λ (lines : List ℕ). retirement first.state.retired first.event ++ lines) (retirements_more trace made)
+    ∙ sym (append_assoc (retirement first.state.retired first.event) (retirements trace) (retirement made.state.retired made.event))
 
 one_more : (trace : List Made) (made : Made) → length (trace ++ made ∷ []) ≡ length trace + 1
 one_more trace made = length-append trace (made ∷ [])
 
 -- one more move
-pub comes-more : (stop : Option ℕ) (start now new : ProcessorState) (held later : Turn) (written between after : Option (List ℕ)) (count : ℕ) (last : Bool) → last ≡ false → Comes stop start now held written between count → Steers stop held later now new between after (Ok last)
+pub comes-more : (stop : Option ℕ) (start now new : ProcessorState) (held later : Turn) (written between after : Option (List ℕ)) (count : ℕ) (last : Bool) →
+    last ≡ false → Comes stop start now held written between count → Steers stop held later now new between after (Ok last)
     → Comes stop start new later written after (count + 1)
 unfolding Steers
 comes-more stop start now new held later written between after count last goes_on c (made, takes, free, next, put) =
@@ -176,16 +202,20 @@ comes-more stop start now new held later written between after count last goes_o
           ∙ paced-stopped now.core.plan.stages c.at.count made.move made.event (is_drained made.state)
           ∙ ap (λ (p : Plan). stopped p.stages (paced c.at.count made.move made.event (is_drained made.state))) (sym plan);
       many = ap (λ (n : ℕ). n + 1) c.many ∙ sym (one_more c.trace made);
-      put = subst P (sym (retirements_more c.trace made)) (writes-again written between after (retirements c.trace) (retirement made.state.retired made.event) c.put put);
+      put = subst P (sym (retirements_more c.trace made)) (writes-again written between after (retirements c.trace)
+          (retirement made.state.retired made.event) c.put put);
     }
 
 -- it stays on its run
-pub steers-stands : (stop : Option ℕ) (at later : Turn) (now new : ProcessorState) (written after : Option (List ℕ)) (last : Bool) → StandsSomewhere now.core now.ring → Steers stop at later now new written after (Ok last) → StandsSomewhere new.core new.ring
+pub steers-stands : (stop : Option ℕ) (at later : Turn) (now new : ProcessorState) (written after : Option (List ℕ)) (last : Bool) →
+    StandsSomewhere now.core now.ring → Steers stop at later now new written after (Ok last) → StandsSomewhere new.core new.ring
 unfolding Steers
-steers-stands stop at later now new written after last (start, h) (made, takes, hit, next, put) = (start, makes-stands start made.move made.event now new h takes.makes)
+steers-stands stop at later now new written after last (start, h) (made, takes, hit, next, put) =
+    (start, makes-stands start made.move made.event now new h takes.makes)
 
 -- the number of stages stays
-pub steers-plan : (stop : Option ℕ) (at later : Turn) (now new : ProcessorState) (written after : Option (List ℕ)) (last : Bool) → Steers stop at later now new written after (Ok last) → new.core.plan ≡ now.core.plan
+pub steers-plan : (stop : Option ℕ) (at later : Turn) (now new : ProcessorState) (written after : Option (List ℕ)) (last : Bool) →
+    Steers stop at later now new written after (Ok last) → new.core.plan ≡ now.core.plan
 unfolding Steers
 steers-plan stop at later now new written after last (made, takes, hit, next, put) = takes.makes.makes.plan
 
@@ -195,10 +225,12 @@ ends_here : (trace : List Made) → trace ++ [] ≡ trace
 ends_here trace = append-nil trace
 
 -- there are enough, or the run is over
-pub drives-over : (n : ℕ) (stop : Option ℕ) (start now : ProcessorState) (held : Turn) (written after : Option (List ℕ)) (count : ℕ) → count ≤ n → Comes stop start now held written after count → (count ≡ n) ⊎ (GoesOn most_retired now.core.state → ⊥) → DrivesOut n stop start now written after (Ok count)
+pub drives-over : (n : ℕ) (stop : Option ℕ) (start now : ProcessorState) (held : Turn) (written after : Option (List ℕ)) (count : ℕ) → count ≤ n →
+    Comes stop start now held written after count → (count ≡ n) ⊎ (GoesOn most_retired now.core.state → ⊥) → DrivesOut n stop start now written after (Ok count)
 unfolding DrivesOut
 drives-over n stop start now held written after count few c why =
-    let why_there : (length c.trace ≡ n) ⊎ (GoesOn most_retired now.core.state → ⊥) = subst (λ (k : ℕ). (k ≡ n) ⊎ (GoesOn most_retired now.core.state → ⊥)) c.many why in (
+    let why_there : (length c.trace ≡ n) ⊎ (GoesOn most_retired now.core.state → ⊥) = subst (λ (k : ℕ). (k ≡ n)
+    ⊎ (GoesOn most_retired now.core.state → ⊥)) c.many why in (
       retirements c.trace,
       record {
         trace = c.trace;
@@ -215,13 +247,16 @@ drives-over n stop start now held written after count few c why =
     )
 
 -- there are enough
-pub drives-enough : (n : ℕ) (stop : Option ℕ) (start now : ProcessorState) (held : Turn) (written after : Option (List ℕ)) (count : ℕ) → count ≤ n → n ≤ count → Comes stop start now held written after count → DrivesOut n stop start now written after (Ok n)
+pub drives-enough : (n : ℕ) (stop : Option ℕ) (start now : ProcessorState) (held : Turn) (written after : Option (List ℕ)) (count : ℕ) → count ≤ n → n ≤ count →
+    Comes stop start now held written after count → DrivesOut n stop start now written after (Ok n)
 drives-enough n stop start now held written after count few many c =
     let all : count ≡ n = omega (arith, few, many) in
     subst (λ (k : ℕ). DrivesOut n stop start now written after (Ok k)) all (drives-over n stop start now held written after count few c (inl all))
 
 -- an instruction at the break address was issued
-pub drives-break : (n : ℕ) (stop : Option ℕ) (start now new : ProcessorState) (held later : Turn) (written between after : Option (List ℕ)) (count : ℕ) (last : Bool) → last ≡ true → count < n → Comes stop start now held written between count → Steers stop held later now new between after (Ok last) → DrivesOut n stop start new written after (Ok (count + 1))
+pub drives-break : (n : ℕ) (stop : Option ℕ) (start now new : ProcessorState) (held later : Turn) (written between after : Option (List ℕ)) (count : ℕ)
+    (last : Bool) → last ≡ true → count < n → Comes stop start now held written between count → Steers stop held later now new between after (Ok last) →
+    DrivesOut n stop start new written after (Ok (count + 1))
 unfolding DrivesOut Steers
 drives-break n stop start now new held later written between after count last is_last few c (made, takes, hit, next, put) =
     let P : List ℕ → Type 0 = λ lines. Writes written after lines in (
@@ -237,11 +272,14 @@ drives-break n stop start now new held later written between after count last is
         count_is = ap (λ (k : ℕ). k + 1) c.many ∙ sym (one_more c.trace made);
         lines_are = refl;
       },
-      subst P (sym (retirements_more c.trace made)) (writes-again written between after (retirements c.trace) (retirement made.state.retired made.event) c.put put),
+      subst P (sym (retirements_more c.trace made)) (writes-again written between after (retirements c.trace)
+          (retirement made.state.retired made.event) c.put put),
     )
 
 -- the report failed after a move
-pub drives-unshown : (n : ℕ) (stop : Option ℕ) (start now new : ProcessorState) (held later : Turn) (written between after : Option (List ℕ)) (count : ℕ) → count < n → Comes stop start now held written between count → Steers stop held later now new between after (Err broken.Report) → DrivesOut n stop start new written after (Err broken.Report)
+pub drives-unshown : (n : ℕ) (stop : Option ℕ) (start now new : ProcessorState) (held later : Turn) (written between after : Option (List ℕ)) (count : ℕ) →
+    count < n → Comes stop start now held written between count → Steers stop held later now new between after (Err broken.Report) →
+    DrivesOut n stop start new written after (Err broken.Report)
 unfolding DrivesOut Steers
 drives-unshown n stop start now new held later written between after count few c (made, takes, put) =
     let P : List ℕ → Type 0 = λ lines. WritesFront written after lines in (
@@ -256,11 +294,14 @@ drives-unshown n stop start now new held later written between after count few c
         takes = took stop start now new held written between count made c takes;
         lines_are = refl;
       },
-      subst P (sym (retirements_more c.trace made)) (front-again written between after (retirements c.trace) (retirement made.state.retired made.event) c.put put),
+      subst P (sym (retirements_more c.trace made)) (front-again written between after (retirements c.trace)
+          (retirement made.state.retired made.event) c.put put),
     )
 
 -- the output failed a move
-pub drives-aground : (n : ℕ) (stop : Option ℕ) (start now new : ProcessorState) (held later : Turn) (written between after : Option (List ℕ)) (count : ℕ) → count < n → Comes stop start now held written between count → Steers stop held later now new between after (Err broken.Output) → DrivesOut n stop start new written after (Err broken.Output)
+pub drives-aground : (n : ℕ) (stop : Option ℕ) (start now new : ProcessorState) (held later : Turn) (written between after : Option (List ℕ)) (count : ℕ) →
+    count < n → Comes stop start now held written between count → Steers stop held later now new between after (Err broken.Output) →
+    DrivesOut n stop start new written after (Err broken.Output)
 unfolding DrivesOut Steers
 drives-aground n stop start now new held later written between after count few c (goes, is, fails, same) = (
   retirements c.trace,
@@ -279,6 +320,10 @@ drives-aground n stop start now new held later written between after count few c
 )
 
 -- whichever failed
-pub drives-broken : (n : ℕ) (stop : Option ℕ) (start now new : ProcessorState) (held later : Turn) (written between after : Option (List ℕ)) (count : ℕ) (b : Broken) → count < n → Comes stop start now held written between count → Steers stop held later now new between after (Err b) → DrivesOut n stop start new written after (Err b)
-drives-broken n stop start now new held later written between after count broken.Report few c s = drives-unshown n stop start now new held later written between after count few c s
-drives-broken n stop start now new held later written between after count broken.Output few c s = drives-aground n stop start now new held later written between after count few c s
+pub drives-broken : (n : ℕ) (stop : Option ℕ) (start now new : ProcessorState) (held later : Turn) (written between after : Option (List ℕ)) (count : ℕ)
+    (b : Broken) → count < n → Comes stop start now held written between count → Steers stop held later now new between after (Err b) →
+    DrivesOut n stop start new written after (Err b)
+drives-broken n stop start now new held later written between after count broken.Report few c s =
+    drives-unshown n stop start now new held later written between after count few c s
+drives-broken n stop start now new held later written between after count broken.Output few c s =
+    drives-aground n stop start now new held later written between after count few c s

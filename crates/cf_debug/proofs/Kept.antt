@@ -12,9 +12,11 @@ map_last : {X Y : Type 0} (f : X → Y) (n : ℕ) (xs : List X) → map f (keep_
 map_last f n xs = sym (drop-map f (length xs - n) xs) ∙ ap (λ (m : ℕ). drop (m - n) (map f xs)) (sym (length-map xs f))
 
 -- one more record
-pub kept_more : (n : ℕ) (records : List Undo) (undo : Undo) → n ≡ 1024 → map kept_by (keep_last n (records ++ undo ∷ [])) ≡ with_record (map kept_by records) (kept_by undo)
+pub kept_more : (n : ℕ) (records : List Undo) (undo : Undo) → n ≡ 1024 → map kept_by (keep_last n (records ++ undo ∷ []))
+    ≡ with_record (map kept_by records) (kept_by undo)
 kept_more n records undo is =
-    map_last kept_by n (records ++ undo ∷ []) ∙ ap (keep_last n) (map-append kept_by records (undo ∷ [])) ∙ ap (λ (k : ℕ). keep_last k (map kept_by records ++ kept_by undo ∷ [])) is
+    map_last kept_by n (records ++ undo ∷ []) ∙ ap (keep_last n) (map-append kept_by records (undo ∷ []))
+    ∙ ap (λ (k : ℕ). keep_last k (map kept_by records ++ kept_by undo ∷ [])) is
 
 empty : {X : Type 0} (xs : List X) → length xs ≡ 0 → xs ≡ []
 empty [] none = refl
@@ -33,7 +35,9 @@ some_at (x ∷ xs) zero low none = cc
 some_at (x ∷ xs) (suc n) low none = some_at xs n (omega (arith, low)) none
 
 -- the last record, if there is one
-pub kept-last : (records : List Undo) (last : Option Undo) → last ≡ last_item records → MatchOption last ((map kept_by records ≡ []) × (map kept_by (take (length records - 1) records) ≡ [])) (λ undo. map kept_by records ≡ map kept_by (take (length records - 1) records) ++ kept_by undo ∷ [])
+pub kept-last : (records : List Undo) (last : Option Undo) → last ≡ last_item records → MatchOption last ((map kept_by records ≡ [])
+    × (map kept_by (take (length records - 1) records) ≡ [])) (λ undo. map kept_by records ≡ map kept_by (take (length records - 1) records) ++ kept_by undo
+    ∷ [])
 kept-last [] last is = rw is (refl, refl)
 kept-last (first ∷ records) None is = absurd (some_at (first ∷ records) (length (first ∷ records) - 1) (omega arith) (sym is))
 kept-last (first ∷ records) (Some undo) is =
@@ -41,7 +45,8 @@ kept-last (first ∷ records) (Some undo) is =
     ap (map kept_by) (cut_at all (length all - 1) undo (omega arith) (sym is)) ∙ map-append kept_by (take (length all - 1) all) (undo ∷ [])
 
 -- the same of the lists that are seen
-pub popped : (records rest : List Undo) (old new : List Kept) (last : Option Undo) → last ≡ last_item records → rest ≡ take (length records - 1) records → map kept_by records ≡ old → new ≡ map kept_by rest → MatchOption last ((old ≡ []) × (new ≡ [])) (λ undo. old ≡ new ++ kept_by undo ∷ [])
+pub popped : (records rest : List Undo) (old new : List Kept) (last : Option Undo) → last ≡ last_item records → rest ≡ take (length records - 1) records →
+    map kept_by records ≡ old → new ≡ map kept_by rest → MatchOption last ((old ≡ []) × (new ≡ [])) (λ undo. old ≡ new ++ kept_by undo ∷ [])
 popped records rest old new None is rest_is seen seen_rest =
     let none = kept-last records None is in
     (sym seen ∙ none.0, seen_rest ∙ ap (map kept_by) rest_is ∙ none.1)

@@ -24,7 +24,8 @@ use Rattle.cf_debug.specs.Standing.{StandsAfterMoves}
 use Rattle.cf_debug.proofs.Standing.{stands-kept, stands-served}
 
 -- what is kept of a move, unless it is Serve
-pub serves-or : (mv : Move) → (mv ≡ Serve) ⊎ ((mv ≢ Serve) × ((plan : Plan) (s : State) (ring : List Kept) → ring_after plan s mv ring ≡ with_record ring (kept plan s mv)))
+pub serves-or : (mv : Move) → (mv ≡ Serve) ⊎ ((mv ≢ Serve) × ((plan : Plan) (s : State) (ring : List Kept) →
+    ring_after plan s mv ring ≡ with_record ring (kept plan s mv)))
 unfolding ring_after
 serves-or Serve = inl refl
 serves-or (Issue g) = inr ((λ e. cc), (λ plan s ring. refl))
@@ -45,13 +46,16 @@ serves-or Exit = inr ((λ e. cc), (λ plan s ring. refl))
 kept_other : (mv : Move) → mv ≢ Serve → (plan : Plan) (s : State) (ring : List Kept) → ring_after plan s mv ring ≡ with_record ring (kept plan s mv)
 kept_other mv other plan s ring = of (serves-or mv)
   where
-    of : (mv ≡ Serve) ⊎ ((mv ≢ Serve) × ((plan : Plan) (s : State) (ring : List Kept) → ring_after plan s mv ring ≡ with_record ring (kept plan s mv))) → ring_after plan s mv ring ≡ with_record ring (kept plan s mv)
+    of : (mv ≡ Serve) ⊎ ((mv ≢ Serve) × ((plan : Plan) (s : State) (ring : List Kept) → ring_after plan s mv ring ≡ with_record ring (kept plan s mv))) →
+        ring_after plan s mv ring ≡ with_record ring (kept plan s mv)
     of (inl serves) = absurd (other serves)
     of (inr h) = h.1 plan s ring
 
 -- a move other than Serve was made and kept
-pub made-other : (mv : Move) (e : Event) (core new : Processor) (ring later : List Kept) (out after : Option (List ℕ)) (undo : Undo) → CanStand core.plan core.state → kept_by undo ≡ kept core.plan core.state mv → bar core.plan core.state mv ≡ None → mv ≢ Serve
-    → StepsOrFails core new mv (streams_of (Some []) out) (streams_of (Some []) after) (Ok e) → later ≡ with_record ring (kept_by undo) → MakesAndKeeps mv e (processor_state core ring out) (processor_state new later after)
+pub made-other : (mv : Move) (e : Event) (core new : Processor) (ring later : List Kept) (out after : Option (List ℕ)) (undo : Undo) →
+    CanStand core.plan core.state → kept_by undo ≡ kept core.plan core.state mv → bar core.plan core.state mv ≡ None → mv ≢ Serve
+    → StepsOrFails core new mv (streams_of (Some []) out) (streams_of (Some []) after) (Ok e) → later ≡ with_record ring (kept_by undo) →
+    MakesAndKeeps mv e (processor_state core ring out) (processor_state new later after)
 unfolding StepsOrFails
 made-other mv e core new ring later out after undo stood is free other h put = record {
   allowed = free;
@@ -63,7 +67,8 @@ made-other mv e core new ring later out after undo stood is free other h put = r
 
 -- Serve was made, and nothing is kept
 pub made-serve : (e : Event) (core new : Processor) (ring later : List Kept) (out after : Option (List ℕ)) → bar core.plan core.state Serve ≡ None
-    → StepsOrFails core new Serve (streams_of (Some []) out) (streams_of (Some []) after) (Ok e) → later ≡ [] → MakesAndKeeps Serve e (processor_state core ring out) (processor_state new later after)
+    → StepsOrFails core new Serve (streams_of (Some []) out) (streams_of (Some []) after) (Ok e) → later ≡ [] →
+    MakesAndKeeps Serve e (processor_state core ring out) (processor_state new later after)
 unfolding StepsOrFails ring_after
 made-serve e core new ring later out after free h empty = record {
   allowed = free;
@@ -75,7 +80,8 @@ made-serve e core new ring later out after free h empty = record {
 
 -- the output failed Serve
 pub failed-serve : (core new : Processor) (ring later : List Kept) (out after : Option (List ℕ)) → bar core.plan core.state Serve ≡ None
-    → StepsOrFails core new Serve (streams_of (Some []) out) (streams_of (Some []) after) (Err fault.Write) → FailsOne Serve (processor_state core ring out) (processor_state new later after)
+    → StepsOrFails core new Serve (streams_of (Some []) out) (streams_of (Some []) after) (Err fault.Write) →
+    FailsOne Serve (processor_state core ring out) (processor_state new later after)
 unfolding StepsOrFails
 failed-serve core new ring later out after free h = record { allowed = free; serves = refl; fails = h.1 }
 
@@ -92,11 +98,14 @@ same_some : {X : Type 0} (x y : X) → Some x ≡ Some y → x ≡ y
 same_some x y h = cc
 
 -- the moment after a move that finds nothing left, whatever was written before
-after_move : (now new : ProcessorState) (mv : Move) → Makes now.core new.core mv (streams_of (Some []) now.output) (streams_of (Some []) new.output) → (added : List ℕ) × ((before : List ℕ) → next now.core.plan (record { state = now.core.state; rest = []; output = before }) mv ≡ record { state = new.core.state; rest = []; output = before ++ added })
+after_move : (now new : ProcessorState) (mv : Move) → Makes now.core new.core mv (streams_of (Some []) now.output) (streams_of (Some []) new.output) →
+    (added : List ℕ) × ((before : List ℕ) → next now.core.plan (record { state = now.core.state; rest = []; output = before }) mv
+    ≡ record { state = new.core.state; rest = []; output = before ++ added })
 after_move now new mv m =
     let plan : Plan = now.core.plan in
     let none : [] ≡ m.later = same_some [] m.later m.leaves.input in
-    let P : List ℕ → List ℕ → Type 0 = λ rest later. next plan (record { state = now.core.state; rest = rest; output = [] }) mv ≡ record { state = new.core.state; rest = later; output = m.added } in
+    let P : List ℕ → List ℕ → Type 0 = λ rest later. next plan (record { state = now.core.state; rest = rest; output = [] }) mv
+    ≡ record { state = new.core.state; rest = later; output = m.added } in
     let blank : P [] [] = subst (P []) (sym none) (subst (λ (rest : List ℕ). P rest m.later) m.told m.is) in (
       m.added,
       λ before.
@@ -106,25 +115,31 @@ after_move now new mv m =
     )
 
 -- the processor after a move other than Serve
-moved_core : (now new : ProcessorState) (mv : Move) → mv ≢ Serve → Makes now.core new.core mv (streams_of (Some []) now.output) (streams_of (Some []) new.output) → new.core ≡ in_state now.core (moved now.core.plan now.core.state mv)
+moved_core : (now new : ProcessorState) (mv : Move) → mv ≢ Serve → Makes now.core new.core mv (streams_of (Some []) now.output)
+    (streams_of (Some []) new.output) → new.core ≡ in_state now.core (moved now.core.plan now.core.state mv)
 moved_core now new mv other m =
     let plan : Plan = now.core.plan in
     let led = (after_move now new mv m).1 [] in
-    let state : new.core.state ≡ moved plan now.core.state mv = ap (λ (t : Moment). t.state) (sym led ∙ next_moved plan (record { state = now.core.state; rest = []; output = [] }) mv other) in
+    let state : new.core.state ≡ moved plan now.core.state mv = ap (λ (t : Moment). t.state) (sym led
+    ∙ next_moved plan (record { state = now.core.state; rest = []; output = [] }) mv other) in
     ap (λ (p : Plan). record { plan = p; state = new.core.state }) m.plan ∙ ap (in_state now.core) state
 
 -- a session stays on its run after a move
-pub makes-stands : (start : Processor) (mv : Move) (e : Event) (now new : ProcessorState) → StandsAfterMoves start now.core now.ring → MakesAndKeeps mv e now new → StandsAfterMoves start new.core new.ring
+pub makes-stands : (start : Processor) (mv : Move) (e : Event) (now new : ProcessorState) → StandsAfterMoves start now.core now.ring →
+    MakesAndKeeps mv e now new → StandsAfterMoves start new.core new.ring
 unfolding ring_after kept
 makes-stands start mv e now new h m = of (serves-or mv)
   where
-    of : (mv ≡ Serve) ⊎ ((mv ≢ Serve) × ((plan : Plan) (s : State) (ring : List Kept) → ring_after plan s mv ring ≡ with_record ring (kept plan s mv))) → StandsAfterMoves start new.core new.ring
+    of : (mv ≡ Serve) ⊎ ((mv ≢ Serve) × ((plan : Plan) (s : State) (ring : List Kept) → ring_after plan s mv ring ≡ with_record ring (kept plan s mv))) →
+        StandsAfterMoves start new.core new.ring
     of (inl serves) =
-        let P : Move → Type 0 = λ v. (bar now.core.plan now.core.state v ≡ None) × Makes now.core new.core v (streams_of (Some []) now.output) (streams_of (Some []) new.output) × (new.ring ≡ ring_after now.core.plan now.core.state v now.ring) in
+        let P : Move → Type 0 = λ v. (bar now.core.plan now.core.state v ≡ None) × Makes now.core new.core v (streams_of (Some []) now.output)
+        (streams_of (Some []) new.output) × (new.ring ≡ ring_after now.core.plan now.core.state v now.ring) in
         let here : P Serve = subst P serves (m.allowed, m.makes, m.ring) in
         let led = after_move now new Serve here.1 in
         subst (StandsAfterMoves start new.core) (sym here.2) (stands-served start now.core new.core now.ring led.0 h here.0 m.makes.plan led.1)
     of (inr (other, is)) =
         let k : Kept = kept now.core.plan now.core.state mv in
         let was : WasKept now.core.plan now.core.state k = record { stood = m.stood other; allowed = m.allowed; other = other; is = refl } in
-        subst (StandsAfterMoves start new.core) (sym (m.ring ∙ is now.core.plan now.core.state now.ring)) (stands-kept start now.core new.core now.ring k h was (moved_core now new mv other m.makes))
+        subst (StandsAfterMoves start new.core) (sym (m.ring ∙ is now.core.plan now.core.state now.ring))
+        (stands-kept start now.core new.core now.ring k h was (moved_core now new mv other m.makes))

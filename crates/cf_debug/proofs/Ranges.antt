@@ -98,4 +98,5 @@ named_few name after =
 -- a command that a line tells asks for few
 pub few-told : (line : List ℕ) (command : DebugCommand) → command_in line ≡ Ok command → AsksFew command
 unfolding command_in
-few-told line command is = subst Few is (pick (nat_lt 256 (length line)) (Err TooLong) (command_named (name_part line) (operand_part line)) tt (named_few (name_part line) (operand_part line)))
+few-told line command is = subst Few is (pick (nat_lt 256 (length line)) (Err TooLong) (command_named (name_part line) (operand_part line)) tt
+    (named_few (name_part line) (operand_part line)))

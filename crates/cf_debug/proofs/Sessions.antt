@@ -39,7 +39,8 @@ nothing_put None = tt
 nothing_put (Some told) = ap Some (sym (append-nil told))
 
 -- before the first byte
-pub comes-first : (before : Session) (begin : DebuggerState) (line : List ℕ) (feed : Feeding) → line ≡ [] → feed ≡ record { rest = []; left = 16777216 } → Comes before begin begin before.commands before.report line feed
+pub comes-first : (before : Session) (begin : DebuggerState) (line : List ℕ) (feed : Feeding) → line ≡ [] → feed ≡ record { rest = []; left = 16777216 } →
+    Comes before begin begin before.commands before.report line feed
 unfolding AnswersAll
 comes-first before begin line feed empty new =
     let none : feed.rest ≡ [] = ap (λ (f : Feeding). f.rest) new in
@@ -62,7 +63,8 @@ record Fed (before : Session) (after : Option (List ℕ)) (used : List ℕ) (byt
   size : length ((used ++ byte ∷ []) ++ feed.rest) + feed.left ≡ most_bytes
   few : length feed.rest < most_taken
 
-fed : (before : Session) (begin now : DebuggerState) (commands after report : Option (List ℕ)) (line : List ℕ) (feed next : Feeding) (byte : ℕ) → (c : Comes before begin now commands report line feed) → Feeds commands after feed next (Byte byte) → Fed before after c.used byte next
+fed : (before : Session) (begin now : DebuggerState) (commands after report : Option (List ℕ)) (line : List ℕ) (feed next : Feeding) (byte : ℕ) →
+    (c : Comes before begin now commands report line feed) → Feeds commands after feed next (Byte byte) → Fed before after c.used byte next
 unfolding Feeds
 fed before begin now commands after report line feed next byte c (taken, gives, is, left, few) =
     let all : (c.used ++ feed.rest) ++ taken ≡ (c.used ++ byte ∷ []) ++ next.rest =
@@ -74,13 +76,16 @@ fed before begin now commands after report line feed next byte c (taken, gives, 
     }
 
 -- answers with one more line
-answers_again : (lines : List (List ℕ)) (line : List ℕ) (begin now new : DebuggerState) (written between after : Option (List ℕ)) → AnswersLines lines begin now written between → LineLeaves line now new between after None → AnswersLines (lines ++ line ∷ []) begin new written after
+answers_again : (lines : List (List ℕ)) (line : List ℕ) (begin now new : DebuggerState) (written between after : Option (List ℕ)) →
+    AnswersLines lines begin now written between → LineLeaves line now new between after None → AnswersLines (lines ++ line ∷ []) begin new written after
 unfolding LineLeaves
 answers_again lines line begin now new written between after (first, all, put) (text, h, more) =
     (first ++ text, answers-more lines line begin now new first text all h, writes-again written between after first text put more)
 
 -- one more byte, with which the session goes on
-pub comes-more : (before : Session) (begin now new : DebuggerState) (commands fed_commands report after : Option (List ℕ)) (line later : List ℕ) (feed next : Feeding) (byte : ℕ) → Comes before begin now commands report line feed → Feeds commands fed_commands feed next (Byte byte) → UsesByte byte line later now new report after None
+pub comes-more : (before : Session) (begin now new : DebuggerState) (commands fed_commands report after : Option (List ℕ)) (line later : List ℕ)
+    (feed next : Feeding) (byte : ℕ) → Comes before begin now commands report line feed → Feeds commands fed_commands feed next (Byte byte) →
+    UsesByte byte line later now new report after None
     → Comes before begin new fed_commands after later next
 comes-more before begin now new commands fed_commands report after line later feed next byte c feeds (inl (other, held_is, same, still, goes)) =
     let f = fed before begin now commands fed_commands report line feed next byte c feeds in
@@ -93,7 +98,8 @@ comes-more before begin now new commands fed_commands report after line later fe
       unfinished = c.unfinished ++ byte ∷ [];
       has = has-byte c.used c.lines c.unfinished byte c.has other;
       line_is = held_is ∙ ap (λ (l : List ℕ). held (l ++ byte ∷ [])) c.line_is ∙ held-more c.unfinished byte;
-      answers = subst (λ (d : DebuggerState). AnswersLines c.lines begin d before.report after) (sym same) (subst (λ (o : Option (List ℕ)). AnswersLines c.lines begin now before.report o) (sym still) c.answers);
+      answers = subst (λ (d : DebuggerState). AnswersLines c.lines begin d before.report after) (sym same)
+          (subst (λ (o : Option (List ℕ)). AnswersLines c.lines begin now before.report o) (sym still) c.answers);
     }
 comes-more before begin now new commands fed_commands report after line later feed next byte c feeds (inr (end, empty, ends)) =
     let f = fed before begin now commands fed_commands report line feed next byte c feeds in
@@ -108,18 +114,23 @@ comes-more before begin now new commands fed_commands report after line later fe
       unfinished = [];
       has = subst (λ (b : ℕ). HasLines (c.used ++ b ∷ []) (c.lines ++ whole ∷ []) []) (sym end) (has-end c.used c.lines c.unfinished c.has);
       line_is = empty;
-      answers = answers_again c.lines whole begin now new before.report report after c.answers (ends-same (without_return line) whole now new report after None same ends);
+      answers = answers_again c.lines whole begin now new before.report report after c.answers
+          (ends-same (without_return line) whole now new report after None same ends);
     }
 
 -- the session is shorter by it
-pub comes-nearer : (commands after : Option (List ℕ)) (feed next : Feeding) (byte : ℕ) → Feeds commands after feed next (Byte byte) → next.left + length next.rest < feed.left + length feed.rest
+pub comes-nearer : (commands after : Option (List ℕ)) (feed next : Feeding) (byte : ℕ) → Feeds commands after feed next (Byte byte) →
+    next.left + length next.rest < feed.left + length feed.rest
 unfolding Feeds
 comes-nearer commands after feed next byte (taken, gives, is, left, few) = omega (arith, left, ap length is, length-append feed.rest taken)
 
 -- one more byte, with which the session ends
-pub ends-byte : (before : Session) (begin now new : DebuggerState) (commands fed_commands report after : Option (List ℕ)) (line later : List ℕ) (feed next : Feeding) (byte : ℕ) (answer : Debugged) → Comes before begin now commands report line feed → Feeds commands fed_commands feed next (Byte byte) → UsesByte byte line later now new report after (Some answer)
+pub ends-byte : (before : Session) (begin now new : DebuggerState) (commands fed_commands report after : Option (List ℕ)) (line later : List ℕ)
+    (feed next : Feeding) (byte : ℕ) (answer : Debugged) → Comes before begin now commands report line feed →
+    Feeds commands fed_commands feed next (Byte byte) → UsesByte byte line later now new report after (Some answer)
     → EndsAtLine before (session_of new.processor fed_commands after) begin new answer
-ends-byte before begin now new commands fed_commands report after line later feed next byte answer c feeds (inl (other, held_is, same, still, goes)) = absurd (cc)
+ends-byte before begin now new commands fed_commands report after line later feed next byte answer c feeds (inl (other, held_is, same, still, goes)) =
+    absurd (cc)
 ends-byte before begin now new commands fed_commands report after line later feed next byte answer c feeds (inr (end, empty, ends)) =
     let f = fed before begin now commands fed_commands report line feed next byte c feeds in
     let whole : List ℕ = without_return c.unfinished in
@@ -143,7 +154,8 @@ ends-byte before begin now new commands fed_commands report after line later fee
     }
 
 -- how a line that ends the session ends it
-pub ends-at_line : (before after : Session) (begin new : DebuggerState) (answer : Debugged) → EndsAtLine before after begin new answer → EndsSession before after begin new answer
+pub ends-at_line : (before after : Session) (begin new : DebuggerState) (answer : Debugged) → EndsAtLine before after begin new answer →
+    EndsSession before after begin new answer
 unfolding EndsSession LineLeaves
 ends-at_line before after begin new Done e = inl e
 ends-at_line before after begin new Limit e = absurd e.ends
@@ -168,7 +180,8 @@ record Ended (before : Session) (commands after : Option (List ℕ)) (used : Lis
   gives : GivesInput before.commands after used
   few : length used ≤ most_bytes
 
-ended : (before : Session) (begin now : DebuggerState) (commands after report : Option (List ℕ)) (line : List ℕ) (feed : Feeding) → (c : Comes before begin now commands report line feed) → feed.rest ≡ [] → GivesInput commands after [] → Ended before commands after c.used
+ended : (before : Session) (begin now : DebuggerState) (commands after report : Option (List ℕ)) (line : List ℕ) (feed : Feeding) →
+    (c : Comes before begin now commands report line feed) → feed.rest ≡ [] → GivesInput commands after [] → Ended before commands after c.used
 ended before begin now commands after report line feed c none gives =
     let used : c.used ++ feed.rest ≡ c.used = all_used c.used feed.rest none in
     let had : GivesInput before.commands commands c.used = subst (GivesInput before.commands commands) used c.gives in
@@ -179,7 +192,9 @@ ended before begin now commands after report line feed c none gives =
     }
 
 -- the commands are at their end, and so is the session
-pub ends-last : (before : Session) (begin now new : DebuggerState) (commands fed_commands report after : Option (List ℕ)) (line : List ℕ) (feed next : Feeding) (answer : Debugged) → Comes before begin now commands report line feed → Feeds commands fed_commands feed next AtEnd → FinishesSession line now new report after answer
+pub ends-last : (before : Session) (begin now new : DebuggerState) (commands fed_commands report after : Option (List ℕ)) (line : List ℕ) (feed next : Feeding)
+    (answer : Debugged) → Comes before begin now commands report line feed → Feeds commands fed_commands feed next AtEnd →
+    FinishesSession line now new report after answer
     → EndsSession before (session_of new.processor fed_commands after) begin new answer
 unfolding Feeds EndsSession
 ends-last before begin now new commands fed_commands report after line feed next answer c (none, end, gives, same_feed) (inl (empty, done, same, still)) =
@@ -193,7 +208,8 @@ ends-last before begin now new commands fed_commands report after line feed next
       unfinished = [];
       has = subst (HasLines c.used c.lines) no_line c.has;
       answers = subst (λ (ls : List (List ℕ)). AnswersLines ls begin new before.report after) (sym (append-nil c.lines))
-          (subst (λ (d : DebuggerState). AnswersLines c.lines begin d before.report after) (sym same) (subst (λ (o : Option (List ℕ)). AnswersLines c.lines begin now before.report o) (sym still) c.answers));
+          (subst (λ (d : DebuggerState). AnswersLines c.lines begin d before.report after) (sym same)
+          (subst (λ (o : Option (List ℕ)). AnswersLines c.lines begin now before.report o) (sym still) c.answers));
     } in
     subst (EndsSession before (session_of new.processor fed_commands after) begin new) (sym done) (inr last)
 ends-last before begin now new commands fed_commands report after line feed next answer c (none, end, gives, same_feed) (inr (inl (some, done, ends))) =
@@ -206,8 +222,10 @@ ends-last before begin now new commands fed_commands report after line feed next
       lines = c.lines;
       unfinished = c.unfinished;
       has = c.has;
-      answers = subst (λ (ls : List (List ℕ)). AnswersLines (c.lines ++ ls) begin new before.report after) (sym (one_line c.unfinished (held-some c.unfinished (subst (λ (l : List ℕ). 0 < length l) c.line_is some))))
-          (answers_again c.lines c.unfinished begin now new before.report report after c.answers (ends-same line c.unfinished now new report after None told ends));
+      answers = subst (λ (ls : List (List ℕ)). AnswersLines (c.lines ++ ls) begin new before.report after)
+          (sym (one_line c.unfinished (held-some c.unfinished (subst (λ (l : List ℕ). 0 < length l) c.line_is some))))
+          (answers_again c.lines c.unfinished begin now new before.report report after c.answers
+          (ends-same line c.unfinished now new report after None told ends));
     } in
     subst (EndsSession before (session_of new.processor fed_commands after) begin new) (sym done) (inr last)
   where
@@ -230,7 +248,9 @@ ends-last before begin now new commands fed_commands report after line feed next
     })
 
 -- there are more bytes than there may be
-pub ends-limit : (before : Session) (begin now : DebuggerState) (commands after report : Option (List ℕ)) (line : List ℕ) (feed next : Feeding) → Comes before begin now commands report line feed → Feeds commands after feed next TooMany → EndsSession before (session_of now.processor after report) begin now Limit
+pub ends-limit : (before : Session) (begin now : DebuggerState) (commands after report : Option (List ℕ)) (line : List ℕ) (feed next : Feeding) →
+    Comes before begin now commands report line feed → Feeds commands after feed next TooMany →
+    EndsSession before (session_of now.processor after report) begin now Limit
 unfolding Feeds EndsSession
 ends-limit before begin now commands after report line feed next c (none, spent, (byte, gives), same) =
     let used : c.used ++ feed.rest ≡ c.used = all_used c.used feed.rest none in
@@ -243,7 +263,9 @@ ends-limit before begin now commands after report line feed next c (none, spent,
     }
 
 -- a take failed
-pub ends-fault : (before : Session) (begin now : DebuggerState) (commands after report : Option (List ℕ)) (line : List ℕ) (feed next : Feeding) → Comes before begin now commands report line feed → Feeds commands after feed next Fault → EndsSession before (session_of now.processor after report) begin now ReadFault
+pub ends-fault : (before : Session) (begin now : DebuggerState) (commands after report : Option (List ℕ)) (line : List ℕ) (feed next : Feeding) →
+    Comes before begin now commands report line feed → Feeds commands after feed next Fault →
+    EndsSession before (session_of now.processor after report) begin now ReadFault
 unfolding Feeds EndsSession
 ends-fault before begin now commands after report line feed next c (none, gives, same) =
     let e = ended before begin now commands after report line feed c none gives in

@@ -28,7 +28,8 @@ use Rattle.cf_debug.specs.Standing.{StandsAfterMoves, IsOnRun}
 -- Runs --
 
 -- one more move
-run_more : (plan : Plan) (m : Moment) (moves : List Move) (mv : Move) → IsRun plan m moves → bar plan (run plan m moves).state mv ≡ None → IsRun plan m (moves ++ mv ∷ [])
+run_more : (plan : Plan) (m : Moment) (moves : List Move) (mv : Move) → IsRun plan m moves → bar plan (run plan m moves).state mv ≡ None →
+    IsRun plan m (moves ++ mv ∷ [])
 unfolding IsRun run
 run_more plan m [] mv runs free = (free, tt)
 run_more plan m (first ∷ moves) mv runs free = (runs.0, run_more plan (next plan m first) moves mv runs.1 free)
@@ -71,20 +72,23 @@ comes-along plan x s [] last c l = subst (Comes plan x) (sym l) c
 comes-along plan x s (k ∷ ring) last c l = comes-along plan x (moved plan s k.move) ring last (comes_more plan x s k.move c l.0.allowed l.0.other) l.1
 
 -- without its oldest records it leads there too
-leads_drop : (plan : Plan) (x : Machine) (n : ℕ) (s : State) (ring : List Kept) (last : State) → Comes plan x s → RecordsLead plan s ring last → (t : State) × Comes plan x t × RecordsLead plan t (drop n ring) last
+leads_drop : (plan : Plan) (x : Machine) (n : ℕ) (s : State) (ring : List Kept) (last : State) → Comes plan x s → RecordsLead plan s ring last →
+    (t : State) × Comes plan x t × RecordsLead plan t (drop n ring) last
 unfolding RecordsLead
 leads_drop plan x zero s ring last c l = (s, c, l)
 leads_drop plan x (suc n) s [] last c l = (s, c, l)
 leads_drop plan x (suc n) s (k ∷ ring) last c l = leads_drop plan x n (moved plan s k.move) ring last (comes_more plan x s k.move c l.0.allowed l.0.other) l.1
 
 -- one more record
-leads_more : (plan : Plan) (s : State) (ring : List Kept) (last : State) (k : Kept) → RecordsLead plan s ring last → WasKept plan last k → RecordsLead plan s (ring ++ k ∷ []) (moved plan last k.move)
+leads_more : (plan : Plan) (s : State) (ring : List Kept) (last : State) (k : Kept) → RecordsLead plan s ring last → WasKept plan last k →
+    RecordsLead plan s (ring ++ k ∷ []) (moved plan last k.move)
 unfolding RecordsLead
 leads_more plan s [] last k l was = subst (λ (t : State). WasKept plan t k × (moved plan last k.move ≡ moved plan t k.move)) l (was, refl)
 leads_more plan s (first ∷ ring) last k l was = (l.0, leads_more plan (moved plan s first.move) ring last k l.1 was)
 
 -- the newest record, and where the others lead
-leads_last : (plan : Plan) (s : State) (ring : List Kept) (k : Kept) (last : State) → RecordsLead plan s (ring ++ k ∷ []) last → (t : State) × RecordsLead plan s ring t × WasKept plan t k × (last ≡ moved plan t k.move)
+leads_last : (plan : Plan) (s : State) (ring : List Kept) (k : Kept) (last : State) → RecordsLead plan s (ring ++ k ∷ []) last →
+    (t : State) × RecordsLead plan s ring t × WasKept plan t k × (last ≡ moved plan t k.move)
 unfolding RecordsLead
 leads_last plan s [] k last l = (s, refl, l.0, l.1)
 leads_last plan s (first ∷ ring) k last l =
@@ -110,7 +114,8 @@ stands-first core ring o wide none = record {
   older = start_on core.plan (machine_on o.hart []);
   reached = record { moves = []; allowed = tt; is = refl };
   none = refl;
-  kept = subst (λ (r : List Kept). RecordsLead core.plan (start_on core.plan (machine_on o.hart [])).state r core.state) (sym none) (ap (λ (p : Processor). p.state) o.is);
+  kept = subst (λ (r : List Kept). RecordsLead core.plan (start_on core.plan (machine_on o.hart [])).state r core.state) (sym none)
+      (ap (λ (p : Processor). p.state) o.is);
   plan = refl;
 }
 
@@ -127,7 +132,8 @@ stands-on_run start core ring h =
     }
 
 -- at another state, with another ring that leads there
-stands_at : (start core new : Processor) (ring later : List Kept) (s : State) → (h : StandsAfterMoves start core ring) → Comes start.plan (machine_on h.hart []) s → RecordsLead start.plan s later new.state → new.plan ≡ core.plan → StandsAfterMoves start new later
+stands_at : (start core new : Processor) (ring later : List Kept) (s : State) → (h : StandsAfterMoves start core ring) →
+    Comes start.plan (machine_on h.hart []) s → RecordsLead start.plan s later new.state → new.plan ≡ core.plan → StandsAfterMoves start new later
 stands_at start core new ring later s h c l same = record {
   hart = h.hart;
   opened_is = h.opened_is;
@@ -140,26 +146,35 @@ stands_at start core new ring later s h c l same = record {
 }
 
 -- after a move that was kept
-pub stands-kept : (start core new : Processor) (ring : List Kept) (k : Kept) → StandsAfterMoves start core ring → WasKept core.plan core.state k → new ≡ in_state core (moved core.plan core.state k.move) → StandsAfterMoves start new (with_record ring k)
+pub stands-kept : (start core new : Processor) (ring : List Kept) (k : Kept) → StandsAfterMoves start core ring → WasKept core.plan core.state k →
+    new ≡ in_state core (moved core.plan core.state k.move) → StandsAfterMoves start new (with_record ring k)
 stands-kept start core new ring k h was is =
     let plan : Plan = start.plan in
     let here : WasKept plan core.state k = subst (λ (p : Plan). WasKept p core.state k) h.plan was in
     let state : new.state ≡ moved plan core.state k.move = ap (λ (p : Processor). p.state) is ∙ ap (λ (p : Plan). moved p core.state k.move) h.plan in
-    let more : RecordsLead plan h.older.state (ring ++ k ∷ []) new.state = subst (RecordsLead plan h.older.state (ring ++ k ∷ [])) (sym state) (leads_more plan h.older.state ring core.state k h.kept here) in
-    let cut = leads_drop plan (machine_on h.hart []) (length (ring ++ k ∷ []) - 1024) h.older.state (ring ++ k ∷ []) new.state (oldest start core ring h) more in
+    let more : RecordsLead plan h.older.state (ring ++ k ∷ []) new.state = subst (RecordsLead plan h.older.state (ring ++ k ∷ [])) (sym state)
+    (leads_more plan h.older.state ring core.state k h.kept here) in
+    let cut = leads_drop plan (machine_on h.hart []) (length (ring ++ k ∷ []) - 1024) h.older.state (ring ++ k ∷ []) new.state
+    (oldest start core ring h) more in
     stands_at start core new ring (with_record ring k) cut.0 h cut.1 cut.2 (ap (λ (p : Processor). p.plan) is)
 
 -- where an allowed Serve leads to, with an empty ring
-pub stands-served : (start core new : Processor) (ring : List Kept) (later : List ℕ) → StandsAfterMoves start core ring → bar core.plan core.state Serve ≡ None → new.plan ≡ core.plan
-    → ((before : List ℕ) → next core.plan (record { state = core.state; rest = []; output = before }) Serve ≡ record { state = new.state; rest = []; output = before ++ later }) → StandsAfterMoves start new []
+pub stands-served : (start core new : Processor) (ring : List Kept) (later : List ℕ) → StandsAfterMoves start core ring →
+    bar core.plan core.state Serve ≡ None → new.plan ≡ core.plan
+    → ((before : List ℕ) → next core.plan (record { state = core.state; rest = []; output = before }) Serve
+    ≡ record { state = new.state; rest = []; output = before ++ later }) → StandsAfterMoves start new []
 unfolding RecordsLead
 stands-served start core new ring later h free same is =
     let plan : Plan = start.plan in
     let c = stands-comes start core ring h in
     let m : Moment = c.moment in
-    let here : m ≡ record { state = core.state; rest = []; output = m.output } = ap (λ (s : State). record { state = s; rest = m.rest; output = m.output }) c.state ∙ ap (λ (rest : List ℕ). record { state = core.state; rest = rest; output = m.output }) c.none in
-    let led : next plan m Serve ≡ record { state = new.state; rest = []; output = m.output ++ later } = ap (λ (n : Moment). next plan n Serve) here ∙ subst (λ (p : Plan). next p (record { state = core.state; rest = []; output = m.output }) Serve ≡ record { state = new.state; rest = []; output = m.output ++ later }) h.plan (is m.output) in
-    let allowed : bar plan m.state Serve ≡ None = subst (λ (s : State). bar plan s Serve ≡ None) (sym c.state) (subst (λ (p : Plan). bar p core.state Serve ≡ None) h.plan free) in
+    let here : m ≡ record { state = core.state; rest = []; output = m.output } = ap (λ (s : State). record { state = s; rest = m.rest; output = m.output })
+    c.state ∙ ap (λ (rest : List ℕ). record { state = core.state; rest = rest; output = m.output }) c.none in
+    let led : next plan m Serve ≡ record { state = new.state; rest = []; output = m.output ++ later } = ap (λ (n : Moment). next plan n Serve) here
+    ∙ subst (λ (p : Plan). next p (record { state = core.state; rest = []; output = m.output }) Serve
+    ≡ record { state = new.state; rest = []; output = m.output ++ later }) h.plan (is m.output) in
+    let allowed : bar plan m.state Serve ≡ None = subst (λ (s : State). bar plan s Serve ≡ None) (sym c.state)
+    (subst (λ (p : Plan). bar p core.state Serve ≡ None) h.plan free) in
     let there : Comes plan (machine_on h.hart []) new.state = record {
       moment = next plan m Serve;
       reached = reached_more plan (machine_on h.hart []) m Serve c.reached allowed;
@@ -184,28 +199,34 @@ stands-after start core older k h =
     }
 
 -- and it stands with that taken back
-pub stands-back : (start core new : Processor) (older : List Kept) (k : Kept) → StandsAfterMoves start core (older ++ k ∷ []) → new ≡ in_state core (restored core.state k) → StandsAfterMoves start new older
+pub stands-back : (start core new : Processor) (older : List Kept) (k : Kept) → StandsAfterMoves start core (older ++ k ∷ []) →
+    new ≡ in_state core (restored core.state k) → StandsAfterMoves start new older
 stands-back start core new older k h is =
     let plan : Plan = start.plan in
     let cut = leads_last plan h.older.state older k core.state h.kept in
     let t : State = cut.0 in
-    let back : restored core.state k ≡ t = ap (λ (s : State). restored s k) cut.3 ∙ ap (restored (moved plan t k.move)) cut.2.is ∙ state_back plan t k.move cut.2.allowed cut.2.other in
+    let back : restored core.state k ≡ t = ap (λ (s : State). restored s k) cut.3 ∙ ap (restored (moved plan t k.move)) cut.2.is
+    ∙ state_back plan t k.move cut.2.allowed cut.2.other in
     let state : new.state ≡ t = ap (λ (p : Processor). p.state) is ∙ back in
-    stands_at start core new (older ++ k ∷ []) older h.older.state h (oldest start core (older ++ k ∷ []) h) (subst (RecordsLead plan h.older.state older) (sym state) cut.1) (ap (λ (p : Processor). p.plan) is)
+    stands_at start core new (older ++ k ∷ []) older h.older.state h (oldest start core (older ++ k ∷ []) h)
+    (subst (RecordsLead plan h.older.state older) (sym state) cut.1) (ap (λ (p : Processor). p.plan) is)
 
 -- Offers --
 
 -- while the program goes on, a move is offered, whatever is counted
-pub stands-offered : (start core : Processor) (ring : List Kept) (count : ℕ) → StandsAfterMoves start core ring → IsAccepted core.plan → core.state.ending ≡ None → 0 < length (offered core.plan count core.state)
+pub stands-offered : (start core : Processor) (ring : List Kept) (count : ℕ) → StandsAfterMoves start core ring → IsAccepted core.plan →
+    core.state.ending ≡ None → 0 < length (offered core.plan count core.state)
 unfolding offered
 stands-offered start core ring count h accepted unended =
     let c = stands-comes start core ring h in
     let plan : Plan = core.plan in
     let P : State → Type 0 = λ s. (1 ≤ length (candidates plan s)) × (1 ≤ length (held_back (candidates plan s))) in
     let reached : IsReached plan (machine_on h.hart []) c.moment = subst (λ (p : Plan). IsReached p (machine_on h.hart []) c.moment) (sym h.plan) c.reached in
-    let some : P core.state = subst P c.state (some_pick plan (machine_on h.hart []) c.moment accepted h.wide reached (ap (λ (s : State). s.ending) c.state ∙ unended)) in
+    let some : P core.state = subst P c.state (some_pick plan (machine_on h.hart []) c.moment accepted h.wide reached (ap (λ (s : State). s.ending) c.state
+    ∙ unended)) in
     of (is_held plan count) some.0 some.1
   where
-    of : (b : Bool) → 1 ≤ length (candidates core.plan core.state) → 1 ≤ length (held_back (candidates core.plan core.state)) → 0 < length (if b then held_back (candidates core.plan core.state) else candidates core.plan core.state)
+    of : (b : Bool) → 1 ≤ length (candidates core.plan core.state) → 1 ≤ length (held_back (candidates core.plan core.state)) →
+        0 < length (if b then held_back (candidates core.plan core.state) else candidates core.plan core.state)
     of true free held = held
     of false free held = free

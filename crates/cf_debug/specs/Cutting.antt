@@ -38,7 +38,8 @@ pub record Feeding : Type 0 where
   pub rest : List ℕ
   pub left : ℕ
 
--- the next byte of the commands: where no byte that was taken is left, some are taken; or the commands are at their end, or there are more than there may be, or a take failed
+-- the next byte of the commands: where no byte that was taken is left, some are taken; or the commands are at their
+-- end, or there are more than there may be, or a take failed
 unfoldable pub Feeds : (before after : Option (List ℕ)) → (now new : Feeding) → Next → Type 0
 Feeds before after now new (Byte byte) =
     (taken : List ℕ) × GivesInput before after taken × (now.rest ++ taken ≡ byte ∷ new.rest)

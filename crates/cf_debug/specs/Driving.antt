@@ -1,4 +1,5 @@
--- Moves in turn: the debugger picks them as a run under the policy Round does, until there are enough, the run is over, or an instruction at the break address is issued.
+-- Moves in turn: the debugger picks them as a run under the policy Round does, until there are enough, the run is over,
+-- or an instruction at the break address is issued.
 use Rattle.std.specs.Prelude.{◌≡◌, ◌⊎◌, ℕ, ◌<◌, ◌≤◌, ◌==◌, ◌&&◌, List, [], ◌∷◌, ◌++◌, length, Option, Some, None, Bool, true, false}
 use Rattle.cf_bind.specs.declared.moves.Move.{Move}
 use Rattle.cf_bind.specs.declared.moves.Move.TheVariants.{Serve}

@@ -13,10 +13,9 @@ use crate::command::Refusal;
 use cf_bind::{Bar, Move, MoveLine, move_text};
 use cf_core::{Core, Event};
 use cf_io::{Failed, Sink, put_all};
-use report_refusals::{push_bar, push_script};
 use cf_report::put_retired;
-use texts::Page;
-use texts::hex_digit;
+use report_refusals::{push_bar, push_script};
+use texts::{Page, hex_digit};
 
 /// Puts a text. After `Failed` a front of it was put.
 fn put<R: Sink>(text: &[u8], report: &mut R) -> Result<(), Failed>

@@ -1,11 +1,13 @@
--- What stands beside the two pipes: the register file and the lane of requests at the top, and at the bottom fetch and the values that are kept there ("Counterflow Pipeline Processor Architecture", 1994).
+-- What stands beside the two pipes: the register file and the lane of requests at the top, and at the bottom fetch and
+-- the values that are kept there ("Counterflow Pipeline Processor Architecture", 1994).
 use Rattle.std.specs.Prelude.{ℕ, List, [], Option, None, replicate, slice_set, slice_index}
 use Rattle.cf_bind.specs.declared.packet.Fetch.{Fetch}
 use Rattle.cf_bind.specs.declared.packet.Fetch.TheVariants.{Running}
 use Rattle.cf_bind.specs.declared.packet.Packet.{Packet}
 use Rattle.cf_bind.specs.declared.packet.Packet.TheVariants.{Value}
 
--- the register file; the registers that were requested, the next to be answered first, and how many requests there can be; what fetch does; and for each register the value that is kept, where one is
+-- the register file; the registers that were requested, the next to be answered first, and how many requests there can
+-- be; what fetch does; and for each register the value that is kept, where one is
 pub record PipeEnds : Type 0 where
   pub regs : List ℕ
   pub lane : List ℕ

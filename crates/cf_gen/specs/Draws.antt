@@ -1,4 +1,5 @@
--- The numbers that a program is drawn from: a linear congruential generator with the constants of Knuth and Lewis (Press and others, "Numerical Recipes in C", "An Even Quicker Generator"), of whose state the upper half is taken.
+-- The numbers that a program is drawn from: a linear congruential generator with the constants of Knuth and Lewis
+-- (Press and others, "Numerical Recipes in C", "An Even Quicker Generator"), of whose state the upper half is taken.
 use Rattle.std.specs.Prelude.{ℕ, zero, suc, ◌+◌, ◌*◌, ◌/◌, ◌%◌, ◌^◌}
 
 -- the state after one draw

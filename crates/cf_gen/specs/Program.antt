@@ -1,4 +1,5 @@
--- The text of a drawn program (a format of this project, in GNU as's syntax): registers are given drawn numbers, a number of drawn statements follow, and what the registers then hold is written out.
+-- The text of a drawn program (a format of this project, in GNU as's syntax): registers are given drawn numbers, a
+-- number of drawn statements follow, and what the registers then hold is written out.
 use Rattle.std.specs.Prelude.{ℕ, ◌+◌, ◌*◌, ◌-◌, min, List, ◌++◌, codes, decimal}
 use Rattle.std.specs.List.{flat_map, range_with_len}
 use Rattle.texts.specs.Lines.{line}

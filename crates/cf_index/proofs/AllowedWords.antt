@@ -12,7 +12,8 @@ use Rattle.cf_index.proofs.Rows.{allowed-has}
 pub passing-moves : (plan : Plan) (s : State) → plan.stages ≤ 32 → passing_moves (passing_of plan s) ≡ filter (is_allowed plan s) (all_passing plan)
 unfolding passing_of
 passing-moves plan s few =
-    passing_chosen plan s (passing_of plan s) few (allowed-has plan s Climb) (allowed-has plan s Fall) (allowed-has plan s Meet) (allowed-has plan s Execute) (allowed-has plan s Send) (allowed-has plan s Launch)
+    passing_chosen plan s (passing_of plan s) few (allowed-has plan s Climb) (allowed-has plan s Fall) (allowed-has plan s Meet) (allowed-has plan s Execute)
+    (allowed-has plan s Send) (allowed-has plan s Launch)
 
 pub climb-on : (plan : Plan) (s : State) → plan.stages ≤ 32 → climb_on plan s ≡ filter (is_allowed plan s) (all_passing plan)
 unfolding passing_moves

@@ -7,7 +7,8 @@ use Rattle.cf_semantics.specs.moves.Candidates.{counted_from}
 -- the numbers of two parts, one after the other
 pub counted_split : (k a b : ℕ) → counted_from k (a + b) ≡ counted_from k a ++ counted_from (k + a) b
 counted_split k zero b = let e : zero + b ≡ b = omega arith in let f : k + 0 ≡ k = omega arith in rw (e, f) refl
-counted_split k (suc a) b = let e : suc a + b ≡ suc (a + b) = omega arith in let f : k + suc a ≡ suc k + a = omega arith in rw (e, f) (ap (λ (l : List ℕ). k ∷ l) (counted_split (suc k) a b))
+counted_split k (suc a) b = let e : suc a + b ≡ suc (a + b) = omega arith in let f : k + suc a ≡ suc k + a = omega arith in
+    rw (e, f) (ap (λ (l : List ℕ). k ∷ l) (counted_split (suc k) a b))
 
 -- a choice between a list with one element more and the list, under a map
 pub map_choice : {X Y : Type 0} (f : X → Y) (b : Bool) (x : X) (xs : List X) → map f (cond b (x ∷ xs) xs) ≡ cond b (f x ∷ map f xs) (map f xs)
@@ -43,7 +44,8 @@ first_choice true k t xs here later = ap (λ (i : ℕ). Some i) (here refl)
 first_choice false k t xs here later = later refl
 
 -- the first of the numbers at which the test holds comes first
-pub filter_first : (p : ℕ → Bool) (k n t : ℕ) → k ≤ t → t < k + n → p t ≡ true → ((i : ℕ) → k ≤ i → i < t → p i ≡ false) → slice_get (filter p (counted_from k n)) 0 ≡ Some t
+pub filter_first : (p : ℕ → Bool) (k n t : ℕ) → k ≤ t → t < k + n → p t ≡ true → ((i : ℕ) → k ≤ i → i < t → p i ≡ false) →
+    slice_get (filter p (counted_from k n)) 0 ≡ Some t
 filter_first p k zero t low high here before = absurd (omega arith)
 filter_first p k (suc n) t low high here before =
     first_choice (p k) k t (filter p (counted_from (suc k) n))
@@ -51,8 +53,11 @@ filter_first p k (suc n) t low high here before =
     (λ off. filter_first p (suc k) n t (grind (arith, here)) (omega arith) here (λ i above below. before i (omega arith) below))
 
 -- a filter over moves f of the numbers from a on is g of the numbers from b on that pass t, of which those after the n-th pass t no more
-pub filter_chosen : {X : Type 0} (p : X → Bool) (f g : ℕ → X) (t : ℕ → Bool) (a b n total : ℕ) → n ≤ total → ((c : ℕ) → c < total → t (b + c) ≡ (nat_lt c n && p (f (a + c)))) → ((c : ℕ) → c < n → g (b + c) ≡ f (a + c)) → filter p (map f (counted_from a n)) ≡ map g (filter t (counted_from b total))
-filter_chosen p f g t a b zero total few test same = rw (filter_none t b total (λ i low high. let e : b + (i - b) ≡ i = omega arith in let off : nat_lt (i - b) 0 ≡ false = grind (arith, nat_tests) in rw (e, off) at (test (i - b) (omega arith)))) refl
+pub filter_chosen : {X : Type 0} (p : X → Bool) (f g : ℕ → X) (t : ℕ → Bool) (a b n total : ℕ) → n ≤ total →
+    ((c : ℕ) → c < total → t (b + c) ≡ (nat_lt c n && p (f (a + c)))) → ((c : ℕ) → c < n → g (b + c) ≡ f (a + c)) →
+    filter p (map f (counted_from a n)) ≡ map g (filter t (counted_from b total))
+filter_chosen p f g t a b zero total few test same = rw (filter_none t b total (λ i low high. let e : b + (i - b) ≡ i = omega arith in
+    let off : nat_lt (i - b) 0 ≡ false = grind (arith, nat_tests) in rw (e, off) at (test (i - b) (omega arith)))) refl
 filter_chosen p f g t a b (suc n) zero few test same = absurd (omega arith)
 filter_chosen p f g t a b (suc n) (suc total) few test same =
     let e : a + 0 ≡ a = omega arith in
@@ -61,11 +66,13 @@ filter_chosen p f g t a b (suc n) (suc total) few test same =
     let here : t b ≡ p (f a) = rw (e, e', first) at (test 0 (omega arith)) in
     let there : g b ≡ f a = rw (e, e') at (same 0 (omega arith)) in
     let r = filter_chosen p f g t (suc a) (suc b) n total (omega arith)
-    (λ c below. let i : b + suc c ≡ suc b + c = omega arith in let j : a + suc c ≡ suc a + c = omega arith in let l : nat_lt (suc c) (suc n) ≡ nat_lt c n = grind (arith, nat_tests) in rw (i, j, l) at (test (suc c) (omega arith)))
+    (λ c below. let i : b + suc c ≡ suc b + c = omega arith in let j : a + suc c ≡ suc a + c = omega arith in
+    let l : nat_lt (suc c) (suc n) ≡ nat_lt c n = grind (arith, nat_tests) in rw (i, j, l) at (test (suc c) (omega arith)))
     (λ c below. let i : b + suc c ≡ suc b + c = omega arith in let j : a + suc c ≡ suc a + c = omega arith in rw (i, j) at (same (suc c) (omega arith))) in
     rw (here, r) (sym (rw there at (map_choice g (p (f a)) b (filter t (counted_from (suc b) total)))))
 
-below_choice : (b : Bool) (k a : ℕ) (xs : List ℕ) → nat_lt a k ≡ true → filter (λ j. nat_lt j k) xs ≡ xs → filter (λ j. nat_lt j k) (cond b (a ∷ xs) xs) ≡ cond b (a ∷ xs) xs
+below_choice : (b : Bool) (k a : ℕ) (xs : List ℕ) → nat_lt a k ≡ true → filter (λ j. nat_lt j k) xs ≡ xs →
+    filter (λ j. nat_lt j k) (cond b (a ∷ xs) xs) ≡ cond b (a ∷ xs) xs
 below_choice true k a xs h r = rw (h, r) refl
 below_choice false k a xs h r = r
 

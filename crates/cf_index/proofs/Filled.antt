@@ -25,7 +25,8 @@ pub none_of_any : (j : ℕ) (b : Bool) → has_bit 0 j ≡ (nat_lt (j / 8) 0 && 
 none_of_any j b = let e : nat_lt (j / 8) 0 ≡ false = grind (arith, nat_tests) in rw (no_bits j, e) refl
 
 -- the moves of a word over the stages
-pub stages_chosen : (plan : Plan) (s : State) (kind : ℕ → Move) (w : ℕ) → plan.stages ≤ 32 → HasStages plan s kind w → at_word kind w ≡ filter (is_allowed plan s) (at_stages plan kind)
+pub stages_chosen : (plan : Plan) (s : State) (kind : ℕ → Move) (w : ℕ) → plan.stages ≤ 32 → HasStages plan s kind w →
+    at_word kind w ≡ filter (is_allowed plan s) (at_stages plan kind)
 unfolding at_word places
 stages_chosen plan s kind w few has = sym (filter_chosen (is_allowed plan s) kind (λ k. kind (k + 1)) (has_bit w) 1 0 plan.stages 64 (omega arith)
     (λ c below. let e : 0 + c ≡ c = omega arith in let f : 1 + c ≡ c + 1 = omega arith in rw (e, f) (has c))
@@ -60,10 +61,12 @@ pub leaving_chosen : (plan : Plan) (s : State) (l : Leaving) → plan.stages ≤
     leaving_moves l ≡ filter (is_allowed plan s) (all_leaving plan)
 unfolding leaving_moves
 leaving_chosen plan s l few access recover leave exit serve =
-    parts_chosen (is_allowed plan s) _ _ (Access ∷ []) (at_stages plan Recover ++ Leave ∷ Exit ∷ Serve ∷ []) (flag_chosen (is_allowed plan s) l.access Access access) (
+    parts_chosen (is_allowed plan s) _ _ (Access ∷ []) (at_stages plan Recover ++ Leave ∷ Exit ∷ Serve ∷ [])
+    (flag_chosen (is_allowed plan s) l.access Access access) (
     parts_chosen (is_allowed plan s) _ _ (at_stages plan Recover) (Leave ∷ Exit ∷ Serve ∷ []) (stages_chosen plan s Recover l.recover few recover) (
     parts_chosen (is_allowed plan s) _ _ (Leave ∷ []) (Exit ∷ Serve ∷ []) (flag_chosen (is_allowed plan s) l.leave Leave leave) (
-    parts_chosen (is_allowed plan s) _ _ (Exit ∷ []) (Serve ∷ []) (flag_chosen (is_allowed plan s) l.exit Exit exit) (flag_chosen (is_allowed plan s) l.serve Serve serve))))
+    parts_chosen (is_allowed plan s) _ _ (Exit ∷ []) (Serve ∷ []) (flag_chosen (is_allowed plan s) l.exit Exit exit)
+    (flag_chosen (is_allowed plan s) l.serve Serve serve))))
 
 -- how many cells the m-th of some sidings has
 cells_in : List SidingPlan → ℕ → ℕ
@@ -84,7 +87,8 @@ within p w k (suc n) (siding ∷ sidings) few small has =
     let f : 8 * k + 8 ≡ 8 * suc k = omega arith in
     let first = filter_chosen p (Slide k) slide_at (has_bit w) 0 (8 * k) (siding.cells - 1) 8 (omega (arith, small 0 siding (omega arith)))
     (λ c below. let z : k + 0 ≡ k = omega arith in let h = rw z at (has 0 c below) in let y : 0 + c ≡ c = omega arith in rw y h)
-    (λ c below. let q : (8 * k + c) / 8 ≡ k = omega (arith, small 0 siding (omega arith)) in let r : (8 * k + c) % 8 ≡ 0 + c = omega (arith, small 0 siding (omega arith)) in rw (q, r) refl) in
+    (λ c below. let q : (8 * k + c) / 8 ≡ k = omega (arith, small 0 siding (omega arith)) in
+    let r : (8 * k + c) % 8 ≡ 0 + c = omega (arith, small 0 siding (omega arith)) in rw (q, r) refl) in
     let rest = within p w (suc k) n sidings (omega arith) (All-tail (λ (s : SidingPlan). s.cells ≤ 8) siding sidings small)
     (λ m c below. let g : k + suc m ≡ suc k + m = omega arith in rw g at (has (suc m) c below)) in
     let low = filter (has_bit w) (counted_from (8 * k) 8) in
@@ -99,7 +103,8 @@ no_cells : (sidings : List SidingPlan) (m : ℕ) → length sidings ≤ m → ce
 unfolding cells_in
 no_cells sidings m past = ap (λ (o : Option SidingPlan). (unwrap_or o no_siding).cells) (slice_get_past sidings m past)
 
-counted_siding : (sidings : List SidingPlan) (n m c : ℕ) (there : Bool) → nat_lt m n ≡ there → (b : Bool) → length sidings ≤ n → (there && (nat_lt c (cells_in sidings m - 1) && b)) ≡ (nat_lt c (cells_in sidings m - 1) && b)
+counted_siding : (sidings : List SidingPlan) (n m c : ℕ) (there : Bool) → nat_lt m n ≡ there → (b : Bool) → length sidings ≤ n →
+    (there && (nat_lt c (cells_in sidings m - 1) && b)) ≡ (nat_lt c (cells_in sidings m - 1) && b)
 counted_siding sidings n m c true e b few = refl
 counted_siding sidings n m c false e b few =
     let z = no_cells sidings m (grind (arith, nat_tests)) in
@@ -125,7 +130,8 @@ pub slides_chosen : (plan : Plan) (s : State) (w n : ℕ) → IsProcessor plan s
 unfolding slides_of places
 slides_chosen plan s w n p e has =
     let a = p.accepted in
-    sym (within (is_allowed plan s) w 0 8 plan.sidings a.few_sidings (λ k d inside. (a.sidings k d inside).cells.1) (λ m c small. cells_there plan s w n m c (omega arith) small has))
+    sym (within (is_allowed plan s) w 0 8 plan.sidings a.few_sidings (λ k d inside. (a.sidings k d inside).cells.1)
+    (λ m c small. cells_there plan s w n m c (omega arith) small has))
 
 -- the list of all moves by its parts
 all_parts : (plan : Plan) → all_moves plan ≡ all_entering ++ (all_passing plan ++ (slides_from 0 plan.sidings ++ all_leaving plan))

@@ -24,7 +24,9 @@ use Rattle.cf_index.proofs.Passed.{later}
 pub emit_first : (plan : Plan) (s : State) → is_allowed plan s Emit ≡ true → Some Emit ≡ slice_get (allowed_others plan s) 0
 emit_first plan s e = rw e refl
 
-pub emit_barred : (plan : Plan) (s : State) (o : Option Move) → is_allowed plan s Emit ≡ false → o ≡ slice_get (filter (is_allowed plan s) (all_passing plan) ++ (filter (is_allowed plan s) (slides_from 0 plan.sidings) ++ filter (is_allowed plan s) (all_leaving plan))) 0 → o ≡ slice_get (allowed_others plan s) 0
+pub emit_barred : (plan : Plan) (s : State) (o : Option Move) → is_allowed plan s Emit ≡ false →
+    o ≡ slice_get (filter (is_allowed plan s) (all_passing plan) ++ (filter (is_allowed plan s) (slides_from 0 plan.sidings)
+    ++ filter (is_allowed plan s) (all_leaving plan))) 0 → o ≡ slice_get (allowed_others plan s) 0
 emit_barred plan s o e first = rw e first
 
 -- no Issue is among the others
@@ -36,12 +38,14 @@ chosen_map : (q : Move → Bool) (f : ℕ → Move) (ks : List ℕ) → ((k : �
 chosen_map q f [] none = refl
 chosen_map q f (k ∷ ks) none = chosen_step (q (f k)) (f k) (filter q (map f ks)) (none k) (chosen_map q f ks none)
 
-chosen_parts : (q : Move → Bool) (xs ys : List Move) → other_moves (filter q xs) ≡ filter q xs → other_moves (filter q ys) ≡ filter q ys → other_moves (filter q (xs ++ ys)) ≡ filter q (xs ++ ys)
+chosen_parts : (q : Move → Bool) (xs ys : List Move) → other_moves (filter q xs) ≡ filter q xs → other_moves (filter q ys) ≡ filter q ys →
+    other_moves (filter q (xs ++ ys)) ≡ filter q (xs ++ ys)
 chosen_parts q xs ys e f = rw (filter-append q xs ys) (others_parts (filter q xs) (filter q ys) e f)
 
 chosen_slides : (q : Move → Bool) (k : ℕ) (sidings : List SidingPlan) → other_moves (filter q (slides_from k sidings)) ≡ filter q (slides_from k sidings)
 chosen_slides q k [] = refl
-chosen_slides q k (siding ∷ sidings) = chosen_parts q (map (Slide k) (counted_from 0 (siding.cells - 1))) (slides_from (suc k) sidings) (chosen_map q (Slide k) (counted_from 0 (siding.cells - 1)) (λ c. refl)) (chosen_slides q (suc k) sidings)
+chosen_slides q k (siding ∷ sidings) = chosen_parts q (map (Slide k) (counted_from 0 (siding.cells - 1))) (slides_from (suc k) sidings)
+    (chosen_map q (Slide k) (counted_from 0 (siding.cells - 1)) (λ c. refl)) (chosen_slides q (suc k) sidings)
 
 chosen_passing : (q : Move → Bool) (plan : Plan) → other_moves (filter q (all_passing plan)) ≡ filter q (all_passing plan)
 chosen_passing q plan =
@@ -60,7 +64,8 @@ chosen_leaving q plan =
 
 -- so the others are the candidates but for each Issue
 rest_of : Plan → State → List Move
-rest_of plan s = filter (is_allowed plan s) (all_passing plan) ++ (filter (is_allowed plan s) (slides_from 0 plan.sidings) ++ filter (is_allowed plan s) (all_leaving plan))
+rest_of plan s = filter (is_allowed plan s) (all_passing plan) ++ (filter (is_allowed plan s) (slides_from 0 plan.sidings)
+    ++ filter (is_allowed plan s) (all_leaving plan))
 
 rest_others : (plan : Plan) (s : State) → other_moves (rest_of plan s) ≡ rest_of plan s
 unfolding rest_of
@@ -69,11 +74,15 @@ rest_others plan s =
     others_parts _ _ (chosen_passing q plan) (others_parts _ _ (chosen_slides q 0 plan.sidings) (chosen_leaving q plan))
 
 entering_others : (n t w e : Bool) (rest : List Move) → other_moves rest ≡ rest →
-    other_moves (cond n (Issue Next ∷ cond t (Issue Taken ∷ cond w (Issue Wait ∷ cond e (Emit ∷ []) []) (cond e (Emit ∷ []) [])) (cond w (Issue Wait ∷ cond e (Emit ∷ []) []) (cond e (Emit ∷ []) []))) (cond t (Issue Taken ∷ cond w (Issue Wait ∷ cond e (Emit ∷ []) []) (cond e (Emit ∷ []) [])) (cond w (Issue Wait ∷ cond e (Emit ∷ []) []) (cond e (Emit ∷ []) []))) ++ rest)
+    other_moves (cond n (Issue Next ∷ cond t (Issue Taken ∷ cond w (Issue Wait ∷ cond e (Emit ∷ []) []) (cond e (Emit ∷ []) []))
+    (cond w (Issue Wait ∷ cond e (Emit ∷ []) []) (cond e (Emit ∷ []) []))) (cond t (Issue Taken
+    ∷ cond w (Issue Wait ∷ cond e (Emit ∷ []) []) (cond e (Emit ∷ []) [])) (cond w (Issue Wait ∷ cond e (Emit ∷ []) []) (cond e (Emit ∷ []) []))) ++ rest)
     ≡ cond e (Emit ∷ []) [] ++ rest
 entering_others n t w e rest is = by n t w e
   where
-    by : (n t w e : Bool) → other_moves (cond n (Issue Next ∷ cond t (Issue Taken ∷ cond w (Issue Wait ∷ cond e (Emit ∷ []) []) (cond e (Emit ∷ []) [])) (cond w (Issue Wait ∷ cond e (Emit ∷ []) []) (cond e (Emit ∷ []) []))) (cond t (Issue Taken ∷ cond w (Issue Wait ∷ cond e (Emit ∷ []) []) (cond e (Emit ∷ []) [])) (cond w (Issue Wait ∷ cond e (Emit ∷ []) []) (cond e (Emit ∷ []) []))) ++ rest)
+    by : (n t w e : Bool) → other_moves (cond n (Issue Next ∷ cond t (Issue Taken ∷ cond w (Issue Wait ∷ cond e (Emit ∷ []) []) (cond e (Emit ∷ []) []))
+        (cond w (Issue Wait ∷ cond e (Emit ∷ []) []) (cond e (Emit ∷ []) []))) (cond t (Issue Taken
+        ∷ cond w (Issue Wait ∷ cond e (Emit ∷ []) []) (cond e (Emit ∷ []) [])) (cond w (Issue Wait ∷ cond e (Emit ∷ []) []) (cond e (Emit ∷ []) []))) ++ rest)
         ≡ cond e (Emit ∷ []) [] ++ rest
     by true true true true = rw is refl
     by true true true false = is
@@ -96,7 +105,8 @@ in_parts : (plan : Plan) (s : State) → candidates plan s ≡ filter (is_allowe
 unfolding rest_of
 in_parts plan s =
     let q = is_allowed plan s in
-    sym (all_chosen plan s (filter q all_entering) (filter q (all_passing plan)) (filter q (slides_from 0 plan.sidings)) (filter q (all_leaving plan)) refl refl refl refl)
+    sym (all_chosen plan s (filter q all_entering) (filter q (all_passing plan)) (filter q (slides_from 0 plan.sidings))
+    (filter q (all_leaving plan)) refl refl refl refl)
 
 pub others_are : (plan : Plan) (s : State) → other_moves (candidates plan s) ≡ allowed_others plan s
 unfolding rest_of
@@ -112,15 +122,18 @@ held_first xs m e =
     let some : nat_lt 0 (length (other_moves xs)) ≡ true = grind (arith, nat_tests) in
     rw some e
 
-pub first_held : (plan : Plan) (s : State) (held : Bool) (o : Option Move) → held ≡ true → o ≡ slice_get (allowed_others plan s) 0 → IfSome o (λ next. Some next ≡ slice_get (withheld held (candidates plan s)) 0)
+pub first_held : (plan : Plan) (s : State) (held : Bool) (o : Option Move) → held ≡ true → o ≡ slice_get (allowed_others plan s) 0 →
+    IfSome o (λ next. Some next ≡ slice_get (withheld held (candidates plan s)) 0)
 first_held plan s held None e first = tt
 first_held plan s held (Some m) e first = rw e (held_first (candidates plan s) m (first ∙ ap (λ (l : List Move). slice_get l 0) (sym (others_are plan s))))
 
 -- and of all of them
-pub first_issue : (plan : Plan) (s : State) (held : Bool) → held ≡ false → is_allowed plan s (Issue Next) ≡ true → Some (Issue Next) ≡ slice_get (withheld held (candidates plan s)) 0
+pub first_issue : (plan : Plan) (s : State) (held : Bool) → held ≡ false → is_allowed plan s (Issue Next) ≡ true →
+    Some (Issue Next) ≡ slice_get (withheld held (candidates plan s)) 0
 first_issue plan s held e free = rw (e, in_parts plan s, free) refl
 
-pub first_free : (plan : Plan) (s : State) (held : Bool) (o : Option Move) → held ≡ false → is_allowed plan s (Issue Next) ≡ false → is_allowed plan s (Issue Taken) ≡ false → is_allowed plan s (Issue Wait) ≡ false → o ≡ slice_get (allowed_others plan s) 0 →
+pub first_free : (plan : Plan) (s : State) (held : Bool) (o : Option Move) → held ≡ false → is_allowed plan s (Issue Next) ≡ false →
+    is_allowed plan s (Issue Taken) ≡ false → is_allowed plan s (Issue Wait) ≡ false → o ≡ slice_get (allowed_others plan s) 0 →
     IfSome o (λ next. Some next ≡ slice_get (withheld held (candidates plan s)) 0)
 unfolding rest_of
 first_free plan s held None e next taken wait first = tt
@@ -149,7 +162,8 @@ other_kind Leave e = omega arith
 other_kind Exit e = omega arith
 other_kind Serve e = omega arith
 
-pub unissued : (xs : List Move) (last : Move) (o : Option Move) → kind_place last ≡ 0 → IfSome o (λ next. Some next ≡ slice_get xs 0) → IfSome o (λ next. is_issue next ≡ false) → IfSome o (λ next. Some next ≡ slice_get xs (first_after (Some last) xs))
+pub unissued : (xs : List Move) (last : Move) (o : Option Move) → kind_place last ≡ 0 → IfSome o (λ next. Some next ≡ slice_get xs 0) →
+    IfSome o (λ next. is_issue next ≡ false) → IfSome o (λ next. Some next ≡ slice_get xs (first_after (Some last) xs))
 unissued xs last None issue first other = tt
 unissued xs last (Some m) issue first other = after_issue xs last m first (later last m (let after = other_kind m other in omega (arith, issue, after)))
 
@@ -167,7 +181,8 @@ none_after last xs e =
     let t : nat_lt (position_or_len p xs) (length xs) ≡ false = grind (arith, nat_tests) in
     rw t refl
 
-none_step : (p : Move → Bool) (b c : Bool) (x : Move) (xs rest : List Move) → p x ≡ b → cond b (Some x) (find p xs) ≡ None → (find p xs ≡ None → find p rest ≡ None) → find p (cond c (x ∷ rest) rest) ≡ None
+none_step : (p : Move → Bool) (b c : Bool) (x : Move) (xs rest : List Move) → p x ≡ b → cond b (Some x) (find p xs) ≡ None →
+    (find p xs ≡ None → find p rest ≡ None) → find p (cond c (x ∷ rest) rest) ≡ None
 none_step p true c x xs rest f e more = absurd (cc)
 none_step p false true x xs rest f e more = rw f (more e)
 none_step p false false x xs rest f e more = more e
@@ -185,18 +200,25 @@ none_withheld p true xs e = by (nat_lt 0 (length (other_moves xs)))
     by true = none_chosen p (λ mv. not (is_issue mv)) xs e
     by false = e
 
-pub wrapped : (plan : Plan) (s : State) (last : Move) (held : Bool) (o r : Option Move) → 1 ≤ kind_place last → o ≡ find (stands_after last) (filter (is_allowed plan s) (all_passing plan) ++ (filter (is_allowed plan s) (slides_from 0 plan.sidings) ++ filter (is_allowed plan s) (all_leaving plan))) → o ≡ None →
-    IfSome r (λ next. Some next ≡ slice_get (withheld held (candidates plan s)) 0) → IfSome r (λ next. Some next ≡ slice_get (withheld held (candidates plan s)) (first_after (Some last) (withheld held (candidates plan s))))
+pub wrapped : (plan : Plan) (s : State) (last : Move) (held : Bool) (o r : Option Move) → 1 ≤ kind_place last →
+    o ≡ find (stands_after last) (filter (is_allowed plan s) (all_passing plan) ++ (filter (is_allowed plan s) (slides_from 0 plan.sidings)
+    ++ filter (is_allowed plan s) (all_leaving plan))) → o ≡ None →
+    IfSome r (λ next. Some next ≡ slice_get (withheld held (candidates plan s)) 0) → IfSome r (λ next. Some next
+    ≡ slice_get (withheld held (candidates plan s)) (first_after (Some last) (withheld held (candidates plan s))))
 unfolding rest_of
 wrapped plan s last held o r after e none first =
     let p = stands_after last in
-    let nowhere : find p (candidates plan s) ≡ None = ap (find p) (in_parts plan s) ∙ found_second p (filter (is_allowed plan s) all_entering) (rest_of plan s) (entering_none last (is_allowed plan s) after) ∙ (sym e ∙ none) in
+    let nowhere : find p (candidates plan s) ≡ None = ap (find p) (in_parts plan s) ∙ found_second p (filter (is_allowed plan s) all_entering) (rest_of plan s)
+    (entering_none last (is_allowed plan s) after) ∙ (sym e ∙ none) in
     let zero_is = none_after last (withheld held (candidates plan s)) (none_withheld p held (candidates plan s) nowhere) in
     rw zero_is first
 
-pub found_soon : (plan : Plan) (s : State) (last m : Move) (held : Bool) (o : Option Move) → 1 ≤ kind_place last → o ≡ find (stands_after last) (filter (is_allowed plan s) (all_passing plan) ++ (filter (is_allowed plan s) (slides_from 0 plan.sidings) ++ filter (is_allowed plan s) (all_leaving plan))) → o ≡ Some m →
+pub found_soon : (plan : Plan) (s : State) (last m : Move) (held : Bool) (o : Option Move) → 1 ≤ kind_place last →
+    o ≡ find (stands_after last) (filter (is_allowed plan s) (all_passing plan) ++ (filter (is_allowed plan s) (slides_from 0 plan.sidings)
+    ++ filter (is_allowed plan s) (all_leaving plan))) → o ≡ Some m →
     Some m ≡ slice_get (withheld held (candidates plan s)) (first_after (Some last) (withheld held (candidates plan s)))
-found_soon plan s last m true o after e is = found_after last (held_back (candidates plan s)) m (found_held (stands_after last) (candidates plan s) m (λ mv f. no_issue last mv after f) (found_candidate plan s last m after (sym e ∙ is)))
+found_soon plan s last m true o after e is = found_after last (held_back (candidates plan s)) m
+    (found_held (stands_after last) (candidates plan s) m (λ mv f. no_issue last mv after f) (found_candidate plan s last m after (sym e ∙ is)))
 found_soon plan s last m false o after e is = found_after last (candidates plan s) m (found_candidate plan s last m after (sym e ∙ is))
 
 pub ruleset firsts = (first_held, first_issue, first_free)

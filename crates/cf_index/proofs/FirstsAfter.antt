@@ -48,7 +48,8 @@ found_second p (x ∷ xs) ys e = second_choice (p x) x (find p xs) (find p (xs +
 
 -- the allowed moves that do not enter
 abbrev pub others_allowed : Plan → State → List Move
-others_allowed plan s = filter (is_allowed plan s) (all_passing plan) ++ (filter (is_allowed plan s) (slides_from 0 plan.sidings) ++ filter (is_allowed plan s) (all_leaving plan))
+others_allowed plan s = filter (is_allowed plan s) (all_passing plan) ++ (filter (is_allowed plan s) (slides_from 0 plan.sidings)
+    ++ filter (is_allowed plan s) (all_leaving plan))
 
 -- nothing that enters comes after Emit or a move of a later kind
 step_none : (p : Move → Bool) (b : Bool) (x : Move) (xs : List Move) → p x ≡ false → find p xs ≡ None → find p (cond b (x ∷ xs) xs) ≡ None
@@ -65,29 +66,35 @@ entering_none last q after =
     step_none (stands_after last) (q (Issue Wait)) (Issue Wait) _ (earlier last (Issue Wait) (omega arith)) (
     step_none (stands_after last) (q Emit) Emit [] (not_emit last after) refl)))
 
-pub found_candidate : (plan : Plan) (s : State) (last m : Move) → 1 ≤ kind_place last → find (stands_after last) (others_allowed plan s) ≡ Some m → find (stands_after last) (candidates plan s) ≡ Some m
+pub found_candidate : (plan : Plan) (s : State) (last m : Move) → 1 ≤ kind_place last → find (stands_after last) (others_allowed plan s) ≡ Some m →
+    find (stands_after last) (candidates plan s) ≡ Some m
 found_candidate plan s last m after found =
     let q = is_allowed plan s in
-    let parts = all_chosen plan s (filter q all_entering) (filter q (all_passing plan)) (filter q (slides_from 0 plan.sidings)) (filter q (all_leaving plan)) refl refl refl refl in
-    let whole : find (stands_after last) (filter q all_entering ++ (filter q (all_passing plan) ++ (filter q (slides_from 0 plan.sidings) ++ filter q (all_leaving plan)))) ≡ Some m =
+    let parts = all_chosen plan s (filter q all_entering) (filter q (all_passing plan)) (filter q (slides_from 0 plan.sidings))
+    (filter q (all_leaving plan)) refl refl refl refl in
+    let whole : find (stands_after last) (filter q all_entering ++ (filter q (all_passing plan)
+    ++ (filter q (slides_from 0 plan.sidings) ++ filter q (all_leaving plan)))) ≡ Some m =
     found_second (stands_after last) (filter q all_entering) _ (entering_none last q after) ∙ found in
     ap (find (stands_after last)) (sym parts) ∙ whole
 
 -- and among those that are held back, where it is not an Issue
-others_choice : (p : Move → Bool) (x : Move) (xs rest : List Move) (m : Move) (b i : Bool) → p x ≡ b → (b ≡ true → i ≡ false) → (find p xs ≡ Some m → find p rest ≡ Some m) → cond b (Some x) (find p xs) ≡ Some m → find p (cond (not i) (x ∷ rest) rest) ≡ Some m
+others_choice : (p : Move → Bool) (x : Move) (xs rest : List Move) (m : Move) (b i : Bool) → p x ≡ b → (b ≡ true → i ≡ false) →
+    (find p xs ≡ Some m → find p rest ≡ Some m) → cond b (Some x) (find p xs) ≡ Some m → find p (cond (not i) (x ∷ rest) rest) ≡ Some m
 others_choice p x xs rest m true false e other more at = rw e at
 others_choice p x xs rest m true true e other more at = absurd (cc (other refl))
 others_choice p x xs rest m false false e other more at = rw e (more at)
 others_choice p x xs rest m false true e other more at = more at
 
-found_other : (p : Move → Bool) (xs : List Move) (m : Move) → ((mv : Move) → p mv ≡ true → is_issue mv ≡ false) → find p xs ≡ Some m → find p (other_moves xs) ≡ Some m
+found_other : (p : Move → Bool) (xs : List Move) (m : Move) → ((mv : Move) → p mv ≡ true → is_issue mv ≡ false) → find p xs ≡ Some m →
+    find p (other_moves xs) ≡ Some m
 found_other p [] m other e = absurd (cc)
 found_other p (x ∷ xs) m other e = others_choice p x xs (other_moves xs) m (p x) (is_issue x) refl (other x) (λ f. found_other p xs m other f) e
 
 found_there : (p : Move → Bool) (xs : List Move) (m : Move) → find p xs ≡ Some m → position_or_len p xs < length xs
 found_there p xs m e = slice_get_within xs (position_or_len p xs) m (sym (find_at p xs) ∙ e)
 
-pub found_held : (p : Move → Bool) (xs : List Move) (m : Move) → ((mv : Move) → p mv ≡ true → is_issue mv ≡ false) → find p xs ≡ Some m → find p (held_back xs) ≡ Some m
+pub found_held : (p : Move → Bool) (xs : List Move) (m : Move) → ((mv : Move) → p mv ≡ true → is_issue mv ≡ false) → find p xs ≡ Some m →
+    find p (held_back xs) ≡ Some m
 unfolding held_back
 found_held p xs m other e =
     let f = found_other p xs m other e in

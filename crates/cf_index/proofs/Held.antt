@@ -53,11 +53,13 @@ others_leaving l =
     others_parts _ _ (others_flag l.exit Exit refl) (others_flag l.serve Serve refl))))
 
 -- what does not enter
-pub others_after : (p : Passing) (w : ℕ) (l : Leaving) → other_moves (passing_moves p ++ (slides_of w ++ leaving_moves l)) ≡ passing_moves p ++ (slides_of w ++ leaving_moves l)
+pub others_after : (p : Passing) (w : ℕ) (l : Leaving) → other_moves (passing_moves p ++ (slides_of w ++ leaving_moves l)) ≡ passing_moves p
+    ++ (slides_of w ++ leaving_moves l)
 others_after p w l = others_parts _ _ (others_passing p) (others_parts _ _ (others_slides w) (others_leaving l))
 
 -- the moves that enter are held back where others are there
-held_others : (es others rest : List Move) → others ≡ other_moves es → other_moves rest ≡ rest → 0 < length others + length rest → others ++ rest ≡ held_back (es ++ rest)
+held_others : (es others rest : List Move) → others ≡ other_moves es → other_moves rest ≡ rest → 0 < length others + length rest →
+    others ++ rest ≡ held_back (es ++ rest)
 unfolding held_back
 held_others es others rest e none some =
     let f : other_moves (es ++ rest) ≡ others ++ rest = filter-append (λ mv. not (is_issue mv)) es rest ∙ rw (none, ← e) refl in
@@ -65,7 +67,8 @@ held_others es others rest e none some =
     rw (f, t) refl
 
 -- and not where no others are there
-held_alone : (es others rest : List Move) → others ≡ other_moves es → other_moves rest ≡ rest → length others + length rest ≡ 0 → es ++ rest ≡ held_back (es ++ rest)
+held_alone : (es others rest : List Move) → others ≡ other_moves es → other_moves rest ≡ rest → length others + length rest ≡ 0 →
+    es ++ rest ≡ held_back (es ++ rest)
 unfolding held_back
 held_alone es others rest e none alone =
     let f : other_moves (es ++ rest) ≡ others ++ rest = filter-append (λ mv. not (is_issue mv)) es rest ∙ rw (none, ← e) refl in
@@ -73,11 +76,16 @@ held_alone es others rest e none alone =
     rw (f, t) refl
 
 -- the same, by how many there are of each part
-counted : (others ps ss ls : List Move) (a b c d : ℕ) → a ≡ length others → b ≡ length ps → c ≡ length ss → d ≡ length ls → length others + length (ps ++ (ss ++ ls)) ≡ a + b + c + d
+counted : (others ps ss ls : List Move) (a b c d : ℕ) → a ≡ length others → b ≡ length ps → c ≡ length ss → d ≡ length ls →
+    length others + length (ps ++ (ss ++ ls)) ≡ a + b + c + d
 counted others ps ss ls a b c d p q r s = rw (length-append ps (ss ++ ls), length-append ss ls) (omega arith)
 
-pub holds_others : (es others ps ss ls : List Move) (a b c d : ℕ) → others ≡ other_moves es → other_moves (ps ++ (ss ++ ls)) ≡ ps ++ (ss ++ ls) → a ≡ length others → b ≡ length ps → c ≡ length ss → d ≡ length ls → 0 < a + b + c + d → others ++ (ps ++ (ss ++ ls)) ≡ held_back (es ++ (ps ++ (ss ++ ls)))
-holds_others es others ps ss ls a b c d e none p q r s some = let n = counted others ps ss ls a b c d p q r s in held_others es others (ps ++ (ss ++ ls)) e none (omega arith)
+pub holds_others : (es others ps ss ls : List Move) (a b c d : ℕ) → others ≡ other_moves es → other_moves (ps ++ (ss ++ ls)) ≡ ps ++ (ss ++ ls) →
+    a ≡ length others → b ≡ length ps → c ≡ length ss → d ≡ length ls → 0 < a + b + c + d → others ++ (ps ++ (ss ++ ls)) ≡ held_back (es ++ (ps ++ (ss ++ ls)))
+holds_others es others ps ss ls a b c d e none p q r s some = let n = counted others ps ss ls a b c d p q r s in
+    held_others es others (ps ++ (ss ++ ls)) e none (omega arith)
 
-pub holds_alone : (es others ps ss ls : List Move) (a b c d : ℕ) → others ≡ other_moves es → other_moves (ps ++ (ss ++ ls)) ≡ ps ++ (ss ++ ls) → a ≡ length others → b ≡ length ps → c ≡ length ss → d ≡ length ls → a + b + c + d ≤ 0 → es ++ (ps ++ (ss ++ ls)) ≡ held_back (es ++ (ps ++ (ss ++ ls)))
-holds_alone es others ps ss ls a b c d e none p q r s alone = let n = counted others ps ss ls a b c d p q r s in held_alone es others (ps ++ (ss ++ ls)) e none (omega arith)
+pub holds_alone : (es others ps ss ls : List Move) (a b c d : ℕ) → others ≡ other_moves es → other_moves (ps ++ (ss ++ ls)) ≡ ps ++ (ss ++ ls) →
+    a ≡ length others → b ≡ length ps → c ≡ length ss → d ≡ length ls → a + b + c + d ≤ 0 → es ++ (ps ++ (ss ++ ls)) ≡ held_back (es ++ (ps ++ (ss ++ ls)))
+holds_alone es others ps ss ls a b c d e none p q r s alone = let n = counted others ps ss ls a b c d p q r s in
+    held_alone es others (ps ++ (ss ++ ls)) e none (omega arith)

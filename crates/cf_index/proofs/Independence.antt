@@ -156,17 +156,29 @@ has_stage plan s Exit free = tt
 has_stage plan s Serve free = tt
 
 -- what a move uses is seated where it uses a place
-seated : (plan : Plan) (s : State) (mv : Move) (x : Site) → HasSidings plan s → HasStage mv → stands_alone plan s mv ≡ false → uses plan s mv x ≡ true → IsSeated plan mv x
+seated : (plan : Plan) (s : State) (mv : Move) (x : Site) → HasSidings plan s → HasStage mv → stands_alone plan s mv ≡ false → uses plan s mv x ≡ true →
+    IsSeated plan mv x
 unfolding uses_place
 seated plan s (Issue g) x h free plain e =
-    found (IsSeated plan (Issue g)) x (Stage 1 ∷ Lane ∷ Fetching ∷ Cache ∷ [])
-    (record { there = refl; written = refl }, (record { there = refl; written = refl }, (record { there = refl; written = refl }, (record { there = refl; written = refl }, tt)))) e
+    found (IsSeated plan (Issue g)) x (Stage 1 ∷ Lane ∷ Fetching ∷ Cache ∷ []) (
+      record { there = refl; written = refl },
+      (
+        record { there = refl; written = refl },
+        (
+          record { there = refl; written = refl },
+          (record { there = refl; written = refl }, tt),
+        ),
+      ),
+    ) e
 seated plan s Emit x h free plain e =
-    found (IsSeated plan Emit) x (Stage plan.stages ∷ Lane ∷ []) (record { there = self plan.stages _; written = refl }, (record { there = refl; written = refl }, tt)) e
+    found (IsSeated plan Emit) x (Stage plan.stages ∷ Lane ∷ [])
+    (record { there = self plan.stages _; written = refl }, (record { there = refl; written = refl }, tt)) e
 seated plan s (Climb i) x h free plain e =
-    found (IsSeated plan (Climb i)) x (Stage i ∷ Stage (i + 1) ∷ []) (record { there = self i _; written = refl }, (record { there = later _ _ (self (i + 1) _); written = refl }, tt)) e
+    found (IsSeated plan (Climb i)) x (Stage i ∷ Stage (i + 1) ∷ [])
+    (record { there = self i _; written = refl }, (record { there = later _ _ (self (i + 1) _); written = refl }, tt)) e
 seated plan s (Fall i) x h free plain e =
-    found (IsSeated plan (Fall i)) x (Stage i ∷ Stage (i - 1) ∷ []) (record { there = self i _; written = refl }, (record { there = later _ _ (self (i - 1) _); written = refl }, tt)) e
+    found (IsSeated plan (Fall i)) x (Stage i ∷ Stage (i - 1) ∷ [])
+    (record { there = self i _; written = refl }, (record { there = later _ _ (self (i - 1) _); written = refl }, tt)) e
 seated plan s (Meet i) x h free plain e = found (IsSeated plan (Meet i)) x (Stage i ∷ []) (record { there = self i _; written = refl }, tt) e
 seated plan s (Execute i) x h free plain e = found (IsSeated plan (Execute i)) x (Stage i ∷ []) (record { there = self i _; written = refl }, tt) e
 seated plan s (Send i) x h free plain e = found (IsSeated plan (Send i)) x (Stage i ∷ []) (record { there = self i _; written = refl }, tt) e
@@ -176,39 +188,61 @@ seated plan s (Launch i) x h free plain e = go (either (among x (Stage i ∷ [])
     go (inl f) = found (IsSeated plan (Launch i)) x (Stage i ∷ []) (record { there = self i _; written = refl }, tt) f
     go (inr f) = way_in_used plan i x free f
 seated plan s (Slide k c) x h free plain e =
-    found (IsSeated plan (Slide k c)) x (SidingCell k c ∷ SidingCell k (c + 1) ∷ []) (record { there = selves k c _; written = refl }, (record { there = later _ _ (selves k (c + 1) _); written = refl }, tt)) e
+    found (IsSeated plan (Slide k c)) x (SidingCell k c ∷ SidingCell k (c + 1) ∷ [])
+    (record { there = selves k c _; written = refl }, (record { there = later _ _ (selves k (c + 1) _); written = refl }, tt)) e
 seated plan s Access x h free plain e =
     let k : ℕ = port plan in
     let last : among (SidingCell k (last_number s k)) (used plan Access) ≡ true = rw (last_cell plan s k h) (selves k (cells_of plan k - 1) _) in
-    found (IsSeated plan Access) x (SidingCell k (last_number s k) ∷ Memory ∷ []) (record { there = last; written = refl }, (record { there = refl; written = refl }, tt)) e
+    found (IsSeated plan Access) x (SidingCell k (last_number s k) ∷ Memory ∷ [])
+    (record { there = last; written = refl }, (record { there = refl; written = refl }, tt)) e
 seated plan s (Recover i) x h free plain e = go (either (among x (Stage i ∷ [])) (is_way_out plan s i x) e)
   where
     go : (among x (Stage i ∷ []) ≡ true) ⊎ (is_way_out plan s i x ≡ true) → IsSeated plan (Recover i) x
     go (inl f) = found (IsSeated plan (Recover i)) x (Stage i ∷ []) (record { there = self i _; written = refl }, tt) f
     go (inr f) = way_out_used plan s i x h free f
 seated plan s Leave x h free plain e =
-    found (IsSeated plan Leave) x (Stage plan.stages ∷ Registers ∷ Count ∷ [])
-    (record { there = self plan.stages _; written = refl }, (record { there = self plan.stages _; written = refl }, (record { there = self plan.stages _; written = refl }, tt))) e
+    found (IsSeated plan Leave) x (Stage plan.stages ∷ Registers ∷ Count ∷ []) (
+      record { there = self plan.stages _; written = refl },
+      (
+        record { there = self plan.stages _; written = refl },
+        (record { there = self plan.stages _; written = refl }, tt),
+      ),
+    ) e
 seated plan s Exit x h free plain e =
-    found (IsSeated plan Exit) x (Stage 1 ∷ Fetching ∷ Cache ∷ []) (record { there = refl; written = refl }, (record { there = refl; written = refl }, (record { there = refl; written = refl }, tt))) e
+    found (IsSeated plan Exit) x (Stage 1 ∷ Fetching ∷ Cache ∷ [])
+    (record { there = refl; written = refl }, (record { there = refl; written = refl }, (record { there = refl; written = refl }, tt))) e
 seated plan s Serve x h free plain e = absurd (cc)
 
 -- what it reads in addition is seated likewise, or only read
-read_seated : (plan : Plan) (s : State) (mv : Move) (x : Site) → stands_alone plan s mv ≡ false → only_reads mv x ≡ true → (uses_place plan mv (seat plan x) ≡ true) ⊎ (is_read_only x ≡ true)
+read_seated : (plan : Plan) (s : State) (mv : Move) (x : Site) → stands_alone plan s mv ≡ false → only_reads mv x ≡ true →
+    (uses_place plan mv (seat plan x) ≡ true) ⊎ (is_read_only x ≡ true)
 unfolding uses_place
-read_seated plan s (Issue g) x plain e = found (λ (y : Site). (among (seat plan y) (used plan (Issue g)) ≡ true) ⊎ (is_read_only y ≡ true)) x (Code ∷ Ended ∷ Failure ∷ []) (inr refl, (inr refl, (inr refl, tt))) e
-read_seated plan s Emit x plain e = found (λ (y : Site). (among (seat plan y) (used plan Emit) ≡ true) ⊎ (is_read_only y ≡ true)) x (Registers ∷ Ended ∷ Failure ∷ []) (inl (self plan.stages _), (inr refl, (inr refl, tt))) e
-read_seated plan s (Climb i) x plain e = found (λ (y : Site). (among (seat plan y) (used plan (Climb i)) ≡ true) ⊎ (is_read_only y ≡ true)) x (Ended ∷ Failure ∷ []) (inr refl, (inr refl, tt)) e
-read_seated plan s (Fall i) x plain e = found (λ (y : Site). (among (seat plan y) (used plan (Fall i)) ≡ true) ⊎ (is_read_only y ≡ true)) x (Ended ∷ Failure ∷ []) (inr refl, (inr refl, tt)) e
-read_seated plan s (Meet i) x plain e = found (λ (y : Site). (among (seat plan y) (used plan (Meet i)) ≡ true) ⊎ (is_read_only y ≡ true)) x (Ended ∷ Failure ∷ []) (inr refl, (inr refl, tt)) e
-read_seated plan s (Execute i) x plain e = found (λ (y : Site). (among (seat plan y) (used plan (Execute i)) ≡ true) ⊎ (is_read_only y ≡ true)) x (Ended ∷ Failure ∷ []) (inr refl, (inr refl, tt)) e
-read_seated plan s (Send i) x plain e = found (λ (y : Site). (among (seat plan y) (used plan (Send i)) ≡ true) ⊎ (is_read_only y ≡ true)) x (Ended ∷ Failure ∷ []) (inr refl, (inr refl, tt)) e
-read_seated plan s (Launch i) x plain e = found (λ (y : Site). (among (seat plan y) (used plan (Launch i)) ≡ true) ⊎ (is_read_only y ≡ true)) x (Ended ∷ Failure ∷ []) (inr refl, (inr refl, tt)) e
-read_seated plan s (Slide k c) x plain e = found (λ (y : Site). (among (seat plan y) (used plan (Slide k c)) ≡ true) ⊎ (is_read_only y ≡ true)) x (Ended ∷ Failure ∷ []) (inr refl, (inr refl, tt)) e
-read_seated plan s Access x plain e = found (λ (y : Site). (among (seat plan y) (used plan Access) ≡ true) ⊎ (is_read_only y ≡ true)) x (Ended ∷ Failure ∷ []) (inr refl, (inr refl, tt)) e
-read_seated plan s (Recover i) x plain e = found (λ (y : Site). (among (seat plan y) (used plan (Recover i)) ≡ true) ⊎ (is_read_only y ≡ true)) x (Ended ∷ Failure ∷ []) (inr refl, (inr refl, tt)) e
-read_seated plan s Leave x plain e = found (λ (y : Site). (among (seat plan y) (used plan Leave) ≡ true) ⊎ (is_read_only y ≡ true)) x (Ended ∷ Failure ∷ []) (inr refl, (inr refl, tt)) e
-read_seated plan s Exit x plain e = found (λ (y : Site). (among (seat plan y) (used plan Exit) ≡ true) ⊎ (is_read_only y ≡ true)) x (Ended ∷ Failure ∷ []) (inr refl, (inr refl, tt)) e
+read_seated plan s (Issue g) x plain e = found (λ (y : Site). (among (seat plan y) (used plan (Issue g)) ≡ true) ⊎ (is_read_only y ≡ true)) x (Code ∷ Ended
+    ∷ Failure ∷ []) (inr refl, (inr refl, (inr refl, tt))) e
+read_seated plan s Emit x plain e = found (λ (y : Site). (among (seat plan y) (used plan Emit) ≡ true) ⊎ (is_read_only y ≡ true)) x (Registers ∷ Ended ∷ Failure
+    ∷ []) (inl (self plan.stages _), (inr refl, (inr refl, tt))) e
+read_seated plan s (Climb i) x plain e = found (λ (y : Site). (among (seat plan y) (used plan (Climb i)) ≡ true) ⊎ (is_read_only y ≡ true)) x (Ended ∷ Failure
+    ∷ []) (inr refl, (inr refl, tt)) e
+read_seated plan s (Fall i) x plain e = found (λ (y : Site). (among (seat plan y) (used plan (Fall i)) ≡ true) ⊎ (is_read_only y ≡ true)) x (Ended ∷ Failure
+    ∷ []) (inr refl, (inr refl, tt)) e
+read_seated plan s (Meet i) x plain e = found (λ (y : Site). (among (seat plan y) (used plan (Meet i)) ≡ true) ⊎ (is_read_only y ≡ true)) x (Ended ∷ Failure
+    ∷ []) (inr refl, (inr refl, tt)) e
+read_seated plan s (Execute i) x plain e = found (λ (y : Site). (among (seat plan y) (used plan (Execute i)) ≡ true) ⊎ (is_read_only y ≡ true)) x (Ended
+    ∷ Failure ∷ []) (inr refl, (inr refl, tt)) e
+read_seated plan s (Send i) x plain e = found (λ (y : Site). (among (seat plan y) (used plan (Send i)) ≡ true) ⊎ (is_read_only y ≡ true)) x (Ended ∷ Failure
+    ∷ []) (inr refl, (inr refl, tt)) e
+read_seated plan s (Launch i) x plain e = found (λ (y : Site). (among (seat plan y) (used plan (Launch i)) ≡ true) ⊎ (is_read_only y ≡ true)) x (Ended ∷ Failure
+    ∷ []) (inr refl, (inr refl, tt)) e
+read_seated plan s (Slide k c) x plain e = found (λ (y : Site). (among (seat plan y) (used plan (Slide k c)) ≡ true) ⊎ (is_read_only y ≡ true)) x (Ended
+    ∷ Failure ∷ []) (inr refl, (inr refl, tt)) e
+read_seated plan s Access x plain e = found (λ (y : Site). (among (seat plan y) (used plan Access) ≡ true) ⊎ (is_read_only y ≡ true)) x (Ended ∷ Failure ∷ [])
+    (inr refl, (inr refl, tt)) e
+read_seated plan s (Recover i) x plain e = found (λ (y : Site). (among (seat plan y) (used plan (Recover i)) ≡ true) ⊎ (is_read_only y ≡ true)) x (Ended
+    ∷ Failure ∷ []) (inr refl, (inr refl, tt)) e
+read_seated plan s Leave x plain e = found (λ (y : Site). (among (seat plan y) (used plan Leave) ≡ true) ⊎ (is_read_only y ≡ true)) x (Ended ∷ Failure ∷ [])
+    (inr refl, (inr refl, tt)) e
+read_seated plan s Exit x plain e = found (λ (y : Site). (among (seat plan y) (used plan Exit) ≡ true) ⊎ (is_read_only y ≡ true)) x (Ended ∷ Failure ∷ [])
+    (inr refl, (inr refl, tt)) e
 read_seated plan s Serve x plain e = absurd (cc)
 
 -- it writes nothing in addition
@@ -247,7 +281,8 @@ written_seated plan s mv x h p e = go (either (uses plan s mv x) (only_writes pl
     go (inr f) = absurd (let none = writes_no_more plan s mv x p.plain in cc)
 
 -- what it touches is seated, or only read
-touched_seated : (plan : Plan) (s : State) (mv : Move) (x : Site) → HasSidings plan s → IsApart plan s mv → (reads plan s mv x || writes plan s mv x) ≡ true → (uses_place plan mv (seat plan x) ≡ true) ⊎ (is_read_only x ≡ true)
+touched_seated : (plan : Plan) (s : State) (mv : Move) (x : Site) → HasSidings plan s → IsApart plan s mv → (reads plan s mv x || writes plan s mv x) ≡ true →
+    (uses_place plan mv (seat plan x) ≡ true) ⊎ (is_read_only x ≡ true)
 touched_seated plan s mv x h p e = go (either (reads plan s mv x) (writes plan s mv x) e)
   where
     by_reads : (uses plan s mv x ≡ true) ⊎ (only_reads mv x ≡ true) → (uses_place plan mv (seat plan x) ≡ true) ⊎ (is_read_only x ≡ true)
@@ -259,7 +294,8 @@ touched_seated plan s mv x h p e = go (either (reads plan s mv x) (writes plan s
     go (inr f) = inl (written_seated plan s mv x h p f).there
 
 -- so what one writes the other does not touch
-untouched : (plan : Plan) (s : State) (a b : Move) (x : Site) → HasSidings plan s → IsApart plan s a → IsApart plan s b → shares plan a b ≡ false → writes plan s a x ≡ true → (reads plan s b x || writes plan s b x) ≡ false
+untouched : (plan : Plan) (s : State) (a b : Move) (x : Site) → HasSidings plan s → IsApart plan s a → IsApart plan s b → shares plan a b ≡ false →
+    writes plan s a x ≡ true → (reads plan s b x || writes plan s b x) ≡ false
 untouched plan s a b x h p q apart e = go (reads plan s b x || writes plan s b x) refl
   where
     clash : (uses_place plan b (seat plan x) ≡ true) ⊎ (is_read_only x ≡ true) → ⊥
@@ -270,7 +306,8 @@ untouched plan s a b x h p q apart e = go (reads plan s b x || writes plan s b x
     go true f = absurd (clash (touched_seated plan s b x h q f))
     go false f = f
 
-apart_independent : (plan : Plan) (s : State) (a b : Move) → HasSidings plan s → IsApart plan s a → IsApart plan s b → shares plan a b ≡ false → shares plan b a ≡ false → AreIndependent plan s a b
+apart_independent : (plan : Plan) (s : State) (a b : Move) → HasSidings plan s → IsApart plan s a → IsApart plan s b → shares plan a b ≡ false →
+    shares plan b a ≡ false → AreIndependent plan s a b
 apart_independent plan s a b h p q apart back = record {
   first = λ x e. untouched plan s a b x h p q apart e;
   second = λ x e. untouched plan s b a x h q p back e;
@@ -280,7 +317,8 @@ is_apart : (plan : Plan) (s : State) (mv : Move) → IsPlain plan s mv → IsApa
 is_apart plan s mv p = record { staged = has_stage plan s mv p.allowed; plain = p.plain }
 
 -- two such moves that share no place are independent
-pub independent : (plan : Plan) (s : State) (a b : Move) → HasSidings plan s → IsPlain plan s a → IsPlain plan s b → shares plan a b ≡ false → shares plan b a ≡ false → AreIndependent plan s a b
+pub independent : (plan : Plan) (s : State) (a b : Move) → HasSidings plan s → IsPlain plan s a → IsPlain plan s b → shares plan a b ≡ false →
+    shares plan b a ≡ false → AreIndependent plan s a b
 independent plan s a b h p q apart back = apart_independent plan s a b h (is_apart plan s a p) (is_apart plan s b q) apart back
 
 -- what is shared is shared either way
@@ -294,7 +332,8 @@ unshared_back plan a b e = go (shares plan b a) refl
         absurd (let both : shares plan a b ≡ true = shared_at plan a b place.0 place.2 place.1 in cc)
 
 -- a move that shares no place with a Leave does not change whether that ends the program
-leave_stays : (plan : Plan) (m : Moment) (a : Move) → HasSidings plan m.state → bar plan m.state a ≡ None → stands_alone plan m.state a ≡ false → shares plan a Leave ≡ false → ends_there plan (next plan m a).state ≡ ends_there plan m.state
+leave_stays : (plan : Plan) (m : Moment) (a : Move) → HasSidings plan m.state → bar plan m.state a ≡ None → stands_alone plan m.state a ≡ false →
+    shares plan a Leave ≡ false → ends_there plan (next plan m a).state ≡ ends_there plan m.state
 unfolding uses_place
 leave_stays plan m a h free plain apart = go (writes plan m.state a (Stage plan.stages)) refl
   where
@@ -305,13 +344,16 @@ leave_stays plan m a h free plain apart = go (writes plan m.state a (Stage plan.
     of_stage c d e = cc
 
     go : (t : Bool) → writes plan m.state a (Stage plan.stages) ≡ t → ends_there plan (next plan m a).state ≡ ends_there plan m.state
-    go true f = absurd (let shared = shared_at plan a Leave (Stage plan.stages) (written_seated plan m.state a (Stage plan.stages) h (record { staged = has_stage plan m.state a free; plain = plain }) f).there top in cc)
+    go true f = absurd (let shared = shared_at plan a Leave (Stage plan.stages) (written_seated plan m.state a (Stage plan.stages) h
+        (record { staged = has_stage plan m.state a free; plain = plain }) f).there top in cc)
     go false f =
         let same : content (next plan m a) (Stage plan.stages) ≡ content m (Stage plan.stages) = (move_local plan m a).leaves free (Stage plan.stages) f in
-        let cells : cell_at (next plan m a).state.cells plan.stages ≡ cell_at m.state.cells plan.stages = of_stage (cell_at (next plan m a).state.cells plan.stages) (cell_at m.state.cells plan.stages) same in
+        let cells : cell_at (next plan m a).state.cells plan.stages ≡ cell_at m.state.cells plan.stages =
+        of_stage (cell_at (next plan m a).state.cells plan.stages) (cell_at m.state.cells plan.stages) same in
         rw cells refl
 
-plain_before : (plan : Plan) (m : Moment) (a b : Move) → HasSidings plan m.state → bar plan m.state a ≡ None → stands_alone plan m.state a ≡ false → shares plan a b ≡ false → stands_alone plan (next plan m a).state b ≡ false → stands_alone plan m.state b ≡ false
+plain_before : (plan : Plan) (m : Moment) (a b : Move) → HasSidings plan m.state → bar plan m.state a ≡ None → stands_alone plan m.state a ≡ false →
+    shares plan a b ≡ false → stands_alone plan (next plan m a).state b ≡ false → stands_alone plan m.state b ≡ false
 plain_before plan m a (Issue g) h free plain apart e = refl
 plain_before plan m a Emit h free plain apart e = refl
 plain_before plan m a (Climb j) h free plain apart e = refl
@@ -328,7 +370,8 @@ plain_before plan m a Exit h free plain apart e = refl
 plain_before plan m a Serve h free plain apart e = absurd (cc)
 
 -- two neighbouring moves of a run that share no place, neither of which is made alone, are independent where the first is made
-pub apart_neighbours : (plan : Plan) (m : Moment) (a b : Move) → HasSidings plan m.state → bar plan m.state a ≡ None → bar plan (next plan m a).state b ≡ None → stands_alone plan m.state a ≡ false → stands_alone plan (next plan m a).state b ≡ false → shares plan a b ≡ false → AreIndependent plan m.state a b
+pub apart_neighbours : (plan : Plan) (m : Moment) (a b : Move) → HasSidings plan m.state → bar plan m.state a ≡ None → bar plan (next plan m a).state b ≡ None →
+    stands_alone plan m.state a ≡ false → stands_alone plan (next plan m a).state b ≡ false → shares plan a b ≡ false → AreIndependent plan m.state a b
 apart_neighbours plan m a b h free after first second apart =
     apart_independent plan m.state a b h
     (record { staged = has_stage plan m.state a free; plain = first })

@@ -26,12 +26,14 @@ pub candidates_parts : (plan : Plan) (s : State) → candidates plan s ≡ allow
 candidates_parts plan s =
     let q = is_allowed plan s in
     let rest = filter q (all_passing plan) ++ (filter q (slides_from 0 plan.sidings) ++ filter q (all_leaving plan)) in
-    sym (all_chosen plan s (filter q all_entering) (filter q (all_passing plan)) (filter q (slides_from 0 plan.sidings)) (filter q (all_leaving plan)) refl refl refl refl)
+    sym (all_chosen plan s (filter q all_entering) (filter q (all_passing plan)) (filter q (slides_from 0 plan.sidings))
+    (filter q (all_leaving plan)) refl refl refl refl)
     ∙ ap (λ (xs : List Move). xs ++ rest) (filter-append q (Issue Next ∷ Issue Taken ∷ Issue Wait ∷ []) (Emit ∷ []))
     ∙ append_assoc (allowed_issues plan s) (filter q (Emit ∷ [])) rest
 
 -- and what is offered is made of the same parts, where something is offered beside those that are held back
-pub withheld_others : (plan : Plan) (s : State) (held : Bool) → 0 < length (allowed_others plan s) → withheld held (candidates plan s) ≡ unheld_issues held plan s ++ allowed_others plan s
+pub withheld_others : (plan : Plan) (s : State) (held : Bool) → 0 < length (allowed_others plan s) →
+    withheld held (candidates plan s) ≡ unheld_issues held plan s ++ allowed_others plan s
 unfolding held_back
 withheld_others plan s false some = candidates_parts plan s
 withheld_others plan s true some =
@@ -45,7 +47,8 @@ few_emit true = omega arith
 few_emit false = omega arith
 
 pub few_parts : (plan : Plan) (s : State) →
-    length (filter (is_allowed plan s) (all_passing plan)) ≤ most_passing → length (filter (is_allowed plan s) (slides_from 0 plan.sidings)) ≤ most_of_kind → length (filter (is_allowed plan s) (all_leaving plan)) ≤ most_leaving →
+    length (filter (is_allowed plan s) (all_passing plan)) ≤ most_passing → length (filter (is_allowed plan s) (slides_from 0 plan.sidings)) ≤ most_of_kind →
+    length (filter (is_allowed plan s) (all_leaving plan)) ≤ most_leaving →
     length (allowed_others plan s) ≤ most_others
 few_parts plan s passing slides leaving =
     let q = is_allowed plan s in
@@ -59,13 +62,16 @@ few_parts plan s passing slides leaving =
 pub issue_next : (plan : Plan) (s : State) → is_allowed plan s (Issue Next) ≡ true → Some (Issue Next) ≡ slice_get (allowed_issues plan s) 0
 issue_next plan s next = rw next refl
 
-pub issue_taken : (plan : Plan) (s : State) → is_allowed plan s (Issue Next) ≡ false → is_allowed plan s (Issue Taken) ≡ true → Some (Issue Taken) ≡ slice_get (allowed_issues plan s) 0
+pub issue_taken : (plan : Plan) (s : State) → is_allowed plan s (Issue Next) ≡ false → is_allowed plan s (Issue Taken) ≡ true →
+    Some (Issue Taken) ≡ slice_get (allowed_issues plan s) 0
 issue_taken plan s next taken = rw (next, taken) refl
 
-pub issue_wait : (plan : Plan) (s : State) → is_allowed plan s (Issue Next) ≡ false → is_allowed plan s (Issue Taken) ≡ false → is_allowed plan s (Issue Wait) ≡ true → Some (Issue Wait) ≡ slice_get (allowed_issues plan s) 0
+pub issue_wait : (plan : Plan) (s : State) → is_allowed plan s (Issue Next) ≡ false → is_allowed plan s (Issue Taken) ≡ false →
+    is_allowed plan s (Issue Wait) ≡ true → Some (Issue Wait) ≡ slice_get (allowed_issues plan s) 0
 issue_wait plan s next taken wait = rw (next, taken, wait) refl
 
-pub issue_none : (plan : Plan) (s : State) → is_allowed plan s (Issue Next) ≡ false → is_allowed plan s (Issue Taken) ≡ false → is_allowed plan s (Issue Wait) ≡ false → None ≡ slice_get (allowed_issues plan s) 0
+pub issue_none : (plan : Plan) (s : State) → is_allowed plan s (Issue Next) ≡ false → is_allowed plan s (Issue Taken) ≡ false →
+    is_allowed plan s (Issue Wait) ≡ false → None ≡ slice_get (allowed_issues plan s) 0
 issue_none plan s next taken wait = rw (next, taken, wait) refl
 
 pub ruleset issues = (issue_next, issue_taken, issue_wait, issue_none)

@@ -38,7 +38,8 @@ pub in_word : (kind : ℕ → Move) (w k i : ℕ) (ys : List Move) → Some k �
 in_word kind w k i ys e = here (at_word kind w) ys i (kind (k + 1)) (of_word kind w k i e)
 
 -- a move after those of a word
-pub past_word : (kind : ℕ → Move) (w n i : ℕ) (x : Move) (ys : List Move) → n ≡ length (places 64 w) → n ≤ i → Some x ≡ slice_get ys (i - n) → Some x ≡ slice_get (at_word kind w ++ ys) i
+pub past_word : (kind : ℕ → Move) (w n i : ℕ) (x : Move) (ys : List Move) → n ≡ length (places 64 w) → n ≤ i → Some x ≡ slice_get ys (i - n) →
+    Some x ≡ slice_get (at_word kind w ++ ys) i
 past_word kind w n i x ys e after at = beyond (at_word kind w) ys n i x (e ∙ sym (length-at_word kind w)) after at
 
 -- how many moves within the sidings there are
@@ -70,7 +71,8 @@ length_flag true mv = refl
 length_flag false mv = refl
 
 -- a move after that of a flag
-pub past_flag : (b : Bool) (mv : Move) (i : ℕ) (x : Move) (ys : List Move) → bool_byte b ≤ i → Some x ≡ slice_get ys (i - bool_byte b) → Some x ≡ slice_get (flagged b mv ++ ys) i
+pub past_flag : (b : Bool) (mv : Move) (i : ℕ) (x : Move) (ys : List Move) → bool_byte b ≤ i → Some x ≡ slice_get ys (i - bool_byte b) →
+    Some x ≡ slice_get (flagged b mv ++ ys) i
 past_flag b mv i x ys after at = beyond (flagged b mv) ys (bool_byte b) i x (length_flag b mv) after at
 
 -- the move of a flag

@@ -47,7 +47,8 @@ map_all last f [] before = refl
 map_all last f (k ∷ ks) before = rw (before k, map_all last f ks before) (omega arith)
 
 -- and those that come after from some number on
-pub map_part : (last : Move) (f : ℕ → Move) (i : ℕ) (ks : List ℕ) → ((k : ℕ) → not (stands_after last (f k)) ≡ nat_lt k i) → passed last (map f ks) ≡ prefix_len (λ k. nat_lt k i) ks
+pub map_part : (last : Move) (f : ℕ → Move) (i : ℕ) (ks : List ℕ) → ((k : ℕ) → not (stands_after last (f k)) ≡ nat_lt k i) →
+    passed last (map f ks) ≡ prefix_len (λ k. nat_lt k i) ks
 unfolding passed
 map_part last f i [] part = refl
 map_part last f i (k ∷ ks) part = rw (part k, map_part last f i ks part) refl
@@ -61,23 +62,31 @@ none_below : (p : ℕ → Bool) (i a n : ℕ) → i ≤ a → filter (λ k. nat_
 none_below p i a zero high = refl
 none_below p i a (suc n) high = none_choice (p a) i a (filter p (counted_from (suc a) n)) (grind (arith, nat_tests)) (none_below p i (suc a) n (omega arith))
 
-ascending_first : (b : Bool) (i a : ℕ) (xs : List ℕ) → nat_lt a i ≡ b → (nat_lt a i ≡ false → filter (λ k. nat_lt k i) xs ≡ []) → prefix_len (λ k. nat_lt k i) xs ≡ length (filter (λ k. nat_lt k i) xs) → cond (nat_lt a i) (1 + prefix_len (λ k. nat_lt k i) xs) 0 ≡ length (cond (nat_lt a i) (a ∷ filter (λ k. nat_lt k i) xs) (filter (λ k. nat_lt k i) xs))
+ascending_first : (b : Bool) (i a : ℕ) (xs : List ℕ) → nat_lt a i ≡ b → (nat_lt a i ≡ false → filter (λ k. nat_lt k i) xs ≡ []) →
+    prefix_len (λ k. nat_lt k i) xs ≡ length (filter (λ k. nat_lt k i) xs) → cond (nat_lt a i) (1 + prefix_len (λ k. nat_lt k i) xs) 0
+    ≡ length (cond (nat_lt a i) (a ∷ filter (λ k. nat_lt k i) xs) (filter (λ k. nat_lt k i) xs))
 ascending_first true i a xs at high e = rw (at, e) (omega arith)
 ascending_first false i a xs at high e = rw (at, high at) refl
 
-ascending_choice : (b : Bool) (i a : ℕ) (xs : List ℕ) → (nat_lt a i ≡ false → filter (λ k. nat_lt k i) xs ≡ []) → prefix_len (λ k. nat_lt k i) xs ≡ length (filter (λ k. nat_lt k i) xs) → prefix_len (λ k. nat_lt k i) (cond b (a ∷ xs) xs) ≡ length (filter (λ k. nat_lt k i) (cond b (a ∷ xs) xs))
+ascending_choice : (b : Bool) (i a : ℕ) (xs : List ℕ) → (nat_lt a i ≡ false → filter (λ k. nat_lt k i) xs ≡ []) →
+    prefix_len (λ k. nat_lt k i) xs ≡ length (filter (λ k. nat_lt k i) xs) → prefix_len (λ k. nat_lt k i) (cond b (a ∷ xs) xs)
+    ≡ length (filter (λ k. nat_lt k i) (cond b (a ∷ xs) xs))
 ascending_choice false i a xs high e = e
 ascending_choice true i a xs high e = ascending_first (nat_lt a i) i a xs refl high e
 
 -- ascending numbers, of which those below i are passed
-pub ascending : (p : ℕ → Bool) (i a n : ℕ) → prefix_len (λ k. nat_lt k i) (filter p (counted_from a n)) ≡ length (filter (λ k. nat_lt k i) (filter p (counted_from a n)))
+pub ascending : (p : ℕ → Bool) (i a n : ℕ) → prefix_len (λ k. nat_lt k i) (filter p (counted_from a n))
+    ≡ length (filter (λ k. nat_lt k i) (filter p (counted_from a n)))
 ascending p i a zero = refl
-ascending p i a (suc n) = ascending_choice (p a) i a (filter p (counted_from (suc a) n)) (λ off. none_below p i (suc a) n (grind (arith, nat_tests))) (ascending p i (suc a) n)
+ascending p i a (suc n) = ascending_choice (p a) i a (filter p (counted_from (suc a) n)) (λ off. none_below p i (suc a) n (grind (arith, nat_tests)))
+    (ascending p i (suc a) n)
 
 -- the moves of a word, all passed, none passed, or those at the stages up to one
-pub step_all : (last : Move) (kind : ℕ → Move) (w : ℕ) (ys : List Move) → ((k : ℕ) → stands_after last (kind k) ≡ false) → passed last (at_word kind w ++ ys) ≡ length (places 64 w) + passed last ys
+pub step_all : (last : Move) (kind : ℕ → Move) (w : ℕ) (ys : List Move) → ((k : ℕ) → stands_after last (kind k) ≡ false) →
+    passed last (at_word kind w ++ ys) ≡ length (places 64 w) + passed last ys
 unfolding at_word
-step_all last kind w ys before = passed_all last (map (λ k. kind (k + 1)) (places 64 w)) ys (map_all last (λ k. kind (k + 1)) (places 64 w) (λ k. before (k + 1))) ∙ rw (length-map (places 64 w) (λ k. kind (k + 1))) refl
+step_all last kind w ys before = passed_all last (map (λ k. kind (k + 1)) (places 64 w)) ys
+    (map_all last (λ k. kind (k + 1)) (places 64 w) (λ k. before (k + 1))) ∙ rw (length-map (places 64 w) (λ k. kind (k + 1))) refl
 
 pub word_all : (last : Move) (kind : ℕ → Move) (w : ℕ) → ((k : ℕ) → stands_after last (kind k) ≡ false) → passed last (at_word kind w) ≡ length (at_word kind w)
 unfolding at_word
@@ -87,7 +96,8 @@ pub word_none : (last : Move) (kind : ℕ → Move) (w : ℕ) → ((k : ℕ) →
 unfolding at_word
 word_none last kind w after = map_none last (λ k. kind (k + 1)) (places 64 w) (λ k. after (k + 1))
 
-pub word_part : (last : Move) (kind : ℕ → Move) (i w : ℕ) → ((k : ℕ) → not (stands_after last (kind (k + 1))) ≡ nat_lt k i) → passed last (at_word kind w) ≡ length (filter (λ k. nat_lt k i) (places 64 w))
+pub word_part : (last : Move) (kind : ℕ → Move) (i w : ℕ) → ((k : ℕ) → not (stands_after last (kind (k + 1))) ≡ nat_lt k i) →
+    passed last (at_word kind w) ≡ length (filter (λ k. nat_lt k i) (places 64 w))
 unfolding at_word places
 word_part last kind i w part = map_part last (λ k. kind (k + 1)) i (filter (has_bit w) (counted_from 0 64)) part ∙ ascending (has_bit w) i 0 64
 
@@ -98,7 +108,8 @@ both_none last xs ys e f = passed_part last xs ys f ∙ e
 pub both_all : (last : Move) (xs ys : List Move) → passed last xs ≡ length xs → passed last ys ≡ length ys → passed last (xs ++ ys) ≡ length (xs ++ ys)
 both_all last xs ys e f = passed_all last xs ys e ∙ rw (f, length-append xs ys) refl
 
-pub step_part : (last : Move) (kind : ℕ → Move) (i w : ℕ) (ys : List Move) → ((k : ℕ) → not (stands_after last (kind (k + 1))) ≡ nat_lt k i) → passed last ys ≡ 0 → passed last (at_word kind w ++ ys) ≡ length (filter (λ k. nat_lt k i) (places 64 w))
+pub step_part : (last : Move) (kind : ℕ → Move) (i w : ℕ) (ys : List Move) → ((k : ℕ) → not (stands_after last (kind (k + 1))) ≡ nat_lt k i) →
+    passed last ys ≡ 0 → passed last (at_word kind w ++ ys) ≡ length (filter (λ k. nat_lt k i) (places 64 w))
 step_part last kind i w ys part none = passed_part last (at_word kind w) ys none ∙ word_part last kind i w part
 
 -- a move at a stage up to i does not come after the one at i

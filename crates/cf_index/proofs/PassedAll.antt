@@ -18,27 +18,31 @@ abbrev whole : Entering → Passing → ℕ → Leaving → List Move
 whole e p w l = entering_moves e ++ (passing_moves p ++ (slides_of w ++ leaving_moves l))
 
 -- by a move that enters
-pub passed_entering : (e : Entering) (p : Passing) (w : ℕ) (l : Leaving) (last : Move) → kind_place last < 2 → passed last (whole e p w l) ≡ passed last (entering_moves e)
+pub passed_entering : (e : Entering) (p : Passing) (w : ℕ) (l : Leaving) (last : Move) → kind_place last < 2 →
+    passed last (whole e p w l) ≡ passed last (entering_moves e)
 passed_entering e p w l last before =
     passed_part last (entering_moves e) _ (
     both_none last _ _ (passing_none p last before) (
     both_none last _ _ (slides_none w last (omega arith)) (leaving_none l last (omega arith))))
 
 -- by a move in the stages
-pub passed_passing : (e : Entering) (p : Passing) (w : ℕ) (l : Leaving) (last : Move) → 1 < kind_place last → kind_place last < 8 → passed last (whole e p w l) ≡ length (entering_moves e) + passed last (passing_moves p)
+pub passed_passing : (e : Entering) (p : Passing) (w : ℕ) (l : Leaving) (last : Move) → 1 < kind_place last → kind_place last < 8 →
+    passed last (whole e p w l) ≡ length (entering_moves e) + passed last (passing_moves p)
 passed_passing e p w l last after before =
     passed_all last (entering_moves e) _ (entering_all e last (omega arith)) ∙ ap (λ n. length (entering_moves e) + n) (
     passed_part last (passing_moves p) _ (both_none last _ _ (slides_none w last before) (leaving_none l last (omega arith))))
 
 -- by a move within the sidings
-pub passed_sliding : (e : Entering) (p : Passing) (w : ℕ) (l : Leaving) (last : Move) → 7 < kind_place last → kind_place last < 9 → passed last (whole e p w l) ≡ length (entering_moves e) + (length (passing_moves p) + passed last (slides_of w))
+pub passed_sliding : (e : Entering) (p : Passing) (w : ℕ) (l : Leaving) (last : Move) → 7 < kind_place last → kind_place last < 9 →
+    passed last (whole e p w l) ≡ length (entering_moves e) + (length (passing_moves p) + passed last (slides_of w))
 passed_sliding e p w l last after before =
     passed_all last (entering_moves e) _ (entering_all e last (omega arith)) ∙ ap (λ n. length (entering_moves e) + n) (
     passed_all last (passing_moves p) _ (passing_all p last after) ∙ ap (λ n. length (passing_moves p) + n) (
     passed_part last (slides_of w) _ (leaving_none l last before)))
 
 -- by a move that leaves
-pub passed_leaving : (e : Entering) (p : Passing) (w : ℕ) (l : Leaving) (last : Move) → 8 < kind_place last → passed last (whole e p w l) ≡ length (entering_moves e) + (length (passing_moves p) + (length (places 64 w) + passed last (leaving_moves l)))
+pub passed_leaving : (e : Entering) (p : Passing) (w : ℕ) (l : Leaving) (last : Move) → 8 < kind_place last →
+    passed last (whole e p w l) ≡ length (entering_moves e) + (length (passing_moves p) + (length (places 64 w) + passed last (leaving_moves l)))
 passed_leaving e p w l last after =
     passed_all last (entering_moves e) _ (entering_all e last (omega arith)) ∙ ap (λ n. length (entering_moves e) + n) (
     passed_all last (passing_moves p) _ (passing_all p last (omega arith)) ∙ ap (λ n. length (passing_moves p) + n) (

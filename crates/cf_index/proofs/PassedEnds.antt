@@ -38,7 +38,8 @@ within_up_to k c j = grind (arith, nat_tests)
 -- the moves within the sidings, by one of them
 pub passed_slides : (w k c : ℕ) → passed (Slide k c) (slides_of w) ≡ length (filter (λ j. nat_lt j (8 * k + cells_up_to c)) (places 64 w))
 unfolding slides_of places
-passed_slides w k c = map_part (Slide k c) slide_at (8 * k + cells_up_to c) (filter (has_bit w) (counted_from 0 64)) (λ j. within_up_to k c j) ∙ ascending (has_bit w) (8 * k + cells_up_to c) 0 64
+passed_slides w k c = map_part (Slide k c) slide_at (8 * k + cells_up_to c) (filter (has_bit w) (counted_from 0 64)) (λ j. within_up_to k c j)
+    ∙ ascending (has_bit w) (8 * k + cells_up_to c) 0 64
 
 pub slides_none : (w : ℕ) (last : Move) → kind_place last < 8 → passed last (slides_of w) ≡ 0
 unfolding slides_of
@@ -58,7 +59,8 @@ leaving_none l last before =
     both_none last _ _ (flag_none last l.exit Exit (later last Exit (omega arith))) (flag_none last l.serve Serve (later last Serve (omega arith))))))
 
 -- that is, of any kind but those that leave
-pub enters_or_passes : (last : Move) → (last ≡ Access → ⊥) → ((i : ℕ) → last ≡ Recover i → ⊥) → (last ≡ Leave → ⊥) → (last ≡ Exit → ⊥) → (last ≡ Serve → ⊥) → kind_place last < 9
+pub enters_or_passes : (last : Move) → (last ≡ Access → ⊥) → ((i : ℕ) → last ≡ Recover i → ⊥) → (last ≡ Leave → ⊥) → (last ≡ Exit → ⊥) → (last ≡ Serve → ⊥) →
+    kind_place last < 9
 enters_or_passes Access access recover leave exit serve = absurd (access refl)
 enters_or_passes (Recover i) access recover leave exit serve = absurd (recover i refl)
 enters_or_passes Leave access recover leave exit serve = absurd (leave refl)
@@ -67,11 +69,13 @@ enters_or_passes Serve access recover leave exit serve = absurd (serve refl)
 enters_or_passes last access recover leave exit serve = omega arith
 
 -- a flag's move that is passed, before others
-flag_step : (last : Move) (b : Bool) (mv : Move) (ys : List Move) → stands_after last mv ≡ false → passed last (flagged b mv ++ ys) ≡ bool_byte b + passed last ys
+flag_step : (last : Move) (b : Bool) (mv : Move) (ys : List Move) → stands_after last mv ≡ false →
+    passed last (flagged b mv ++ ys) ≡ bool_byte b + passed last ys
 flag_step last b mv ys before = passed_all last (flagged b mv) ys (flag_all last b mv before) ∙ rw (length_flag b mv) refl
 
 -- and before others of which none is passed
-flag_last : (last : Move) (b : Bool) (mv : Move) (ys : List Move) → stands_after last mv ≡ false → passed last ys ≡ 0 → passed last (flagged b mv ++ ys) ≡ bool_byte b
+flag_last : (last : Move) (b : Bool) (mv : Move) (ys : List Move) → stands_after last mv ≡ false → passed last ys ≡ 0 →
+    passed last (flagged b mv ++ ys) ≡ bool_byte b
 flag_last last b mv ys before none = passed_part last (flagged b mv) ys none ∙ flag_all last b mv before ∙ sym (length_flag b mv)
 
 pub passed_access : (l : Leaving) → passed Access (leaving_moves l) ≡ bool_byte l.access

@@ -20,7 +20,8 @@ use Rattle.cf_index.proofs.Counted.{counted_split, filter_same, filter_none, fil
 -- the low bits of a word are those of its remainder
 has_low : (w a i : ℕ) → i < a → has_bit w i ≡ has_bit (w % 2 ^ a) i
 unfolding has_bit
-has_low w a i below = let e = bit_at_cat_low (w / 2 ^ a) a (w % 2 ^ a) i below in let s = shr_split w a in let h : w / 2 ^ i % 2 ≡ w % 2 ^ a / 2 ^ i % 2 = rw s at e in rw h refl
+has_low w a i below = let e = bit_at_cat_low (w / 2 ^ a) a (w % 2 ^ a) i below in let s = shr_split w a in
+    let h : w / 2 ^ i % 2 ≡ w % 2 ^ a / 2 ^ i % 2 = rw s at e in rw h refl
 
 -- the high bits of a word are those of its quotient
 has_high : (w a j : ℕ) → has_bit w (a + j) ≡ has_bit (w / 2 ^ a) j
@@ -81,7 +82,8 @@ odd_less : (m : ℕ) → bit_and (m * 2 ^ 1 + 1) (m * 2 ^ 1 + 1 - 1) ≡ m * 2 ^
 odd_less m = let e : m * 2 ^ 1 + 1 - 1 ≡ m * 2 ^ 1 + 0 = omega arith in rw (e, and_block 1 m m 1 0 (omega arith) (omega arith), and_self m) refl
 
 even_less : (m : ℕ) → bit_and (suc m * 2 ^ 1 + 0) (suc m * 2 ^ 1 + 0 - 1) ≡ bit_and (suc m) (suc m - 1) * 2 ^ 1 + 0
-even_less m = let e : suc m * 2 ^ 1 + 0 - 1 ≡ m * 2 ^ 1 + 1 = omega arith in let f : suc m - 1 ≡ m = omega arith in rw (e, f, and_block 1 (suc m) m 0 1 (omega arith) (omega arith)) refl
+even_less m = let e : suc m * 2 ^ 1 + 0 - 1 ≡ m * 2 ^ 1 + 1 = omega arith in let f : suc m - 1 ≡ m = omega arith in
+    rw (e, f, and_block 1 (suc m) m 0 1 (omega arith) (omega arith)) refl
 
 doubled : (n m r : ℕ) → r < 2 → places (1 + n) (m * 2 ^ 1 + r) ≡ places 1 r ++ map (λ j. 1 + j) (places n m)
 doubled n m r small =
@@ -93,12 +95,28 @@ none_or_one : (xs : List ℕ) → (places 1 0 ++ xs ≡ xs) × (drop 1 (places 1
 unfolding places has_bit
 none_or_one xs = (refl, refl)
 
-cleared_step : (n m r : ℕ) → r < 2 → 0 < m * 2 ^ 1 + r → ((0 < m) → places n (bit_and m (m - 1)) ≡ drop 1 (places n m)) → places (1 + n) (bit_and (m * 2 ^ 1 + r) (m * 2 ^ 1 + r - 1)) ≡ drop 1 (places (1 + n) (m * 2 ^ 1 + r))
-cleared_step n m (suc zero) small some before = rw (odd_less m, doubled n m 0 (omega arith), doubled n m 1 (omega arith), (none_or_one (map (λ j. 1 + j) (places n m))).0, (none_or_one (map (λ j. 1 + j) (places n m))).1) refl
+cleared_step : (n m r : ℕ) → r < 2 → 0 < m * 2 ^ 1 + r → ((0 < m) → places n (bit_and m (m - 1)) ≡ drop 1 (places n m)) →
+    places (1 + n) (bit_and (m * 2 ^ 1 + r) (m * 2 ^ 1 + r - 1)) ≡ drop 1 (places (1 + n) (m * 2 ^ 1 + r))
+cleared_step n m (suc zero) small some before =
+    rw (
+      odd_less m,
+      doubled n m 0 (omega arith),
+      doubled n m 1 (omega arith),
+      (none_or_one (map (λ j. 1 + j) (places n m))).0,
+      (none_or_one (map (λ j. 1 + j) (places n m))).1,
+    ) refl
 cleared_step n zero zero small some before = absurd (omega arith)
 cleared_step n (suc m) zero small some before =
     let h = before (omega arith) in
-    rw (even_less m, doubled n (bit_and (suc m) (suc m - 1)) 0 (omega arith), doubled n (suc m) 0 (omega arith), (none_or_one (map (λ j. 1 + j) (places n (bit_and (suc m) (suc m - 1))))).0, (none_or_one (map (λ j. 1 + j) (places n (suc m)))).0, h, drop-map (λ (j : ℕ). 1 + j) 1 (places n (suc m))) refl
+    rw (
+      even_less m,
+      doubled n (bit_and (suc m) (suc m - 1)) 0 (omega arith),
+      doubled n (suc m) 0 (omega arith),
+      (none_or_one (map (λ j. 1 + j) (places n (bit_and (suc m) (suc m - 1))))).0,
+      (none_or_one (map (λ j. 1 + j) (places n (suc m)))).0,
+      h,
+      drop-map (λ (j : ℕ). 1 + j) 1 (places n (suc m)),
+    ) refl
 cleared_step n m (suc (suc r)) small some before = absurd (omega arith)
 
 pub cleared : (n w : ℕ) → 0 < w → w < 2 ^ n → places n (bit_and w (w - 1)) ≡ drop 1 (places n w)
@@ -153,14 +171,16 @@ first_left (suc i) [] = refl
 first_left (suc i) (x ∷ xs) = first_left i xs
 
 -- the numbers after the first i are those of a word that is left
-pub one_passed : (w rest i : ℕ) → rest < 2 ^ 64 → i < length (places 64 w) → places 64 rest ≡ drop i (places 64 w) → places 64 (bit_and rest (rest - 1)) ≡ drop (i + 1) (places 64 w)
+pub one_passed : (w rest i : ℕ) → rest < 2 ^ 64 → i < length (places 64 w) → places 64 rest ≡ drop i (places 64 w) →
+    places 64 (bit_and rest (rest - 1)) ≡ drop (i + 1) (places 64 w)
 one_passed w rest i small more e =
     let l = ap length e ∙ length-drop i (places 64 w) in
     let some : 0 < rest = some_place 64 rest (omega arith) in
     cleared 64 rest some small ∙ rw e (drop-drop 1 i (places 64 w))
 
 -- the lowest of them is the next
-pub next_place : (w rest i : ℕ) → rest < 2 ^ 64 → i < length (places 64 w) → places 64 rest ≡ drop i (places 64 w) → Some (trailing_zeros w64 rest) ≡ slice_get (places 64 w) i
+pub next_place : (w rest i : ℕ) → rest < 2 ^ 64 → i < length (places 64 w) → places 64 rest ≡ drop i (places 64 w) →
+    Some (trailing_zeros w64 rest) ≡ slice_get (places 64 w) i
 next_place w rest i small more e =
     let l = ap length e ∙ length-drop i (places 64 w) in
     let some : 0 < rest = some_place 64 rest (omega arith) in

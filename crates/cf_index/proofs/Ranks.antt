@@ -46,7 +46,8 @@ nothing_left w k b off = no_bits k ∙ none_left (has_bit w k) b off
 -- Words --
 
 -- of the moves of a word the first after the rank is the first of the word of those after it
-pick_step : (p : Move → Bool) (f : ℕ → Move) (b q : Bool) (k : ℕ) (xs us : List ℕ) (ys : List Move) → p (f k) ≡ q → find p (map f xs ++ ys) ≡ on (slice_get us 0) (find p ys) (λ j. Some (f j)) →
+pick_step : (p : Move → Bool) (f : ℕ → Move) (b q : Bool) (k : ℕ) (xs us : List ℕ) (ys : List Move) → p (f k) ≡ q →
+    find p (map f xs ++ ys) ≡ on (slice_get us 0) (find p ys) (λ j. Some (f j)) →
     find p (map f (cond b (k ∷ xs) xs) ++ ys) ≡ on (slice_get (cond (b && q) (k ∷ us) us) 0) (find p ys) (λ j. Some (f j))
 pick_step p f false q k xs us ys e r = r
 pick_step p f true true k xs us ys e r = rw e refl
@@ -56,29 +57,35 @@ pick : (p : Move → Bool) (f : ℕ → Move) (has new : ℕ → Bool) (a n : �
     find p (map f (filter has (counted_from a n)) ++ ys) ≡ on (slice_get (filter new (counted_from a n)) 0) (find p ys) (λ j. Some (f j))
 pick p f has new a zero ys is = refl
 pick p f has new a (suc n) ys is =
-    rw (is a) (pick_step p f (has a) (p (f a)) a (filter has (counted_from (suc a) n)) (filter new (counted_from (suc a) n)) ys refl (pick p f has new (suc a) n ys is))
+    rw (is a) (pick_step p f (has a) (p (f a)) a (filter has (counted_from (suc a) n)) (filter new (counted_from (suc a) n)) ys refl
+    (pick p f has new (suc a) n ys is))
 
 pub word_split : (r : Rank) (kind : ℕ → Move) (w new : ℕ) (ys : List Move) → ((k : ℕ) → has_bit new k ≡ (has_bit w k && is_past r (kind (k + 1)))) →
     find (is_past r) (at_word kind w ++ ys) ≡ on (slice_get (places 64 new) 0) (find (is_past r) ys) (λ k. Some (kind (k + 1)))
 unfolding at_word places
 word_split r kind w new ys is = pick (is_past r) (λ k. kind (k + 1)) (has_bit w) (has_bit new) 0 64 ys is
 
-pub word_here : (r : Rank) (kind : ℕ → Move) (w new k : ℕ) (ys : List Move) → ((j : ℕ) → has_bit new j ≡ (has_bit w j && is_past r (kind (j + 1)))) → Some k ≡ slice_get (places 64 new) 0 → Some (kind (k + 1)) ≡ find (is_past r) (at_word kind w ++ ys)
+pub word_here : (r : Rank) (kind : ℕ → Move) (w new k : ℕ) (ys : List Move) → ((j : ℕ) → has_bit new j ≡ (has_bit w j && is_past r (kind (j + 1)))) →
+    Some k ≡ slice_get (places 64 new) 0 → Some (kind (k + 1)) ≡ find (is_past r) (at_word kind w ++ ys)
 word_here r kind w new k ys is e = sym (rw (← e) at (word_split r kind w new ys is))
 
-pub word_gone : (r : Rank) (kind : ℕ → Move) (w new : ℕ) (ys : List Move) → ((j : ℕ) → has_bit new j ≡ (has_bit w j && is_past r (kind (j + 1)))) → None ≡ slice_get (places 64 new) 0 → find (is_past r) ys ≡ find (is_past r) (at_word kind w ++ ys)
+pub word_gone : (r : Rank) (kind : ℕ → Move) (w new : ℕ) (ys : List Move) → ((j : ℕ) → has_bit new j ≡ (has_bit w j && is_past r (kind (j + 1)))) →
+    None ≡ slice_get (places 64 new) 0 → find (is_past r) ys ≡ find (is_past r) (at_word kind w ++ ys)
 word_gone r kind w new ys is e = sym (rw (← e) at (word_split r kind w new ys is))
 
-pub end_here : (r : Rank) (kind : ℕ → Move) (w new k : ℕ) → ((j : ℕ) → has_bit new j ≡ (has_bit w j && is_past r (kind (j + 1)))) → Some k ≡ slice_get (places 64 new) 0 → Some (kind (k + 1)) ≡ find (is_past r) (at_word kind w)
+pub end_here : (r : Rank) (kind : ℕ → Move) (w new k : ℕ) → ((j : ℕ) → has_bit new j ≡ (has_bit w j && is_past r (kind (j + 1)))) →
+    Some k ≡ slice_get (places 64 new) 0 → Some (kind (k + 1)) ≡ find (is_past r) (at_word kind w)
 end_here r kind w new k is e = rw (append-nil (at_word kind w)) at (word_here r kind w new k [] is e)
 
-pub end_gone : (r : Rank) (kind : ℕ → Move) (w new : ℕ) → ((j : ℕ) → has_bit new j ≡ (has_bit w j && is_past r (kind (j + 1)))) → None ≡ slice_get (places 64 new) 0 → None ≡ find (is_past r) (at_word kind w)
+pub end_gone : (r : Rank) (kind : ℕ → Move) (w new : ℕ) → ((j : ℕ) → has_bit new j ≡ (has_bit w j && is_past r (kind (j + 1)))) →
+    None ≡ slice_get (places 64 new) 0 → None ≡ find (is_past r) (at_word kind w)
 end_gone r kind w new is e = rw (append-nil (at_word kind w)) at (word_gone r kind w new [] is e)
 
 -- Where all come after, or none does --
 
 -- the first after is the first of all
-all_step : (p : Move → Bool) (b : Bool) (x : Move) (xs : List Move) → p x ≡ true → find p xs ≡ slice_get xs 0 → find p (cond b (x ∷ xs) xs) ≡ slice_get (cond b (x ∷ xs) xs) 0
+all_step : (p : Move → Bool) (b : Bool) (x : Move) (xs : List Move) → p x ≡ true → find p xs ≡ slice_get xs 0 →
+    find p (cond b (x ∷ xs) xs) ≡ slice_get (cond b (x ∷ xs) xs) 0
 all_step p true x xs e rest = rw e refl
 all_step p false x xs e rest = rest
 
@@ -86,7 +93,8 @@ all_map : (p q : Move → Bool) (f : ℕ → Move) (ks : List ℕ) → ((k : ℕ
 all_map p q f [] after = refl
 all_map p q f (k ∷ ks) after = all_step p (q (f k)) (f k) (filter q (map f ks)) (after k) (all_map p q f ks after)
 
-both_step : (p : Move → Bool) (x : Move) (xs ys : List Move) (b : Bool) → p x ≡ b → cond b (Some x) (find p xs) ≡ Some x → cond b (Some x) (find p (xs ++ ys)) ≡ Some x
+both_step : (p : Move → Bool) (x : Move) (xs ys : List Move) (b : Bool) → p x ≡ b → cond b (Some x) (find p xs) ≡ Some x →
+    cond b (Some x) (find p (xs ++ ys)) ≡ Some x
 both_step p x xs ys true e at = refl
 both_step p x xs ys false e at = found_first p xs ys x at
 
@@ -94,15 +102,19 @@ all_both : (p : Move → Bool) (xs ys : List Move) → find p xs ≡ slice_get x
 all_both p [] ys e f = f
 all_both p (x ∷ xs) ys e f = both_step p x xs ys (p x) refl e
 
-all_parts : (p q : Move → Bool) (xs ys : List Move) → find p (filter q xs) ≡ slice_get (filter q xs) 0 → find p (filter q ys) ≡ slice_get (filter q ys) 0 → find p (filter q (xs ++ ys)) ≡ slice_get (filter q (xs ++ ys)) 0
+all_parts : (p q : Move → Bool) (xs ys : List Move) → find p (filter q xs) ≡ slice_get (filter q xs) 0 → find p (filter q ys) ≡ slice_get (filter q ys) 0 →
+    find p (filter q (xs ++ ys)) ≡ slice_get (filter q (xs ++ ys)) 0
 all_parts p q xs ys e f = rw (filter-append q xs ys) (all_both p (filter q xs) (filter q ys) e f)
 
-all_slides : (r : Rank) (q : Move → Bool) (k : ℕ) (sidings : List SidingPlan) → r.kind < slide_place → find (is_past r) (filter q (slides_from k sidings)) ≡ slice_get (filter q (slides_from k sidings)) 0
+all_slides : (r : Rank) (q : Move → Bool) (k : ℕ) (sidings : List SidingPlan) → r.kind < slide_place →
+    find (is_past r) (filter q (slides_from k sidings)) ≡ slice_get (filter q (slides_from k sidings)) 0
 all_slides r q k [] early = refl
 all_slides r q k (siding ∷ sidings) early =
-    all_parts (is_past r) q (map (Slide k) (counted_from 0 (siding.cells - 1))) (slides_from (suc k) sidings) (all_map (is_past r) q (Slide k) (counted_from 0 (siding.cells - 1)) (λ c. later r (Slide k c) (omega arith))) (all_slides r q (suc k) sidings early)
+    all_parts (is_past r) q (map (Slide k) (counted_from 0 (siding.cells - 1))) (slides_from (suc k) sidings)
+    (all_map (is_past r) q (Slide k) (counted_from 0 (siding.cells - 1)) (λ c. later r (Slide k c) (omega arith))) (all_slides r q (suc k) sidings early)
 
-all_stages : (r : Rank) (q : Move → Bool) (plan : Plan) → r.kind < 2 → find (is_past r) (filter q (all_passing plan)) ≡ slice_get (filter q (all_passing plan)) 0
+all_stages : (r : Rank) (q : Move → Bool) (plan : Plan) → r.kind < 2 → find (is_past r) (filter q (all_passing plan))
+    ≡ slice_get (filter q (all_passing plan)) 0
 all_stages r q plan early =
     let p = is_past r in
     let stages = counted_from 1 plan.stages in
@@ -112,7 +124,8 @@ all_stages r q plan early =
     all_parts p q _ _ (all_map p q Execute stages (λ k. later r (Execute k) (omega arith))) (
     all_parts p q _ _ (all_map p q Send stages (λ k. later r (Send k) (omega arith))) (all_map p q Launch stages (λ k. later r (Launch k) (omega arith)))))))
 
-all_outward : (r : Rank) (q : Move → Bool) (plan : Plan) → r.kind < 2 → find (is_past r) (filter q (all_leaving plan)) ≡ slice_get (filter q (all_leaving plan)) 0
+all_outward : (r : Rank) (q : Move → Bool) (plan : Plan) → r.kind < 2 → find (is_past r) (filter q (all_leaving plan))
+    ≡ slice_get (filter q (all_leaving plan)) 0
 all_outward r q plan early =
     let p = is_past r in
     all_step p (q Access) Access _ (later r Access (omega arith)) (
@@ -120,7 +133,9 @@ all_outward r q plan early =
     all_step p (q Leave) Leave _ (later r Leave (omega arith)) (
     all_step p (q Exit) Exit _ (later r Exit (omega arith)) (all_step p (q Serve) Serve [] (later r Serve (omega arith)) refl))))
 
-pub all_others : (r : Rank) (q : Move → Bool) (plan : Plan) → r.kind < 2 → find (is_past r) (filter q (all_passing plan) ++ (filter q (slides_from 0 plan.sidings) ++ filter q (all_leaving plan))) ≡ slice_get (filter q (all_passing plan) ++ (filter q (slides_from 0 plan.sidings) ++ filter q (all_leaving plan))) 0
+pub all_others : (r : Rank) (q : Move → Bool) (plan : Plan) → r.kind < 2 → find (is_past r) (filter q (all_passing plan)
+    ++ (filter q (slides_from 0 plan.sidings) ++ filter q (all_leaving plan))) ≡ slice_get (filter q (all_passing plan)
+    ++ (filter q (slides_from 0 plan.sidings) ++ filter q (all_leaving plan))) 0
 all_others r q plan early =
     all_both (is_past r) _ _ (all_stages r q plan early) (all_both (is_past r) _ _ (all_slides r q 0 plan.sidings (omega arith)) (all_outward r q plan early))
 
@@ -136,37 +151,47 @@ slides_none w none = rw (none, slides_of-zero) refl
 pub ruleset first_sliding = (slides_here, slides_none)
 
 -- all come after an earlier kind, and none after a later one
-pub early_slides : (plan : Plan) (s : State) (r : Rank) (w : ℕ) → r.kind < slide_place → slides_of w ≡ filter (is_allowed plan s) (slides_from 0 plan.sidings) → slice_get (slides_of w) 0 ≡ find (is_past r) (filter (is_allowed plan s) (slides_from 0 plan.sidings))
+pub early_slides : (plan : Plan) (s : State) (r : Rank) (w : ℕ) → r.kind < slide_place → slides_of w ≡ filter (is_allowed plan s) (slides_from 0 plan.sidings) →
+    slice_get (slides_of w) 0 ≡ find (is_past r) (filter (is_allowed plan s) (slides_from 0 plan.sidings))
 early_slides plan s r w early e = rw e (sym (all_slides r (is_allowed plan s) 0 plan.sidings early))
 
-none_step : (p q : Move → Bool) (b : Bool) (x : Move) (xs : List Move) → p x ≡ false → find p (filter q xs) ≡ None → find p (cond b (x ∷ filter q xs) (filter q xs)) ≡ None
+none_step : (p q : Move → Bool) (b : Bool) (x : Move) (xs : List Move) → p x ≡ false → find p (filter q xs) ≡ None →
+    find p (cond b (x ∷ filter q xs) (filter q xs)) ≡ None
 none_step p q true x xs off rest = rw off rest
 none_step p q false x xs off rest = rest
 
-none_slides : (r : Rank) (q : Move → Bool) (k : ℕ) (ks : List ℕ) (ys : List Move) → slide_place < r.kind → find (is_past r) (filter q ys) ≡ None → find (is_past r) (filter q (map (Slide k) ks ++ ys)) ≡ None
+none_slides : (r : Rank) (q : Move → Bool) (k : ℕ) (ks : List ℕ) (ys : List Move) → slide_place < r.kind → find (is_past r) (filter q ys) ≡ None →
+    find (is_past r) (filter q (map (Slide k) ks ++ ys)) ≡ None
 none_slides r q k [] ys late rest = rest
-none_slides r q k (c ∷ ks) ys late rest = none_step (is_past r) q (q (Slide k c)) (Slide k c) (map (Slide k) ks ++ ys) (sooner r (Slide k c) (omega arith)) (none_slides r q k ks ys late rest)
+none_slides r q k (c ∷ ks) ys late rest = none_step (is_past r) q (q (Slide k c)) (Slide k c) (map (Slide k) ks ++ ys) (sooner r (Slide k c) (omega arith))
+    (none_slides r q k ks ys late rest)
 
-none_sliding : (r : Rank) (q : Move → Bool) (k : ℕ) (sidings : List SidingPlan) → slide_place < r.kind → find (is_past r) (filter q (slides_from k sidings)) ≡ None
+none_sliding : (r : Rank) (q : Move → Bool) (k : ℕ) (sidings : List SidingPlan) → slide_place < r.kind →
+    find (is_past r) (filter q (slides_from k sidings)) ≡ None
 none_sliding r q k [] late = refl
-none_sliding r q k (siding ∷ sidings) late = none_slides r q k (counted_from 0 (siding.cells - 1)) (slides_from (suc k) sidings) late (none_sliding r q (suc k) sidings late)
+none_sliding r q k (siding ∷ sidings) late = none_slides r q k (counted_from 0 (siding.cells - 1)) (slides_from (suc k) sidings) late
+    (none_sliding r q (suc k) sidings late)
 
-pub late_slides : (plan : Plan) (s : State) (r : Rank) → slide_place < r.kind → None ≡ find (is_past r) (filter (is_allowed plan s) (slides_from 0 plan.sidings))
+pub late_slides : (plan : Plan) (s : State) (r : Rank) → slide_place < r.kind → None ≡ find (is_past r)
+    (filter (is_allowed plan s) (slides_from 0 plan.sidings))
 late_slides plan s r late = sym (none_sliding r (is_allowed plan s) 0 plan.sidings late)
 
 -- Kinds that have a single move --
 
-pub flag_here : (r : Rank) (q : Move → Bool) (mv : Move) (xs : List Move) → r.kind < kind_place mv → q mv ≡ true → Some mv ≡ find (is_past r) (filter q (mv ∷ xs))
+pub flag_here : (r : Rank) (q : Move → Bool) (mv : Move) (xs : List Move) → r.kind < kind_place mv → q mv ≡ true →
+    Some mv ≡ find (is_past r) (filter q (mv ∷ xs))
 flag_here r q mv xs after free = rw (free, later r mv after) refl
 
-pub flag_barred : (r : Rank) (q : Move → Bool) (mv : Move) (xs : List Move) → q mv ≡ false → find (is_past r) (filter q xs) ≡ find (is_past r) (filter q (mv ∷ xs))
+pub flag_barred : (r : Rank) (q : Move → Bool) (mv : Move) (xs : List Move) → q mv ≡ false →
+    find (is_past r) (filter q xs) ≡ find (is_past r) (filter q (mv ∷ xs))
 flag_barred r q mv xs barred = rw barred refl
 
 late_step : (p : Move → Bool) (b : Bool) (x : Move) (xs : List Move) → p x ≡ false → find p xs ≡ find p (cond b (x ∷ xs) xs)
 late_step p true x xs e = rw e refl
 late_step p false x xs e = refl
 
-pub flag_late : (r : Rank) (q : Move → Bool) (mv : Move) (xs : List Move) → is_past r mv ≡ false → find (is_past r) (filter q xs) ≡ find (is_past r) (filter q (mv ∷ xs))
+pub flag_late : (r : Rank) (q : Move → Bool) (mv : Move) (xs : List Move) → is_past r mv ≡ false →
+    find (is_past r) (filter q xs) ≡ find (is_past r) (filter q (mv ∷ xs))
 flag_late r q mv xs late = late_step (is_past r) (q mv) mv (filter q xs) late
 
 -- The rank of a move --
@@ -179,10 +204,12 @@ same_find : (p q : Move → Bool) (xs : List Move) → ((mv : Move) → p mv ≡
 same_find p q [] same = refl
 same_find p q (x ∷ xs) same = rw (same x, same_find p q xs same) refl
 
-pub found_past : (last : Move) (xs : List Move) → 0 < kind_place last → kind_place last ≢ slide_place → find (is_past (rank_of last)) xs ≡ find (stands_after last) xs
+pub found_past : (last : Move) (xs : List Move) → 0 < kind_place last → kind_place last ≢ slide_place →
+    find (is_past (rank_of last)) xs ≡ find (stands_after last) xs
 found_past last xs some other = same_find (is_past (rank_of last)) (stands_after last) xs (λ mv. same_past last mv some other)
 
-pub found_rank : (r : Rank) (last : Move) (xs : List Move) (o : Option Move) → r ≡ rank_of last → 0 < kind_place last → kind_place last ≢ slide_place → o ≡ find (is_past r) xs → o ≡ find (stands_after last) xs
+pub found_rank : (r : Rank) (last : Move) (xs : List Move) (o : Option Move) → r ≡ rank_of last → 0 < kind_place last → kind_place last ≢ slide_place →
+    o ≡ find (is_past r) xs → o ≡ find (stands_after last) xs
 found_rank r last xs o stands some other e = e ∙ ap (λ (q : Rank). find (is_past q) xs) stands ∙ found_past last xs some other
 
 -- what is found in the first part, or else in the second

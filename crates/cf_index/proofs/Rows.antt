@@ -58,9 +58,11 @@ beyond : {A : Type 0} (o : Option A) (test : A → Bool) → (is_some o && on o 
 beyond None test = refl
 beyond (Some a) test = refl
 
-pub cell-bit : (test : Cell → Bool) (cells : List Cell) (n k : ℕ) → n ≡ length cells → has_bit (word_of (λ i. on (cell_at cells i) false test) n) k ≡ on (cell_at cells (k + 1)) false test
+pub cell-bit : (test : Cell → Bool) (cells : List Cell) (n k : ℕ) → n ≡ length cells → has_bit (word_of (λ i. on (cell_at cells i) false test) n) k
+    ≡ on (cell_at cells (k + 1)) false test
 cell-bit test cells n k e =
-    rw e (word-has (λ i. on (cell_at cells i) false test) (length cells) k ∙ ap (λ (b : Bool). b && on (cell_at cells (k + 1)) false test) (sym (some-cell cells k)) ∙ beyond (cell_at cells (k + 1)) test)
+    rw e (word-has (λ i. on (cell_at cells i) false test) (length cells) k ∙ ap (λ (b : Bool). b && on (cell_at cells (k + 1)) false test)
+    (sym (some-cell cells k)) ∙ beyond (cell_at cells (k + 1)) test)
 
 -- what stands in a stage
 riding : Option Cell → Bool
@@ -87,7 +89,8 @@ record Bits (plan : Plan) (s : State) (m : Masks) (k : ℕ) : Type 0 where
   stopping : has_bit m.stops k ≡ stopping plan (k + 1) (cell_at s.cells (k + 1))
 
 -- a test of each stage by its number
-stopped_bit : (plan : Plan) (s : State) (k : ℕ) → length s.cells ≡ plan.stages → has_bit (word_of (stops_there plan s) plan.stages) k ≡ stopping plan (k + 1) (cell_at s.cells (k + 1))
+stopped_bit : (plan : Plan) (s : State) (k : ℕ) → length s.cells ≡ plan.stages → has_bit (word_of (stops_there plan s) plan.stages) k
+    ≡ stopping plan (k + 1) (cell_at s.cells (k + 1))
 unfolding stopping
 stopped_bit plan s k same =
     word-has (stops_there plan s) plan.stages k
@@ -132,7 +135,8 @@ full_has plan s m k b = rw (b.riding, b.flying, b.together) (full_is (cell_at s.
 
 -- Climb
 climb_row : (plan : Plan) (i : ℕ) (o a : Option Cell) →
-    not (is_some (on o (Some NoSuchSite) (λ c. climb_bar plan c i a))) ≡ (riding o && (not (full_in o) && (not (owing o) && (not (stopping plan i o) && (not (riding a) && is_some a)))))
+    not (is_some (on o (Some NoSuchSite) (λ c. climb_bar plan c i a))) ≡ (riding o && (not (full_in o)
+    && (not (owing o) && (not (stopping plan i o) && (not (riding a) && is_some a)))))
 unfolding riding full_in owing stopping
 climb_row plan i None a = refl
 climb_row plan i (Some c) None = by_rider c.passenger (not (is_full c)) (not (owing (Some c))) (not (stopping plan i (Some c)))
@@ -142,8 +146,10 @@ climb_row plan i (Some c) None = by_rider c.passenger (not (is_full c)) (not (ow
 climb_row plan i (Some c) (Some d) = by_rider c.passenger (is_full c)
   where
     by_rider : (o : Option Passenger) (f : Bool) →
-        not (is_some (on o (Some NoPassenger) (λ p. first_of ((f, NotMet) ∷ (is_some p.owes, Owes) ∷ (stops_at plan p i, NotDone) ∷ (is_some d.passenger, Occupied) ∷ []) None)))
-        ≡ (is_some o && (not f && (not (on o false (λ p. is_some p.owes)) && (not (on o false (λ p. stops_at plan p i)) && (not (is_some d.passenger) && true)))))
+        not (is_some (on o (Some NoPassenger) (λ p. first_of ((f, NotMet) ∷ (is_some p.owes, Owes) ∷ (stops_at plan p i, NotDone)
+        ∷ (is_some d.passenger, Occupied) ∷ []) None)))
+        ≡ (is_some o && (not f && (not (on o false (λ p. is_some p.owes)) && (not (on o false (λ p. stops_at plan p i))
+        && (not (is_some d.passenger) && true)))))
     by_rider None f = refl
     by_rider (Some p) f = first_free ((f, NotMet) ∷ (is_some p.owes, Owes) ∷ (stops_at plan p i, NotDone) ∷ (is_some d.passenger, Occupied) ∷ [])
 
@@ -152,7 +158,8 @@ fall_row : (o a : Option Cell) → not (is_some (on o (Some NoSuchSite) (λ c. f
 unfolding flying full_in
 fall_row None a = refl
 fall_row (Some c) None = grind arith
-fall_row (Some c) (Some d) = first_free ((not (is_some c.packet), NoPacket) ∷ (is_full c, NotMet) ∷ (is_some d.packet, Occupied) ∷ []) ∙ tests (is_some c.packet) (is_full c) (is_some d.packet)
+fall_row (Some c) (Some d) = first_free ((not (is_some c.packet), NoPacket) ∷ (is_full c, NotMet) ∷ (is_some d.packet, Occupied) ∷ [])
+    ∙ tests (is_some c.packet) (is_full c) (is_some d.packet)
   where
     tests : (k f o : Bool) → (not (not k) && (not f && (not o && true))) ≡ (k && (not f && not o))
     tests k f o = grind arith
@@ -175,11 +182,13 @@ send_row (Some c) = grind arith
 next_there : (plan : Plan) (s : State) (k : ℕ) → length s.cells ≡ plan.stages → is_some (cell_at s.cells (k + 1 + 1)) ≡ nat_lt (k + 1) plan.stages
 next_there plan s k same = some-cell s.cells (k + 1) ∙ ap (nat_lt (k + 1)) same
 
-pub climb-free : (plan : Plan) (s : State) (m : Masks) (k : ℕ) → m ≡ masks_of plan s → length s.cells ≡ plan.stages → climb_bit m plan.stages k ≡ not (is_some (row_bar plan s (Climb (k + 1))))
+pub climb-free : (plan : Plan) (s : State) (m : Masks) (k : ℕ) → m ≡ masks_of plan s → length s.cells ≡ plan.stages →
+    climb_bit m plan.stages k ≡ not (is_some (row_bar plan s (Climb (k + 1))))
 climb-free plan s m k e same =
     let b = bits plan s m k e same in
     let a = bits plan s m (k + 1) e same in
-    rw (full_has plan s m k b, b.riding, b.owing, b.stopping, a.riding, ← next_there plan s k same) (sym (climb_row plan (k + 1) (cell_at s.cells (k + 1)) (cell_at s.cells (k + 1 + 1))))
+    rw (full_has plan s m k b, b.riding, b.owing, b.stopping, a.riding, ← next_there plan s k same)
+    (sym (climb_row plan (k + 1) (cell_at s.cells (k + 1)) (cell_at s.cells (k + 1 + 1))))
 
 -- the last stage is there
 last_there : (s : State) (k : ℕ) → is_some (cell_at s.cells k) ≡ true → nat_lt 0 k ≡ true
@@ -198,31 +207,37 @@ fall_below plan s m (suc k) e same within =
     let f : has_bit m.packets k ≡ flying (cell_at s.cells (suc k)) = rw y at b.flying in
     rw (z, p, t, f) refl
 
-fall_case : (plan : Plan) (s : State) (m : Masks) (k : ℕ) (within : Bool) → nat_lt k (length s.cells) ≡ within → m ≡ masks_of plan s → length s.cells ≡ plan.stages → fall_bit m k ≡ not (is_some (row_bar plan s (Fall (k + 1))))
+fall_case : (plan : Plan) (s : State) (m : Masks) (k : ℕ) (within : Bool) → nat_lt k (length s.cells) ≡ within → m ≡ masks_of plan s →
+    length s.cells ≡ plan.stages → fall_bit m k ≡ not (is_some (row_bar plan s (Fall (k + 1))))
 unfolding flying
 fall_case plan s m k true low e same =
     let b = bits plan s m k e same in
     let z : k + 1 - 1 ≡ k = omega arith in
-    rw (full_has plan s m k b, b.flying, fall_below plan s m k e same (grind (arith, nat_tests)), z) (sym (fall_row (cell_at s.cells (k + 1)) (cell_at s.cells k)))
+    rw (full_has plan s m k b, b.flying, fall_below plan s m k e same (grind (arith, nat_tests)), z)
+    (sym (fall_row (cell_at s.cells (k + 1)) (cell_at s.cells k)))
 fall_case plan s m k false high e same =
     let b = bits plan s m k e same in
     let none : cell_at s.cells (k + 1) ≡ None = no_cell s.cells k (some-cell s.cells k ∙ high) in
     let f : has_bit m.packets k ≡ false = b.flying ∙ ap flying none in
     rw (f, none) refl
 
-pub fall-free : (plan : Plan) (s : State) (m : Masks) (k : ℕ) → m ≡ masks_of plan s → length s.cells ≡ plan.stages → fall_bit m k ≡ not (is_some (row_bar plan s (Fall (k + 1))))
+pub fall-free : (plan : Plan) (s : State) (m : Masks) (k : ℕ) → m ≡ masks_of plan s → length s.cells ≡ plan.stages →
+    fall_bit m k ≡ not (is_some (row_bar plan s (Fall (k + 1))))
 fall-free plan s m k e same = fall_case plan s m k (nat_lt k (length s.cells)) refl e same
 
-pub meet-free : (plan : Plan) (s : State) (m : Masks) (k : ℕ) → m ≡ masks_of plan s → length s.cells ≡ plan.stages → full_bit m k ≡ not (is_some (row_bar plan s (Meet (k + 1))))
+pub meet-free : (plan : Plan) (s : State) (m : Masks) (k : ℕ) → m ≡ masks_of plan s → length s.cells ≡ plan.stages →
+    full_bit m k ≡ not (is_some (row_bar plan s (Meet (k + 1))))
 meet-free plan s m k e same = full_has plan s m k (bits plan s m k e same) ∙ sym (meet_row (cell_at s.cells (k + 1)))
 
-pub send-free : (plan : Plan) (s : State) (m : Masks) (k : ℕ) → m ≡ masks_of plan s → length s.cells ≡ plan.stages → send_bit m k ≡ not (is_some (row_bar plan s (Send (k + 1))))
+pub send-free : (plan : Plan) (s : State) (m : Masks) (k : ℕ) → m ≡ masks_of plan s → length s.cells ≡ plan.stages →
+    send_bit m k ≡ not (is_some (row_bar plan s (Send (k + 1))))
 send-free plan s m k e same =
     let b = bits plan s m k e same in
     rw (b.owing, b.flying) (sym (send_row (cell_at s.cells (k + 1))))
 
 -- where a word says of each stage whether the row is free, it says where the move is allowed, as long as the processor goes on
-in_stages : (plan : Plan) (s : State) (kind : ℕ → Move) (k : ℕ) (on within free : Bool) → nat_lt k plan.stages ≡ within → not (is_some (row_bar plan s (kind (k + 1)))) ≡ free → goes_on s ≡ on → (within ≡ false → free ≡ false) →
+in_stages : (plan : Plan) (s : State) (kind : ℕ → Move) (k : ℕ) (on within free : Bool) → nat_lt k plan.stages ≡ within →
+    not (is_some (row_bar plan s (kind (k + 1)))) ≡ free → goes_on s ≡ on → (within ≡ false → free ≡ false) →
     (on && free) ≡ (nat_lt k plan.stages && is_allowed plan s (kind (k + 1)))
 in_stages plan s kind k on within free e f g outside =
     let a = allowed-as plan s (kind (k + 1)) (is_some s.ending) s.failed refl refl in
@@ -239,7 +254,8 @@ bits_on true w k = refl
 bits_on false w k = no_bits k
 
 pub stages_are : (plan : Plan) (s : State) (kind : ℕ → Move) (w v : ℕ) → ((k : ℕ) → has_bit w k ≡ not (is_some (row_bar plan s (kind (k + 1))))) →
-    ((k : ℕ) → cell_at s.cells (k + 1) ≡ None → not (is_some (row_bar plan s (kind (k + 1)))) ≡ false) → length s.cells ≡ plan.stages → v ≡ (if goes_on s then w else 0) → HasStages plan s kind v
+    ((k : ℕ) → cell_at s.cells (k + 1) ≡ None → not (is_some (row_bar plan s (kind (k + 1)))) ≡ false) → length s.cells ≡ plan.stages →
+    v ≡ (if goes_on s then w else 0) → HasStages plan s kind v
 stages_are plan s kind w v has outside same is k =
     rw is (bits_on (goes_on s) w k
     ∙ ap (λ (b : Bool). goes_on s && b) (has k)
@@ -261,16 +277,20 @@ pub word-is : (plan : Plan) (s : State) (kind : ℕ → Move) (w : ℕ) → HasS
 word-is plan s kind w has = same_bits w (word_allowed plan s kind) (λ k. has k ∙ sym (allowed-has plan s kind k))
 
 -- the words of the four kinds
-pub climb-stages : (plan : Plan) (s : State) (m : Masks) (w v : ℕ) → m ≡ masks_of plan s → length s.cells ≡ plan.stages → ((k : ℕ) → has_bit w k ≡ climb_bit m plan.stages k) → v ≡ (if goes_on s then w else 0) → HasStages plan s Climb v
+pub climb-stages : (plan : Plan) (s : State) (m : Masks) (w v : ℕ) → m ≡ masks_of plan s → length s.cells ≡ plan.stages →
+    ((k : ℕ) → has_bit w k ≡ climb_bit m plan.stages k) → v ≡ (if goes_on s then w else 0) → HasStages plan s Climb v
 climb-stages plan s m w v e same has is = stages_are plan s Climb w v (λ k. has k ∙ climb-free plan s m k e same) (λ k none. rw none refl) same is
 
-pub fall-stages : (plan : Plan) (s : State) (m : Masks) (w v : ℕ) → m ≡ masks_of plan s → length s.cells ≡ plan.stages → ((k : ℕ) → has_bit w k ≡ fall_bit m k) → v ≡ (if goes_on s then w else 0) → HasStages plan s Fall v
+pub fall-stages : (plan : Plan) (s : State) (m : Masks) (w v : ℕ) → m ≡ masks_of plan s → length s.cells ≡ plan.stages →
+    ((k : ℕ) → has_bit w k ≡ fall_bit m k) → v ≡ (if goes_on s then w else 0) → HasStages plan s Fall v
 fall-stages plan s m w v e same has is = stages_are plan s Fall w v (λ k. has k ∙ fall-free plan s m k e same) (λ k none. rw none refl) same is
 
-pub meet-stages : (plan : Plan) (s : State) (m : Masks) (w v : ℕ) → m ≡ masks_of plan s → length s.cells ≡ plan.stages → ((k : ℕ) → has_bit w k ≡ full_bit m k) → v ≡ (if goes_on s then w else 0) → HasStages plan s Meet v
+pub meet-stages : (plan : Plan) (s : State) (m : Masks) (w v : ℕ) → m ≡ masks_of plan s → length s.cells ≡ plan.stages →
+    ((k : ℕ) → has_bit w k ≡ full_bit m k) → v ≡ (if goes_on s then w else 0) → HasStages plan s Meet v
 meet-stages plan s m w v e same has is = stages_are plan s Meet w v (λ k. has k ∙ meet-free plan s m k e same) (λ k none. rw none refl) same is
 
-pub send-stages : (plan : Plan) (s : State) (m : Masks) (w v : ℕ) → m ≡ masks_of plan s → length s.cells ≡ plan.stages → ((k : ℕ) → has_bit w k ≡ send_bit m k) → v ≡ (if goes_on s then w else 0) → HasStages plan s Send v
+pub send-stages : (plan : Plan) (s : State) (m : Masks) (w v : ℕ) → m ≡ masks_of plan s → length s.cells ≡ plan.stages →
+    ((k : ℕ) → has_bit w k ≡ send_bit m k) → v ≡ (if goes_on s then w else 0) → HasStages plan s Send v
 send-stages plan s m w v e same has is = stages_are plan s Send w v (λ k. has k ∙ send-free plan s m k e same) (λ k none. rw none refl) same is
 
 -- and of the three that are kept

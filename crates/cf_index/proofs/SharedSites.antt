@@ -77,7 +77,8 @@ one_of p (y ∷ ys) e = by (either (p y) (list_any p ys) e) (one_of p ys)
     last : (b : Bool) → (b || true) ≡ true
     last b = grind arith
 
-    by : (p y ≡ true) ⊎ (list_any p ys ≡ true) → (list_any p ys ≡ true → (x : Site) × (among x ys ≡ true) × (p x ≡ true)) → (x : Site) × (among x (y ∷ ys) ≡ true) × (p x ≡ true)
+    by : (p y ≡ true) ⊎ (list_any p ys ≡ true) → (list_any p ys ≡ true → (x : Site) × (among x ys ≡ true) × (p x ≡ true)) →
+        (x : Site) × (among x (y ∷ ys) ≡ true) × (p x ≡ true)
     by (inl h) rest = (y, (let s = itself y in rw s refl), h)
     by (inr r) rest = let g = rest r in (g.0, (let h = g.1 in rw h (last (same_site g.0 y))), g.2)
 
@@ -168,7 +169,8 @@ some_test s c l f m d h = grind arith
 
 -- a place that both use passes one of the tests
 place_test : (plan : Plan) (a b : Move) (sa sb ca cb : ℕ) (s c : Bool) → IsAccepted plan → AreWords plan a sa ca → AreWords plan b sb cb →
-    (Overlap sa sb → s ≡ true) → (Overlap ca cb → c ≡ true) → (x : Site) → is_other x ≡ false → LayoutHasSite plan x → uses_place plan a x ≡ true → uses_place plan b x ≡ true →
+    (Overlap sa sb → s ≡ true) → (Overlap ca cb → c ≡ true) → (x : Site) → is_other x ≡ false → LayoutHasSite plan x → uses_place plan a x ≡ true →
+    uses_place plan b x ≡ true →
     tests s c (both_use plan a b Lane) (both_use plan a b Fetching) (both_use plan a b Memory) (both_use plan a b Code) ≡ true
 place_test plan a b sa sb ca cb s c acc wa wb hs hc (Stage zero) o there ea eb = absurd (omega arith)
 place_test plan a b sa sb ca cb s c acc wa wb hs hc (Stage (suc k)) o there ea eb =
@@ -182,15 +184,20 @@ place_test plan a b sa sb ca cb s c acc wa wb hs hc (SidingCell k i) o there ea 
     let r : (8 * k + i) % 8 ≡ i = omega arith in
     let h : c ≡ true = hc (8 * k + i, rw (q, r) at (wa.cells_are (8 * k + i)) ∙ ea, rw (q, r) at (wb.cells_are (8 * k + i)) ∙ eb) in
     some_test s c (both_use plan a b Lane) (both_use plan a b Fetching) (both_use plan a b Memory) (both_use plan a b Code) (inr (inl h))
-place_test plan a b sa sb ca cb s c acc wa wb hs hc Lane o there ea eb = some_test s c (both_use plan a b Lane) (both_use plan a b Fetching) (both_use plan a b Memory) (both_use plan a b Code) (inr (inr (inl (two_true _ _ ea eb))))
-place_test plan a b sa sb ca cb s c acc wa wb hs hc Fetching o there ea eb = some_test s c (both_use plan a b Lane) (both_use plan a b Fetching) (both_use plan a b Memory) (both_use plan a b Code) (inr (inr (inr (inl (two_true _ _ ea eb)))))
-place_test plan a b sa sb ca cb s c acc wa wb hs hc Memory o there ea eb = some_test s c (both_use plan a b Lane) (both_use plan a b Fetching) (both_use plan a b Memory) (both_use plan a b Code) (inr (inr (inr (inr (inl (two_true _ _ ea eb))))))
-place_test plan a b sa sb ca cb s c acc wa wb hs hc Code o there ea eb = some_test s c (both_use plan a b Lane) (both_use plan a b Fetching) (both_use plan a b Memory) (both_use plan a b Code) (inr (inr (inr (inr (inr (two_true _ _ ea eb))))))
+place_test plan a b sa sb ca cb s c acc wa wb hs hc Lane o there ea eb = some_test s c (both_use plan a b Lane) (both_use plan a b Fetching)
+    (both_use plan a b Memory) (both_use plan a b Code) (inr (inr (inl (two_true _ _ ea eb))))
+place_test plan a b sa sb ca cb s c acc wa wb hs hc Fetching o there ea eb = some_test s c (both_use plan a b Lane) (both_use plan a b Fetching)
+    (both_use plan a b Memory) (both_use plan a b Code) (inr (inr (inr (inl (two_true _ _ ea eb)))))
+place_test plan a b sa sb ca cb s c acc wa wb hs hc Memory o there ea eb = some_test s c (both_use plan a b Lane) (both_use plan a b Fetching)
+    (both_use plan a b Memory) (both_use plan a b Code) (inr (inr (inr (inr (inl (two_true _ _ ea eb))))))
+place_test plan a b sa sb ca cb s c acc wa wb hs hc Code o there ea eb = some_test s c (both_use plan a b Lane) (both_use plan a b Fetching)
+    (both_use plan a b Memory) (both_use plan a b Code) (inr (inr (inr (inr (inr (two_true _ _ ea eb))))))
 place_test plan a b sa sb ca cb s c acc wa wb hs hc _ o there ea eb = absurd (cc)
 
 -- a test that holds names a place that both use
 test_place : (plan : Plan) (a b : Move) (sa sb ca cb : ℕ) (s c l f m d : Bool) → AreWords plan a sa ca → AreWords plan b sb cb →
-    (s ≡ true → Overlap sa sb) → (c ≡ true → Overlap ca cb) → l ≡ both_use plan a b Lane → f ≡ both_use plan a b Fetching → m ≡ both_use plan a b Memory → d ≡ both_use plan a b Code →
+    (s ≡ true → Overlap sa sb) → (c ≡ true → Overlap ca cb) → l ≡ both_use plan a b Lane → f ≡ both_use plan a b Fetching → m ≡ both_use plan a b Memory →
+    d ≡ both_use plan a b Code →
     tests s c l f m d ≡ true → shares plan a b ≡ true
 test_place plan a b sa sb ca cb true c l f m d wa wb hs hc el ef em ed e =
     let h = hs refl in shared_at plan a b (Stage (h.0 + 1)) (sym (wa.stages_are h.0) ∙ h.1) (sym (wb.stages_are h.0) ∙ h.2)
@@ -207,15 +214,19 @@ test_place plan a b sa sb ca cb false false false false false true wa wb hs hc e
 test_place plan a b sa sb ca cb false false false false false false wa wb hs hc el ef em ed e = absurd (cc)
 
 -- so the tests say whether the two share a place
-pub shares_tested : (plan : Plan) (a b : Move) (sa sb ca cb : ℕ) (s c : Bool) → IsAccepted plan → HasSites plan a → AreWords plan a sa ca → AreWords plan b sb cb →
+pub shares_tested : (plan : Plan) (a b : Move) (sa sb ca cb : ℕ) (s c : Bool) → IsAccepted plan → HasSites plan a → AreWords plan a sa ca →
+    AreWords plan b sb cb →
     (IsTrue s ↔ Overlap sa sb) → (IsTrue c ↔ Overlap ca cb) →
     tests s c (both_use plan a b Lane) (both_use plan a b Fetching) (both_use plan a b Memory) (both_use plan a b Code) ≡ shares plan a b
-shares_tested plan a b sa sb ca cb s c acc there wa wb hs hc = by (tests s c (both_use plan a b Lane) (both_use plan a b Fetching) (both_use plan a b Memory) (both_use plan a b Code)) (shares plan a b) refl refl
+shares_tested plan a b sa sb ca cb s c acc there wa wb hs hc = by (tests s c (both_use plan a b Lane) (both_use plan a b Fetching) (both_use plan a b Memory)
+    (both_use plan a b Code)) (shares plan a b) refl refl
   where
-    by : (t h : Bool) → tests s c (both_use plan a b Lane) (both_use plan a b Fetching) (both_use plan a b Memory) (both_use plan a b Code) ≡ t → shares plan a b ≡ h → t ≡ h
+    by : (t h : Bool) → tests s c (both_use plan a b Lane) (both_use plan a b Fetching) (both_use plan a b Memory) (both_use plan a b Code) ≡ t →
+        shares plan a b ≡ h → t ≡ h
     by true true e g = refl
     by false false e g = refl
-    by true false e g = cc (test_place plan a b sa sb ca cb s c (both_use plan a b Lane) (both_use plan a b Fetching) (both_use plan a b Memory) (both_use plan a b Code) wa wb hs.0 hc.0 refl refl refl refl e)
+    by true false e g = cc (test_place plan a b sa sb ca cb s c (both_use plan a b Lane) (both_use plan a b Fetching) (both_use plan a b Memory)
+        (both_use plan a b Code) wa wb hs.0 hc.0 refl refl refl refl e)
     by false true e g =
         let x = shared_place plan a b g in
         cc (place_test plan a b sa sb ca cb s c acc wa wb hs.1 hc.1 x.0 (used_one plan a x.0 x.1) (used_there plan a x.0 there x.1) x.1 x.2)

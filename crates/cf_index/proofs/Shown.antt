@@ -24,7 +24,8 @@ places_next w some small = rw (cleared 64 w some small) (first_and_rest (places 
 
 -- the lowest move is shown, and then the others
 pub shown_next : {V : Type 0} (after : V → Move → V) (kind : Spread) (v : V) (w : ℕ) → 0 < w → w < 2 ^ 64 →
-    fold after (after v (numbered kind (trailing_zeros w64 w))) (map (numbered kind) (places 64 (bit_and w (w - 1)))) ≡ fold after v (map (numbered kind) (places 64 w))
+    fold after (after v (numbered kind (trailing_zeros w64 w))) (map (numbered kind) (places 64 (bit_and w (w - 1))))
+    ≡ fold after v (map (numbered kind) (places 64 w))
 shown_next after kind v w some small = rw (places_next w some small) refl
 
 -- of a word without a bit no move is shown

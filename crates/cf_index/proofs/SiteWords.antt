@@ -54,7 +54,8 @@ pub one_cell : (j k c : ℕ) → c < 8 → ((nat_eq j (8 * k + c) && true) || ha
 one_cell j k c small = one_bit j (8 * k + c) ∙ cell_bit j k c small
 
 -- and the next one
-pub next_cell : (j k c : ℕ) → c + 1 < 8 → ((nat_eq j (8 * k + c + 1) && true) || (nat_eq (j / 8) k && nat_eq (j % 8) c)) ≡ (nat_eq (j / 8) k && (nat_eq (j % 8) c || nat_eq (j % 8) (c + 1)))
+pub next_cell : (j k c : ℕ) → c + 1 < 8 → ((nat_eq j (8 * k + c + 1) && true) || (nat_eq (j / 8) k && nat_eq (j % 8) c))
+    ≡ (nat_eq (j / 8) k && (nat_eq (j % 8) c || nat_eq (j % 8) (c + 1)))
 next_cell j k c small =
     let z : 8 * k + c + 1 ≡ 8 * k + (c + 1) = omega arith in
     rw (z, cell_bit j k (c + 1) small) (tests (nat_eq (j / 8) k) (nat_eq (j % 8) c) (nat_eq (j % 8) (c + 1)))
@@ -63,7 +64,8 @@ next_cell j k c small =
     tests s a b = grind arith
 
 -- one more cell, of the siding after those that were visited
-pub way_more : (j k c : ℕ) (set : Bool) (at : ℕ → Bool) → c < 8 → (at k ≡ (set && nat_eq (j % 8) c)) → ((nat_eq j (8 * k + c) && set) || (nat_lt (j / 8) k && at (j / 8))) ≡ (nat_lt (j / 8) (k + 1) && at (j / 8))
+pub way_more : (j k c : ℕ) (set : Bool) (at : ℕ → Bool) → c < 8 → (at k ≡ (set && nat_eq (j % 8) c)) →
+    ((nat_eq j (8 * k + c) && set) || (nat_lt (j / 8) k && at (j / 8))) ≡ (nat_lt (j / 8) (k + 1) && at (j / 8))
 way_more j k c set at small here = by (nat_eq (j / 8) k) refl
   where
     at_it : (s c t : Bool) → ((c && s) || (false && t)) ≡ (true && (s && c))

@@ -41,7 +41,8 @@ at_stage : (s : State) (i n : ℕ) (onward : Cell → Option Bar) → length s.c
 at_stage s i n onward size e = let f = found_at (cell_at s.cells i) onward e in cell_there s.cells i n f.here size f.is
 
 -- the cells at the ends of the sidings that pass a test
-all_where : (plan : Plan) (f : ℕ → Site) (test : ℕ → Bool) (first n : ℕ) → ((k : ℕ) → k < first + n → LayoutHasSite plan (f k)) → AllByRecursion (LayoutHasSite plan) (map f (filter test (counted_from first n)))
+all_where : (plan : Plan) (f : ℕ → Site) (test : ℕ → Bool) (first n : ℕ) → ((k : ℕ) → k < first + n → LayoutHasSite plan (f k)) →
+    AllByRecursion (LayoutHasSite plan) (map f (filter test (counted_from first n)))
 all_where plan f test first zero h = tt
 all_where plan f test first (suc n) h = by (test first) (all_where plan f test (suc first) n (λ k within. h k (omega (arith, within))))
   where
@@ -62,7 +63,8 @@ last_place plan k accepted within = (within, omega (arith, (siding_within plan k
 
 last_cells : (plan : Plan) (i : ℕ) → IsAccepted plan → AllByRecursion (LayoutHasSite plan) (ways_out plan i)
 unfolding ways_out
-last_cells plan i accepted = all_where plan (way_out plan) (λ k. recover_stage plan k == i) 0 (length plan.sidings) (λ k within. last_place plan k accepted (omega (arith, within)))
+last_cells plan i accepted = all_where plan (way_out plan) (λ k. recover_stage plan k == i) 0 (length plan.sidings)
+    (λ k within. last_place plan k accepted (omega (arith, within)))
 
 -- a siding with a cell is one of the layout's
 past : (plans : List SidingPlan) (k : ℕ) → 0 < (unwrap_or (slice_get plans k) no_siding).cells → k < length plans
@@ -81,7 +83,8 @@ last_some (o ∷ ops) e = omega arith
 slid_within : (ops : List (Option Op)) (c : ℕ) → slide_bar ops c ≡ None → c + 1 < length ops
 slid_within ops c e = go (slice_get ops (c + 1)) refl e
   where
-    go : (cell : Option (Option Op)) → slice_get ops (c + 1) ≡ cell → on cell (Some NoSuchSite) (λ o. first_of ((not (is_taken (slice_get ops c)), OpNotThere) ∷ (is_some o, Occupied) ∷ []) None) ≡ None → c + 1 < length ops
+    go : (cell : Option (Option Op)) → slice_get ops (c + 1) ≡ cell → on cell (Some NoSuchSite)
+        (λ o. first_of ((not (is_taken (slice_get ops c)), OpNotThere) ∷ (is_some o, Occupied) ∷ []) None) ≡ None → c + 1 < length ops
     go None is f = absurd (cc)
     go (Some o) is f = slice_get_within ops (c + 1) o is
 

@@ -15,12 +15,14 @@ use Rattle.cf_index.proofs.UsedSites.{alone}
 use Rattle.cf_index.specs.Sites.{uses_place, ways_in, ways_out}
 
 -- the cell of a siding is among those of a list that may begin with one more
-chosen : (a b k c : ℕ) (set : Bool) (xs : List Site) → among (SidingCell a b) (cond set (SidingCell k c ∷ xs) xs) ≡ (((nat_eq a k && nat_eq b c) && set) || among (SidingCell a b) xs)
+chosen : (a b k c : ℕ) (set : Bool) (xs : List Site) → among (SidingCell a b) (cond set (SidingCell k c ∷ xs) xs)
+    ≡ (((nat_eq a k && nat_eq b c) && set) || among (SidingCell a b) xs)
 chosen a b k c true xs = grind arith
 chosen a b k c false xs = grind arith
 
 -- the cell is one of those with the numbers f of the sidings from m on, n of them, that pass the test
-among_numbered : (test : ℕ → Bool) (f : ℕ → ℕ) (a b m n : ℕ) → among (SidingCell a b) (map (λ k. SidingCell k (f k)) (filter test (counted_from m n))) ≡ ((nat_le m a && nat_lt a (m + n)) && (test a && nat_eq b (f a)))
+among_numbered : (test : ℕ → Bool) (f : ℕ → ℕ) (a b m n : ℕ) → among (SidingCell a b) (map (λ k. SidingCell k (f k)) (filter test (counted_from m n)))
+    ≡ ((nat_le m a && nat_lt a (m + n)) && (test a && nat_eq b (f a)))
 among_numbered test f a b m zero = let e : (nat_le m a && nat_lt a (m + 0)) ≡ false = grind (arith, nat_tests) in rw e refl
 among_numbered test f a b m (suc n) =
     let r = among_numbered test f a b (suc m) n in
@@ -32,7 +34,8 @@ among_numbered test f a b m (suc n) =
     here : (b t : Bool) → (((true && b) && t) || (false && (t && b))) ≡ (true && (t && b))
     here b t = grind arith
 
-    by : (same : Bool) → nat_eq a m ≡ same → (((nat_eq a m && nat_eq b (f m)) && test m) || ((nat_le (suc m) a && nat_lt a (suc m + n)) && (test a && nat_eq b (f a)))) ≡ ((nat_le m a && nat_lt a (m + suc n)) && (test a && nat_eq b (f a)))
+    by : (same : Bool) → nat_eq a m ≡ same → (((nat_eq a m && nat_eq b (f m)) && test m) || ((nat_le (suc m) a && nat_lt a (suc m + n))
+        && (test a && nat_eq b (f a)))) ≡ ((nat_le m a && nat_lt a (m + suc n)) && (test a && nat_eq b (f a)))
     by true e =
         let q : a ≡ m = grind (arith, nat_tests) in
         let t : nat_eq m m ≡ true = grind (arith, nat_tests) in
@@ -47,14 +50,16 @@ from_first : (a n : ℕ) (b : Bool) → ((nat_le 0 a && nat_lt a (0 + n)) && b) 
 from_first a n b = let e : (nat_le 0 a && nat_lt a (0 + n)) ≡ nat_lt a n = grind (arith, nat_tests) in rw e refl
 
 -- the first cells of the sidings that launch at a stage
-pub among_ways_in : (plan : Plan) (i a b : ℕ) → among (SidingCell a b) (ways_in plan i) ≡ (nat_lt a (length plan.sidings) && (nat_eq (launch_stage plan a) i && nat_eq b 0))
+pub among_ways_in : (plan : Plan) (i a b : ℕ) → among (SidingCell a b) (ways_in plan i) ≡ (nat_lt a (length plan.sidings)
+    && (nat_eq (launch_stage plan a) i && nat_eq b 0))
 unfolding ways_in
 among_ways_in plan i a b =
     among_numbered (λ k. launch_stage plan k == i) (λ k. 0) a b 0 (length plan.sidings)
     ∙ from_first a (length plan.sidings) (nat_eq (launch_stage plan a) i && nat_eq b 0)
 
 -- and the last cells of those that recover there
-pub among_ways_out : (plan : Plan) (i a b : ℕ) → among (SidingCell a b) (ways_out plan i) ≡ (nat_lt a (length plan.sidings) && (nat_eq (recover_stage plan a) i && nat_eq b (cells_of plan a - 1)))
+pub among_ways_out : (plan : Plan) (i a b : ℕ) → among (SidingCell a b) (ways_out plan i) ≡ (nat_lt a (length plan.sidings)
+    && (nat_eq (recover_stage plan a) i && nat_eq b (cells_of plan a - 1)))
 unfolding ways_out
 among_ways_out plan i a b =
     among_numbered (λ k. recover_stage plan k == i) (λ k. cells_of plan k - 1) a b 0 (length plan.sidings)
@@ -89,10 +94,12 @@ cell_used plan Exit a b = refl
 cell_used plan Serve a b = refl
 
 -- the moves that use none
-pub no_cell_used : (plan : Plan) (mv : Move) → ((i : ℕ) → mv ≡ Launch i → ⊥) → ((k c : ℕ) → mv ≡ Slide k c → ⊥) → (mv ≡ Access → ⊥) → ((i : ℕ) → mv ≡ Recover i → ⊥) → (j : ℕ) → has_bit 0 j ≡ uses_place plan mv (SidingCell (j / 8) (j % 8))
+pub no_cell_used : (plan : Plan) (mv : Move) → ((i : ℕ) → mv ≡ Launch i → ⊥) → ((k c : ℕ) → mv ≡ Slide k c → ⊥) → (mv ≡ Access → ⊥) →
+    ((i : ℕ) → mv ≡ Recover i → ⊥) → (j : ℕ) → has_bit 0 j ≡ uses_place plan mv (SidingCell (j / 8) (j % 8))
 no_cell_used plan mv launch slide access recover j = no_bits j ∙ sym (cell_used plan mv (j / 8) (j % 8) ∙ none mv launch slide access recover)
   where
-    none : (m : Move) → ((i : ℕ) → m ≡ Launch i → ⊥) → ((k c : ℕ) → m ≡ Slide k c → ⊥) → (m ≡ Access → ⊥) → ((i : ℕ) → m ≡ Recover i → ⊥) → at_cell plan m (j / 8) (j % 8) ≡ false
+    none : (m : Move) → ((i : ℕ) → m ≡ Launch i → ⊥) → ((k c : ℕ) → m ≡ Slide k c → ⊥) → (m ≡ Access → ⊥) → ((i : ℕ) → m ≡ Recover i → ⊥) →
+        at_cell plan m (j / 8) (j % 8) ≡ false
     none (Launch i) launch slide access recover = absurd (launch i refl)
     none (Slide k c) launch slide access recover = absurd (slide k c refl)
     none Access launch slide access recover = absurd (access refl)

@@ -30,7 +30,8 @@ unfolding has_bit
 other_bit v k small below = ap (λ (b : ℕ). nat_eq b 1) (bit_at_not w32 v k small below) ∙ not_bit (bit_at v k) (bit_at-lt v k)
 
 -- the bits of one that the other does not have
-without_case : (w v k : ℕ) (low : Bool) → nat_lt k 32 ≡ low → w < 2 ^ 32 → v < 2 ^ 32 → has_bit (bit_and w (bit_not w32 v)) k ≡ (has_bit w k && not (has_bit v k))
+without_case : (w v k : ℕ) (low : Bool) → nat_lt k 32 ≡ low → w < 2 ^ 32 → v < 2 ^ 32 → has_bit (bit_and w (bit_not w32 v)) k
+    ≡ (has_bit w k && not (has_bit v k))
 without_case w v k true e small less = let below : k < 32 = grind (arith, nat_tests) in of_both w (bit_not w32 v) k ∙ rw (other_bit v k less below) refl
 without_case w v k false e small less =
     let high : 32 ≤ k = grind (arith, nat_tests) in
@@ -90,7 +91,8 @@ pub no_high : (w k : ℕ) → w < 2 ^ 32 → nat_lt k 32 ≡ false → has_bit w
 no_high w k small e = high_bit w k small (grind (arith, nat_tests))
 
 -- the tests of a climb, and of a fall, as they are made one after the other
-pub climb_tests : (k n : ℕ) (p f o q a : Bool) → 1 ≤ n → (((((p && not f) && not o) && not q) && not a) && nat_lt k (n - 1)) ≡ (p && (not f && (not o && (not q && (not a && nat_lt (k + 1) n)))))
+pub climb_tests : (k n : ℕ) (p f o q a : Bool) → 1 ≤ n → (((((p && not f) && not o) && not q) && not a) && nat_lt k (n - 1))
+    ≡ (p && (not f && (not o && (not q && (not a && nat_lt (k + 1) n)))))
 climb_tests k n p f o q a some =
     let e : nat_lt k (n - 1) ≡ nat_lt (k + 1) n = grind (arith, nat_tests) in
     rw e (nested p (not f) (not o) (not q) (not a) (nat_lt (k + 1) n))
@@ -98,7 +100,8 @@ climb_tests k n p f o q a some =
     nested : (p f o q a l : Bool) → (((((p && f) && o) && q) && a) && l) ≡ (p && (f && (o && (q && (a && l)))))
     nested p f o q a l = grind arith
 
-pub fall_tests : (k : ℕ) (p f b : Bool) → (nat_lt k 32 ≡ false → (p && not f) ≡ false) → (((p && not f) && not (nat_lt k 32 && (nat_lt 0 k && b))) && not (nat_lt k 1)) ≡ (p && (not f && (nat_lt 0 k && not b)))
+pub fall_tests : (k : ℕ) (p f b : Bool) → (nat_lt k 32 ≡ false → (p && not f) ≡ false) → (((p && not f) && not (nat_lt k 32 && (nat_lt 0 k && b)))
+    && not (nat_lt k 1)) ≡ (p && (not f && (nat_lt 0 k && not b)))
 fall_tests k p f b high = by_height (nat_lt k 32) refl
   where
     tests : (p f z b : Bool) → (((p && not f) && not (true && (z && b))) && z) ≡ (p && (not f && (z && not b)))
@@ -107,7 +110,8 @@ fall_tests k p f b high = by_height (nat_lt k 32) refl
     nothing : (p f l : Bool) → (p && f) ≡ false → false ≡ (p && (f && l))
     nothing p f l none = grind arith
 
-    by_height : (low : Bool) → nat_lt k 32 ≡ low → (((p && not f) && not (nat_lt k 32 && (nat_lt 0 k && b))) && not (nat_lt k 1)) ≡ (p && (not f && (nat_lt 0 k && not b)))
+    by_height : (low : Bool) → nat_lt k 32 ≡ low → (((p && not f) && not (nat_lt k 32 && (nat_lt 0 k && b))) && not (nat_lt k 1))
+        ≡ (p && (not f && (nat_lt 0 k && not b)))
     by_height true e = let z : not (nat_lt k 1) ≡ nat_lt 0 k = grind (arith, nat_tests) in rw (e, z) (tests p f (nat_lt 0 k) b)
     by_height false e = rw (high e) (nothing p (not f) (nat_lt 0 k && not b) (high e))
 

@@ -77,7 +77,8 @@ unheld_issues held plan s = if held then [] else allowed_issues plan s
 
 -- the allowed moves but for each Issue
 abbrev pub allowed_others : Plan → State → List Move
-allowed_others plan s = filter (is_allowed plan s) (Emit ∷ []) ++ (filter (is_allowed plan s) (all_passing plan) ++ (filter (is_allowed plan s) (slides_from 0 plan.sidings) ++ filter (is_allowed plan s) (all_leaving plan)))
+allowed_others plan s = filter (is_allowed plan s) (Emit ∷ []) ++ (filter (is_allowed plan s) (all_passing plan)
+    ++ (filter (is_allowed plan s) (slides_from 0 plan.sidings) ++ filter (is_allowed plan s) (all_leaving plan)))
 
 -- the moves with each Issue held back, or all of them
 abbrev pub withheld : Bool → List Move → List Move

@@ -1,4 +1,5 @@
--- Which places of the processor a move uses: the stages and the cells of sidings that it reads and may write, the lane, what fetch does, the memory and the code. Moves that use no place in common can be made at one time.
+-- Which places of the processor a move uses: the stages and the cells of sidings that it reads and may write, the lane,
+-- what fetch does, the memory and the code. Moves that use no place in common can be made at one time.
 use Rattle.std.specs.Prelude.{ℕ, ◌+◌, ◌-◌, ◌<◌, List, [], ◌∷◌, length, map, filter, Bool, ◌==◌}
 use Rattle.std.specs.List.{AllByRecursion, list_any}
 use Rattle.cf_layout.specs.Layout.{Plan, launch_stage, recover_stage, cells_of}

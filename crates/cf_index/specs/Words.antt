@@ -9,9 +9,11 @@ use Rattle.cf_core.specs.declared.masks.Masks.{Masks}
 abbrev pub full_bit : Masks → ℕ → Bool
 full_bit m k = has_bit m.passengers k && (has_bit m.packets k && not (has_bit m.met k))
 
--- the passenger can climb, with n the number of stages: the stage is not full, the passenger owes nothing and does not stop here, and the stage above is there and has no passenger
+-- the passenger can climb, with n the number of stages: the stage is not full, the passenger owes nothing and does not
+-- stop here, and the stage above is there and has no passenger
 abbrev pub climb_bit : Masks → ℕ → ℕ → Bool
-climb_bit m n k = has_bit m.passengers k && (not (full_bit m k) && (not (has_bit m.owes k) && (not (has_bit m.stops k) && (not (has_bit m.passengers (k + 1)) && nat_lt (k + 1) n))))
+climb_bit m n k = has_bit m.passengers k && (not (full_bit m k) && (not (has_bit m.owes k)
+    && (not (has_bit m.stops k) && (not (has_bit m.passengers (k + 1)) && nat_lt (k + 1) n))))
 
 -- the packet can fall: the stage is not full, and the one below is there and has no packet
 abbrev pub fall_bit : Masks → ℕ → Bool

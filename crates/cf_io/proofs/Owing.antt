@@ -50,7 +50,8 @@ owes-next a b c rest next after whole o e h = record {
 }
 
 -- a front of it was put
-pub owes-front : (a b c : Option (List ℕ)) (rest next after whole : List ℕ) → Owes a b rest whole → rest ≡ next ++ after → WritesFront b c next → WritesFront a c whole
+pub owes-front : (a b c : Option (List ℕ)) (rest next after whole : List ℕ) → Owes a b rest whole → rest ≡ next ++ after → WritesFront b c next →
+    WritesFront a c whole
 owes-front a b c rest next after whole o e h =
     subst (λ (l : List ℕ). WritesFront a c l) (ap (λ (l : List ℕ). o.done ++ l) (sym e) ∙ o.parts)
     (front-again a b c o.done (next ++ after) o.told (front-first b c next after h))

@@ -7,7 +7,8 @@ use Rattle.cf_io.specs.ReadsFile.{FilesSeen}
 use Rattle.cf_io.specs.declared.files.FilesErr.{FilesErr}
 use Rattle.cf_io.specs.declared.files.FilesErr.TheVariants as err
 
--- names with their bytes, the names that were read and those whose read failed, both in order, how many reads found no memory, the calls so far, the count of faults
+-- names with their bytes, the names that were read and those whose read failed, both in order, how many reads found no
+-- memory, the calls so far, the count of faults
 pub record MemoryFiles : Type 0 where
   pub files : List (List ℕ × List ℕ)
   pub read : List (List ℕ)

@@ -5,7 +5,8 @@ use Rattle.cf_io.specs.Causes.{Rose, raised}
 use Rattle.cf_io.specs.declared.files.FilesErr.{FilesErr}
 use Rattle.cf_io.specs.declared.files.FilesErr.TheVariants as err
 
--- what files tell: the bytes of each name that they have, the names that were read and those whose read failed, both in order, and how many reads found no memory
+-- what files tell: the bytes of each name that they have, the names that were read and those whose read failed, both in
+-- order, and how many reads found no memory
 pub record FilesSeen : Type 0 where
   pub content : List ℕ → Option (List ℕ)
   pub read : List (List ℕ)

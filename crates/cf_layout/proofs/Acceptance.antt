@@ -52,12 +52,14 @@ none_above c launch None e = refl
 none_above c launch (Some stage) e = cc
 
 -- no stage where the class turns control is above
-turns_low : (parts : Parts) (c : Class) → turn_refusal parts c ≡ None → All (λ stage. stage ≤ memory_launch_in parts.sidings) (turns_in (ascending (listed parts.units c)) (siding_for parts.sidings c))
+turns_low : (parts : Parts) (c : Class) → turn_refusal parts c ≡ None → All (λ stage. stage ≤ memory_launch_in parts.sidings)
+    (turns_in (ascending (listed parts.units c)) (siding_for parts.sidings c))
 unfolding turn_refusal
 turns_low parts c e = λ k d within. not_above _ _ (all_fail (nat_lt (memory_launch_in parts.sidings)) _ (none_above c _ _ e) k d within)
 
 -- the classes that turn control
-control_low : (parts : Parts) → control_refusal parts ≡ None → (c : Class) → is_control c ≡ true → All (λ stage. stage ≤ memory_launch_in parts.sidings) (turns_in (ascending (listed parts.units c)) (siding_for parts.sidings c))
+control_low : (parts : Parts) → control_refusal parts ≡ None → (c : Class) → is_control c ≡ true →
+    All (λ stage. stage ≤ memory_launch_in parts.sidings) (turns_in (ascending (listed parts.units c)) (siding_for parts.sidings c))
 unfolding control_refusal
 control_low parts e Branch t = turns_low parts Branch (first_passes _ _ e)
 control_low parts e Jump t = turns_low parts Jump (next_passes _ _ e)
@@ -72,7 +74,8 @@ control_low parts e Mul t = cc
 control_low parts e Div t = cc
 
 -- the tests for what is missing
-missing_hold : (parts : Parts) → missing_refusal parts ≡ None → ((c : Class) → is_needed c ≡ true → is_asked parts c ≡ true) × (is_asked parts Mul ≡ is_asked parts Div)
+missing_hold : (parts : Parts) → missing_refusal parts ≡ None → ((c : Class) → is_needed c ≡ true → is_asked parts c ≡ true)
+    × (is_asked parts Mul ≡ is_asked parts Div)
 unfolding missing_refusal
 missing_hold parts e =
     let f = next_passes _ _ e in
@@ -106,7 +109,8 @@ pub accepted : (parts : Parts) → AreComputed parts → refusal parts ≡ None 
 accepted parts computed e = described parts computed (acceptable parts e)
 
 -- their numbers are within the limits of a layout
-pub limits_kept : (parts : Parts) → refusal parts ≡ None → (is_within 2 32 parts.stages ≡ true) × (is_within 2 64 parts.lane ≡ true) × (length parts.sidings ≤ 8)
+pub limits_kept : (parts : Parts) → refusal parts ≡ None → (is_within 2 32 parts.stages ≡ true) × (is_within 2 64 parts.lane ≡ true)
+    × (length parts.sidings ≤ 8)
 unfolding refusal
 limits_kept parts e = limits_hold parts (first_passes _ _ e)
 

@@ -22,14 +22,17 @@ use Rattle.cf_layout.proofs.Passing.{lt_true}
 use Rattle.cf_layout.proofs.Described.{described_stages, serves_named, listed_none, ascending_none, served_times, siding_described, homes_times, one_where_asked, same_homes, needed_computed, control_needed, no_memory_unit, no_memory_stages, units_rise, units_within}
 
 -- one step of the search among sidings that are described
-found_step : (here there : Bool) (siding : asked.Siding) (rest : Option asked.Siding) (found : Option SidingPlan) → here ≡ there → found ≡ option_map siding_plan rest → cond here (Some (siding_plan siding)) found ≡ option_map siding_plan (cond there (Some siding) rest)
+found_step : (here there : Bool) (siding : asked.Siding) (rest : Option asked.Siding) (found : Option SidingPlan) → here ≡ there →
+    found ≡ option_map siding_plan rest → cond here (Some (siding_plan siding)) found ≡ option_map siding_plan (cond there (Some siding) rest)
 found_step here true siding rest found e later = rw e refl
 found_step here false siding rest found e later = rw e later
 
 -- the siding that serves a class is found where the siding that names it is
-found_plan : (sidings : List asked.Siding) (c : Class) → IsComputed c → find (λ s. serves s c) (map siding_plan sidings) ≡ option_map siding_plan (find (λ s. names s.classes c) sidings)
+found_plan : (sidings : List asked.Siding) (c : Class) → IsComputed c → find (λ s. serves s c) (map siding_plan sidings)
+    ≡ option_map siding_plan (find (λ s. names s.classes c) sidings)
 found_plan [] c small = refl
-found_plan (siding ∷ sidings) c small = found_step (serves (siding_plan siding) c) (names siding.classes c) siding (find (λ s. names s.classes c) sidings) (find (λ s. serves s c) (map siding_plan sidings)) (serves_named siding c small) (found_plan sidings c small)
+found_plan (siding ∷ sidings) c small = found_step (serves (siding_plan siding) c) (names siding.classes c) siding (find (λ s. names s.classes c) sidings)
+    (find (λ s. serves s c) (map siding_plan sidings)) (serves_named siding c small) (found_plan sidings c small)
 
 -- past its end a list has nothing
 after_end : (sidings : List SidingPlan) (k : ℕ) → length sidings ≤ k → slice_get sidings k ≡ None
@@ -38,16 +41,20 @@ after_end (siding ∷ sidings) zero after = absurd (omega arith)
 after_end (siding ∷ sidings) (suc k) after = after_end sidings k (omega arith)
 
 -- the number of what is found, by whether there is one
-position_by : (sidings : List SidingPlan) (siding : SidingPlan) (k : ℕ) (within : Bool) → nat_lt k (length sidings) ≡ within → slice_get sidings k ≡ Some siding → unwrap_or (slice_get sidings (unwrap_or (cond within (Some k) None) 0)) no_siding ≡ siding
+position_by : (sidings : List SidingPlan) (siding : SidingPlan) (k : ℕ) (within : Bool) → nat_lt k (length sidings) ≡ within →
+    slice_get sidings k ≡ Some siding → unwrap_or (slice_get sidings (unwrap_or (cond within (Some k) None) 0)) no_siding ≡ siding
 position_by sidings siding k true e at = rw at refl
 position_by sidings siding k false e at = let none = after_end sidings k (grind (arith, nat_tests)) in cc
 
 -- where something is found its number gives it
-position_gives : (test : SidingPlan → Bool) (sidings : List SidingPlan) (siding : SidingPlan) → find test sidings ≡ Some siding → unwrap_or (slice_get sidings (unwrap_or (position test sidings) 0)) no_siding ≡ siding
-position_gives test sidings siding e = position_by sidings siding (position_or_len test sidings) (nat_lt (position_or_len test sidings) (length sidings)) refl (sym (find_at test sidings) ∙ e)
+position_gives : (test : SidingPlan → Bool) (sidings : List SidingPlan) (siding : SidingPlan) → find test sidings ≡ Some siding →
+    unwrap_or (slice_get sidings (unwrap_or (position test sidings) 0)) no_siding ≡ siding
+position_gives test sidings siding e = position_by sidings siding (position_or_len test sidings) (nat_lt (position_or_len test sidings) (length sidings)) refl
+    (sym (find_at test sidings) ∙ e)
 
 -- something is found, by whether it is the first
-some_found_step : {X : Type 0} (here rest : Bool) (x : X) (found : Option X) → (here || rest) ≡ true → (rest ≡ true → (y : X) × (found ≡ Some y)) → (y : X) × (cond here (Some x) found ≡ Some y)
+some_found_step : {X : Type 0} (here rest : Bool) (x : X) (found : Option X) → (here || rest) ≡ true → (rest ≡ true → (y : X) × (found ≡ Some y)) →
+    (y : X) × (cond here (Some x) found ≡ Some y)
 some_found_step true rest x found e later = (x, refl)
 some_found_step false rest x found e later = later e
 
@@ -57,7 +64,8 @@ some_found test [] e = cc
 some_found test (x ∷ xs) e = some_found_step (test x) (list_any test xs) x (find test xs) e (λ later. some_found test xs later)
 
 -- where no element passes nothing is found
-none_found_step : {X : Type 0} (here rest : Bool) (x : X) (found : Option X) → (here || rest) ≡ false → (rest ≡ false → found ≡ None) → cond here (Some x) found ≡ None
+none_found_step : {X : Type 0} (here rest : Bool) (x : X) (found : Option X) → (here || rest) ≡ false → (rest ≡ false → found ≡ None) →
+    cond here (Some x) found ≡ None
 none_found_step true rest x found e later = cc
 none_found_step false rest x found e later = later e
 
@@ -66,7 +74,8 @@ none_found test [] e = refl
 none_found test (x ∷ xs) e = none_found_step (test x) (list_any test xs) x (find test xs) e (λ later. none_found test xs later)
 
 -- the siding that serves a class in the layout that is described, where one is asked for it
-serving : (sidings : List asked.Siding) (siding : asked.Siding) (c : Class) → IsComputed c → find (λ s. names s.classes c) sidings ≡ Some siding → find (λ s. serves s c) (map siding_plan sidings) ≡ Some (siding_plan siding)
+serving : (sidings : List asked.Siding) (siding : asked.Siding) (c : Class) → IsComputed c → find (λ s. names s.classes c) sidings ≡ Some siding →
+    find (λ s. serves s c) (map siding_plan sidings) ≡ Some (siding_plan siding)
 serving sidings siding c small e = found_plan sidings c small ∙ ap (λ (o : Option asked.Siding). option_map siding_plan o) e
 
 -- the stage from which the siding that is asked for launches
@@ -75,7 +84,8 @@ unfolding siding_plan
 launch_of o siding e = rw e refl
 
 -- the stage from which memory is reached
-pub launch_given : (sidings : List asked.Siding) (plan : Plan) → plan.sidings ≡ map siding_plan sidings → is_sided sidings Memory ≡ true → memory_launch plan ≡ memory_launch_in sidings
+pub launch_given : (sidings : List asked.Siding) (plan : Plan) → plan.sidings ≡ map siding_plan sidings → is_sided sidings Memory ≡ true →
+    memory_launch plan ≡ memory_launch_in sidings
 unfolding memory_launch launch_stage siding_of memory_launch_in siding_for
 launch_given sidings plan same e =
     let f = some_found (λ s. names s.classes Memory) sidings e in
@@ -84,27 +94,34 @@ launch_given sidings plan same e =
     rw same (ap (λ (s : SidingPlan). s.launch) p ∙ sym (launch_of _ f.0 f.1))
 
 -- the only element that passes is found, by whether it is the first
-only_step : {X : Type 0} (test : X → Bool) (here : Bool) (x y : X) (xs : List X) → test x ≡ here → length (cond here (x ∷ filter test xs) (filter test xs)) ≤ 1 → list_any test xs ≡ true → (length (filter test xs) ≤ 1 → find test xs ≡ Some y) → cond here (Some x) (find test xs) ≡ Some y
+only_step : {X : Type 0} (test : X → Bool) (here : Bool) (x y : X) (xs : List X) → test x ≡ here →
+    length (cond here (x ∷ filter test xs) (filter test xs)) ≤ 1 → list_any test xs ≡ true → (length (filter test xs) ≤ 1 → find test xs ≡ Some y) →
+    cond here (Some x) (find test xs) ≡ Some y
 only_step test true x y xs e one some later = let more : 0 < length (filter test xs) = lt_true 0 _ (sym (any_kept test xs) ∙ some) in absurd (omega arith)
 only_step test false x y xs e one some later = later one
 
 -- the only element that passes is found
 only_found : {X : Type 0} (test : X → Bool) (xs : List X) → length (filter test xs) ≤ 1 → All (λ x. test x ≡ true → find test xs ≡ Some x) xs
 only_found test [] one = All-nil (λ x. test x ≡ true → find test [] ≡ Some x)
-only_found test (x ∷ xs) one = All-cons (λ y. test y ≡ true → find test (x ∷ xs) ≡ Some y) x xs (λ here. rw here refl) (λ k d within here. only_step test (test x) x _ xs refl one (list_any_at test xs k d within here) (λ less. only_found test xs less k d within here))
+only_found test (x ∷ xs) one = All-cons (λ y. test y ≡ true → find test (x ∷ xs) ≡ Some y) x xs (λ here. rw here refl)
+    (λ k d within here. only_step test (test x) x _ xs refl one (list_any_at test xs k d within here) (λ less. only_found test xs less k d within here))
 
 -- the recovery of the siding that is found
-recover_low : (o : Option asked.Siding) (siding : SidingPlan) (stages : List ℕ) (launch : ℕ) → Some siding ≡ option_map siding_plan o → All (λ stage. stage ≤ launch) (turns_in stages o) → siding.recover ≤ launch
+recover_low : (o : Option asked.Siding) (siding : SidingPlan) (stages : List ℕ) (launch : ℕ) → Some siding ≡ option_map siding_plan o →
+    All (λ stage. stage ≤ launch) (turns_in stages o) → siding.recover ≤ launch
 unfolding siding_plan
 recover_low None siding stages launch e all = cc
 recover_low (Some s) siding stages launch e all = let same = same_Some _ _ e in rw same (all 0 0 (omega arith))
 
 -- control turns low at each siding that serves the class
-sidings_low : (sidings : List asked.Siding) (c : Class) (stages : List ℕ) (launch : ℕ) → IsComputed c → times (sided_classes sidings) c ≤ 1 → All (λ stage. stage ≤ launch) (turns_in stages (siding_for sidings c)) → All (λ siding. serves siding c ≡ true → siding.recover ≤ launch) (map siding_plan sidings)
+sidings_low : (sidings : List asked.Siding) (c : Class) (stages : List ℕ) (launch : ℕ) → IsComputed c → times (sided_classes sidings) c ≤ 1 →
+    All (λ stage. stage ≤ launch) (turns_in stages (siding_for sidings c)) → All (λ siding. serves siding c ≡ true →
+    siding.recover ≤ launch) (map siding_plan sidings)
 unfolding siding_for
 sidings_low sidings c stages launch small once all =
     let one : length (filter (λ s. serves s c) (map siding_plan sidings)) ≤ 1 = rw (served_times sidings c small once) once in
-    λ k d within here. recover_low _ _ stages launch (sym (only_found (λ s. serves s c) (map siding_plan sidings) one k d within here) ∙ found_plan sidings c small) all
+    λ k d within here. recover_low _ _ stages launch (sym (only_found (λ s. serves s c) (map siding_plan sidings) one k d within here)
+    ∙ found_plan sidings c small) all
 
 -- what holds of all numbers of a list holds of one that is in it, by whether it is the first
 any_all_step : (launch i j : ℕ) (here rest : Bool) → nat_eq i j ≡ here → (here || rest) ≡ true → j ≤ launch → (rest ≡ true → i ≤ launch) → i ≤ launch
@@ -113,18 +130,22 @@ any_all_step launch i j false rest at e low later = later e
 
 any_all : (launch i : ℕ) (stages : List ℕ) → All (λ stage. stage ≤ launch) stages → list_any (nat_eq i) stages ≡ true → i ≤ launch
 any_all launch i [] all e = cc
-any_all launch i (j ∷ js) all e = any_all_step launch i j (nat_eq i j) (list_any (nat_eq i) js) refl e (all 0 0 (omega arith)) (λ later. any_all launch i js (All-tail (λ stage. stage ≤ launch) j js all) later)
+any_all launch i (j ∷ js) all e = any_all_step launch i j (nat_eq i j) (list_any (nat_eq i) js) refl e (all 0 0 (omega arith))
+    (λ later. any_all launch i js (All-tail (λ stage. stage ≤ launch) j js all) later)
 
 -- a class with units has no siding
 no_siding_beside : (units sidings : ℕ) → nat_lt 0 units ≡ true → units + sidings ≤ 1 → nat_lt 0 sidings ≡ false
 no_siding_beside units sidings e once = grind (arith, nat_tests)
 
 -- control turns low at each unit, by whether there are units
-units_low : (parts : Parts) (c : Class) (launch i : ℕ) (some : Bool) → is_unit parts.units c ≡ some → times (asked_classes parts) c ≤ 1 → All (λ stage. stage ≤ launch) (turns_in (ascending (listed parts.units c)) (siding_for parts.sidings c)) → list_any (nat_eq i) (ascending (listed parts.units c)) ≡ true → i ≤ launch
+units_low : (parts : Parts) (c : Class) (launch i : ℕ) (some : Bool) → is_unit parts.units c ≡ some → times (asked_classes parts) c ≤ 1 →
+    All (λ stage. stage ≤ launch) (turns_in (ascending (listed parts.units c)) (siding_for parts.sidings c)) →
+    list_any (nat_eq i) (ascending (listed parts.units c)) ≡ true → i ≤ launch
 unfolding siding_for
 units_low parts c launch i true e once all at =
     let t = times_append (map (λ unit. unit.0) parts.units) (sided_classes parts.sidings) c in
-    let apart : nat_lt 0 (times (sided_classes parts.sidings) c) ≡ false = no_siding_beside (times (map (λ unit. unit.0) parts.units) c) (times (sided_classes parts.sidings) c) (sym (is_unit_times parts.units c) ∙ e) (omega (arith, t)) in
+    let apart : nat_lt 0 (times (sided_classes parts.sidings) c) ≡ false = no_siding_beside (times (map (λ unit. unit.0) parts.units) c)
+    (times (sided_classes parts.sidings) c) (sym (is_unit_times parts.units c) ∙ e) (omega (arith, t)) in
     let none = none_found (λ s. names s.classes c) parts.sidings (is_sided_times parts.sidings c ∙ apart) in
     let low = rw none at all in
     any_all launch i (ascending (listed parts.units c)) low at
@@ -138,11 +159,14 @@ sided_where u t e f = grind (arith, nat_tests)
 memory_sided : (parts : Parts) → is_unit parts.units Memory ≡ false → is_asked parts Memory ≡ true → is_sided parts.sidings Memory ≡ true
 memory_sided parts none there =
     let t = times_append (map (λ unit. unit.0) parts.units) (sided_classes parts.sidings) Memory in
-    is_sided_times parts.sidings Memory ∙ sided_where (times (map (λ unit. unit.0) parts.units) Memory) (times (sided_classes parts.sidings) Memory) (sym (is_unit_times parts.units Memory) ∙ none) (ap (λ (n : ℕ). nat_lt 0 n) (sym t) ∙ (sym (is_asked_times parts Memory) ∙ there))
+    is_sided_times parts.sidings Memory ∙ sided_where (times (map (λ unit. unit.0) parts.units) Memory) (times (sided_classes parts.sidings) Memory)
+    (sym (is_unit_times parts.units Memory) ∙ none) (ap (λ (n : ℕ). nat_lt 0 n) (sym t) ∙ (sym (is_asked_times parts Memory) ∙ there))
 
 -- the sidings of the layout that is described
-sidings_described : (plan : Plan) (sidings : List asked.Siding) → All (λ siding. All IsComputed siding.classes) sidings → All (IsSiding plan.stages) sidings → All (accepted.IsSiding plan) (map siding_plan sidings)
-sidings_described plan sidings computed all = All-map (accepted.IsSiding plan) siding_plan sidings (λ k d within. siding_described plan _ (computed k d within) (all k d within))
+sidings_described : (plan : Plan) (sidings : List asked.Siding) → All (λ siding. All IsComputed siding.classes) sidings → All (IsSiding plan.stages) sidings →
+    All (accepted.IsSiding plan) (map siding_plan sidings)
+sidings_described plan sidings computed all = All-map (accepted.IsSiding plan) siding_plan sidings
+    (λ k d within. siding_described plan _ (computed k d within) (all k d within))
 
 -- the limits of numbers
 natural_within : (least most : ℕ) (z : ℤ) → is_within least most z ≡ true → (least ≤ natural z) × (natural z ≤ most)
@@ -177,6 +201,8 @@ described parts computed a =
       pair = same_homes parts Mul Div (omega arith) (omega arith) high a.units a.once a.pair;
       pair_once = rw (homes_times parts Mul (omega arith) high a.units (a.once Mul)) (a.once Mul);
       memory = no_memory_stages parts a.units;
-      control_units = λ c i turns at. rw launch (units_low parts c (memory_launch_in parts.sidings) i (is_unit parts.units c) refl (a.once c) (a.control c turns) (rw (described_stages parts c (needed_computed c (control_needed c turns))) at at));
-      control_sidings = λ c turns. rw launch (sidings_low parts.sidings c (ascending (listed parts.units c)) (memory_launch_in parts.sidings) (needed_computed c (control_needed c turns)) (sided_once parts c (a.once c)) (a.control c turns));
+      control_units = λ c i turns at. rw launch (units_low parts c (memory_launch_in parts.sidings) i (is_unit parts.units c) refl (a.once c)
+          (a.control c turns) (rw (described_stages parts c (needed_computed c (control_needed c turns))) at at));
+      control_sidings = λ c turns. rw launch (sidings_low parts.sidings c (ascending (listed parts.units c)) (memory_launch_in parts.sidings)
+          (needed_computed c (control_needed c turns)) (sided_once parts c (a.once c)) (a.control c turns));
     }

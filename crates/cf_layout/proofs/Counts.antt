@@ -44,7 +44,8 @@ pub same_self : (c : Class) → same_class c c ≡ true
 same_self c = grind (arith, nat_tests)
 
 -- one more element, where it is kept
-any_here : {X : Type 0} (passes : Bool) (x : X) (kept : List X) (rest : Bool) → rest ≡ nat_lt 0 (length kept) → (passes || rest) ≡ nat_lt 0 (length (cond passes (x ∷ kept) kept))
+any_here : {X : Type 0} (passes : Bool) (x : X) (kept : List X) (rest : Bool) → rest ≡ nat_lt 0 (length kept) →
+    (passes || rest) ≡ nat_lt 0 (length (cond passes (x ∷ kept) kept))
 any_here true x kept rest e = grind (arith, nat_tests)
 any_here false x kept rest e = e
 
@@ -95,9 +96,12 @@ is_unit_times (unit ∷ units) c = rw (times_cons, is_unit_times units c) (more_
 -- a class is in a siding where it is among the classes of the sidings
 pub is_sided_times : (sidings : List Siding) (c : Class) → is_sided sidings c ≡ nat_lt 0 (times (sided_classes sidings) c)
 is_sided_times [] c = rw (times_nil c) refl
-is_sided_times (siding ∷ sidings) c = rw (times_append siding.classes (sided_classes sidings) c, is_sided_times sidings c, names_times siding.classes c) (either (times siding.classes c) (times (sided_classes sidings) c))
+is_sided_times (siding ∷ sidings) c = rw (times_append siding.classes (sided_classes sidings) c, is_sided_times sidings c, names_times siding.classes c)
+    (either (times siding.classes c) (times (sided_classes sidings) c))
 
 -- a class is asked for where it is among all classes
 pub is_asked_times : (parts : Parts) (c : Class) → is_asked parts c ≡ nat_lt 0 (times (asked_classes parts) c)
 unfolding is_asked
-is_asked_times parts c = rw (times_append (map (λ u. u.0) parts.units) (sided_classes parts.sidings) c, is_unit_times parts.units c, is_sided_times parts.sidings c) (either (times (map (λ u. u.0) parts.units) c) (times (sided_classes parts.sidings) c))
+is_asked_times parts c =
+    rw (times_append (map (λ u. u.0) parts.units) (sided_classes parts.sidings) c, is_unit_times parts.units c, is_sided_times parts.sidings c)
+    (either (times (map (λ u. u.0) parts.units) c) (times (sided_classes parts.sidings) c))

@@ -40,7 +40,8 @@ unfolding ascending
 ascending_rises stages = IsStrictlyIncreasing-filter (λ i. list_any (is_number i) stages) stage_numbers stage_numbers_rise
 
 -- the places of the classes that are kept, by whether the first is kept
-places_step : (kept : Bool) (c : Class) (cs : List Class) (rest : List ℕ) → map place_of cs ≡ rest → map place_of (cond kept (c ∷ cs) cs) ≡ cond kept (place_of c ∷ rest) rest
+places_step : (kept : Bool) (c : Class) (cs : List Class) (rest : List ℕ) → map place_of cs ≡ rest →
+    map place_of (cond kept (c ∷ cs) cs) ≡ cond kept (place_of c ∷ rest) rest
 places_step true c cs rest e = rw e refl
 places_step false c cs rest e = e
 
@@ -68,14 +69,16 @@ within_here : (n i : ℕ) (z : ℤ) → is_number i z ≡ true → is_within 1 n
 within_here n i (pos m) same in_bounds = (grind (arith, nat_tests), grind (arith, nat_tests))
 within_here n i (negsuc m) same in_bounds = cc
 
-within_step : (n i : ℕ) (z : ℤ) (here rest : Bool) → is_number i z ≡ here → (here || rest) ≡ true → is_within 1 n z ≡ true → (rest ≡ true → (1 ≤ i) × (i ≤ n)) → (1 ≤ i) × (i ≤ n)
+within_step : (n i : ℕ) (z : ℤ) (here rest : Bool) → is_number i z ≡ here → (here || rest) ≡ true → is_within 1 n z ≡ true → (rest ≡ true → (1 ≤ i) × (i ≤ n)) →
+    (1 ≤ i) × (i ≤ n)
 within_step n i z true rest at e in_bounds later = within_here n i z at in_bounds
 within_step n i z false rest at e in_bounds later = later e
 
 -- a number that is listed is within the bounds of the list
 listed_within : (n i : ℕ) (stages : List ℤ) → All (λ z. is_within 1 n z ≡ true) stages → list_any (is_number i) stages ≡ true → (1 ≤ i) × (i ≤ n)
 listed_within n i [] all e = cc
-listed_within n i (z ∷ zs) all e = within_step n i z (is_number i z) (list_any (is_number i) zs) refl e (all 0 z (omega arith)) (λ later. listed_within n i zs (All-tail (λ y. is_within 1 n y ≡ true) z zs all) later)
+listed_within n i (z ∷ zs) all e = within_step n i z (is_number i z) (list_any (is_number i) zs) refl e (all 0 z (omega arith))
+    (λ later. listed_within n i zs (All-tail (λ y. is_within 1 n y ≡ true) z zs all) later)
 
 -- what is listed is from the stages asked for
 ascending_within : (n : ℕ) (stages : List ℤ) → All (λ z. is_within 1 n z ≡ true) stages → All (λ i. (1 ≤ i) × (i ≤ n)) (ascending stages)
@@ -114,11 +117,13 @@ in_order_some [] some all = absurd (omega arith)
 in_order_some (c ∷ cs) some all =
     let small : IsComputed c = all 0 c (omega arith) in
     let named : names (c ∷ cs) c ≡ true = rw (same_self c) refl in
-    lt_true 0 _ (sym (any_kept (names (c ∷ cs)) computed_classes) ∙ list_any_at (names (c ∷ cs)) computed_classes (place_of c) Add small (subst (λ (k : Class). names (c ∷ cs) k ≡ true) (sym (at_its_place c small)) named))
+    lt_true 0 _ (sym (any_kept (names (c ∷ cs)) computed_classes) ∙ list_any_at (names (c ∷ cs)) computed_classes (place_of c) Add small
+    (subst (λ (k : Class). names (c ∷ cs) k ≡ true) (sym (at_its_place c small)) named))
 
 -- the computed classes are computed
 all_computed : All IsComputed computed_classes
-all_computed = All-from_recursion IsComputed computed_classes (omega arith, (omega arith, (omega arith, (omega arith, (omega arith, (omega arith, (omega arith, (omega arith, (omega arith, tt)))))))))
+all_computed = All-from_recursion IsComputed computed_classes
+    (omega arith, (omega arith, (omega arith, (omega arith, (omega arith, (omega arith, (omega arith, (omega arith, (omega arith, tt)))))))))
 
 -- what is kept of computed classes is computed
 order_computed : (classes : List Class) → All IsComputed (in_class_order classes)
@@ -148,7 +153,8 @@ unfolding in_class_order
 memory_in_order = refl
 
 -- a siding
-pub siding_described : (plan : Plan) (siding : asked.Siding) → All IsComputed siding.classes → IsSiding plan.stages siding → accepted.IsSiding plan (siding_plan siding)
+pub siding_described : (plan : Plan) (siding : asked.Siding) → All IsComputed siding.classes → IsSiding plan.stages siding →
+    accepted.IsSiding plan (siding_plan siding)
 unfolding siding_plan serves
 siding_described plan siding computed s = record {
   some = in_order_some siding.classes s.some computed;
@@ -214,25 +220,33 @@ ascending_some n (z ∷ zs) few some all =
     let high : natural z ≤ n = b.1 in
     let here : list_any (is_number (natural z)) (z ∷ zs) ≡ true = rw (number_self n z within) refl in
     let at = stage_at (natural z) low (omega arith) in
-    lt_true 0 _ (sym (any_kept (λ i. list_any (is_number i) (z ∷ zs)) stage_numbers) ∙ list_any_at (λ i. list_any (is_number i) (z ∷ zs)) stage_numbers (natural z - 1) 0 (omega (arith, stage_count)) (subst (λ (k : ℕ). list_any (is_number k) (z ∷ zs) ≡ true) (sym at) here))
+    lt_true 0 _ (sym (any_kept (λ i. list_any (is_number i) (z ∷ zs)) stage_numbers) ∙ list_any_at (λ i. list_any (is_number i) (z ∷ zs)) stage_numbers
+    (natural z - 1) 0 (omega (arith, stage_count)) (subst (λ (k : ℕ). list_any (is_number k) (z ∷ zs) ≡ true) (sym at) here))
 
 -- the entry of a class, by whether the first is for it
-entry_step : (n : ℕ) (here rest : Bool) (unit : Class × List ℤ) (found : Option (Class × List ℤ)) → (here || rest) ≡ true → IsUnit n unit → (rest ≡ true → (0 < length (stages_in found)) × All (λ z. is_within 1 n z ≡ true) (stages_in found)) → (0 < length (stages_in (cond here (Some unit) found))) × All (λ z. is_within 1 n z ≡ true) (stages_in (cond here (Some unit) found))
+entry_step : (n : ℕ) (here rest : Bool) (unit : Class × List ℤ) (found : Option (Class × List ℤ)) → (here || rest) ≡ true → IsUnit n unit →
+    (rest ≡ true → (0 < length (stages_in found)) × All (λ z. is_within 1 n z ≡ true) (stages_in found)) →
+    (0 < length (stages_in (cond here (Some unit) found))) × All (λ z. is_within 1 n z ≡ true) (stages_in (cond here (Some unit) found))
 entry_step n true rest unit found e u later = (u.some, u.stages)
 entry_step n false rest unit found e u later = later e
 
 -- a class that stands in a unit has stages listed
-entry_some : (n : ℕ) (units : List (Class × List ℤ)) (c : Class) → All (IsUnit n) units → is_unit units c ≡ true → (0 < length (stages_in (find (λ unit. same_class c unit.0) units))) × All (λ z. is_within 1 n z ≡ true) (stages_in (find (λ unit. same_class c unit.0) units))
+entry_some : (n : ℕ) (units : List (Class × List ℤ)) (c : Class) → All (IsUnit n) units → is_unit units c ≡ true →
+    (0 < length (stages_in (find (λ unit. same_class c unit.0) units))) × All (λ z. is_within 1 n z ≡ true)
+    (stages_in (find (λ unit. same_class c unit.0) units))
 entry_some n [] c all e = cc
-entry_some n (unit ∷ units) c all e = entry_step n (same_class c unit.0) (is_unit units c) unit (find (λ v. same_class c v.0) units) e (all 0 unit (omega arith)) (λ later. entry_some n units c (All-tail (IsUnit n) unit units all) later)
+entry_some n (unit ∷ units) c all e = entry_step n (same_class c unit.0) (is_unit units c) unit (find (λ v. same_class c v.0) units) e
+    (all 0 unit (omega arith)) (λ later. entry_some n units c (All-tail (IsUnit n) unit units all) later)
 
 -- the same of what is listed
-listed_some : (n : ℕ) (units : List (Class × List ℤ)) (c : Class) → All (IsUnit n) units → is_unit units c ≡ true → (0 < length (listed units c)) × All (λ z. is_within 1 n z ≡ true) (listed units c)
+listed_some : (n : ℕ) (units : List (Class × List ℤ)) (c : Class) → All (IsUnit n) units → is_unit units c ≡ true →
+    (0 < length (listed units c)) × All (λ z. is_within 1 n z ≡ true) (listed units c)
 unfolding listed
 listed_some n units c all e = entry_some n units c all e
 
 -- no entry
-entry_none_step : (here rest : Bool) (unit : Class × List ℤ) (found : Option (Class × List ℤ)) → (here || rest) ≡ false → (rest ≡ false → stages_in found ≡ []) → stages_in (cond here (Some unit) found) ≡ []
+entry_none_step : (here rest : Bool) (unit : Class × List ℤ) (found : Option (Class × List ℤ)) → (here || rest) ≡ false →
+    (rest ≡ false → stages_in found ≡ []) → stages_in (cond here (Some unit) found) ≡ []
 entry_none_step true rest unit found e later = cc
 entry_none_step false rest unit found e later = later e
 
@@ -252,12 +266,14 @@ one_home [] some = absurd (omega arith)
 one_home (i ∷ is) some = refl
 
 -- the home that units give, by whether there are any
-unit_home_by : (n : ℕ) (units : List (Class × List ℤ)) (c : Class) (some : Bool) → n ≤ 32 → All (IsUnit n) units → is_unit units c ≡ some → unit_homes (ascending (listed units c)) ≡ cond some 1 0
+unit_home_by : (n : ℕ) (units : List (Class × List ℤ)) (c : Class) (some : Bool) → n ≤ 32 → All (IsUnit n) units → is_unit units c ≡ some →
+    unit_homes (ascending (listed units c)) ≡ cond some 1 0
 unit_home_by n units c true few all e = let l = listed_some n units c all e in one_home _ (ascending_some n (listed units c) few l.0 l.1)
 unit_home_by n units c false few all e = rw (listed_none units c e, ascending_none) refl
 
 -- how many of the sidings that are described serve a class, with one more siding
-served_step : (t : ℕ) (named : Bool) (siding : SidingPlan) (kept : List SidingPlan) (rest : ℕ) → named ≡ nat_lt 0 t → t + rest ≤ 1 → length kept ≡ rest → length (cond named (siding ∷ kept) kept) ≡ t + rest
+served_step : (t : ℕ) (named : Bool) (siding : SidingPlan) (kept : List SidingPlan) (rest : ℕ) → named ≡ nat_lt 0 t → t + rest ≤ 1 → length kept ≡ rest →
+    length (cond named (siding ∷ kept) kept) ≡ t + rest
 served_step t true siding kept rest e once same = let some : 0 < t = lt_true 0 t (sym e) in omega arith
 served_step t false siding kept rest e once same = let none : t ≡ 0 = grind (arith, nat_tests) in omega arith
 
@@ -267,11 +283,17 @@ unfolding serves siding_plan
 serves_named siding c small = in_order_names siding.classes c small
 
 -- the sidings with one more siding
-served_more : (c : Class) (siding : asked.Siding) (sidings : List asked.Siding) → serves (siding_plan siding) c ≡ nat_lt 0 (times siding.classes c) → times (siding.classes ++ sided_classes sidings) c ≡ times siding.classes c + times (sided_classes sidings) c → times siding.classes c + times (sided_classes sidings) c ≤ 1 → length (filter (λ s. serves s c) (map siding_plan sidings)) ≡ times (sided_classes sidings) c → length (filter (λ s. serves s c) (map siding_plan (siding ∷ sidings))) ≡ times (siding.classes ++ sided_classes sidings) c
-served_more c siding sidings named e once same = rw e (served_step (times siding.classes c) (serves (siding_plan siding) c) (siding_plan siding) (filter (λ s. serves s c) (map siding_plan sidings)) (times (sided_classes sidings) c) named once same)
+served_more : (c : Class) (siding : asked.Siding) (sidings : List asked.Siding) → serves (siding_plan siding) c ≡ nat_lt 0 (times siding.classes c) →
+    times (siding.classes ++ sided_classes sidings) c ≡ times siding.classes c + times (sided_classes sidings) c →
+    times siding.classes c + times (sided_classes sidings) c ≤ 1 → length (filter (λ s. serves s c) (map siding_plan sidings))
+    ≡ times (sided_classes sidings) c → length (filter (λ s. serves s c) (map siding_plan (siding ∷ sidings)))
+    ≡ times (siding.classes ++ sided_classes sidings) c
+served_more c siding sidings named e once same = rw e (served_step (times siding.classes c) (serves (siding_plan siding) c) (siding_plan siding)
+    (filter (λ s. serves s c) (map siding_plan sidings)) (times (sided_classes sidings) c) named once same)
 
 -- a class stands in the sidings as often as there are sidings that serve it
-pub served_times : (sidings : List asked.Siding) (c : Class) → IsComputed c → times (sided_classes sidings) c ≤ 1 → length (filter (λ siding. serves siding c) (map siding_plan sidings)) ≡ times (sided_classes sidings) c
+pub served_times : (sidings : List asked.Siding) (c : Class) → IsComputed c → times (sided_classes sidings) c ≤ 1 →
+    length (filter (λ siding. serves siding c) (map siding_plan sidings)) ≡ times (sided_classes sidings) c
 served_times [] c small once = sym (times_nil c)
 served_times (siding ∷ sidings) c small once =
     let e = times_append siding.classes (sided_classes sidings) c in
@@ -279,7 +301,8 @@ served_times (siding ∷ sidings) c small once =
     served_more c siding sidings (serves_named siding c small ∙ names_times siding.classes c) e (omega arith) r
 
 -- the sidings that serve a class in the layout that is described
-described_served : (parts : Parts) (c : Class) → IsComputed c → times (sided_classes parts.sidings) c ≤ 1 → length (filter (λ siding. serves siding c) (plan_of parts).sidings) ≡ times (sided_classes parts.sidings) c
+described_served : (parts : Parts) (c : Class) → IsComputed c → times (sided_classes parts.sidings) c ≤ 1 →
+    length (filter (λ siding. serves siding c) (plan_of parts).sidings) ≡ times (sided_classes parts.sidings) c
 unfolding plan_of
 described_served parts c small once = served_times parts.sidings c small once
 
@@ -289,7 +312,8 @@ at_most_one zero le = refl
 at_most_one (suc n) le = let e : suc n ≡ 1 = omega arith in rw e refl
 
 -- in a layout that is described a class has as many homes as the number of times that it is asked for
-pub homes_times : (parts : Parts) (c : Class) → IsComputed c → natural parts.stages ≤ 32 → All (IsUnit (natural parts.stages)) parts.units → times (asked_classes parts) c ≤ 1 → homes (plan_of parts) c ≡ times (asked_classes parts) c
+pub homes_times : (parts : Parts) (c : Class) → IsComputed c → natural parts.stages ≤ 32 → All (IsUnit (natural parts.stages)) parts.units →
+    times (asked_classes parts) c ≤ 1 → homes (plan_of parts) c ≡ times (asked_classes parts) c
 unfolding homes
 homes_times parts c small few units once =
     let e = times_append (map (λ unit. unit.0) parts.units) (sided_classes parts.sidings) c in
@@ -299,16 +323,19 @@ homes_times parts c small few units once =
     rw (described_stages parts c small, s, u, w, e) refl
 
 -- a class that is asked for has one home
-pub one_where_asked : (parts : Parts) (c : Class) → IsComputed c → natural parts.stages ≤ 32 → All (IsUnit (natural parts.stages)) parts.units → times (asked_classes parts) c ≤ 1 → is_asked parts c ≡ true → homes (plan_of parts) c ≡ 1
+pub one_where_asked : (parts : Parts) (c : Class) → IsComputed c → natural parts.stages ≤ 32 → All (IsUnit (natural parts.stages)) parts.units →
+    times (asked_classes parts) c ≤ 1 → is_asked parts c ≡ true → homes (plan_of parts) c ≡ 1
 one_where_asked parts c small few units once e =
     let some : 0 < times (asked_classes parts) c = lt_true 0 _ (sym (is_asked_times parts c) ∙ e) in
     homes_times parts c small few units once ∙ omega arith
 
 -- two classes, both or neither of which are asked for, have the same number of homes
-pub same_homes : (parts : Parts) (c d : Class) → IsComputed c → IsComputed d → natural parts.stages ≤ 32 → All (IsUnit (natural parts.stages)) parts.units → ((k : Class) → times (asked_classes parts) k ≤ 1) → is_asked parts c ≡ is_asked parts d → homes (plan_of parts) c ≡ homes (plan_of parts) d
+pub same_homes : (parts : Parts) (c d : Class) → IsComputed c → IsComputed d → natural parts.stages ≤ 32 → All (IsUnit (natural parts.stages)) parts.units →
+    ((k : Class) → times (asked_classes parts) k ≤ 1) → is_asked parts c ≡ is_asked parts d → homes (plan_of parts) c ≡ homes (plan_of parts) d
 same_homes parts c d small small' few units once e =
     let t : nat_lt 0 (times (asked_classes parts) c) ≡ nat_lt 0 (times (asked_classes parts) d) = sym (is_asked_times parts c) ∙ (e ∙ is_asked_times parts d) in
-    homes_times parts c small few units (once c) ∙ (sym (at_most_one _ (once c)) ∙ (ap (λ (b : Bool). cond b 1 0) t ∙ (at_most_one _ (once d) ∙ sym (homes_times parts d small' few units (once d)))))
+    homes_times parts c small few units (once c) ∙ (sym (at_most_one _ (once c)) ∙ (ap (λ (b : Bool). cond b 1 0) t
+    ∙ (at_most_one _ (once d) ∙ sym (homes_times parts d small' few units (once d)))))
 
 -- a class that is needed is computed
 pub needed_computed : (c : Class) → accepted.is_needed c ≡ true → IsComputed c
@@ -346,23 +373,28 @@ beside_step c false rest e off r = r
 -- no unit is for Memory
 pub no_memory_unit : (n : ℕ) (units : List (Class × List ℤ)) → All (IsUnit n) units → is_unit units Memory ≡ false
 no_memory_unit n [] all = refl
-no_memory_unit n (unit ∷ units) all = beside_step unit.0 (same_class Memory unit.0) (is_unit units Memory) refl (all 0 unit (omega arith)).beside_memory (no_memory_unit n units (All-tail (IsUnit n) unit units all))
+no_memory_unit n (unit ∷ units) all = beside_step unit.0 (same_class Memory unit.0) (is_unit units Memory) refl (all 0 unit (omega arith)).beside_memory
+    (no_memory_unit n units (All-tail (IsUnit n) unit units all))
 
 -- so Memory has no stages
 pub no_memory_stages : (parts : Parts) → All (IsUnit (natural parts.stages)) parts.units → stages_of (plan_of parts) Memory ≡ []
-no_memory_stages parts units = described_stages parts Memory (omega arith) ∙ (ap ascending (listed_none parts.units Memory (no_memory_unit _ parts.units units)) ∙ ascending_none)
+no_memory_stages parts units = described_stages parts Memory (omega arith) ∙ (ap ascending (listed_none parts.units Memory (no_memory_unit _ parts.units units))
+    ∙ ascending_none)
 
 -- the stages of all units ascend
 pub units_rise : (units : List (Class × List ℤ)) → All IsStrictlyIncreasing (units_plan units)
 unfolding units_plan
-units_rise units = All-map IsStrictlyIncreasing (λ c. ascending (listed units c)) computed_classes (λ k d within. ascending_rises (listed units (get_or computed_classes k d)))
+units_rise units = All-map IsStrictlyIncreasing (λ c. ascending (listed units c)) computed_classes
+    (λ k d within. ascending_rises (listed units (get_or computed_classes k d)))
 
 -- what is listed for a class are stages of the pipeline
-listed_by : (n : ℕ) (units : List (Class × List ℤ)) (c : Class) (some : Bool) → All (IsUnit n) units → is_unit units c ≡ some → All (λ i. (1 ≤ i) × (i ≤ n)) (ascending (listed units c))
+listed_by : (n : ℕ) (units : List (Class × List ℤ)) (c : Class) (some : Bool) → All (IsUnit n) units → is_unit units c ≡ some →
+    All (λ i. (1 ≤ i) × (i ≤ n)) (ascending (listed units c))
 listed_by n units c true all e = ascending_within n (listed units c) (listed_some n units c all e).1
 listed_by n units c false all e = rw (listed_none units c e, ascending_none) (All-nil (λ i. (1 ≤ i) × (i ≤ n)))
 
 -- the stages of all units are stages of the pipeline
 pub units_within : (n : ℕ) (units : List (Class × List ℤ)) → All (IsUnit n) units → All (All (λ i. (1 ≤ i) × (i ≤ n))) (units_plan units)
 unfolding units_plan
-units_within n units all = All-map (All (λ i. (1 ≤ i) × (i ≤ n))) (λ c. ascending (listed units c)) computed_classes (λ k d within. listed_by n units (get_or computed_classes k d) (is_unit units (get_or computed_classes k d)) all refl)
+units_within n units all = All-map (All (λ i. (1 ≤ i) × (i ≤ n))) (λ c. ascending (listed units c)) computed_classes
+    (λ k d within. listed_by n units (get_or computed_classes k d) (is_unit units (get_or computed_classes k d)) all refl)

@@ -37,7 +37,8 @@ siding_rules plan a c k e =
     subst (IsSiding plan) (sym (read_at plan.sidings k within)) (a.sidings k no_siding within)
 
 -- it launches below where it recovers, within the pipeline, and has cells
-pub launches_low : (plan : Plan) → IsAccepted plan → (c : Class) (k : ℕ) → siding_of plan c ≡ Some k → (1 ≤ launch_stage plan k) × (launch_stage plan k < recover_stage plan k) × (recover_stage plan k ≤ plan.stages)
+pub launches_low : (plan : Plan) → IsAccepted plan → (c : Class) (k : ℕ) → siding_of plan c ≡ Some k →
+    (1 ≤ launch_stage plan k) × (launch_stage plan k < recover_stage plan k) × (recover_stage plan k ≤ plan.stages)
 unfolding launch_stage recover_stage
 launches_low plan a c k e = let s = siding_rules plan a c k e in (s.launches.0, s.order, s.recovers.1)
 
@@ -73,13 +74,16 @@ unnamed_step c d false rest e high low r = r
 
 unnamed : (classes : List Class) (c : Class) → 9 ≤ place_of c → All (λ d. place_of d < 9) classes → list_any (same_class c) classes ≡ false
 unnamed [] c high all = refl
-unnamed (d ∷ ds) c high all = unnamed_step c d (same_class c d) (list_any (same_class c) ds) refl high (all 0 d (omega arith)) (unnamed ds c high (All-tail (λ (k : Class). place_of k < 9) d ds all))
+unnamed (d ∷ ds) c high all = unnamed_step c d (same_class c d) (list_any (same_class c) ds) refl high (all 0 d (omega arith))
+    (unnamed ds c high (All-tail (λ (k : Class). place_of k < 9) d ds all))
 
 -- no siding serves a class that is not computed
-unserved : (plan : Plan) (sidings : List SidingPlan) (c : Class) → 9 ≤ place_of c → All (IsSiding plan) sidings → length (filter (λ siding. serves siding c) sidings) ≡ 0
+unserved : (plan : Plan) (sidings : List SidingPlan) (c : Class) → 9 ≤ place_of c → All (IsSiding plan) sidings →
+    length (filter (λ siding. serves siding c) sidings) ≡ 0
 unfolding serves
 unserved plan [] c high all = refl
-unserved plan (s ∷ ss) c high all = let off = unnamed s.classes c high (all 0 s (omega arith)).computed in rw off (unserved plan ss c high (All-tail (IsSiding plan) s ss all))
+unserved plan (s ∷ ss) c high all = let off = unnamed s.classes c high (all 0 s (omega arith)).computed in
+    rw off (unserved plan ss c high (All-tail (IsSiding plan) s ss all))
 
 -- at a place after the lists there are no stages
 after_end : (units : List (List ℕ)) (place : ℕ) → length units ≤ place → unwrap_or (slice_get units place) [] ≡ []
@@ -146,7 +150,8 @@ in_list_step P i j false rest at e p later = later e
 
 in_list : (P : ℕ → Type 0) (i : ℕ) (stages : List ℕ) → All P stages → list_any (nat_eq i) stages ≡ true → P i
 in_list P i [] all e = cc
-in_list P i (j ∷ js) all e = in_list_step P i j (nat_eq i j) (list_any (nat_eq i) js) refl e (all 0 0 (omega arith)) (λ later. in_list P i js (All-tail P j js all) later)
+in_list P i (j ∷ js) all e = in_list_step P i j (nat_eq i j) (list_any (nat_eq i) js) refl e (all 0 0 (omega arith))
+    (λ later. in_list P i js (All-tail P j js all) later)
 
 -- each list of stages, and the empty list in place of one that does not exist, has stages of the pipeline
 lists_within : (plan : Plan) (units : List (List ℕ)) (place : ℕ) → All (All (IsStage plan)) units → All (IsStage plan) (unwrap_or (slice_get units place) [])
@@ -165,6 +170,7 @@ last_in i [] other = let e : nat_eq i i ≡ true = grind (arith, nat_tests) in r
 last_in i (j ∷ js) other = let r = last_in j js i in rw r (or-true (nat_eq (last_of (j ∷ js) i) i))
 
 -- the last stage of a class is in its list, where it has one, or else the recovery of its siding
-last_by : (plan : Plan) (stages : List ℕ) (o : Option ℕ) → (list_any (nat_eq (last_of stages (recovers_by plan o))) stages ≡ true) ⊎ (last_of stages (recovers_by plan o) ≡ recovers_by plan o)
+last_by : (plan : Plan) (stages : List ℕ) (o : Option ℕ) → (list_any (nat_eq (last_of stages (recovers_by plan o))) stages ≡ true)
+    ⊎ (last_of stages (recovers_by plan o) ≡ recovers_by plan o)
 last_by plan [] o = inr refl
 last_by plan (i ∷ is) o = inl (last_in i is (recovers_by plan o))

@@ -62,8 +62,10 @@ in_front : (n x : ℕ) (rest : Bool) → n ≡ x → (nat_eq n x || rest) ≡ tr
 in_front n x rest e = let here : nat_eq n x ≡ true = grind (arith, nat_tests) in rw here refl
 
 -- what is kept from k on, by whether k is the first of the list
-kept_by : (test : ℕ → Bool) (n k x : ℕ) (xs : List ℕ) (here : Bool) → nat_eq k x ≡ here → Rises k (x ∷ xs) → AreBelow (k + suc n) (x ∷ xs) → ((i : ℕ) → k ≤ i → test i ≡ list_any (nat_eq i) (x ∷ xs))
-    → ((ys : List ℕ) → Rises (k + 1) ys → AreBelow (k + 1 + n) ys → ((i : ℕ) → k + 1 ≤ i → test i ≡ list_any (nat_eq i) ys) → filter test (range_with_len (k + 1) n) ≡ ys) → filter test (range_with_len k (suc n)) ≡ x ∷ xs
+kept_by : (test : ℕ → Bool) (n k x : ℕ) (xs : List ℕ) (here : Bool) → nat_eq k x ≡ here → Rises k (x ∷ xs) → AreBelow (k + suc n) (x ∷ xs) →
+    ((i : ℕ) → k ≤ i → test i ≡ list_any (nat_eq i) (x ∷ xs))
+    → ((ys : List ℕ) → Rises (k + 1) ys → AreBelow (k + 1 + n) ys → ((i : ℕ) → k + 1 ≤ i → test i ≡ list_any (nat_eq i) ys) →
+    filter test (range_with_len (k + 1) n) ≡ ys) → filter test (range_with_len k (suc n)) ≡ x ∷ xs
 kept_by test n k x xs true e rise low same later =
     let at : k ≡ x = grind (arith, nat_tests) in
     let bound : k + suc n ≡ k + 1 + n = omega arith in
@@ -78,11 +80,13 @@ kept_by test n k x xs false e rise low same later =
     (later (x ∷ xs) (omega arith, rise.1) (subst (λ (b : ℕ). AreBelow b (x ∷ xs)) bound low) (λ i high. same i (omega arith)))
 
 -- of the numbers from k on, those are kept that the test finds in the list
-kept_same : (test : ℕ → Bool) (n k : ℕ) (xs : List ℕ) → Rises k xs → AreBelow (k + n) xs → ((i : ℕ) → k ≤ i → test i ≡ list_any (nat_eq i) xs) → filter test (range_with_len k n) ≡ xs
+kept_same : (test : ℕ → Bool) (n k : ℕ) (xs : List ℕ) → Rises k xs → AreBelow (k + n) xs → ((i : ℕ) → k ≤ i → test i ≡ list_any (nat_eq i) xs) →
+    filter test (range_with_len k n) ≡ xs
 kept_same test zero k [] rise low same = refl
 kept_same test zero k (x ∷ xs) rise low same = let from = rise.0 in let below = low.0 in absurd (omega arith)
 kept_same test (suc n) k [] rise low same = first_lost test k _ [] (same k (omega arith)) (kept_same test n (k + 1) [] tt tt (λ i high. same i (omega arith)))
-kept_same test (suc n) k (x ∷ xs) rise low same = kept_by test n k x xs (nat_eq k x) refl rise low same (λ ys up down alike. kept_same test n (k + 1) ys up down alike)
+kept_same test (suc n) k (x ∷ xs) rise low same = kept_by test n k x xs (nat_eq k x) refl rise low same
+    (λ ys up down alike. kept_same test n (k + 1) ys up down alike)
 
 -- numbers that ascend below a bound are few
 rises_few : (k bound : ℕ) (xs : List ℕ) → k ≤ bound → Rises k xs → AreBelow bound xs → length xs + k ≤ bound
@@ -99,16 +103,19 @@ numbers_same i [] = refl
 numbers_same i (x ∷ xs) = ap (λ (b : Bool). nat_eq i x || b) (numbers_same i xs)
 
 -- stages from 1 to 32 that ascend are what comes back where they are asked for
-pub ascending_same : (stages : List ℕ) → IsStrictlyIncreasing stages → All (λ i. 1 ≤ i) stages → All (λ i. i < 33) stages → ascending (map (λ n. pos n) stages) ≡ stages
+pub ascending_same : (stages : List ℕ) → IsStrictlyIncreasing stages → All (λ i. 1 ≤ i) stages → All (λ i. i < 33) stages →
+    ascending (map (λ n. pos n) stages) ≡ stages
 unfolding ascending stage_numbers
-ascending_same stages rise low high = kept_same (λ i. list_any (is_number i) (map (λ n. pos n) stages)) 32 1 stages (rises_from 1 stages rise low) (below_from 33 stages high) (λ i from. numbers_same i stages)
+ascending_same stages rise low high = kept_same (λ i. list_any (is_number i) (map (λ n. pos n) stages)) 32 1 stages (rises_from 1 stages rise low)
+    (below_from 33 stages high) (λ i from. numbers_same i stages)
 
 -- and are at most 32
 pub few_stages : (stages : List ℕ) → IsStrictlyIncreasing stages → All (λ i. 1 ≤ i) stages → All (λ i. i < 33) stages → length stages ≤ 32
 few_stages stages rise low high = let few = rises_few 1 33 stages (omega arith) (rises_from 1 stages rise low) (below_from 33 stages high) in omega arith
 
 -- the places of the classes that a test of places keeps
-kept_step : (kept : Bool) (c : Class) (cs : List Class) (rest : List ℕ) → map place_of cs ≡ rest → map place_of (cond kept (c ∷ cs) cs) ≡ cond kept (place_of c ∷ rest) rest
+kept_step : (kept : Bool) (c : Class) (cs : List Class) (rest : List ℕ) → map place_of cs ≡ rest →
+    map place_of (cond kept (c ∷ cs) cs) ≡ cond kept (place_of c ∷ rest) rest
 kept_step true c cs rest e = rw e refl
 kept_step false c cs rest e = e
 
@@ -133,7 +140,8 @@ same_places : (cs ds : List Class) → map place_of cs ≡ map place_of ds → c
 same_places [] [] e = refl
 same_places [] (d ∷ ds) e = cc
 same_places (c ∷ cs) [] e = cc
-same_places (c ∷ cs) (d ∷ ds) e = let p = one_place (place_of c) (place_of d) (map place_of cs) (map place_of ds) e in rw (same_place c d p.0, same_places cs ds p.1) refl
+same_places (c ∷ cs) (d ∷ ds) e = let p = one_place (place_of c) (place_of d) (map place_of cs) (map place_of ds) e in
+    rw (same_place c d p.0, same_places cs ds p.1) refl
 
 -- computed classes that ascend are what comes back where they are asked for
 order_places : (classes : List Class) → map place_of (in_class_order classes) ≡ filter (has_place classes) (range_with_len 0 9)
@@ -143,10 +151,12 @@ order_places classes = kept_places (λ n. list_any (λ d. nat_eq n (place_of d))
 pub in_order_same : (classes : List Class) → IsStrictlyIncreasing (map place_of classes) → All (λ c. place_of c < 9) classes → in_class_order classes ≡ classes
 in_order_same classes rise small =
     same_places (in_class_order classes) classes
-    (order_places classes ∙ kept_same (has_place classes) 9 0 (map place_of classes) (rises_from 0 (map place_of classes) rise (λ k d within. omega arith)) (below_from 9 (map place_of classes) (All-map (λ n. n < 9) place_of classes small)) (λ i from. places_same i classes))
+    (order_places classes ∙ kept_same (has_place classes) 9 0 (map place_of classes) (rises_from 0 (map place_of classes) rise (λ k d within. omega arith))
+    (below_from 9 (map place_of classes) (All-map (λ n. n < 9) place_of classes small)) (λ i from. places_same i classes))
 
 -- and are at most nine
 pub few_classes : (classes : List Class) → IsStrictlyIncreasing (map place_of classes) → All (λ c. place_of c < 9) classes → length classes ≤ 9
 few_classes classes rise small =
-    let few = rises_few 0 9 (map place_of classes) (omega arith) (rises_from 0 (map place_of classes) rise (λ k d within. omega arith)) (below_from 9 (map place_of classes) (All-map (λ n. n < 9) place_of classes small)) in
+    let few = rises_few 0 9 (map place_of classes) (omega arith) (rises_from 0 (map place_of classes) rise (λ k d within. omega arith))
+    (below_from 9 (map place_of classes) (All-map (λ n. n < 9) place_of classes small)) in
     omega (arith, length-map classes place_of)

@@ -44,7 +44,8 @@ not_false true e = refl
 not_false false e = sym e
 
 -- no element of the list fails, by whether the first does
-none_step : {X : Type 0} (P : X → Type 0) (fails : Bool) (x : X) (rest : Option X) → (fails ≡ false → P x) → cond fails (Some x) rest ≡ None → P x × (rest ≡ None)
+none_step : {X : Type 0} (P : X → Type 0) (fails : Bool) (x : X) (rest : Option X) → (fails ≡ false → P x) → cond fails (Some x) rest ≡ None →
+    P x × (rest ≡ None)
 none_step P true x rest here e = cc
 none_step P false x rest here e = (here refl, e)
 
@@ -77,9 +78,11 @@ pub lt_true : (a b : ℕ) → nat_lt a b ≡ true → a < b
 lt_true a b e = grind (arith, nat_tests)
 
 -- the limits
-pub limits_hold : (parts : Parts) → limits_refusal parts ≡ None → (is_within 2 32 parts.stages ≡ true) × (is_within 2 64 parts.lane ≡ true) × (length parts.sidings ≤ 8)
+pub limits_hold : (parts : Parts) → limits_refusal parts ≡ None → (is_within 2 32 parts.stages ≡ true) × (is_within 2 64 parts.lane ≡ true)
+    × (length parts.sidings ≤ 8)
 unfolding limits_refusal
-limits_hold parts e = (holds _ _ (first_passes _ _ e), holds _ _ (first_passes _ _ (next_passes _ _ e)), le_true _ _ (holds _ _ (next_passes _ _ (next_passes _ _ e))))
+limits_hold parts e =
+    (holds _ _ (first_passes _ _ e), holds _ _ (first_passes _ _ (next_passes _ _ e)), le_true _ _ (holds _ _ (next_passes _ _ (next_passes _ _ e))))
 
 -- no stage outside
 none_outside : (c : Class) (o : Option ℤ) → outside c o ≡ None → o ≡ None
@@ -91,7 +94,8 @@ not_memory : (c : Class) → not (same_class c Memory) ≡ true → c ≢ Memory
 not_memory c t = λ e. let s : same_class c Memory ≡ true = rw e refl in cc
 
 -- a unit
-pub unit_holds : (n : ℕ) (before : List (Class × List ℤ)) (unit : Class × List ℤ) → unit_refusal n before unit ≡ None → IsUnit n unit × (is_unit before unit.0 ≡ false)
+pub unit_holds : (n : ℕ) (before : List (Class × List ℤ)) (unit : Class × List ℤ) → unit_refusal n before unit ≡ None →
+    IsUnit n unit × (is_unit before unit.0 ≡ false)
 unfolding unit_refusal
 unit_holds n before unit e =
     let f = next_passes _ _ e in
@@ -107,14 +111,16 @@ unit_holds n before unit e =
 -- all units
 pub units_hold : (n : ℕ) (before units : List (Class × List ℤ)) → units_refusal n before units ≡ None → All (IsUnit n) units
 units_hold n before [] e = All-nil (IsUnit n)
-units_hold n before (unit ∷ units) e = All-cons (IsUnit n) unit units (unit_holds n before unit (first_passes _ _ e)).0 (units_hold n (before ++ unit ∷ []) units (next_passes _ _ e))
+units_hold n before (unit ∷ units) e = All-cons (IsUnit n) unit units (unit_holds n before unit (first_passes _ _ e)).0
+    (units_hold n (before ++ unit ∷ []) units (next_passes _ _ e))
 
 -- what the sign test says
 int_order : (y z : ℤ) → int_lt y z ≡ true → y <ℤ z
 int_order y z e = grind (arith, ints)
 
 -- the cells and the stages of a siding
-stages_hold : (n : ℕ) (siding : asked.Siding) (first : Class) → stages_refusal n siding first ≡ None → (is_within 1 8 siding.cells ≡ true) × (is_within 1 n siding.launch ≡ true) × (is_within 1 n siding.recover ≡ true) × (siding.launch <ℤ siding.recover)
+stages_hold : (n : ℕ) (siding : asked.Siding) (first : Class) → stages_refusal n siding first ≡ None →
+    (is_within 1 8 siding.cells ≡ true) × (is_within 1 n siding.launch ≡ true) × (is_within 1 n siding.recover ≡ true) × (siding.launch <ℤ siding.recover)
 unfolding stages_refusal
 stages_hold n siding first e =
     let f = next_passes _ _ e in
@@ -127,12 +133,14 @@ alone_holds true n e some t = grind (arith, nat_tests)
 alone_holds false n e some t = cc
 
 -- the classes of a siding
-classes_alone : (elsewhere : Class → Bool) (classes : List Class) → classes_refusal elsewhere classes ≡ None → 0 < length classes → names classes Memory ≡ true → length classes ≡ 1
+classes_alone : (elsewhere : Class → Bool) (classes : List Class) → classes_refusal elsewhere classes ≡ None → 0 < length classes →
+    names classes Memory ≡ true → length classes ≡ 1
 unfolding classes_refusal
 classes_alone elsewhere classes e some t = alone_holds (names classes Memory) (length classes) (holds _ _ (next_passes _ _ e)) some t
 
 -- a siding whose classes these are
-filled_holds : (n : ℕ) (elsewhere : Class → Bool) (index : ℕ) (siding : asked.Siding) (classes : List Class) → filled_refusal n elsewhere index siding classes ≡ None → classes ≡ siding.classes → IsSiding n siding
+filled_holds : (n : ℕ) (elsewhere : Class → Bool) (index : ℕ) (siding : asked.Siding) (classes : List Class) →
+    filled_refusal n elsewhere index siding classes ≡ None → classes ≡ siding.classes → IsSiding n siding
 filled_holds n elsewhere index siding [] e same = cc
 filled_holds n elsewhere index siding (first ∷ rest) e same =
     let s = stages_hold n siding first (first_passes _ _ e) in
@@ -147,14 +155,17 @@ filled_holds n elsewhere index siding (first ∷ rest) e same =
     }
 
 -- a siding
-siding_holds : (n : ℕ) (units : List (Class × List ℤ)) (before : List asked.Siding) (siding : asked.Siding) → siding_refusal n units before siding ≡ None → IsSiding n siding
+siding_holds : (n : ℕ) (units : List (Class × List ℤ)) (before : List asked.Siding) (siding : asked.Siding) → siding_refusal n units before siding ≡ None →
+    IsSiding n siding
 unfolding siding_refusal
 siding_holds n units before siding e = filled_holds n (λ c. is_unit units c || is_sided before c) (length before) siding siding.classes e refl
 
 -- all sidings
-pub sidings_hold : (n : ℕ) (units : List (Class × List ℤ)) (before sidings : List asked.Siding) → sidings_refusal n units before sidings ≡ None → All (IsSiding n) sidings
+pub sidings_hold : (n : ℕ) (units : List (Class × List ℤ)) (before sidings : List asked.Siding) → sidings_refusal n units before sidings ≡ None →
+    All (IsSiding n) sidings
 sidings_hold n units before [] e = All-nil (IsSiding n)
-sidings_hold n units before (siding ∷ sidings) e = All-cons (IsSiding n) siding sidings (siding_holds n units before siding (first_passes _ _ e)) (sidings_hold n units (before ++ siding ∷ []) sidings (next_passes _ _ e))
+sidings_hold n units before (siding ∷ sidings) e = All-cons (IsSiding n) siding sidings (siding_holds n units before siding (first_passes _ _ e))
+    (sidings_hold n units (before ++ siding ∷ []) sidings (next_passes _ _ e))
 
 -- a siding in a pipeline that is not too long has small numbers
 small_siding : (n : ℕ) (siding : asked.Siding) → n ≤ 32 → IsSiding n siding → IsSmallSiding siding
@@ -165,7 +176,8 @@ small_siding n siding few s = record {
 }
 
 -- so have all sidings that are not refused
-pub small_sidings : (n : ℕ) (units : List (Class × List ℤ)) (sidings : List asked.Siding) → sidings_refusal n units [] sidings ≡ None → n ≤ 32 → All IsSmallSiding sidings
+pub small_sidings : (n : ℕ) (units : List (Class × List ℤ)) (sidings : List asked.Siding) → sidings_refusal n units [] sidings ≡ None → n ≤ 32 →
+    All IsSmallSiding sidings
 small_sidings n units sidings e few = λ k d within. small_siding n _ few (sidings_hold n units [] sidings e k d within)
 
 -- where a test answers that it passes there is no refusal
@@ -174,7 +186,8 @@ none_told None answer u told_so passes = refl
 none_told (Some e) answer u told_so passes = cc
 
 -- so after an answer that lets them pass
-pub told_small : (n : ℕ) (units : List (Class × List ℤ)) (sidings : List asked.Siding) (o : Option LayoutErr) → sidings_refusal n units [] sidings ≡ o → n ≤ 32 → OnOk (told o) (All IsSmallSiding sidings)
+pub told_small : (n : ℕ) (units : List (Class × List ℤ)) (sidings : List asked.Siding) (o : Option LayoutErr) → sidings_refusal n units [] sidings ≡ o →
+    n ≤ 32 → OnOk (told o) (All IsSmallSiding sidings)
 told_small n units sidings None e few = small_sidings n units sidings e few
 told_small n units sidings (Some x) e few = tt
 
@@ -194,7 +207,8 @@ once_other rest off true le = omega arith
 once_other rest off false le = omega arith
 
 -- a class that is not found earlier or elsewhere is there at most once
-once_step : (off seen same : Bool) (rest : ℕ) → (same ≡ true → (off || seen) ≡ false) → rest + cond (off || (seen || same)) 1 0 ≤ 1 → cond same 1 0 + rest + cond (off || seen) 1 0 ≤ 1
+once_step : (off seen same : Bool) (rest : ℕ) → (same ≡ true → (off || seen) ≡ false) → rest + cond (off || (seen || same)) 1 0 ≤ 1 →
+    cond same 1 0 + rest + cond (off || seen) 1 0 ≤ 1
 once_step off seen true rest free le = once_same rest off seen (free refl) le
 once_step off seen false rest free le = once_other rest off seen le
 
@@ -214,12 +228,14 @@ one_at_most true = omega arith
 one_at_most false = omega arith
 
 -- classes that are not repeated, here or elsewhere, are there at most once, counting elsewhere
-repeated_once : (elsewhere : Class → Bool) (seen classes : List Class) → first_repeated elsewhere seen classes ≡ None → (c : Class) → times classes c + cond (elsewhere c || names seen c) 1 0 ≤ 1
+repeated_once : (elsewhere : Class → Bool) (seen classes : List Class) → first_repeated elsewhere seen classes ≡ None → (c : Class) →
+    times classes c + cond (elsewhere c || names seen c) 1 0 ≤ 1
 repeated_once elsewhere seen [] e c = rw (times_nil c) (one_at_most (elsewhere c || names seen c))
 repeated_once elsewhere seen (x ∷ xs) e c =
     let r = repeated_once elsewhere (seen ++ x ∷ []) xs (rest_alone _ _ _ e) c in
     let l = rw (seen_more seen x c) at r in
-    rw (times_cons x xs c) (once_step (elsewhere c) (names seen c) (same_class c x) (times xs c) (λ same. subst (λ (k : Class). (elsewhere k || names seen k) ≡ false) (sym (same_true c x same)) (first_alone _ _ _ e)) l)
+    rw (times_cons x xs c) (once_step (elsewhere c) (names seen c) (same_class c x) (times xs c)
+    (λ same. subst (λ (k : Class). (elsewhere k || names seen k) ≡ false) (sym (same_true c x same)) (first_alone _ _ _ e)) l)
 
 -- no class is listed twice
 none_twice : (o : Option Class) → twice o ≡ None → o ≡ None
@@ -246,34 +262,44 @@ both_once : (u t : ℕ) → u + 0 ≤ 1 → t + cond (nat_lt 0 u) 1 0 ≤ 1 → 
 both_once u t one rest = both_by u t (nat_lt 0 u) refl one rest
 
 -- a class among units, with one more unit
-pub unit_more : (before : List (Class × List ℤ)) (unit : Class × List ℤ) (c : Class) → is_unit (before ++ unit ∷ []) c ≡ (is_unit before c || same_class c unit.0)
-unit_more before unit c = rw (list_any-append (λ (u : Class × List ℤ). same_class c u.0) before (unit ∷ [])) (ap (λ (b : Bool). is_unit before c || b) (or-false (same_class c unit.0)))
+pub unit_more : (before : List (Class × List ℤ)) (unit : Class × List ℤ) (c : Class) → is_unit (before ++ unit ∷ []) c
+    ≡ (is_unit before c || same_class c unit.0)
+unit_more before unit c = rw (list_any-append (λ (u : Class × List ℤ). same_class c u.0) before (unit ∷ []))
+    (ap (λ (b : Bool). is_unit before c || b) (or-false (same_class c unit.0)))
 
 -- a class among units and sidings, with one more siding
-pub sided_more : (units : List (Class × List ℤ)) (before : List asked.Siding) (siding : asked.Siding) (c : Class) → (is_unit units c || is_sided (before ++ siding ∷ []) c) ≡ ((is_unit units c || is_sided before c) || nat_lt 0 (times siding.classes c))
-sided_more units before siding c = rw (list_any-append (λ (s : asked.Siding). names s.classes c) before (siding ∷ []), or-false (names siding.classes c), names_times siding.classes c) (or_regroup (is_unit units c) (is_sided before c) (nat_lt 0 (times siding.classes c)))
+pub sided_more : (units : List (Class × List ℤ)) (before : List asked.Siding) (siding : asked.Siding) (c : Class) →
+    (is_unit units c || is_sided (before ++ siding ∷ []) c) ≡ ((is_unit units c || is_sided before c) || nat_lt 0 (times siding.classes c))
+sided_more units before siding c =
+    rw (list_any-append (λ (s : asked.Siding). names s.classes c) before (siding ∷ []), or-false (names siding.classes c), names_times siding.classes c)
+    (or_regroup (is_unit units c) (is_sided before c) (nat_lt 0 (times siding.classes c)))
 
 -- the classes of a siding
-classes_once : (elsewhere : Class → Bool) (classes : List Class) → classes_refusal elsewhere classes ≡ None → (c : Class) → times classes c + cond (elsewhere c) 1 0 ≤ 1
+classes_once : (elsewhere : Class → Bool) (classes : List Class) → classes_refusal elsewhere classes ≡ None → (c : Class) →
+    times classes c + cond (elsewhere c) 1 0 ≤ 1
 unfolding classes_refusal
 classes_once elsewhere classes e c = let r = repeated_once elsewhere [] classes (none_twice _ (first_passes _ _ e)) c in rw (or-false (elsewhere c)) at r
 
 -- the same of a siding with these classes
-filled_once : (n : ℕ) (elsewhere : Class → Bool) (index : ℕ) (siding : asked.Siding) (classes : List Class) → filled_refusal n elsewhere index siding classes ≡ None → (c : Class) → times classes c + cond (elsewhere c) 1 0 ≤ 1
+filled_once : (n : ℕ) (elsewhere : Class → Bool) (index : ℕ) (siding : asked.Siding) (classes : List Class) →
+    filled_refusal n elsewhere index siding classes ≡ None → (c : Class) → times classes c + cond (elsewhere c) 1 0 ≤ 1
 filled_once n elsewhere index siding [] e c = cc
 filled_once n elsewhere index siding (first ∷ rest) e c = classes_once elsewhere (first ∷ rest) (next_passes _ _ e) c
 
 -- the classes of units, none of which is repeated, are there at most once, counting those before
-units_once : (n : ℕ) (before units : List (Class × List ℤ)) → units_refusal n before units ≡ None → (c : Class) → times (map (λ unit. unit.0) units) c + cond (is_unit before c) 1 0 ≤ 1
+units_once : (n : ℕ) (before units : List (Class × List ℤ)) → units_refusal n before units ≡ None → (c : Class) →
+    times (map (λ unit. unit.0) units) c + cond (is_unit before c) 1 0 ≤ 1
 units_once n before [] e c = rw (times_nil c) (one_at_most (is_unit before c))
 units_once n before (unit ∷ units) e c =
     let r = units_once n (before ++ unit ∷ []) units (next_passes _ _ e) c in
     let l = rw (unit_more before unit c) at r in
     let alone = (unit_holds n before unit (first_passes _ _ e)).1 in
-    rw (times_cons unit.0 (map (λ u. u.0) units) c) (once_step false (is_unit before c) (same_class c unit.0) (times (map (λ u. u.0) units) c) (λ same. subst (λ (k : Class). is_unit before k ≡ false) (sym (same_true c unit.0 same)) alone) l)
+    rw (times_cons unit.0 (map (λ u. u.0) units) c) (once_step false (is_unit before c) (same_class c unit.0) (times (map (λ u. u.0) units) c)
+    (λ same. subst (λ (k : Class). is_unit before k ≡ false) (sym (same_true c unit.0 same)) alone) l)
 
 -- classes of a siding, none of which is repeated
-siding_once : (n : ℕ) (units : List (Class × List ℤ)) (before : List asked.Siding) (siding : asked.Siding) → siding_refusal n units before siding ≡ None → (c : Class) → times siding.classes c + cond (is_unit units c || is_sided before c) 1 0 ≤ 1
+siding_once : (n : ℕ) (units : List (Class × List ℤ)) (before : List asked.Siding) (siding : asked.Siding) → siding_refusal n units before siding ≡ None →
+    (c : Class) → times siding.classes c + cond (is_unit units c || is_sided before c) 1 0 ≤ 1
 unfolding siding_refusal
 siding_once n units before siding e c = filled_once n (λ k. is_unit units k || is_sided before k) (length before) siding siding.classes e c
 
@@ -283,16 +309,19 @@ sided_step t r true one rest = omega arith
 sided_step t r false one rest = sided_by t r (nat_lt 0 t) refl one rest
 
 -- the classes of sidings, none of which is repeated, are there at most once, counting units and the sidings before
-sidings_once : (n : ℕ) (units : List (Class × List ℤ)) (before sidings : List asked.Siding) → sidings_refusal n units before sidings ≡ None → (c : Class) → times (sided_classes sidings) c + cond (is_unit units c || is_sided before c) 1 0 ≤ 1
+sidings_once : (n : ℕ) (units : List (Class × List ℤ)) (before sidings : List asked.Siding) → sidings_refusal n units before sidings ≡ None → (c : Class) →
+    times (sided_classes sidings) c + cond (is_unit units c || is_sided before c) 1 0 ≤ 1
 sidings_once n units before [] e c = rw (times_nil c) (one_at_most (is_unit units c || is_sided before c))
 sidings_once n units before (siding ∷ sidings) e c =
     let one = siding_once n units before siding (first_passes _ _ e) c in
     let r = sidings_once n units (before ++ siding ∷ []) sidings (next_passes _ _ e) c in
     let l = rw (sided_more units before siding c) at r in
-    rw (times_append siding.classes (sided_classes sidings) c) (sided_step (times siding.classes c) (times (sided_classes sidings) c) (is_unit units c || is_sided before c) one l)
+    rw (times_append siding.classes (sided_classes sidings) c) (sided_step (times siding.classes c) (times (sided_classes sidings) c) (is_unit units c
+    || is_sided before c) one l)
 
 -- of units and sidings together
-pub all_once : (n : ℕ) (units : List (Class × List ℤ)) (sidings : List asked.Siding) → units_refusal n [] units ≡ None → sidings_refusal n units [] sidings ≡ None → (c : Class) → times (map (λ unit. unit.0) units ++ sided_classes sidings) c ≤ 1
+pub all_once : (n : ℕ) (units : List (Class × List ℤ)) (sidings : List asked.Siding) → units_refusal n [] units ≡ None →
+    sidings_refusal n units [] sidings ≡ None → (c : Class) → times (map (λ unit. unit.0) units ++ sided_classes sidings) c ≤ 1
 all_once n units sidings e f c =
     let u = units_once n [] units e c in
     let s = sidings_once n units [] sidings f c in

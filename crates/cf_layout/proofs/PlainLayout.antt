@@ -13,7 +13,8 @@ use Rattle.cf_layout.specs.Plain.{plain, memory_siding}
 use Rattle.cf_layout.proofs.Described.{ascending_rises}
 
 -- its stages, from the lists that the code gives
-pub plain_stages : (ascending (pos 2 ∷ pos 4 ∷ pos 6 ∷ []) ≡ 2 ∷ 4 ∷ 6 ∷ []) × (ascending (pos 2 ∷ pos 4 ∷ []) ≡ 2 ∷ 4 ∷ []) × (ascending (pos 4 ∷ []) ≡ 4 ∷ []) × (ascending (pos 3 ∷ []) ≡ 3 ∷ []) × (in_class_order (Memory ∷ []) ≡ Memory ∷ [])
+pub plain_stages : (ascending (pos 2 ∷ pos 4 ∷ pos 6 ∷ []) ≡ 2 ∷ 4 ∷ 6 ∷ []) × (ascending (pos 2 ∷ pos 4 ∷ []) ≡ 2 ∷ 4 ∷ []) × (ascending (pos 4 ∷ []) ≡ 4 ∷ [])
+    × (ascending (pos 3 ∷ []) ≡ 3 ∷ []) × (in_class_order (Memory ∷ []) ≡ Memory ∷ [])
 unfolding ascending stage_numbers in_class_order
 plain_stages = (refl, refl, refl, refl, refl)
 
@@ -105,7 +106,8 @@ rises_none : IsStrictlyIncreasing []
 rises_none = λ k below. absurd (omega arith)
 
 plain_rises : All IsStrictlyIncreasing plain.units
-plain_rises = All-from_recursion IsStrictlyIncreasing plain.units (rises_246, (rises_24, (rises_one 4, (rises_24, (rises_one 3, (rises_one 3, (rises_none, (rises_none, (rises_none, tt)))))))))
+plain_rises = All-from_recursion IsStrictlyIncreasing plain.units
+    (rises_246, (rises_24, (rises_one 4, (rises_24, (rises_one 3, (rises_one 3, (rises_none, (rises_none, (rises_none, tt)))))))))
 
 -- they are stages of the pipeline
 stages_246 : All (IsStage plain) (2 ∷ 4 ∷ 6 ∷ [])
@@ -124,7 +126,8 @@ stages_none : All (IsStage plain) []
 stages_none = All-nil (IsStage plain)
 
 plain_within : All (All (IsStage plain)) plain.units
-plain_within = All-from_recursion (All (IsStage plain)) plain.units (stages_246, (stages_24, (stages_4, (stages_24, (stages_3, (stages_3, (stages_none, (stages_none, (stages_none, tt)))))))))
+plain_within = All-from_recursion (All (IsStage plain)) plain.units
+    (stages_246, (stages_24, (stages_4, (stages_24, (stages_3, (stages_3, (stages_none, (stages_none, (stages_none, tt)))))))))
 
 -- the built-in layout is accepted
 pub plain_accepted : IsAccepted plain
@@ -141,7 +144,8 @@ plain_accepted = record {
   pair_once = omega (arith, plain_pair.0);
   memory = plain_memory;
   control_units = λ c i e at. let l = plain_control c i e at in rw plain_launch l;
-  control_sidings = λ c e. All-from_recursion (λ (s : SidingPlan). serves s c ≡ true → s.recover ≤ memory_launch plain) (memory_siding ∷ []) ((λ at. let off = plain_unsided c e in cc), tt);
+  control_sidings = λ c e. All-from_recursion (λ (s : SidingPlan). serves s c ≡ true → s.recover ≤ memory_launch plain) (memory_siding ∷ [])
+      ((λ at. let off = plain_unsided c e in cc), tt);
 }
 
 -- and its sidings stand in eight places

@@ -30,7 +30,8 @@ unfolding stages_of
 stages_without plan c after = after_end plan.units (place_of c) after
 
 -- an element that passes is kept, and found
-kept_here : {X : Type 0} (passes : Bool) (x : X) (kept : List X) (before n : ℕ) → nat_lt 0 (length kept) ≡ nat_lt before n → nat_lt 0 (length (cond passes (x ∷ kept) kept)) ≡ nat_lt (cond (not passes) (1 + before) 0) (suc n)
+kept_here : {X : Type 0} (passes : Bool) (x : X) (kept : List X) (before n : ℕ) → nat_lt 0 (length kept) ≡ nat_lt before n →
+    nat_lt 0 (length (cond passes (x ∷ kept) kept)) ≡ nat_lt (cond (not passes) (1 + before) 0) (suc n)
 kept_here true x kept before n same = grind (arith, nat_tests)
 kept_here false x kept before n same = grind (arith, nat_tests)
 
@@ -45,8 +46,11 @@ something true x = refl
 something false x = refl
 
 -- a class is homed where it has a stage or a siding
-homed_where : (stages : List ℕ) (c : Class) (sidings : List SidingPlan) → nat_lt 0 (unit_homes stages + length (filter (λ siding. serves siding c) sidings)) ≡ (not (nat_eq (length stages) 0) || is_some (position (λ siding. serves siding c) sidings))
-homed_where [] c sidings = let k = kept_found (λ siding. serves siding c) sidings in let s = something (nat_lt (position_or_len (λ siding. serves siding c) sidings) (length sidings)) (position_or_len (λ siding. serves siding c) sidings) in rw s (let z : 0 + length (filter (λ siding. serves siding c) sidings) ≡ length (filter (λ siding. serves siding c) sidings) = omega arith in rw z k)
+homed_where : (stages : List ℕ) (c : Class) (sidings : List SidingPlan) → nat_lt 0 (unit_homes stages + length (filter (λ siding. serves siding c) sidings))
+    ≡ (not (nat_eq (length stages) 0) || is_some (position (λ siding. serves siding c) sidings))
+homed_where [] c sidings = let k = kept_found (λ siding. serves siding c) sidings in let s =
+    something (nat_lt (position_or_len (λ siding. serves siding c) sidings) (length sidings)) (position_or_len (λ siding. serves siding c) sidings) in
+    rw s (let z : 0 + length (filter (λ siding. serves siding c) sidings) ≡ length (filter (λ siding. serves siding c) sidings) = omega arith in rw z k)
 homed_where (stage ∷ stages) c sidings = grind (arith, nat_tests)
 
 -- the same of a layout

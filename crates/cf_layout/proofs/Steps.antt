@@ -11,27 +11,38 @@ use Rattle.cf_layout.specs.Asked.{IsSmallSiding, names}
 use Rattle.cf_layout.specs.Refusal.{siding_for, unit_refusal, units_refusal, siding_refusal, sidings_refusal, first_repeated}
 
 -- the units from one unit on are refused for that unit, or else for those after it
-pub units_step : (n : ℕ) (units : List (Class × List ℤ)) (i : ℕ) (d : Class × List ℤ) → i < length units → units_refusal n (take i units) (drop i units) ≡ option_or (unit_refusal n (take i units) (get_or units i d)) (units_refusal n (take (i + 1) units) (drop (i + 1) units))
+pub units_step : (n : ℕ) (units : List (Class × List ℤ)) (i : ℕ) (d : Class × List ℤ) → i < length units →
+    units_refusal n (take i units) (drop i units) ≡ option_or (unit_refusal n (take i units) (get_or units i d))
+    (units_refusal n (take (i + 1) units) (drop (i + 1) units))
 units_step n units i d within = rw (drop-cons units i d, add-one, take-suc units i d) refl
 
 -- a unit that is not refused is passed over
-pub units_on : (n : ℕ) (units : List (Class × List ℤ)) (i : ℕ) (unit : Class × List ℤ) → i < length units → unit ≡ get_or units i unit → unit_refusal n (take i units) unit ≡ None → units_refusal n (take (i + 1) units) (drop (i + 1) units) ≡ units_refusal n (take i units) (drop i units)
+pub units_on : (n : ℕ) (units : List (Class × List ℤ)) (i : ℕ) (unit : Class × List ℤ) → i < length units → unit ≡ get_or units i unit →
+    unit_refusal n (take i units) unit ≡ None → units_refusal n (take (i + 1) units) (drop (i + 1) units) ≡ units_refusal n (take i units) (drop i units)
 units_on n units i unit within this passes = sym (rw (← this, passes) at (units_step n units i unit within))
 
 -- the sidings from one on likewise
-pub sidings_step : (n : ℕ) (units : List (Class × List ℤ)) (sidings : List Siding) (i : ℕ) (d : Siding) → i < length sidings → sidings_refusal n units (take i sidings) (drop i sidings) ≡ option_or (siding_refusal n units (take i sidings) (get_or sidings i d)) (sidings_refusal n units (take (i + 1) sidings) (drop (i + 1) sidings))
+pub sidings_step : (n : ℕ) (units : List (Class × List ℤ)) (sidings : List Siding) (i : ℕ) (d : Siding) → i < length sidings →
+    sidings_refusal n units (take i sidings) (drop i sidings) ≡ option_or (siding_refusal n units (take i sidings) (get_or sidings i d))
+    (sidings_refusal n units (take (i + 1) sidings) (drop (i + 1) sidings))
 sidings_step n units sidings i d within = rw (drop-cons sidings i d, add-one, take-suc sidings i d) refl
 
 -- and so is a siding
-pub sidings_on : (n : ℕ) (units : List (Class × List ℤ)) (sidings : List Siding) (i : ℕ) (siding : Siding) → i < length sidings → siding ≡ get_or sidings i siding → siding_refusal n units (take i sidings) siding ≡ None → sidings_refusal n units (take (i + 1) sidings) (drop (i + 1) sidings) ≡ sidings_refusal n units (take i sidings) (drop i sidings)
+pub sidings_on : (n : ℕ) (units : List (Class × List ℤ)) (sidings : List Siding) (i : ℕ) (siding : Siding) → i < length sidings →
+    siding ≡ get_or sidings i siding → siding_refusal n units (take i sidings) siding ≡ None →
+    sidings_refusal n units (take (i + 1) sidings) (drop (i + 1) sidings) ≡ sidings_refusal n units (take i sidings) (drop i sidings)
 sidings_on n units sidings i siding within this passes = sym (rw (← this, passes) at (sidings_step n units sidings i siding within))
 
 -- the first repeated class is the next one, or else one after it
-pub repeated_step : (elsewhere : Class → Bool) (classes : List Class) (i : ℕ) (d : Class) → i < length classes → first_repeated elsewhere (take i classes) (drop i classes) ≡ cond (elsewhere (get_or classes i d) || names (take i classes) (get_or classes i d)) (Some (get_or classes i d)) (first_repeated elsewhere (take (i + 1) classes) (drop (i + 1) classes))
+pub repeated_step : (elsewhere : Class → Bool) (classes : List Class) (i : ℕ) (d : Class) → i < length classes →
+    first_repeated elsewhere (take i classes) (drop i classes) ≡ cond (elsewhere (get_or classes i d) || names (take i classes) (get_or classes i d))
+    (Some (get_or classes i d)) (first_repeated elsewhere (take (i + 1) classes) (drop (i + 1) classes))
 repeated_step elsewhere classes i d within = rw (drop-cons classes i d, add-one, take-suc classes i d) refl
 
 -- a class that is not repeated is passed over
-pub repeated_on : (elsewhere : Class → Bool) (classes : List Class) (i : ℕ) (d : Class) → i < length classes → (elsewhere (get_or classes i d) || names (take i classes) (get_or classes i d)) ≡ false → first_repeated elsewhere (take (i + 1) classes) (drop (i + 1) classes) ≡ first_repeated elsewhere (take i classes) (drop i classes)
+pub repeated_on : (elsewhere : Class → Bool) (classes : List Class) (i : ℕ) (d : Class) → i < length classes →
+    (elsewhere (get_or classes i d) || names (take i classes) (get_or classes i d)) ≡ false →
+    first_repeated elsewhere (take (i + 1) classes) (drop (i + 1) classes) ≡ first_repeated elsewhere (take i classes) (drop i classes)
 repeated_on elsewhere classes i d within alone = sym (rw alone at (repeated_step elsewhere classes i d within))
 
 -- one step of the search
@@ -42,7 +53,8 @@ found_step P false y x rest here e later = later e
 -- what holds of each element holds of the one that is found
 pub found_holds : {X : Type 0} (P : X → Type 0) (test : X → Bool) (xs : List X) (x : X) → All P xs → find test xs ≡ Some x → P x
 found_holds P test [] x all e = cc
-found_holds P test (y ∷ xs) x all e = found_step P (test y) y x (find test xs) (all 0 y (omega arith)) e (λ later. found_holds P test xs x (All-tail P y xs all) later)
+found_holds P test (y ∷ xs) x all e = found_step P (test y) y x (find test xs) (all 0 y (omega arith)) e
+    (λ later. found_holds P test xs x (All-tail P y xs all) later)
 
 -- so of small sidings the one that is found is small
 pub found_small : (sidings : List Siding) (c : Class) (siding : Siding) → All IsSmallSiding sidings → siding_for sidings c ≡ Some siding → IsSmallSiding siding

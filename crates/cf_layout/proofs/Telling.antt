@@ -93,7 +93,8 @@ says_limits parts =
     (says_unless parts (nat_le (length parts.sidings) 8) (TooManySidings (min (length parts.sidings) 4294967295)) (λ off. (refl, over _ _ off))))
 
 -- what is found is in the list and passes
-found_here : {X : Type 0} (test : X → Bool) (here : Bool) (x y : X) (xs : List X) → test x ≡ here → cond here (Some x) (find test xs) ≡ Some y → (find test xs ≡ Some y → (test y ≡ true) × Contains xs y) → (test y ≡ true) × Contains (x ∷ xs) y
+found_here : {X : Type 0} (test : X → Bool) (here : Bool) (x y : X) (xs : List X) → test x ≡ here → cond here (Some x) (find test xs) ≡ Some y →
+    (find test xs ≡ Some y → (test y ≡ true) × Contains xs y) → (test y ≡ true) × Contains (x ∷ xs) y
 found_here test true x y xs at e later = let same = same_Some x y e in (subst (λ (z : _). test z ≡ true) same at, (0, omega arith, same))
 found_here test false x y xs at e later = let l = later e in (l.0, (suc l.1.0, omega arith, l.1.2))
 
@@ -111,26 +112,31 @@ taken : {X : Type 0} (before : List X) (x : X) (rest : List X) → (before ++ x 
 taken before x rest = append_assoc before (x ∷ []) rest
 
 -- the class of a unit that is also in a unit before it is listed twice
-unit_twice : (before : List (Class × List ℤ)) (unit : Class × List ℤ) (rest : List (Class × List ℤ)) → is_unit before unit.0 ≡ true → 1 < times (map (λ u. u.0) (before ++ unit ∷ rest)) unit.0
+unit_twice : (before : List (Class × List ℤ)) (unit : Class × List ℤ) (rest : List (Class × List ℤ)) → is_unit before unit.0 ≡ true →
+    1 < times (map (λ u. u.0) (before ++ unit ∷ rest)) unit.0
 unit_twice before unit rest e =
     let b : 0 < times (map (λ u. u.0) before) unit.0 = lt_true 0 _ (sym (is_unit_times before unit.0) ∙ e) in
-    let m : times (unit.0 ∷ map (λ u. u.0) rest) unit.0 ≡ cond (same_class unit.0 unit.0) 1 0 + times (map (λ u. u.0) rest) unit.0 = times_cons unit.0 (map (λ u. u.0) rest) unit.0 in
+    let m : times (unit.0 ∷ map (λ u. u.0) rest) unit.0 ≡ cond (same_class unit.0 unit.0) 1 0 + times (map (λ u. u.0) rest) unit.0 =
+    times_cons unit.0 (map (λ u. u.0) rest) unit.0 in
     let n = rw (same_self unit.0) at m in
     rw (map-append (λ (u : Class × List ℤ). u.0) before (unit ∷ rest), times_append (map (λ u. u.0) before) (unit.0 ∷ map (λ u. u.0) rest) unit.0) (omega arith)
 
 -- a unit for Memory
-memory_unit : (before : List (Class × List ℤ)) (unit : Class × List ℤ) (rest : List (Class × List ℤ)) → unit.0 ≡ Memory → is_unit (before ++ unit ∷ rest) Memory ≡ true
+memory_unit : (before : List (Class × List ℤ)) (unit : Class × List ℤ) (rest : List (Class × List ℤ)) → unit.0 ≡ Memory →
+    is_unit (before ++ unit ∷ rest) Memory ≡ true
 memory_unit [] unit rest e = rw e refl
 memory_unit (u ∷ us) unit rest e = rw (memory_unit us unit rest e) (or-true (same_class Memory u.0))
 
 -- so it is listed twice among all classes
-unit_more_often : (parts : Parts) (before : List (Class × List ℤ)) (unit : Class × List ℤ) (rest : List (Class × List ℤ)) → parts.units ≡ before ++ unit ∷ rest → is_unit before unit.0 ≡ true → 1 < times (asked_classes parts) unit.0
+unit_more_often : (parts : Parts) (before : List (Class × List ℤ)) (unit : Class × List ℤ) (rest : List (Class × List ℤ)) →
+    parts.units ≡ before ++ unit ∷ rest → is_unit before unit.0 ≡ true → 1 < times (asked_classes parts) unit.0
 unit_more_often parts before unit rest whole e =
     let t = unit_twice before unit rest e in
     rw (times_append (map (λ u. u.0) parts.units) (sided_classes parts.sidings) unit.0, whole) (omega (arith, t))
 
 -- a stage that the pipeline does not have
-says_outside : (parts : Parts) (before : List (Class × List ℤ)) (unit : Class × List ℤ) (rest : List (Class × List ℤ)) → parts.units ≡ before ++ unit ∷ rest → (o : Option ℤ) → find (λ stage. not (is_within 1 (natural parts.stages) stage)) unit.1 ≡ o → Says parts (outside unit.0 o)
+says_outside : (parts : Parts) (before : List (Class × List ℤ)) (unit : Class × List ℤ) (rest : List (Class × List ℤ)) → parts.units ≡ before ++ unit ∷ rest →
+    (o : Option ℤ) → find (λ stage. not (is_within 1 (natural parts.stages) stage)) unit.1 ≡ o → Says parts (outside unit.0 o)
 unfolding Says
 says_outside parts before unit rest whole None e = tt
 says_outside parts before unit rest whole (Some z) e =
@@ -138,35 +144,60 @@ says_outside parts before unit rest whole (Some z) e =
     (not_on _ f.0, inl (rw whole (after (λ (u : Class × List ℤ). (u.0 ≡ unit.0) × Contains u.1 z) before unit rest (refl, f.1))))
 
 -- a unit
-says_unit : (parts : Parts) (before : List (Class × List ℤ)) (unit : Class × List ℤ) (rest : List (Class × List ℤ)) → parts.units ≡ before ++ unit ∷ rest → Says parts (unit_refusal (natural parts.stages) before unit)
+says_unit : (parts : Parts) (before : List (Class × List ℤ)) (unit : Class × List ℤ) (rest : List (Class × List ℤ)) → parts.units ≡ before ++ unit ∷ rest →
+    Says parts (unit_refusal (natural parts.stages) before unit)
 unfolding unit_refusal
 says_unit parts before unit rest whole =
-    says_first parts _ _ (says_unless parts (not (same_class unit.0 Memory)) MemoryNotSiding (λ off. rw whole (memory_unit before unit rest (same_true unit.0 Memory (not_off _ off)))))
-    (says_first parts _ _ (says_unless parts (nat_lt 0 (length unit.1)) (EmptyUnit unit.0) (λ off. rw whole (after (λ (u : Class × List ℤ). (u.0 ≡ unit.0) × (length u.1 ≡ 0)) before unit rest (refl, nothing _ off))))
+    says_first parts _ _ (says_unless parts (not (same_class unit.0 Memory)) MemoryNotSiding
+    (λ off. rw whole (memory_unit before unit rest (same_true unit.0 Memory (not_off _ off)))))
+    (says_first parts _ _ (says_unless parts (nat_lt 0 (length unit.1)) (EmptyUnit unit.0)
+    (λ off. rw whole (after (λ (u : Class × List ℤ). (u.0 ≡ unit.0) × (length u.1 ≡ 0)) before unit rest (refl, nothing _ off))))
     (says_first parts _ _ (says_outside parts before unit rest whole (find (λ stage. not (is_within 1 (natural parts.stages) stage)) unit.1) refl)
     (says_unless parts (not (is_unit before unit.0)) (ClassTwice unit.0) (λ off. unit_more_often parts before unit rest whole (not_off _ off)))))
 
 -- all units
-says_units : (parts : Parts) (before units : List (Class × List ℤ)) → parts.units ≡ before ++ units → Says parts (units_refusal (natural parts.stages) before units)
+says_units : (parts : Parts) (before units : List (Class × List ℤ)) → parts.units ≡ before ++ units →
+    Says parts (units_refusal (natural parts.stages) before units)
 unfolding Says
 says_units parts before [] whole = tt
-says_units parts before (unit ∷ units) whole = says_first parts _ _ (says_unit parts before unit units whole) (says_units parts (before ++ unit ∷ []) units (whole ∙ sym (taken before unit units)))
+says_units parts before (unit ∷ units) whole = says_first parts _ _ (says_unit parts before unit units whole)
+    (says_units parts (before ++ unit ∷ []) units (whole ∙ sym (taken before unit units)))
 
 -- a siding in the list, with what holds of it
-sided : (P : asked.Siding → Type 0) (parts : Parts) (before : List asked.Siding) (siding : asked.Siding) (rest : List asked.Siding) → parts.sidings ≡ before ++ siding ∷ rest → P siding → Any P parts.sidings
+sided : (P : asked.Siding → Type 0) (parts : Parts) (before : List asked.Siding) (siding : asked.Siding) (rest : List asked.Siding) →
+    parts.sidings ≡ before ++ siding ∷ rest → P siding → Any P parts.sidings
 sided P parts before siding rest whole p = rw whole (after P before siding rest p)
 
 -- the cells and the stages of a siding with a first class
-says_stages : (parts : Parts) (before : List asked.Siding) (siding : asked.Siding) (rest : List asked.Siding) (first : Class) → parts.sidings ≡ before ++ siding ∷ rest → Contains siding.classes first → Says parts (stages_refusal (natural parts.stages) siding first)
+says_stages : (parts : Parts) (before : List asked.Siding) (siding : asked.Siding) (rest : List asked.Siding) (first : Class) →
+    parts.sidings ≡ before ++ siding ∷ rest → Contains siding.classes first → Says parts (stages_refusal (natural parts.stages) siding first)
 unfolding stages_refusal
 says_stages parts before siding rest first whole has =
-    says_first parts _ _ (says_unless parts (is_within 1 8 siding.cells) (CellsOutOfRange siding.cells) (λ off. (off, sided (λ (s : asked.Siding). s.cells ≡ siding.cells) parts before siding rest whole refl)))
-    (says_first parts _ _ (says_unless parts (is_within 1 (natural parts.stages) siding.launch) (StageOutOfRange first siding.launch) (λ off. (off, inr (sided (λ (s : asked.Siding). Contains s.classes first × ((s.launch ≡ siding.launch) ⊎ (s.recover ≡ siding.launch))) parts before siding rest whole (has, inl refl)))))
-    (says_first parts _ _ (says_unless parts (is_within 1 (natural parts.stages) siding.recover) (StageOutOfRange first siding.recover) (λ off. (off, inr (sided (λ (s : asked.Siding). Contains s.classes first × ((s.launch ≡ siding.recover) ⊎ (s.recover ≡ siding.recover))) parts before siding rest whole (has, inr refl)))))
-    (says_unless parts (int_lt siding.launch siding.recover) (SidingOrder siding.launch siding.recover) (λ off. (not_lower _ _ off, sided (λ (s : asked.Siding). (s.launch ≡ siding.launch) × (s.recover ≡ siding.recover)) parts before siding rest whole (refl, refl))))))
+    says_first parts _ _ (says_unless parts (is_within 1 8 siding.cells) (CellsOutOfRange siding.cells)
+    (λ off. (off, sided (λ (s : asked.Siding). s.cells ≡ siding.cells) parts before siding rest whole refl)))
+    (says_first parts _ _ (says_unless parts (is_within 1 (natural parts.stages) siding.launch) (StageOutOfRange first siding.launch)
+    (λ off. (
+      off,
+      inr (sided (λ (s : asked.Siding). Contains s.classes first × ((s.launch ≡ siding.launch) ⊎ (s.recover ≡ siding.launch))) parts before
+          siding rest whole (has, inl refl)),
+    )))
+    (says_first parts _ _ (says_unless parts (is_within 1 (natural parts.stages) siding.recover) (StageOutOfRange first siding.recover)
+    (λ off. (
+      off,
+      inr (sided (λ (s : asked.Siding). Contains s.classes first × ((s.launch ≡ siding.recover) ⊎ (s.recover ≡ siding.recover))) parts before
+          siding rest whole (has, inr refl)),
+    )))
+    (says_unless parts (int_lt siding.launch siding.recover) (SidingOrder siding.launch siding.recover)
+    (λ off. (
+      not_lower _ _ off,
+      sided (λ (s : asked.Siding). (s.launch ≡ siding.launch) × (s.recover ≡ siding.recover)) parts before siding rest whole
+          (refl, refl),
+    )))))
 
 -- a class that is repeated is there more than once, counting elsewhere and before
-repeated_here : (elsewhere : Class → Bool) (seen : List Class) (here : Bool) (x c : Class) (xs : List Class) (rest : Option Class) → (elsewhere x || names seen x) ≡ here → cond here (Some x) rest ≡ Some c → (rest ≡ Some c → 1 < times xs c + cond (elsewhere c || names (seen ++ x ∷ []) c) 1 0) → 1 < times (x ∷ xs) c + cond (elsewhere c || names seen c) 1 0
+repeated_here : (elsewhere : Class → Bool) (seen : List Class) (here : Bool) (x c : Class) (xs : List Class) (rest : Option Class) →
+    (elsewhere x || names seen x) ≡ here → cond here (Some x) rest ≡ Some c → (rest ≡ Some c →
+    1 < times xs c + cond (elsewhere c || names (seen ++ x ∷ []) c) 1 0) → 1 < times (x ∷ xs) c + cond (elsewhere c || names seen c) 1 0
 repeated_here elsewhere seen true x c xs rest at e later =
     let same = same_Some x c e in
     let here : (elsewhere c || names seen c) ≡ true = subst (λ (k : Class). (elsewhere k || names seen k) ≡ true) same at in
@@ -176,9 +207,11 @@ repeated_here elsewhere seen false x c xs rest at e later =
     let l = rw (seen_more seen x c) at (later e) in
     rw (times_cons x xs c) (more_before (elsewhere c) (names seen c) (same_class c x) (times xs c) l)
 
-repeated_more : (elsewhere : Class → Bool) (seen classes : List Class) (c : Class) → first_repeated elsewhere seen classes ≡ Some c → 1 < times classes c + cond (elsewhere c || names seen c) 1 0
+repeated_more : (elsewhere : Class → Bool) (seen classes : List Class) (c : Class) → first_repeated elsewhere seen classes ≡ Some c →
+    1 < times classes c + cond (elsewhere c || names seen c) 1 0
 repeated_more elsewhere seen [] c e = cc
-repeated_more elsewhere seen (x ∷ xs) c e = repeated_here elsewhere seen (elsewhere x || names seen x) x c xs (first_repeated elsewhere (seen ++ x ∷ []) xs) refl e (λ later. repeated_more elsewhere (seen ++ x ∷ []) xs c later)
+repeated_more elsewhere seen (x ∷ xs) c e = repeated_here elsewhere seen (elsewhere x || names seen x) x c xs
+    (first_repeated elsewhere (seen ++ x ∷ []) xs) refl e (λ later. repeated_more elsewhere (seen ++ x ∷ []) xs c later)
 
 -- the classes of sidings one after the other
 sided_append : (xs ys : List asked.Siding) → sided_classes (xs ++ ys) ≡ sided_classes xs ++ sided_classes ys
@@ -186,19 +219,31 @@ sided_append [] ys = refl
 sided_append (s ∷ ss) ys = rw (sided_append ss ys) (sym (append_assoc s.classes (sided_classes ss) (sided_classes ys)))
 
 -- a class of a siding that is repeated is listed twice among all classes
-says_twice : (parts : Parts) (before : List asked.Siding) (siding : asked.Siding) (rest : List asked.Siding) → parts.sidings ≡ before ++ siding ∷ rest → (o : Option Class) → first_repeated (λ c. is_unit parts.units c || is_sided before c) [] siding.classes ≡ o → Says parts (twice o)
+says_twice : (parts : Parts) (before : List asked.Siding) (siding : asked.Siding) (rest : List asked.Siding) → parts.sidings ≡ before ++ siding ∷ rest →
+    (o : Option Class) → first_repeated (λ c. is_unit parts.units c || is_sided before c) [] siding.classes ≡ o → Says parts (twice o)
 unfolding Says
 says_twice parts before siding rest whole None e = tt
 says_twice parts before siding rest whole (Some c) e =
-    let more = rw (or-false (is_unit parts.units c || is_sided before c), is_unit_times parts.units c, is_sided_times before c) at (repeated_more (λ k. is_unit parts.units k || is_sided before k) [] siding.classes c e) in
-    rw (times_append (map (λ u. u.0) parts.units) (sided_classes parts.sidings) c, whole, sided_append before (siding ∷ rest), times_append (sided_classes before) (siding.classes ++ sided_classes rest) c, times_append siding.classes (sided_classes rest) c) (counted _ (times (sided_classes before) c) (times siding.classes c) _ more)
+    let more = rw (or-false (is_unit parts.units c || is_sided before c), is_unit_times parts.units c, is_sided_times before c) at
+    (repeated_more (λ k. is_unit parts.units k || is_sided before k) [] siding.classes c e) in
+    rw (
+      times_append (map (λ u. u.0) parts.units) (sided_classes parts.sidings) c,
+      whole,
+      sided_append before (siding ∷ rest),
+      times_append (sided_classes before) (siding.classes ++ sided_classes rest) c,
+      times_append siding.classes (sided_classes rest) c,
+    )
+    (counted _ (times (sided_classes before) c) (times siding.classes c) _ more)
 
 -- the classes of a siding
-says_classes : (parts : Parts) (before : List asked.Siding) (siding : asked.Siding) (rest : List asked.Siding) → parts.sidings ≡ before ++ siding ∷ rest → Says parts (classes_refusal (λ c. is_unit parts.units c || is_sided before c) siding.classes)
+says_classes : (parts : Parts) (before : List asked.Siding) (siding : asked.Siding) (rest : List asked.Siding) → parts.sidings ≡ before ++ siding ∷ rest →
+    Says parts (classes_refusal (λ c. is_unit parts.units c || is_sided before c) siding.classes)
 unfolding classes_refusal
 says_classes parts before siding rest whole =
     says_first parts _ _ (says_twice parts before siding rest whole (first_repeated (λ c. is_unit parts.units c || is_sided before c) [] siding.classes) refl)
-    (says_unless parts (not (names siding.classes Memory && nat_lt 1 (length siding.classes))) MemorySharesSiding (λ off. let b = both_true _ _ (not_off _ off) in sided (λ (s : asked.Siding). (names s.classes Memory ≡ true) × (1 < length s.classes)) parts before siding rest whole (b.0, lt_true 1 _ b.1)))
+    (says_unless parts (not (names siding.classes Memory && nat_lt 1 (length siding.classes))) MemorySharesSiding (λ off. let b =
+    both_true _ _ (not_off _ off) in sided (λ (s : asked.Siding). (names s.classes Memory ≡ true) × (1 < length s.classes)) parts before siding rest whole
+    (b.0, lt_true 1 _ b.1)))
 
 -- the siding after others has their number as its index
 number_of : (before : List asked.Siding) (siding : asked.Siding) (rest : List asked.Siding) → slice_get (before ++ siding ∷ rest) (length before) ≡ Some siding
@@ -206,25 +251,34 @@ number_of [] siding rest = refl
 number_of (s ∷ ss) siding rest = number_of ss siding rest
 
 -- a siding with no class
-says_empty : (parts : Parts) (before : List asked.Siding) (siding : asked.Siding) (rest : List asked.Siding) → parts.sidings ≡ before ++ siding ∷ rest → length siding.classes ≡ 0 → Says parts (Some (EmptySiding (length before)))
+says_empty : (parts : Parts) (before : List asked.Siding) (siding : asked.Siding) (rest : List asked.Siding) → parts.sidings ≡ before ++ siding ∷ rest →
+    length siding.classes ≡ 0 → Says parts (Some (EmptySiding (length before)))
 unfolding Says
-says_empty parts before siding rest whole none = sided (λ (s : asked.Siding). (slice_get parts.sidings (length before) ≡ Some s) × (length s.classes ≡ 0)) parts before siding rest whole (rw whole (number_of before siding rest), none)
+says_empty parts before siding rest whole none = sided (λ (s : asked.Siding). (slice_get parts.sidings (length before) ≡ Some s)
+    × (length s.classes ≡ 0)) parts before siding rest whole (rw whole (number_of before siding rest), none)
 
 -- a siding whose classes these are
-says_filled : (parts : Parts) (before : List asked.Siding) (siding : asked.Siding) (rest : List asked.Siding) (classes : List Class) → parts.sidings ≡ before ++ siding ∷ rest → classes ≡ siding.classes → Says parts (classes_refusal (λ c. is_unit parts.units c || is_sided before c) classes) → Says parts (filled_refusal (natural parts.stages) (λ c. is_unit parts.units c || is_sided before c) (length before) siding classes)
+says_filled : (parts : Parts) (before : List asked.Siding) (siding : asked.Siding) (rest : List asked.Siding) (classes : List Class) →
+    parts.sidings ≡ before ++ siding ∷ rest → classes ≡ siding.classes → Says parts (classes_refusal (λ c. is_unit parts.units c
+    || is_sided before c) classes) → Says parts (filled_refusal (natural parts.stages) (λ c. is_unit parts.units c || is_sided before c)
+    (length before) siding classes)
 says_filled parts before siding rest [] whole same said = says_empty parts before siding rest whole (rw (← same) refl)
-says_filled parts before siding rest (first ∷ more) whole same said = says_first parts _ _ (says_stages parts before siding rest first whole (rw (← same) (0, omega arith, refl))) said
+says_filled parts before siding rest (first ∷ more) whole same said = says_first parts _ _
+    (says_stages parts before siding rest first whole (rw (← same) (0, omega arith, refl))) said
 
 -- a siding
-says_siding : (parts : Parts) (before : List asked.Siding) (siding : asked.Siding) (rest : List asked.Siding) → parts.sidings ≡ before ++ siding ∷ rest → Says parts (siding_refusal (natural parts.stages) parts.units before siding)
+says_siding : (parts : Parts) (before : List asked.Siding) (siding : asked.Siding) (rest : List asked.Siding) → parts.sidings ≡ before ++ siding ∷ rest →
+    Says parts (siding_refusal (natural parts.stages) parts.units before siding)
 unfolding siding_refusal
 says_siding parts before siding rest whole = says_filled parts before siding rest siding.classes whole refl (says_classes parts before siding rest whole)
 
 -- all sidings
-says_sidings : (parts : Parts) (before sidings : List asked.Siding) → parts.sidings ≡ before ++ sidings → Says parts (sidings_refusal (natural parts.stages) parts.units before sidings)
+says_sidings : (parts : Parts) (before sidings : List asked.Siding) → parts.sidings ≡ before ++ sidings →
+    Says parts (sidings_refusal (natural parts.stages) parts.units before sidings)
 unfolding Says
 says_sidings parts before [] whole = tt
-says_sidings parts before (siding ∷ sidings) whole = says_first parts _ _ (says_siding parts before siding sidings whole) (says_sidings parts (before ++ siding ∷ []) sidings (whole ∙ sym (taken before siding sidings)))
+says_sidings parts before (siding ∷ sidings) whole = says_first parts _ _ (says_siding parts before siding sidings whole)
+    (says_sidings parts (before ++ siding ∷ []) sidings (whole ∙ sym (taken before siding sidings)))
 
 -- a class that is missing
 says_absent : (parts : Parts) (o : Option Class) → find (λ c. not (is_asked parts c)) needed_classes ≡ o → Says parts (missing o)
@@ -239,11 +293,13 @@ says_missing : (parts : Parts) → Says parts (missing_refusal parts)
 unfolding missing_refusal
 says_missing parts =
     says_first parts _ _ (says_absent parts (find (λ c. not (is_asked parts c)) needed_classes) refl)
-    (says_first parts _ _ (says_unless parts (is_asked parts Mul || not (is_asked parts Div)) (MissingUnit Mul) (λ off. let p = one_only _ _ off in (p.0, inr (inl (refl, p.1)))))
+    (says_first parts _ _ (says_unless parts (is_asked parts Mul || not (is_asked parts Div)) (MissingUnit Mul) (λ off. let p = one_only _ _ off in
+    (p.0, inr (inl (refl, p.1)))))
     (says_unless parts (is_asked parts Div || not (is_asked parts Mul)) (MissingUnit Div) (λ off. let p = one_only _ _ off in (p.0, inr (inr (refl, p.1))))))
 
 -- a stage above the one from which memory is reached
-says_above : (parts : Parts) (c : Class) → is_control c ≡ true → (o : Option ℕ) → find (nat_lt (memory_launch_in parts.sidings)) (turns_in (ascending (listed parts.units c)) (siding_for parts.sidings c)) ≡ o → Says parts (above c (memory_launch_in parts.sidings) o)
+says_above : (parts : Parts) (c : Class) → is_control c ≡ true → (o : Option ℕ) → find (nat_lt (memory_launch_in parts.sidings))
+    (turns_in (ascending (listed parts.units c)) (siding_for parts.sidings c)) ≡ o → Says parts (above c (memory_launch_in parts.sidings) o)
 unfolding Says
 says_above parts c turns None e = tt
 says_above parts c turns (Some stage) e =
@@ -253,7 +309,8 @@ says_above parts c turns (Some stage) e =
 -- where a class turns control
 says_turns : (parts : Parts) (c : Class) → is_control c ≡ true → Says parts (turn_refusal parts c)
 unfolding turn_refusal
-says_turns parts c turns = says_above parts c turns (find (nat_lt (memory_launch_in parts.sidings)) (turns_in (ascending (listed parts.units c)) (siding_for parts.sidings c))) refl
+says_turns parts c turns = says_above parts c turns (find (nat_lt (memory_launch_in parts.sidings))
+    (turns_in (ascending (listed parts.units c)) (siding_for parts.sidings c))) refl
 
 -- where control turns
 says_control : (parts : Parts) → Says parts (control_refusal parts)

@@ -102,25 +102,30 @@ once_more false true rest le = omega arith
 once_more false false rest le = omega arith
 
 -- all units
-units_pass : (n : ℕ) (before units : List (Class × List ℤ)) → All (IsUnit n) units → ((c : Class) → times (map (λ unit. unit.0) units) c + cond (is_unit before c) 1 0 ≤ 1) → units_refusal n before units ≡ None
+units_pass : (n : ℕ) (before units : List (Class × List ℤ)) → All (IsUnit n) units → ((c : Class) →
+    times (map (λ unit. unit.0) units) c + cond (is_unit before c) 1 0 ≤ 1) → units_refusal n before units ≡ None
 units_pass n before [] all once = refl
 units_pass n before (unit ∷ units) all once =
     let here = rw (times_cons unit.0 (map (λ u. u.0) units) unit.0, same_self unit.0) at (once unit.0) in
     both _ _ (unit_pass n before unit (all 0 unit (omega arith)) (alone_before _ _ here))
-    (units_pass n (before ++ unit ∷ []) units (All-tail (IsUnit n) unit units all) (λ c. rw (unit_more before unit c) (once_more (is_unit before c) (same_class c unit.0) _ (rw (times_cons unit.0 (map (λ u. u.0) units) c) at (once c)))))
+    (units_pass n (before ++ unit ∷ []) units (All-tail (IsUnit n) unit units all) (λ c. rw (unit_more before unit c)
+    (once_more (is_unit before c) (same_class c unit.0) _ (rw (times_cons unit.0 (map (λ u. u.0) units) c) at (once c)))))
 
 -- classes none of which is repeated
-repeated_pass : (elsewhere : Class → Bool) (seen classes : List Class) → ((c : Class) → times classes c + cond (elsewhere c || names seen c) 1 0 ≤ 1) → first_repeated elsewhere seen classes ≡ None
+repeated_pass : (elsewhere : Class → Bool) (seen classes : List Class) → ((c : Class) → times classes c + cond (elsewhere c || names seen c) 1 0 ≤ 1) →
+    first_repeated elsewhere seen classes ≡ None
 repeated_pass elsewhere seen [] once = refl
 repeated_pass elsewhere seen (x ∷ xs) once =
     let here = rw (times_cons x xs x, same_self x) at (once x) in
     none_step (elsewhere x || names seen x) x _ (alone_before _ _ here)
-    (repeated_pass elsewhere (seen ++ x ∷ []) xs (λ c. rw (seen_more seen x c, or_regroup (elsewhere c) (names seen c) (same_class c x)) (once_more (elsewhere c || names seen c) (same_class c x) _ (rw (times_cons x xs c) at (once c)))))
+    (repeated_pass elsewhere (seen ++ x ∷ []) xs (λ c. rw (seen_more seen x c, or_regroup (elsewhere c) (names seen c) (same_class c x))
+    (once_more (elsewhere c || names seen c) (same_class c x) _ (rw (times_cons x xs c) at (once c)))))
 
 -- the cells and the stages of a siding
 stages_pass : (n : ℕ) (siding : asked.Siding) (first : Class) → IsSiding n siding → stages_refusal n siding first ≡ None
 unfolding stages_refusal
-stages_pass n siding first s = both _ _ (passes _ _ s.cells) (both _ _ (passes _ _ s.launch) (both _ _ (passes _ _ s.recover) (passes _ _ (lower_test _ _ s.order))))
+stages_pass n siding first s = both _ _ (passes _ _ s.cells) (both _ _ (passes _ _ s.launch)
+    (both _ _ (passes _ _ s.recover) (passes _ _ (lower_test _ _ s.order))))
 
 -- Memory shares its siding with no other class
 alone_pass : (named : Bool) (n : ℕ) → (named ≡ true → n ≡ 1) → not (named && nat_lt 1 n) ≡ true
@@ -128,17 +133,22 @@ alone_pass true n one = let e = one refl in rw e refl
 alone_pass false n one = refl
 
 -- the classes of a siding
-classes_pass : (elsewhere : Class → Bool) (classes : List Class) → ((c : Class) → times classes c + cond (elsewhere c) 1 0 ≤ 1) → (names classes Memory ≡ true → length classes ≡ 1) → classes_refusal elsewhere classes ≡ None
+classes_pass : (elsewhere : Class → Bool) (classes : List Class) → ((c : Class) → times classes c + cond (elsewhere c) 1 0 ≤ 1) →
+    (names classes Memory ≡ true → length classes ≡ 1) → classes_refusal elsewhere classes ≡ None
 unfolding classes_refusal
-classes_pass elsewhere classes once alone = both _ _ (ap twice (repeated_pass elsewhere [] classes (λ c. rw (or-false (elsewhere c)) (once c)))) (passes _ _ (alone_pass (names classes Memory) (length classes) alone))
+classes_pass elsewhere classes once alone = both _ _ (ap twice (repeated_pass elsewhere [] classes (λ c. rw (or-false (elsewhere c)) (once c))))
+    (passes _ _ (alone_pass (names classes Memory) (length classes) alone))
 
 -- a siding with these classes
-filled_pass : (n : ℕ) (elsewhere : Class → Bool) (index : ℕ) (siding : asked.Siding) (classes : List Class) → classes ≡ siding.classes → IsSiding n siding → ((c : Class) → times classes c + cond (elsewhere c) 1 0 ≤ 1) → filled_refusal n elsewhere index siding classes ≡ None
+filled_pass : (n : ℕ) (elsewhere : Class → Bool) (index : ℕ) (siding : asked.Siding) (classes : List Class) → classes ≡ siding.classes → IsSiding n siding →
+    ((c : Class) → times classes c + cond (elsewhere c) 1 0 ≤ 1) → filled_refusal n elsewhere index siding classes ≡ None
 filled_pass n elsewhere index siding [] same s once = let some = rw (← same) at s.some in absurd (omega arith)
-filled_pass n elsewhere index siding (first ∷ rest) same s once = both _ _ (stages_pass n siding first s) (classes_pass elsewhere (first ∷ rest) once (rw (← same) at s.memory_alone))
+filled_pass n elsewhere index siding (first ∷ rest) same s once = both _ _ (stages_pass n siding first s)
+    (classes_pass elsewhere (first ∷ rest) once (rw (← same) at s.memory_alone))
 
 -- a siding
-siding_pass : (n : ℕ) (units : List (Class × List ℤ)) (before : List asked.Siding) (siding : asked.Siding) → IsSiding n siding → ((c : Class) → times siding.classes c + cond (is_unit units c || is_sided before c) 1 0 ≤ 1) → siding_refusal n units before siding ≡ None
+siding_pass : (n : ℕ) (units : List (Class × List ℤ)) (before : List asked.Siding) (siding : asked.Siding) → IsSiding n siding →
+    ((c : Class) → times siding.classes c + cond (is_unit units c || is_sided before c) 1 0 ≤ 1) → siding_refusal n units before siding ≡ None
 unfolding siding_refusal
 siding_pass n units before siding s once = filled_pass n (λ c. is_unit units c || is_sided before c) (length before) siding siding.classes refl s once
 
@@ -152,24 +162,40 @@ once_after t r false true e le = let more : 0 < t = grind (arith, nat_tests) in 
 once_after t r false false e le = omega arith
 
 -- all sidings
-sidings_pass : (n : ℕ) (units : List (Class × List ℤ)) (before sidings : List asked.Siding) → All (IsSiding n) sidings → ((c : Class) → times (sided_classes sidings) c + cond (is_unit units c || is_sided before c) 1 0 ≤ 1) → sidings_refusal n units before sidings ≡ None
+sidings_pass : (n : ℕ) (units : List (Class × List ℤ)) (before sidings : List asked.Siding) → All (IsSiding n) sidings →
+    ((c : Class) → times (sided_classes sidings) c + cond (is_unit units c || is_sided before c) 1 0 ≤ 1) → sidings_refusal n units before sidings ≡ None
 sidings_pass n units before [] all once = refl
 sidings_pass n units before (siding ∷ sidings) all once =
     let split = λ (c : Class). rw (times_append siding.classes (sided_classes sidings) c) at (once c) in
     both _ _ (siding_pass n units before siding (all 0 siding (omega arith)) (λ c. once_here _ (times (sided_classes sidings) c) _ (split c)))
-    (sidings_pass n units (before ++ siding ∷ []) sidings (All-tail (IsSiding n) siding sidings all) (λ c. rw (sided_more units before siding c) (once_after (times siding.classes c) _ _ _ refl (split c))))
+    (sidings_pass n units (before ++ siding ∷ []) sidings (All-tail (IsSiding n) siding sidings all)
+    (λ c. rw (sided_more units before siding c) (once_after (times siding.classes c) _ _ _ refl (split c))))
 
 -- what is missing
 missing_pass : (parts : Parts) → IsAcceptable parts → missing_refusal parts ≡ None
 unfolding missing_refusal
 missing_pass parts a =
-    both _ _ (ap missing (none_outside (is_asked parts) needed_classes (All-from_recursion (λ c. is_asked parts c ≡ true) needed_classes (a.needed Add refl, (a.needed Logic refl, (a.needed Shift refl, (a.needed Compare refl, (a.needed Branch refl, (a.needed Jump refl, (a.needed Memory refl, tt))))))))))
+    both _ _ (ap missing (none_outside (is_asked parts) needed_classes (All-from_recursion (λ c. is_asked parts c ≡ true) needed_classes (
+      a.needed Add refl,
+      (
+        a.needed Logic refl,
+        (
+          a.needed Shift refl,
+          (
+            a.needed Compare refl,
+            (a.needed Branch refl, (a.needed Jump refl, (a.needed Memory refl, tt))),
+          ),
+        ),
+      ),
+    ))))
     (both _ _ (passes _ _ (pair_test _ _ a.pair)) (passes _ _ (pair_test _ _ (sym a.pair))))
 
 -- where control turns
-turn_pass : (parts : Parts) (c : Class) → All (λ stage. stage ≤ memory_launch_in parts.sidings) (turns_in (ascending (listed parts.units c)) (siding_for parts.sidings c)) → turn_refusal parts c ≡ None
+turn_pass : (parts : Parts) (c : Class) → All (λ stage. stage ≤ memory_launch_in parts.sidings)
+    (turns_in (ascending (listed parts.units c)) (siding_for parts.sidings c)) → turn_refusal parts c ≡ None
 unfolding turn_refusal
-turn_pass parts c all = ap (above c (memory_launch_in parts.sidings)) (none_fails (nat_lt (memory_launch_in parts.sidings)) (turns_in (ascending (listed parts.units c)) (siding_for parts.sidings c)) (λ k d within. low_test _ _ (all k d within)))
+turn_pass parts c all = ap (above c (memory_launch_in parts.sidings)) (none_fails (nat_lt (memory_launch_in parts.sidings))
+    (turns_in (ascending (listed parts.units c)) (siding_for parts.sidings c)) (λ k d within. low_test _ _ (all k d within)))
 
 control_pass : (parts : Parts) → IsAcceptable parts → control_refusal parts ≡ None
 unfolding control_refusal
@@ -182,5 +208,7 @@ not_refused parts a =
     let split = λ (c : Class). rw (times_append (map (λ unit. unit.0) parts.units) (sided_classes parts.sidings) c) at (a.once c) in
     both _ _ (limits_pass parts a)
     (both _ _ (units_pass (natural parts.stages) [] parts.units a.units (λ c. in_units _ (times (sided_classes parts.sidings) c) (split c)))
-    (both _ _ (sidings_pass (natural parts.stages) parts.units [] parts.sidings a.sidings (λ c. rw (or-false (is_unit parts.units c), is_unit_times parts.units c) (in_sidings (times (map (λ unit. unit.0) parts.units) c) (times (sided_classes parts.sidings) c) _ refl (split c))))
+    (both _ _ (sidings_pass (natural parts.stages) parts.units [] parts.sidings a.sidings (λ c. rw
+    (or-false (is_unit parts.units c), is_unit_times parts.units c) (in_sidings (times (map (λ unit. unit.0) parts.units) c)
+    (times (sided_classes parts.sidings) c) _ refl (split c))))
     (both _ _ (missing_pass parts a) (control_pass parts a))))

@@ -36,7 +36,8 @@ pub set_small : (w k n : ℕ) → k < 32 → k < n → w < 2 ^ n → bit_or w (1
 set_small w k n small below less = let e : 1 * 2 ^ k % 2 ^ 32 ≡ 2 ^ k = one_shl k 32 small in rw e (or_lt n w (2 ^ k) less (pow-lt below))
 
 -- the list of members by what is tested in place of the bits
-pub members_by : {X : Type 0} (bit : X → ℕ) (test : X → Bool) (w : ℕ) (xs : List X) → AllByRecursion (λ x. has_bit w (bit x) ≡ test x) xs → members bit xs w ≡ filter test xs
+pub members_by : {X : Type 0} (bit : X → ℕ) (test : X → Bool) (w : ℕ) (xs : List X) → AllByRecursion (λ x. has_bit w (bit x) ≡ test x) xs →
+    members bit xs w ≡ filter test xs
 unfolding members
 members_by bit test w [] same = refl
 members_by {X = X} bit test w (x ∷ xs) same = let r = members_by bit test w xs same.1 in rw (same.0) (ap (λ (l : List X). cond (test x) (x ∷ l) l) r)
@@ -49,7 +50,8 @@ any_range a (suc n) s = let r = any_range (a + 1) n s in rw r (grind (arith, nat
 -- a stage of a word is a bit of it
 any_stage : (w s : ℕ) → list_any (nat_eq s) (stages_of_word w) ≡ (has_bit w (s - 1) && (nat_le 1 s && nat_lt s 33))
 unfolding members stage_numbers
-any_stage w s = any-filter_same (nat_eq s) (λ i. has_bit w (i - 1)) (has_bit w (s - 1)) (λ k e. let at : s ≡ k = grind (arith, nat_tests) in rw at refl) (range_with_len 1 32) ∙ ap (λ (b : Bool). has_bit w (s - 1) && b) (any_range 1 32 s)
+any_stage w s = any-filter_same (nat_eq s) (λ i. has_bit w (i - 1)) (has_bit w (s - 1)) (λ k e. let at : s ≡ k = grind (arith, nat_tests) in
+    rw at refl) (range_with_len 1 32) ∙ ap (λ (b : Bool). has_bit w (s - 1) && b) (any_range 1 32 s)
 
 -- a stage from 1 to 32
 pub stage_in : (w s : ℕ) → 1 ≤ s → s ≤ 32 → list_any (nat_eq s) (stages_of_word w) ≡ has_bit w (s - 1)
@@ -78,11 +80,13 @@ found true test s ss = rw (and-true (test s)) refl
 found false test s ss = rw (and-false (test s)) refl
 
 -- the first of them above another number
-pub find_next : (w other s : ℕ) → 1 ≤ s → s < 33 → find (nat_lt other) (stages_from w s) ≡ cond (nat_lt other s && has_bit w (s - 1)) (Some s) (find (nat_lt other) (stages_from w (s + 1)))
+pub find_next : (w other s : ℕ) → 1 ≤ s → s < 33 → find (nat_lt other) (stages_from w s) ≡ cond (nat_lt other s && has_bit w (s - 1)) (Some s)
+    (find (nat_lt other) (stages_from w (s + 1)))
 find_next w other s low high = let e = from_next w s low high in rw e (found (has_bit w (s - 1)) (nat_lt other) s (stages_from w (s + 1)))
 
 -- the next is passed over where it is not above the number, or is no stage of the word
-pub find_on : (w other s : ℕ) → 1 ≤ s → s < 33 → (nat_lt other s && has_bit w (s - 1)) ≡ false → find (nat_lt other) (stages_from w (s + 1)) ≡ find (nat_lt other) (stages_from w s)
+pub find_on : (w other s : ℕ) → 1 ≤ s → s < 33 → (nat_lt other s && has_bit w (s - 1)) ≡ false →
+    find (nat_lt other) (stages_from w (s + 1)) ≡ find (nat_lt other) (stages_from w s)
 find_on w other s low high off = sym (rw off at (find_next w other s low high))
 
 -- all of them are the stages of the word
@@ -96,7 +100,8 @@ unfolding stages_from members
 from_end w = refl
 
 -- the bit of a stage
-pub stage_bit : (w v n : ℕ) (stage : ℤ) → ((k : ℕ) → has_bit v k ≡ (nat_eq k (n - 1) || has_bit w k)) → stage ≡ pos n → 1 ≤ n → (k : ℕ) → has_bit v k ≡ (has_bit w k || is_number (k + 1) stage)
+pub stage_bit : (w v n : ℕ) (stage : ℤ) → ((k : ℕ) → has_bit v k ≡ (nat_eq k (n - 1) || has_bit w k)) → stage ≡ pos n → 1 ≤ n → (k : ℕ) →
+    has_bit v k ≡ (has_bit w k || is_number (k + 1) stage)
 stage_bit w v n stage new at low k = let h = new k in rw at (grind (arith, nat_tests, h))
 
 -- the word 0 has no bit
@@ -105,7 +110,8 @@ unfolding has_bit
 no_bits i = let e : 0 / 2 ^ i % 2 ≡ 0 = bit_at-zero i in rw e refl
 
 -- where the tests of bits from k on agree with other tests, the lists of what passes are the same
-stages_agree : (w : ℕ) (test : ℕ → Bool) (n k : ℕ) → ((i : ℕ) → i < k + n → has_bit w i ≡ test (i + 1)) → members bit_of (range_with_len (k + 1) n) w ≡ filter test (range_with_len (k + 1) n)
+stages_agree : (w : ℕ) (test : ℕ → Bool) (n k : ℕ) → ((i : ℕ) → i < k + n → has_bit w i ≡ test (i + 1)) →
+    members bit_of (range_with_len (k + 1) n) w ≡ filter test (range_with_len (k + 1) n)
 unfolding members
 stages_agree w test zero k same = refl
 stages_agree w test (suc n) k same =
@@ -115,12 +121,14 @@ stages_agree w test (suc n) k same =
     rw (e, h) (ap (λ (l : List ℕ). cond (test (k + 1)) ((k + 1) ∷ l) l) r)
 
 -- the stages of a word by what is tested in place of the bits
-pub stages_by : (w n : ℕ) (stages : List ℤ) → length stages ≤ n → ((i : ℕ) → i < 32 → has_bit w i ≡ list_any (is_number (i + 1)) (take n stages)) → stages_of_word w ≡ ascending stages
+pub stages_by : (w n : ℕ) (stages : List ℤ) → length stages ≤ n → ((i : ℕ) → i < 32 → has_bit w i ≡ list_any (is_number (i + 1)) (take n stages)) →
+    stages_of_word w ≡ ascending stages
 unfolding ascending stage_numbers
 stages_by w n stages all same = stages_agree w (λ i. list_any (is_number i) stages) 32 0 (λ i below. rw (take_all n stages all) at (same i below))
 
 -- a word with the bit of one more class has the bits of the same classes and of that class
-pub class_bit : (w v : ℕ) (class c : Class) → ((k : ℕ) → has_bit v k ≡ (nat_eq k (place_of class) || has_bit w k)) → has_bit v (place_of c) ≡ (has_bit w (place_of c) || same_class c class)
+pub class_bit : (w v : ℕ) (class c : Class) → ((k : ℕ) → has_bit v k ≡ (nat_eq k (place_of class) || has_bit w k)) →
+    has_bit v (place_of c) ≡ (has_bit w (place_of c) || same_class c class)
 class_bit w v class c new = let h = new (place_of c) in grind (arith, nat_tests, h)
 
 -- a class that has no bit is not one of those that have one
@@ -128,12 +136,26 @@ pub no_class_bit : (class c : Class) → 9 ≤ place_of class → place_of c < 9
 no_class_bit class c high low = grind (arith, nat_tests)
 
 -- the classes of a word by what is tested in place of the bits
-classes_agree : (w : ℕ) (classes : List Class) → ((c : Class) → place_of c < 9 → has_bit w (place_of c) ≡ names classes c) → classes_of_word w ≡ in_class_order classes
+classes_agree : (w : ℕ) (classes : List Class) → ((c : Class) → place_of c < 9 → has_bit w (place_of c) ≡ names classes c) →
+    classes_of_word w ≡ in_class_order classes
 unfolding in_class_order
-classes_agree w classes same = members_by place_of (names classes) w computed_classes (same Add (omega arith), (same Logic (omega arith), (same Shift (omega arith), (same Compare (omega arith), (same Branch (omega arith), (same Jump (omega arith), (same Memory (omega arith), (same Mul (omega arith), (same Div (omega arith), tt)))))))))
+classes_agree w classes same = members_by place_of (names classes) w computed_classes (
+  same Add (omega arith),
+  (
+    same Logic (omega arith),
+    (
+      same Shift (omega arith),
+      (
+        same Compare (omega arith),
+        (same Branch (omega arith), (same Jump (omega arith), (same Memory (omega arith), (same Mul (omega arith), (same Div (omega arith), tt))))),
+      ),
+    ),
+  ),
+)
 
 -- the same where all classes of the list have been gone through
-pub classes_by : (w n : ℕ) (classes : List Class) → length classes ≤ n → ((c : Class) → place_of c < 9 → has_bit w (place_of c) ≡ names (take n classes) c) → classes_of_word w ≡ in_class_order classes
+pub classes_by : (w n : ℕ) (classes : List Class) → length classes ≤ n → ((c : Class) → place_of c < 9 → has_bit w (place_of c) ≡ names (take n classes) c) →
+    classes_of_word w ≡ in_class_order classes
 classes_by w n classes all same = classes_agree w classes (rw (take_all n classes all) at same)
 
 -- a small word has no high bit
@@ -144,7 +166,8 @@ high_bit w i small high = let p : 2 ^ 9 ≤ 2 ^ i = pow-le-pow_right (omega arit
 -- a class of a word is a bit of it
 any_class : (w : ℕ) (c : Class) → names (classes_of_word w) c ≡ (has_bit w (place_of c) && names computed_classes c)
 unfolding members
-any_class w c = any-filter_same (same_class c) (λ k. has_bit w (place_of k)) (has_bit w (place_of c)) (λ k e. let at : place_of c ≡ place_of k = grind (arith, nat_tests) in rw at refl) computed_classes
+any_class w c = any-filter_same (same_class c) (λ k. has_bit w (place_of k)) (has_bit w (place_of c)) (λ k e. let at : place_of c ≡ place_of k =
+    grind (arith, nat_tests) in rw at refl) computed_classes
 
 -- the class is one of those that have a bit, or has a high place
 computed_or : (c : Class) → (names computed_classes c ≡ true) ⊎ ((names computed_classes c ≡ false) × (9 ≤ place_of c))
@@ -182,8 +205,10 @@ word_of_none (stage ∷ stages) none = absurd (omega arith)
 some_case : (w : ℕ) (a b : Bool) → nat_eq (length (stages_of_word w)) 0 ≡ a → nat_eq w 0 ≡ b → w < 2 ^ 32 → a ≡ b
 some_case w true true p q small = refl
 some_case w false false p q small = refl
-some_case w true false p q small = let none : length (stages_of_word w) ≡ 0 = grind (arith, nat_tests) in let z = word_of_none (stages_of_word w) none in let k = stages_kept w small in absurd (grind (arith, nat_tests))
-some_case w false true p q small = let z : w ≡ 0 = grind (arith, nat_tests) in let e : length (stages_of_word w) ≡ 0 = rw (z, no_stages) refl in absurd (grind (arith, nat_tests))
+some_case w true false p q small = let none : length (stages_of_word w) ≡ 0 = grind (arith, nat_tests) in let z = word_of_none (stages_of_word w) none in
+    let k = stages_kept w small in absurd (grind (arith, nat_tests))
+some_case w false true p q small = let z : w ≡ 0 = grind (arith, nat_tests) in let e : length (stages_of_word w) ≡ 0 = rw (z, no_stages) refl in
+    absurd (grind (arith, nat_tests))
 
 -- a word other than 0 has a stage
 pub some_stage : (w : ℕ) → w < 2 ^ 32 → nat_eq (length (stages_of_word w)) 0 ≡ nat_eq w 0
@@ -195,7 +220,8 @@ unfolding members has_bit
 no_classes = refl
 
 -- the members of a list from an index on
-pub members_next : {X : Type 0} (bit : X → ℕ) (w : ℕ) (xs : List X) (i : ℕ) (d : X) → i < length xs → members bit (drop i xs) w ≡ cond (has_bit w (bit (get_or xs i d))) (get_or xs i d ∷ members bit (drop (i + 1) xs) w) (members bit (drop (i + 1) xs) w)
+pub members_next : {X : Type 0} (bit : X → ℕ) (w : ℕ) (xs : List X) (i : ℕ) (d : X) → i < length xs →
+    members bit (drop i xs) w ≡ cond (has_bit w (bit (get_or xs i d))) (get_or xs i d ∷ members bit (drop (i + 1) xs) w) (members bit (drop (i + 1) xs) w)
 unfolding members
 members_next bit w xs i d within = rw (drop-cons xs i d, add-one) refl
 
@@ -205,18 +231,31 @@ split true x xs = refl
 split false x xs = refl
 
 -- a list of stages with the next one
-pub stage_listed : (w s : ℕ) (list before all : List ℕ) → 1 ≤ s → s < 33 → list ≡ before ++ cond (has_bit w (s - 1)) (s ∷ []) [] → before ++ stages_from w s ≡ all → list ++ stages_from w (s + 1) ≡ all
-stage_listed w s list before all low high e so_far = rw (e, append_assoc, ← so_far, from_next w s low high, split (has_bit w (s - 1)) s (stages_from w (s + 1))) refl
+pub stage_listed : (w s : ℕ) (list before all : List ℕ) → 1 ≤ s → s < 33 → list ≡ before ++ cond (has_bit w (s - 1)) (s ∷ []) [] →
+    before ++ stages_from w s ≡ all → list ++ stages_from w (s + 1) ≡ all
+stage_listed w s list before all low high e so_far = rw (e, append_assoc, ← so_far, from_next w s low high, split (has_bit w (s - 1)) s (stages_from w (s + 1)))
+    refl
 
 -- a list of all stages
 pub stages_listed : (w s : ℕ) (list : List ℕ) → 33 ≤ s → s ≤ 33 → list ++ stages_from w s ≡ stages_from w 1 → list ≡ stages_of_word w
 stages_listed w s list low high e = let at : s ≡ 33 = omega arith in let f = rw (at, from_end w, append-nil) at e in f ∙ from_first w
 
 -- a list of classes with the next one
-pub class_listed : (w i : ℕ) (d : Class) (xs list before all : List Class) → i < length xs → list ≡ before ++ cond (has_bit w (place_of (get_or xs i d))) (get_or xs i d ∷ []) [] → before ++ members place_of (drop i xs) w ≡ all → list ++ members place_of (drop (i + 1) xs) w ≡ all
-class_listed w i d xs list before all within e so_far = rw (e, append_assoc, ← so_far, members_next place_of w xs i d within, split (has_bit w (place_of (get_or xs i d))) (get_or xs i d) (members place_of (drop (i + 1) xs) w)) refl
+pub class_listed : (w i : ℕ) (d : Class) (xs list before all : List Class) → i < length xs →
+    list ≡ before ++ cond (has_bit w (place_of (get_or xs i d))) (get_or xs i d ∷ []) [] → before ++ members place_of (drop i xs) w ≡ all →
+    list ++ members place_of (drop (i + 1) xs) w ≡ all
+class_listed w i d xs list before all within e so_far =
+    rw (
+      e,
+      append_assoc,
+      ← so_far,
+      members_next place_of w xs i d within,
+      split (has_bit w (place_of (get_or xs i d))) (get_or xs i d)
+          (members place_of (drop (i + 1) xs) w),
+    ) refl
 
 -- a list of all classes
-pub classes_listed : (w i : ℕ) (xs list : List Class) → length xs ≤ i → list ++ members place_of (drop i xs) w ≡ members place_of xs w → list ≡ members place_of xs w
+pub classes_listed : (w i : ℕ) (xs list : List Class) → length xs ≤ i → list ++ members place_of (drop i xs) w ≡ members place_of xs w →
+    list ≡ members place_of xs w
 unfolding members
 classes_listed w i xs list after e = rw (drop_all i xs after, append-nil) at e

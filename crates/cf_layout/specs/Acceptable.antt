@@ -64,4 +64,5 @@ pub record IsAcceptable (parts : Parts) : Type 0 where
   pub needed : (c : Class) → is_needed c ≡ true → is_asked parts c ≡ true
   pub pair : is_asked parts Mul ≡ is_asked parts Div
   -- control turns at or below the stage from which memory is reached, whether at a unit or at a recovery
-  pub control : (c : Class) → is_control c ≡ true → All (λ stage. stage ≤ memory_launch_in parts.sidings) (turns_in (ascending (listed parts.units c)) (siding_for parts.sidings c))
+  pub control : (c : Class) → is_control c ≡ true → All (λ stage. stage ≤ memory_launch_in parts.sidings)
+      (turns_in (ascending (listed parts.units c)) (siding_for parts.sidings c))

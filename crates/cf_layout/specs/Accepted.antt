@@ -1,4 +1,6 @@
--- Which layouts are accepted: what has to hold so that each instruction finds its unit or its siding on its way up, and so that nothing that turns control stands above the stage from which memory is reached (Sproull, Sutherland and Molnar, "Counterflow Pipeline Processor Architecture", 1994, on traps and sidings).
+-- Which layouts are accepted: what has to hold so that each instruction finds its unit or its siding on its way up, and
+-- so that nothing that turns control stands above the stage from which memory is reached (Sproull, Sutherland and
+-- Molnar, "Counterflow Pipeline Processor Architecture", 1994, on traps and sidings).
 use Rattle.std.specs.Prelude.{◌≡◌, ℕ, ◌≤◌, ◌<◌, [], ◌∷◌, length, map, All, Bool, true, false, unwrap_or}
 use Rattle.std.specs.List.Sorted.{IsStrictlyIncreasing}
 use Rattle.rv_inst.specs.declared.classes.Class.{Class}

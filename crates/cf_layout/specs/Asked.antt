@@ -48,7 +48,8 @@ in_class_order classes = filter (names classes) computed_classes
 
 -- the siding that is asked for
 unfoldable pub siding_plan : Siding → SidingPlan
-siding_plan siding = record { classes = in_class_order siding.classes; launch = natural siding.launch; recover = natural siding.recover; cells = natural siding.cells }
+siding_plan siding = record
+    { classes = in_class_order siding.classes; launch = natural siding.launch; recover = natural siding.recover; cells = natural siding.cells }
 
 -- the units that are asked for: for each class in class order their stages
 unfoldable pub units_plan : List (Class × List ℤ) → List (List ℕ)

@@ -34,8 +34,10 @@ IsLayoutCause parts (MissingUnit c) = (is_asked parts c ≡ false) × IsWanted p
 IsLayoutCause parts (EmptyUnit c) = Any (λ (unit : Class × List ℤ). (unit.0 ≡ c) × (length unit.1 ≡ 0)) parts.units
 IsLayoutCause parts MemoryNotSiding = is_unit parts.units Memory ≡ true
 IsLayoutCause parts MemorySharesSiding = Any (λ (siding : Siding). (names siding.classes Memory ≡ true) × (1 < length siding.classes)) parts.sidings
-IsLayoutCause parts (SidingOrder launch recover) = (recover ≤ℤ launch) × Any (λ (siding : Siding). (siding.launch ≡ launch) × (siding.recover ≡ recover)) parts.sidings
+IsLayoutCause parts (SidingOrder launch recover) = (recover ≤ℤ launch) × Any (λ (siding : Siding). (siding.launch ≡ launch)
+    × (siding.recover ≡ recover)) parts.sidings
 IsLayoutCause parts (CellsOutOfRange z) = (is_within 1 8 z ≡ false) × Any (λ (siding : Siding). siding.cells ≡ z) parts.sidings
-IsLayoutCause parts (ControlAboveMemory c stage launch) = (is_control c ≡ true) × (launch ≡ memory_launch_in parts.sidings) × (launch < stage) × Contains (turns_in (ascending (listed parts.units c)) (siding_for parts.sidings c)) stage
+IsLayoutCause parts (ControlAboveMemory c stage launch) = (is_control c ≡ true) × (launch ≡ memory_launch_in parts.sidings) × (launch < stage)
+    × Contains (turns_in (ascending (listed parts.units c)) (siding_for parts.sidings c)) stage
 IsLayoutCause parts (TooManySidings count) = (count ≡ min (length parts.sidings) 4294967295) × (8 < length parts.sidings)
 IsLayoutCause parts (EmptySiding k) = Any (λ (siding : Siding). (slice_get parts.sidings k ≡ Some siding) × (length siding.classes ≡ 0)) parts.sidings

@@ -15,8 +15,10 @@ Climbs bit k (x ∷ xs) = (bit x ≡ k) × Climbs bit (k + 1) xs
 
 -- one more bit of a number
 next_bit : (w k : ℕ) (has : Bool) → nat_eq (w / 2 ^ k % 2) 1 ≡ has → cond has (2 ^ k) 0 + w % 2 ^ k ≡ w % 2 ^ (k + 1)
-next_bit w k true e = let at : w / 2 ^ k % 2 ≡ 1 = grind (arith, nat_tests) in let s : w % 2 ^ (1 + k) ≡ (w / 2 ^ k % 2) * 2 ^ k + w % 2 ^ k = mod-pow-add w 1 k in let t = rw (at, add_comm 1 k) at s in omega arith
-next_bit w k false e = let at : w / 2 ^ k % 2 ≡ 0 = grind (arith, nat_tests) in let s : w % 2 ^ (1 + k) ≡ (w / 2 ^ k % 2) * 2 ^ k + w % 2 ^ k = mod-pow-add w 1 k in let t = rw (at, add_comm 1 k) at s in omega arith
+next_bit w k true e = let at : w / 2 ^ k % 2 ≡ 1 = grind (arith, nat_tests) in let s : w % 2 ^ (1 + k) ≡ (w / 2 ^ k % 2) * 2 ^ k + w % 2 ^ k =
+    mod-pow-add w 1 k in let t = rw (at, add_comm 1 k) at s in omega arith
+next_bit w k false e = let at : w / 2 ^ k % 2 ≡ 0 = grind (arith, nat_tests) in let s : w % 2 ^ (1 + k) ≡ (w / 2 ^ k % 2) * 2 ^ k + w % 2 ^ k =
+    mod-pow-add w 1 k in let t = rw (at, add_comm 1 k) at s in omega arith
 
 -- one more member adds its bit to the word
 word_more : {X : Type 0} (bit : X → ℕ) (x : X) (xs : List X) (has : Bool) → word_of bit (cond has (x ∷ xs) xs) ≡ cond has (2 ^ bit x) 0 + word_of bit xs

@@ -1,4 +1,5 @@
--- A layout of the processor: which stages have units for which classes of instructions, and where the sidings leave and join the pipeline (Sproull, Sutherland and Molnar, "Counterflow Pipeline Processor Architecture", 1994).
+-- A layout of the processor: which stages have units for which classes of instructions, and where the sidings leave and
+-- join the pipeline (Sproull, Sutherland and Molnar, "Counterflow Pipeline Processor Architecture", 1994).
 use Rattle.std.specs.Prelude.{ℕ, ◌+◌, List, [], ◌∷◌, length, filter, position, slice_get, nat_eq, nat_lt, Bool, ◌&&◌, Option, Some, None, unwrap_or}
 use Rattle.std.specs.List.{list_any}
 use Rattle.rv_inst.specs.declared.classes.Class.{Class}
@@ -11,7 +12,8 @@ pub record SidingPlan : Type 0 where
   pub recover : ℕ
   pub cells : ℕ
 
--- a layout: how many stages the pipeline has, how many entries the request lane, and whether there is a register cache; for each class in class order the stages of its units, ascending; and the sidings
+-- a layout: how many stages the pipeline has, how many entries the request lane, and whether there is a register cache;
+-- for each class in class order the stages of its units, ascending; and the sidings
 pub record Plan : Type 0 where
   pub stages : ℕ
   pub lane : ℕ
@@ -104,7 +106,8 @@ abbrev pub last_of : List ℕ → ℕ → ℕ
 last_of [] other = other
 last_of (stage ∷ stages) other = last_of stages stage
 
--- the last stage at which an instruction of the class can still be computed: that of its last unit, or else the recovery stage of its siding, or else the last of the pipeline; the first for what needs no computing
+-- the last stage at which an instruction of the class can still be computed: that of its last unit, or else the
+-- recovery stage of its siding, or else the last of the pipeline; the first for what needs no computing
 unfoldable pub last_stage : Plan → Class → ℕ
 last_stage plan Serial = plan.stages
 last_stage plan Free = 1

@@ -118,7 +118,8 @@ above c launch (Some stage) = Some (ControlAboveMemory c stage launch)
 
 -- control turns nowhere above the stage from which memory is reached, or else the lowest stage where it does
 unfoldable pub turn_refusal : Parts → Class → Option LayoutErr
-turn_refusal parts c = above c (memory_launch_in parts.sidings) (find (nat_lt (memory_launch_in parts.sidings)) (turns_in (ascending (listed parts.units c)) (siding_for parts.sidings c)))
+turn_refusal parts c = above c (memory_launch_in parts.sidings) (find (nat_lt (memory_launch_in parts.sidings))
+    (turns_in (ascending (listed parts.units c)) (siding_for parts.sidings c)))
 
 -- for branches, then for jumps
 unfoldable pub control_refusal : Parts → Option LayoutErr

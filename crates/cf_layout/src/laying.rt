@@ -5,10 +5,10 @@ ghost use Rattle.cf_layout.specs.Asked.{IsSmallSiding, units_plan, siding_plan};
 ghost use Rattle.cf_layout.specs.Held.{places_for};
 ghost use Rattle.cf_layout.specs.Layout.{no_siding};
 
+use crate::accepted_siding::AcceptedSiding;
 use crate::asked::{listed, natural};
 use crate::class_set::ClassSet;
 use crate::classes::CLASSES;
-use crate::accepted_siding::AcceptedSiding;
 use crate::stage_set::StageSet;
 use crate::{Listed, Siding};
 use rv_inst::Class;

@@ -6,11 +6,11 @@ ghost use Rattle.cf_layout.specs.Layout.{stages_of, unit_at, siding_of, recovers
 ghost use Rattle.cf_layout.specs.Accepted.{IsAccepted};
 
 use crate::Parts;
+use crate::accepted_siding::AcceptedSiding;
 use crate::asked::natural;
 use crate::class_set::ClassSet;
 use crate::classes::place;
 use crate::comparing::{same_sidings, same_units};
-use crate::accepted_siding::AcceptedSiding;
 use crate::laying::{lay_sidings, lay_units, no_siding};
 use crate::stage_set::StageSet;
 use rv_inst::Class;

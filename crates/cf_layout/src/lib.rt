@@ -1,6 +1,7 @@
 //! Layouts of the processor: which stages compute which classes of instructions, and which of them are accepted.
 #![tactic(auto)]
 
+mod accepted_siding;
 mod asked;
 mod bits;
 mod builtin;
@@ -8,7 +9,6 @@ mod checking;
 mod class_set;
 mod classes;
 mod comparing;
-mod accepted_siding;
 pub mod laws;
 mod laying;
 mod layout;

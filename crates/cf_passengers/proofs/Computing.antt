@@ -36,7 +36,8 @@ low_head m n false h k e = grind (arith, nat_tests)
 
 low_place : (c : Class) (classes : List Class) → All (λ d. place_of d < 9) classes → list_any (same_class c) classes ≡ true → place_of c < 9
 low_place c [] h e = absurd (cc)
-low_place c (d ∷ ds) h e = low_head (place_of c) (place_of d) (list_any (same_class c) ds) (h 0 d (omega arith)) (λ k. low_place c ds (All-tail (λ (d : Class). place_of d < 9) d ds h) k) e
+low_place c (d ∷ ds) h e = low_head (place_of c) (place_of d) (list_any (same_class c) ds) (h 0 d (omega arith))
+    (λ k. low_place c ds (All-tail (λ (d : Class). place_of d < 9) d ds h) k) e
 
 computed : (c : Class) → place_of c < 9 → is_memory c ≡ false → IsTrue (computes c)
 computed Memory h e = absurd (cc)

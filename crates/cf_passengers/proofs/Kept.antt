@@ -33,7 +33,8 @@ undone_as class.Free cache i pc g h = absurd (h refl)
 undone_as _ cache i pc g h = refl
 
 -- the passenger of an instruction of the set
-pub undone-passenger : (isa : Isa) (cache : List (Option ℕ)) (i : Instr) (pc : ℕ) (g : Guess) → IsInstruction isa i → IsPassenger isa (fresh_undone cache i pc g)
+pub undone-passenger : (isa : Isa) (cache : List (Option ℕ)) (i : Instr) (pc : ℕ) (g : Guess) → IsInstruction isa i →
+    IsPassenger isa (fresh_undone cache i pc g)
 undone-passenger isa cache i pc g h = record {
   instr = h;
   ended = λ e. absurd (cc);
@@ -49,11 +50,13 @@ fence-passenger isa i pc g h = record { instr = h; ended = λ e. absurd (cc); sr
 pub end-passenger : (isa : Isa) (what : Option Instr) (pc : ℕ) (g : Guess) (e : End) → IfSome what (IsInstruction isa) → IsPassenger isa (fresh_end what pc g e)
 end-passenger isa what pc g e h = record { instr = h; ended = λ n. (refl, refl); src1 = tt; src2 = tt; dst = tt; owes = tt }
 
-free-passenger : (isa : Isa) (i : Instr) (pc : ℕ) (g : Guess) (trap : Option End) → IsInstruction isa i → IsPassenger isa (on trap (fresh_fence i pc g) (fresh_end (Some i) pc g))
+free-passenger : (isa : Isa) (i : Instr) (pc : ℕ) (g : Guess) (trap : Option End) → IsInstruction isa i →
+    IsPassenger isa (on trap (fresh_fence i pc g) (fresh_end (Some i) pc g))
 free-passenger isa i pc g None h = fence-passenger isa i pc g h
 free-passenger isa i pc g (Some e) h = end-passenger isa (Some i) pc g e h
 
-passenger_as : (isa : Isa) (c : Class) (cache : List (Option ℕ)) (i : Instr) (pc : ℕ) (g : Guess) → IsInstruction isa i → IsPassenger isa (fresh_as c cache i pc g)
+passenger_as : (isa : Isa) (c : Class) (cache : List (Option ℕ)) (i : Instr) (pc : ℕ) (g : Guess) → IsInstruction isa i →
+    IsPassenger isa (fresh_as c cache i pc g)
 passenger_as isa class.Free cache i pc g h = free-passenger isa i pc g (free_trap i pc) h
 passenger_as isa _ cache i pc g h = undone-passenger isa cache i pc g h
 
@@ -88,7 +91,8 @@ finished-passenger isa p n v h = record {
   src1 = h.src1;
   src2 = h.src2;
   dst = binding-with_value v p.dst h.dst;
-  owes = choice (λ (o : Option Packet). IfSome o IsPacket) (is_place (guessed p.guess (instruction p) p.pc) n) (value_packet v p.dst) (Some (Turn n)) (packet-of_value v p.dst h.dst) tt;
+  owes = choice (λ (o : Option Packet). IfSome o IsPacket) (is_place (guessed p.guess (instruction p) p.pc) n) (value_packet v p.dst) (Some (Turn n))
+      (packet-of_value v p.dst h.dst) tt;
 }
 
 finished-unless : (isa : Isa) (p : Passenger) (trap : Option End) (n v : ℕ) → IsPassenger isa p → IsPassenger isa (on trap (finished p n v) (trapped p))
@@ -107,10 +111,12 @@ recovered-passenger isa p h = record { instr = h.instr; ended = h.ended; src1 = 
 
 pub back_in-passenger : (isa : Isa) (p : Passenger) (answer : Option ℕ) → IsPassenger isa p → IsPassenger isa (back_in p answer)
 back_in-passenger isa p answer h =
-    choice (IsPassenger isa) p.dead (record p { recovered = true }) (finish (record p { recovered = true }) answer) (recovered-passenger isa p h) (finish-passenger isa (record p { recovered = true }) answer (recovered-passenger isa p h))
+    choice (IsPassenger isa) p.dead (record p { recovered = true }) (finish (record p { recovered = true }) answer) (recovered-passenger isa p h)
+    (finish-passenger isa (record p { recovered = true }) answer (recovered-passenger isa p h))
 
 pub answered-passenger : (isa : Isa) (p : Passenger) (v : ℕ) → IsPassenger isa p → IsPassenger isa (answered p v)
-answered-passenger isa p v h = record { instr = h.instr; ended = λ e. (refl, (h.ended e).1); src1 = h.src1; src2 = h.src2; dst = binding-with_value v p.dst h.dst; owes = tt }
+answered-passenger isa p v h =
+    record { instr = h.instr; ended = λ e. (refl, (h.ended e).1); src1 = h.src1; src2 = h.src2; dst = binding-with_value v p.dst h.dst; owes = tt }
 
 pub quitting-passenger : (isa : Isa) (p : Passenger) (status : ℕ) → IsPassenger isa p → IsPassenger isa (record p { done = true; ending = Some (Exit status) })
 quitting-passenger isa p status h = record { instr = h.instr; ended = λ e. (refl, refl); src1 = h.src1; src2 = h.src2; dst = h.dst; owes = h.owes }
@@ -129,13 +135,23 @@ binding-garnered r v None h = tt
 binding-garnered r v (Some b) h = h
 
 passenger-met : (isa : Isa) (k : Packet) (p : Passenger) → IsPassenger isa p → IsPassenger isa (passenger_met k p)
-passenger-met isa (Value r v) p h = record { instr = h.instr; ended = h.ended; src1 = binding-garnered r v p.src1 h.src1; src2 = binding-garnered r v p.src2 h.src2; dst = h.dst; owes = h.owes }
+passenger-met isa (Value r v) p h =
+    record {
+      instr = h.instr;
+      ended = h.ended;
+      src1 = binding-garnered r v p.src1 h.src1;
+      src2 = binding-garnered r v p.src2 h.src2;
+      dst = h.dst;
+      owes =
+          h.owes;
+    }
 passenger-met isa (Turn pc) p h = record { instr = h.instr; ended = h.ended; src1 = h.src1; src2 = h.src2; dst = h.dst; owes = tt }
 passenger-met isa Halt p h = record { instr = h.instr; ended = h.ended; src1 = h.src1; src2 = h.src2; dst = h.dst; owes = tt }
 
 pub meeting-passenger : (isa : Isa) (p : Passenger) (k : Packet) → IsPassenger isa p → IsPassenger isa (meeting p k).passenger
 unfolding meeting
-meeting-passenger isa p k h = choice (λ (m : Met). IsPassenger isa m.passenger) p.dead (record { passenger = p; packet = Some k }) (record { passenger = passenger_met k p; packet = packet_met k p }) h (passenger-met isa k p h)
+meeting-passenger isa p k h = choice (λ (m : Met). IsPassenger isa m.passenger) p.dead (record { passenger = p; packet = Some k })
+    (record { passenger = passenger_met k p; packet = packet_met k p }) h (passenger-met isa k p h)
 
 packet-replaced : (r : ℕ) (v : Option ℕ) → IsWritable r → IfSome (replaced r v) IsPacket
 packet-replaced r None h = tt
@@ -143,7 +159,8 @@ packet-replaced r (Some w) h = h
 
 packet-passed : (r v : ℕ) (b : Option Binding) → IsWritable r → IfSome (passed r v b) IsPacket
 packet-passed r v None h = h
-packet-passed r v (Some b) h = choice (λ (o : Option Packet). IfSome o IsPacket) (b.reg == r) (replaced r b.value) (Some (Value r v)) (packet-replaced r b.value h) h
+packet-passed r v (Some b) h = choice (λ (o : Option Packet). IfSome o IsPacket) (b.reg == r) (replaced r b.value) (Some (Value r v))
+    (packet-replaced r b.value h) h
 
 packet-met : (k : Packet) (p : Passenger) → IsPacket k → IfSome (packet_met k p) IsPacket
 packet-met (Value r v) p h = packet-passed r v p.dst h
@@ -152,7 +169,8 @@ packet-met Halt p h = tt
 
 pub meeting-packet : (p : Passenger) (k : Packet) → IsPacket k → IfSome (meeting p k).packet IsPacket
 unfolding meeting
-meeting-packet p k h = choice (λ (m : Met). IfSome m.packet IsPacket) p.dead (record { passenger = p; packet = Some k }) (record { passenger = passenger_met k p; packet = packet_met k p }) h (packet-met k p h)
+meeting-packet p k h = choice (λ (m : Met). IfSome m.packet IsPacket) p.dead (record { passenger = p; packet = Some k })
+    (record { passenger = passenger_met k p; packet = packet_met k p }) h (packet-met k p h)
 
 -- The operation of a passenger, and what it is known by --
 
@@ -177,4 +195,16 @@ pub ruleset issuing = (undone_as, fence-passenger, end-passenger)
 
 pub ruleset issuing_undone = (undone-passenger)
 
-pub ruleset kept = (trapped-passenger, finish-passenger, back_in-passenger, answered-passenger, quitting-passenger, sent-passenger, launched-passenger, meeting-passenger, meeting-packet, passenger-fits, passenger-instruction)
+pub ruleset kept = (
+  trapped-passenger,
+  finish-passenger,
+  back_in-passenger,
+  answered-passenger,
+  quitting-passenger,
+  sent-passenger,
+  launched-passenger,
+  meeting-passenger,
+  meeting-packet,
+  passenger-fits,
+  passenger-instruction,
+)

@@ -30,7 +30,8 @@ chosen : (b : Bool) (o : Option End) → b ≡ true → (if b then o else None) 
 chosen b o e h = cc
 
 -- and memory permits it where there was no trap
-pub operation-permitted : (p : Passenger) (bounds : List Bounds) → is_memory (kind p) ≡ true → trap_at_launch p bounds ≡ None → access_trap (operation p).instr (operation p).pc (operation p).a bounds ≡ None
+pub operation-permitted : (p : Passenger) (bounds : List Bounds) → is_memory (kind p) ≡ true → trap_at_launch p bounds ≡ None →
+    access_trap (operation p).instr (operation p).pc (operation p).a bounds ≡ None
 operation-permitted p bounds e h = chosen (is_memory (kind p)) (access_trap (instruction p) p.pc (value_in p.src1) bounds) e h
 
 pub ruleset permitted = (launch_trap-bounds, operation-memory, operation-permitted)

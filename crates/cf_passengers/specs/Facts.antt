@@ -1,4 +1,6 @@
--- What holds of every instruction, result and operation in a processor: registers are x1 to x31, and instructions are those of its set ("Counterflow Pipeline Processor Architecture", 1994; RISC-V Unprivileged ISA Manual, RV32I and "M").
+-- What holds of every instruction, result and operation in a processor: registers are x1 to x31, and instructions are
+-- those of its set ("Counterflow Pipeline Processor Architecture", 1994; RISC-V Unprivileged ISA Manual, RV32I and
+-- "M").
 use Rattle.std.specs.Prelude.{◌≡◌, ℕ, ◌<◌, None, true, IfSome, IsSome, IsTrue}
 use Rattle.rv_inst.specs.declared.instruction.Instr.{Instr}
 use Rattle.rv_inst.specs.declared.isa.Isa.{Isa}

@@ -1,4 +1,5 @@
--- When a passenger traps where it would launch its operation ("Counterflow Pipeline Processor Architecture", 1994: sidings; RISC-V Unprivileged ISA Manual, Load and Store Instructions).
+-- When a passenger traps where it would launch its operation ("Counterflow Pipeline Processor Architecture", 1994:
+-- sidings; RISC-V Unprivileged ISA Manual, Load and Store Instructions).
 use Rattle.std.specs.Prelude.{List, Option, None, if◌then◌else◌}
 use Rattle.mem_regions.specs.Access.{Bounds}
 use Rattle.cf_bind.specs.declared.passenger.Passenger.{Passenger}

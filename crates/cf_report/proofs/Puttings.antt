@@ -55,14 +55,16 @@ pub record HasPut (written after : Option (List ℕ)) (before now : ℕ) (text :
 pub put-nothing : (told : Option (List ℕ)) (faults : ℕ) → HasPut told told faults faults []
 put-nothing told faults = record { told = writes-nothing told; still = refl }
 
-put-more : {T E : Type 0} (a b c : Option (List ℕ)) (i j k : ℕ) (x y : List ℕ) (t : T) → HasPut a b i j x → PutsText {E = E} b c j k y (Ok t) → HasPut a c i k (x ++ y)
+put-more : {T E : Type 0} (a b c : Option (List ℕ)) (i j k : ℕ) (x y : List ℕ) (t : T) → HasPut a b i j x → PutsText {E = E} b c j k y (Ok t) →
+    HasPut a c i k (x ++ y)
 put-more a b c i j k x y t h g = record {
   told = writes-again a b c x y h.told g.all;
   still = g.cause.still ∙ h.still;
 }
 
 -- one more text was put after it
-pub has-more : {T E : Type 0} {a b c : Option (List ℕ)} {i j k : ℕ} {x y : List ℕ} {answer : Result T E} {t : T} → answer ≡ Ok t → HasPut a b i j x → PutsText b c j k y answer → HasPut a c i k (x ++ y)
+pub has-more : {T E : Type 0} {a b c : Option (List ℕ)} {i j k : ℕ} {x y : List ℕ} {answer : Result T E} {t : T} → answer ≡ Ok t → HasPut a b i j x →
+    PutsText b c j k y answer → HasPut a c i k (x ++ y)
 has-more {a = a} {b = b} {c = c} {i = i} {j = j} {k = k} {x = x} {y = y} {t = t} ok h g = put-more a b c i j k x y t h (rw ok at g)
 
 -- the same text
@@ -70,11 +72,14 @@ pub has-same : {a b : Option (List ℕ)} {i j : ℕ} {x : List ℕ} (y : List �
 has-same y same h = rw (← same) h
 
 -- and that is all
-pub put-all : {E : Type 0} {a b : Option (List ℕ)} {i j : ℕ} {x : List ℕ} (z : List ℕ) (answer : Result (Unit {0}) E) → answer ≡ Ok tt → x ≡ z → HasPut a b i j x → PutsText a b i j z answer
-put-all z answer ok same h = rw (ok, ← same) (record { all = h.told; front = tt; cause = record { never_falls = omega (arith, h.still); rose = tt; still = h.still } })
+pub put-all : {E : Type 0} {a b : Option (List ℕ)} {i j : ℕ} {x : List ℕ} (z : List ℕ) (answer : Result (Unit {0}) E) → answer ≡ Ok tt → x ≡ z →
+    HasPut a b i j x → PutsText a b i j z answer
+put-all z answer ok same h =
+    rw (ok, ← same) (record { all = h.told; front = tt; cause = record { never_falls = omega (arith, h.still); rose = tt; still = h.still } })
 
 -- the last text was put after it, or failed
-put-last : {T E : Type 0} (a b c : Option (List ℕ)) (i j k : ℕ) (x y : List ℕ) (answer : Result T E) → HasPut a b i j x → PutsText b c j k y answer → PutsText a c i k (x ++ y) answer
+put-last : {T E : Type 0} (a b c : Option (List ℕ)) (i j k : ℕ) (x y : List ℕ) (answer : Result T E) → HasPut a b i j x → PutsText b c j k y answer →
+    PutsText a c i k (x ++ y) answer
 put-last a b c i j k x y (Ok t) h g = record {
   all = writes-again a b c x y h.told g.all;
   front = tt;
@@ -90,22 +95,26 @@ put-last a b c i j k x y (Err e) h g = record {
   };
 }
 
-pub has-last : {T E : Type 0} {a b c : Option (List ℕ)} {i j k : ℕ} {x y : List ℕ} {answer : Result T E} → HasPut a b i j x → PutsText b c j k y answer → PutsText a c i k (x ++ y) answer
+pub has-last : {T E : Type 0} {a b c : Option (List ℕ)} {i j k : ℕ} {x y : List ℕ} {answer : Result T E} → HasPut a b i j x → PutsText b c j k y answer →
+    PutsText a c i k (x ++ y) answer
 has-last {a = a} {b = b} {c = c} {i = i} {j = j} {k = k} {x = x} {y = y} {answer = answer} h g = put-last a b c i j k x y answer h g
 
 -- what failed fails the whole
-pub has-failed : {T U E : Type 0} {a b : Option (List ℕ)} {i j : ℕ} {x : List ℕ} {first : Result T E} (answer : Result U E) {e : E} → first ≡ Err e → IsErr answer → PutsText a b i j x first → PutsText a b i j x answer
+pub has-failed : {T U E : Type 0} {a b : Option (List ℕ)} {i j : ℕ} {x : List ℕ} {first : Result T E} (answer : Result U E) {e : E} → first ≡ Err e →
+    IsErr answer → PutsText a b i j x first → PutsText a b i j x answer
 has-failed (Ok u) err failed h = absurd (false≢true failed)
 has-failed {a = a} {b = b} {i = i} {j = j} {x = x} (Err f) {e = e} err failed h =
     let g = rw err at h in
     record { all = tt; front = g.front; cause = record { never_falls = g.cause.never_falls; rose = g.cause.rose; still = tt } }
 
 -- a failed text is a front of a longer one
-pub failed-more : {T E : Type 0} {a b : Option (List ℕ)} {i j : ℕ} {x : List ℕ} (y : List ℕ) (answer : Result T E) → IsErr answer → PutsText a b i j x answer → PutsText a b i j (x ++ y) answer
+pub failed-more : {T E : Type 0} {a b : Option (List ℕ)} {i j : ℕ} {x : List ℕ} (y : List ℕ) (answer : Result T E) → IsErr answer → PutsText a b i j x answer →
+    PutsText a b i j (x ++ y) answer
 failed-more y (Ok t) failed h = absurd (false≢true failed)
 failed-more {a = a} {b = b} {x = x} y (Err e) failed h = record { all = tt; front = front-first a b x y h.front; cause = h.cause }
 
 -- the text after those so far failed, and more was to come
-pub has-front : {T U E : Type 0} {a b c : Option (List ℕ)} {i j k : ℕ} {x y z : List ℕ} {first : Result T E} (answer : Result U E) {e : E} → first ≡ Err e → IsErr answer → ((rest : List ℕ) × ((x ++ y) ++ rest ≡ z)) → HasPut a b i j x → PutsText b c j k y first → PutsText a c i k z answer
+pub has-front : {T U E : Type 0} {a b c : Option (List ℕ)} {i j k : ℕ} {x y z : List ℕ} {first : Result T E} (answer : Result U E) {e : E} → first ≡ Err e →
+    IsErr answer → ((rest : List ℕ) × ((x ++ y) ++ rest ≡ z)) → HasPut a b i j x → PutsText b c j k y first → PutsText a c i k z answer
 has-front {a = a} {c = c} {i = i} {k = k} answer err failed (rest, same) h g =
     subst (λ text. PutsText a c i k text answer) same (failed-more rest answer failed (has-last h (has-failed answer err failed g)))

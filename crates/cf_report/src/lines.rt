@@ -11,8 +11,8 @@ use crate::putting::put_text;
 use crate::tally::Tally;
 use cf_bind::{Move, MoveLine, move_text};
 use cf_io::{Failed, Sink};
-use texts::{Page, retirement_line};
 use rv_machine::Retired;
+use texts::{Page, retirement_line};
 
 /// Puts the line of the instruction that retired as the `n`th.
 pub fn put_retired<R: Sink>(n: u64, r: &Retired, report: &mut R) -> Result<(), Failed>

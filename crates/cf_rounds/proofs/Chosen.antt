@@ -37,7 +37,8 @@ all_free plan s [] = tt
 all_free plan s (mv ∷ moves) = by (not (is_some (bar plan s mv))) refl (all_free plan s moves)
   where
     by : (b : Bool) → not (is_some (bar plan s mv)) ≡ b → AllByRecursion (IsAllowed plan s) (filter (λ mv. not (is_some (bar plan s mv))) moves)
-        → AllByRecursion (IsAllowed plan s) (if b then mv ∷ filter (λ mv. not (is_some (bar plan s mv))) moves else filter (λ mv. not (is_some (bar plan s mv))) moves)
+        → AllByRecursion (IsAllowed plan s) (if b then mv ∷ filter (λ mv. not (is_some (bar plan s mv))) moves else filter
+        (λ mv. not (is_some (bar plan s mv))) moves)
     by true e rest = (none_barred plan s mv e, rest)
     by false e rest = rest
 
@@ -55,11 +56,13 @@ candidates_allowed plan s moves (inr is) = subst (AllByRecursion (IsAllowed plan
     by false = all_free plan s (all_moves plan)
 
 -- a move that is found passes the test, and is one of the list
-pub found_one : (test : Move → Type 0) (p : Move → Bool) (moves : List Move) (mv : Move) → AllByRecursion test moves → find p moves ≡ Some mv → test mv × (p mv ≡ true)
+pub found_one : (test : Move → Type 0) (p : Move → Bool) (moves : List Move) (mv : Move) → AllByRecursion test moves → find p moves ≡ Some mv →
+    test mv × (p mv ≡ true)
 found_one test p [] mv h e = absurd (cc)
 found_one test p (first ∷ moves) mv (h, hs) e = by (p first) refl (λ g. found_one test p moves mv hs g) e
   where
-    by : (b : Bool) → p first ≡ b → (find p moves ≡ Some mv → test mv × (p mv ≡ true)) → (if b then Some first else find p moves) ≡ Some mv → test mv × (p mv ≡ true)
+    by : (b : Bool) → p first ≡ b → (find p moves ≡ Some mv → test mv × (p mv ≡ true)) → (if b then Some first else find p moves) ≡ Some mv →
+        test mv × (p mv ≡ true)
     by true f rest g = let same : first ≡ mv = cc in (subst test same h, ap p (sym same) ∙ f)
     by false f rest g = rest g
 
@@ -68,11 +71,13 @@ none_found : (p : Move → Bool) (moves : List Move) → find p moves ≡ None �
 none_found p [] e = tt
 none_found p (mv ∷ moves) e = by (p mv) refl (λ g. none_found p moves g) e
   where
-    by : (b : Bool) → p mv ≡ b → (find p moves ≡ None → AllByRecursion (λ mv. p mv ≡ false) moves) → (if b then Some mv else find p moves) ≡ None → AllByRecursion (λ mv. p mv ≡ false) (mv ∷ moves)
+    by : (b : Bool) → p mv ≡ b → (find p moves ≡ None → AllByRecursion (λ mv. p mv ≡ false) moves) → (if b then Some mv else find p moves) ≡ None →
+        AllByRecursion (λ mv. p mv ≡ false) (mv ∷ moves)
     by true f rest g = absurd (cc)
     by false f rest g = (f, rest g)
 
-both_hold : (one other : Move → Type 0) (both : Move → Type 0) (moves : List Move) → ((mv : Move) → one mv → other mv → both mv) → AllByRecursion one moves → AllByRecursion other moves → AllByRecursion both moves
+both_hold : (one other : Move → Type 0) (both : Move → Type 0) (moves : List Move) → ((mv : Move) → one mv → other mv → both mv) → AllByRecursion one moves →
+    AllByRecursion other moves → AllByRecursion both moves
 both_hold one other both [] make h k = tt
 both_hold one other both (mv ∷ moves) make (h, hs) (k, ks) = (make mv h k, both_hold one other both moves make hs ks)
 
@@ -86,23 +91,27 @@ pub unshared : (plan : Plan) (round : List Move) (mv : Move) → shares_any plan
 unshared plan [] mv e = tt
 unshared plan (first ∷ round) mv e = by (shares plan mv first) refl (λ g. unshared plan round mv g) e
   where
-    by : (b : Bool) → shares plan mv first ≡ b → (shares_any plan round mv ≡ false → AllByRecursion (λ other. shares plan mv other ≡ false) round) → (b || shares_any plan round mv) ≡ false
+    by : (b : Bool) → shares plan mv first ≡ b → (shares_any plan round mv ≡ false → AllByRecursion (λ other. shares plan mv other ≡ false) round) →
+        (b || shares_any plan round mv) ≡ false
         → AllByRecursion (λ other. shares plan mv other ≡ false) (first ∷ round)
     by true f rest g = absurd (cc)
     by false f rest g = (f, rest g)
 
-pub apart_after : (plan : Plan) (round : List Move) (mv : Move) → AreApart plan round → AllByRecursion (λ other. shares plan mv other ≡ false) round → AreApart plan (round ++ mv ∷ [])
+pub apart_after : (plan : Plan) (round : List Move) (mv : Move) → AreApart plan round → AllByRecursion (λ other. shares plan mv other ≡ false) round →
+    AreApart plan (round ++ mv ∷ [])
 apart_after plan [] mv h k = (tt, tt)
 apart_after plan (first ∷ round) mv (h, hs) (k, ks) =
     (all_after (λ other. shares plan first other ≡ false) round mv h (unshared_back plan mv first k), apart_after plan round mv hs ks)
 
 -- the moves that are taken have what the candidates have, and share nothing
-pub taken_all : (test : Move → Type 0) (plan : Plan) (round moves : List Move) → AllByRecursion test round → AllByRecursion test moves → AllByRecursion test (taken plan round moves)
+pub taken_all : (test : Move → Type 0) (plan : Plan) (round moves : List Move) → AllByRecursion test round → AllByRecursion test moves →
+    AllByRecursion test (taken plan round moves)
 unfolding taken
 taken_all test plan round [] h k = h
 taken_all test plan round (mv ∷ moves) h (k, ks) = by (shares_any plan round mv) (λ next g. taken_all test plan next moves g ks)
   where
-    by : (b : Bool) → ((next : List Move) → AllByRecursion test next → AllByRecursion test (taken plan next moves)) → AllByRecursion test (taken plan (if b then round else round ++ mv ∷ []) moves)
+    by : (b : Bool) → ((next : List Move) → AllByRecursion test next → AllByRecursion test (taken plan next moves)) →
+        AllByRecursion test (taken plan (if b then round else round ++ mv ∷ []) moves)
     by true more = more round h
     by false more = more (round ++ mv ∷ []) (all_after test round mv h k)
 
@@ -111,7 +120,8 @@ unfolding taken
 taken_apart plan round [] h = h
 taken_apart plan round (mv ∷ moves) h = by (shares_any plan round mv) refl (λ next g. taken_apart plan next moves g)
   where
-    by : (b : Bool) → shares_any plan round mv ≡ b → ((next : List Move) → AreApart plan next → AreApart plan (taken plan next moves)) → AreApart plan (taken plan (if b then round else round ++ mv ∷ []) moves)
+    by : (b : Bool) → shares_any plan round mv ≡ b → ((next : List Move) → AreApart plan next → AreApart plan (taken plan next moves)) →
+        AreApart plan (taken plan (if b then round else round ++ mv ∷ []) moves)
     by true e more = more round h
     by false e more = more (round ++ mv ∷ []) (apart_after plan round mv h (unshared plan round mv e))
 
@@ -121,7 +131,8 @@ unfolding taken
 taken_more plan round [] = ([], sym (append-nil round))
 taken_more plan round (mv ∷ moves) = by (shares_any plan round mv) (λ next. taken_more plan next moves)
   where
-    by : (b : Bool) → ((next : List Move) → (more : List Move) × (taken plan next moves ≡ next ++ more)) → (more : List Move) × (taken plan (if b then round else round ++ mv ∷ []) moves ≡ round ++ more)
+    by : (b : Bool) → ((next : List Move) → (more : List Move) × (taken plan next moves ≡ next ++ more)) →
+        (more : List Move) × (taken plan (if b then round else round ++ mv ∷ []) moves ≡ round ++ more)
     by true go = go round
     by false go = let h = go (round ++ mv ∷ []) in (mv ∷ h.0, h.1 ∙ append_assoc round (mv ∷ []) h.0)
 
@@ -131,11 +142,15 @@ unfolding taken
 taken_full plan round [] = tt
 taken_full plan round (mv ∷ moves) = by (shares_any plan round mv) refl (λ next. taken_more plan next moves) (λ next. taken_full plan next moves)
   where
-    by : (b : Bool) → shares_any plan round mv ≡ b → ((next : List Move) → (more : List Move) × (taken plan next moves ≡ next ++ more)) → ((next : List Move) → AllByRecursion (IsTaken plan (taken plan next moves)) moves)
+    by : (b : Bool) → shares_any plan round mv ≡ b → ((next : List Move) → (more : List Move) × (taken plan next moves ≡ next ++ more)) →
+        ((next : List Move) → AllByRecursion (IsTaken plan (taken plan next moves)) moves)
         → AllByRecursion (IsTaken plan (taken plan (if b then round else round ++ mv ∷ []) moves)) (mv ∷ moves)
     by true e go rest =
-        let h = go round in
-        (inr (ap (λ (all : List Move). shares_any plan all mv) h.1 ∙ list_any-append (shares plan mv) round h.0 ∙ ap (λ (t : Bool). t || shares_any plan h.0 mv) e), rest round)
+        let h = go round in (
+          inr (ap (λ (all : List Move). shares_any plan all mv) h.1 ∙ list_any-append (shares plan mv) round h.0
+              ∙ ap (λ (t : Bool). t || shares_any plan h.0 mv) e),
+          rest round,
+        )
     by false e go rest =
         let h = go (round ++ mv ∷ []) in
         (inl (round, h.0, h.1 ∙ append_assoc round (mv ∷ []) h.0), rest (round ++ mv ∷ []))
@@ -165,7 +180,8 @@ round_form plan s round sidings r = by (find (stands_alone plan s) r.moves) refl
     by None e is = together (record {
       sidings = sidings;
       plain = subst (AllByRecursion (IsPlain plan s)) (sym is)
-          (taken_all (IsPlain plan s) plan [] r.moves tt (both_hold (IsAllowed plan s) (λ mv. stands_alone plan s mv ≡ false) (IsPlain plan s) r.moves (λ mv f g. record { allowed = f; plain = g }) allowed (none_found (stands_alone plan s) r.moves e)));
+          (taken_all (IsPlain plan s) plan [] r.moves tt (both_hold (IsAllowed plan s) (λ mv. stands_alone plan s mv ≡ false) (IsPlain plan s) r.moves
+          (λ mv f g. record { allowed = f; plain = g }) allowed (none_found (stands_alone plan s) r.moves e)));
       apart = subst (AreApart plan) (sym is) (taken_apart plan [] r.moves tt);
     })
     by (Some mv) e is =

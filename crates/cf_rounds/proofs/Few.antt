@@ -103,7 +103,8 @@ same_home plan (AtCell k c) (AtCell j d) accepted a b e =
     ap (λ (n : ℕ). AtCell n c) sidings ∙ ap (λ (n : ℕ). AtCell j n) cells
 
 -- moves that share no place have different numbers
-apart_numbers : (plan : Plan) (a b : Move) → IsAccepted plan → HasSites plan a → HasSites plan b → shares plan a b ≡ false → eqb (number_of (home plan a)) (number_of (home plan b)) ≡ false
+apart_numbers : (plan : Plan) (a b : Move) → IsAccepted plan → HasSites plan a → HasSites plan b → shares plan a b ≡ false →
+    eqb (number_of (home plan a)) (number_of (home plan b)) ≡ false
 apart_numbers plan a b accepted p q e = go (eqb (number_of (home plan a)) (number_of (home plan b))) refl
   where
     go : (t : Bool) → eqb (number_of (home plan a)) (number_of (home plan b)) ≡ t → eqb (number_of (home plan a)) (number_of (home plan b)) ≡ false
@@ -117,28 +118,34 @@ apart_numbers plan a b accepted p q e = go (eqb (number_of (home plan a)) (numbe
 numbers : Plan → List Move → List ℕ
 numbers plan moves = map (λ mv. number_of (home plan mv)) moves
 
-all_apart : (plan : Plan) (a : Move) (round : List Move) → IsAccepted plan → HasSites plan a → AllByRecursion (HasSites plan) round → AllByRecursion (λ other. shares plan a other ≡ false) round → AllByRecursion (λ n. eqb (number_of (home plan a)) n ≡ false) (numbers plan round)
+all_apart : (plan : Plan) (a : Move) (round : List Move) → IsAccepted plan → HasSites plan a → AllByRecursion (HasSites plan) round →
+    AllByRecursion (λ other. shares plan a other ≡ false) round → AllByRecursion (λ n. eqb (number_of (home plan a)) n ≡ false) (numbers plan round)
 unfolding numbers
 all_apart plan a [] accepted p there h = tt
 all_apart plan a (b ∷ round) accepted p (q, there) (e, h) = (apart_numbers plan a b accepted p q e, all_apart plan a round accepted p there h)
 
-distinct : (plan : Plan) (round : List Move) → IsAccepted plan → AllByRecursion (HasSites plan) round → AreApart plan round → IsDistinct eqb (numbers plan round)
+distinct : (plan : Plan) (round : List Move) → IsAccepted plan → AllByRecursion (HasSites plan) round → AreApart plan round →
+    IsDistinct eqb (numbers plan round)
 unfolding numbers IsDistinct
 distinct plan [] accepted there h = tt
 distinct plan (a ∷ round) accepted (p, there) (e, h) = (all_apart plan a round accepted p there e, distinct plan round accepted there h)
 
-small : (plan : Plan) (round : List Move) → IsAccepted plan → AllByRecursion (HasSites plan) round → (q : ℕ) → list_any (eqb q) (numbers plan round) ≡ true → q < 96
+small : (plan : Plan) (round : List Move) → IsAccepted plan → AllByRecursion (HasSites plan) round → (q : ℕ) → list_any (eqb q) (numbers plan round) ≡ true →
+    q < 96
 unfolding numbers
 small plan [] accepted there q e = absurd (cc)
 small plan (a ∷ round) accepted (p, there) q e = by (eqb q (number_of (home plan a))) refl (λ f. small plan round accepted there q f) e
   where
-    by : (t : Bool) → eqb q (number_of (home plan a)) ≡ t → (list_any (eqb q) (map (λ mv. number_of (home plan mv)) round) ≡ true → q < 96) → (t || list_any (eqb q) (map (λ mv. number_of (home plan mv)) round)) ≡ true → q < 96
-    by true f rest g = let same : q ≡ number_of (home plan a) = grind (arith, nat_tests) in omega (arith, same, number_small plan (home plan a) accepted (home_there plan a p))
+    by : (t : Bool) → eqb q (number_of (home plan a)) ≡ t → (list_any (eqb q) (map (λ mv. number_of (home plan mv)) round) ≡ true → q < 96) →
+        (t || list_any (eqb q) (map (λ mv. number_of (home plan mv)) round)) ≡ true → q < 96
+    by true f rest g = let same : q ≡ number_of (home plan a) = grind (arith, nat_tests) in
+        omega (arith, same, number_small plan (home plan a) accepted (home_there plan a p))
     by false f rest g = rest g
 
 pub few : (plan : Plan) (round : List Move) → IsAccepted plan → AllByRecursion (HasSites plan) round → AreApart plan round → length round ≤ 96
 unfolding numbers
 few plan round accepted there apart =
-    let bound : length (numbers plan round) ≤ 96 = length-le_from_distinct_below (numbers plan round) 96 (distinct plan round accepted there apart) (small plan round accepted there) in
+    let bound : length (numbers plan round) ≤ 96 = length-le_from_distinct_below (numbers plan round) 96 (distinct plan round accepted there apart)
+    (small plan round accepted there) in
     let size : length (numbers plan round) ≡ length round = length-map round (λ mv. number_of (home plan mv)) in
     omega (arith, bound, size)

@@ -27,20 +27,24 @@ drop_past (mv ∷ moves) zero h = absurd (omega arith)
 drop_past (mv ∷ moves) (suc place) h = drop_past moves place (omega arith)
 
 -- the first that passes a test
-pub find_next : (p : Move → Bool) (moves : List Move) (place : ℕ) (mv : Move) → Some mv ≡ slice_get moves place → p mv ≡ false → find p (drop (place + 1) moves) ≡ find p (drop place moves)
+pub find_next : (p : Move → Bool) (moves : List Move) (place : ℕ) (mv : Move) → Some mv ≡ slice_get moves place → p mv ≡ false →
+    find p (drop (place + 1) moves) ≡ find p (drop place moves)
 find_next p moves place mv e f = sym (ap (find p) (drop_at moves place mv e) ∙ rw f refl)
 
-pub find_here : (p : Move → Bool) (moves : List Move) (place : ℕ) (mv : Move) → Some mv ≡ slice_get moves place → p mv ≡ true → find p (drop place moves) ≡ Some mv
+pub find_here : (p : Move → Bool) (moves : List Move) (place : ℕ) (mv : Move) → Some mv ≡ slice_get moves place → p mv ≡ true →
+    find p (drop place moves) ≡ Some mv
 find_here p moves place mv e f = ap (find p) (drop_at moves place mv e) ∙ rw f refl
 
 pub find_past : (p : Move → Bool) (moves : List Move) (place : ℕ) → length moves ≤ place → find p (drop place moves) ≡ None
 find_past p moves place h = ap (find p) (drop_past moves place h)
 
 -- whether one passes it
-pub any_next : (p : Move → Bool) (moves : List Move) (place : ℕ) (mv : Move) → Some mv ≡ slice_get moves place → p mv ≡ false → list_any p (drop (place + 1) moves) ≡ list_any p (drop place moves)
+pub any_next : (p : Move → Bool) (moves : List Move) (place : ℕ) (mv : Move) → Some mv ≡ slice_get moves place → p mv ≡ false →
+    list_any p (drop (place + 1) moves) ≡ list_any p (drop place moves)
 any_next p moves place mv e f = sym (ap (list_any p) (drop_at moves place mv e) ∙ rw f refl)
 
-pub any_here : (p : Move → Bool) (moves : List Move) (place : ℕ) (mv : Move) → Some mv ≡ slice_get moves place → p mv ≡ true → list_any p (drop place moves) ≡ true
+pub any_here : (p : Move → Bool) (moves : List Move) (place : ℕ) (mv : Move) → Some mv ≡ slice_get moves place → p mv ≡ true →
+    list_any p (drop place moves) ≡ true
 any_here p moves place mv e f = ap (list_any p) (drop_at moves place mv e) ∙ rw f refl
 
 pub any_past : (p : Move → Bool) (moves : List Move) (place : ℕ) → length moves ≤ place → list_any p (drop place moves) ≡ false
@@ -52,7 +56,8 @@ all_at test [] place mv h e = absurd (cc)
 all_at test (first ∷ moves) zero mv (h, hs) e = let same : first ≡ mv = cc in subst test same h
 all_at test (first ∷ moves) (suc place) mv (h, hs) e = all_at test moves place mv hs e
 
-pub candidate_there : (plan : Plan) (s : State) (moves : List Move) (place : ℕ) (mv : Move) → IsProcessor plan s → AreCandidates plan s moves → Some mv ≡ slice_get moves place → HasSites plan mv
+pub candidate_there : (plan : Plan) (s : State) (moves : List Move) (place : ℕ) (mv : Move) → IsProcessor plan s → AreCandidates plan s moves →
+    Some mv ≡ slice_get moves place → HasSites plan mv
 candidate_there plan s moves place mv p are e = there_allowed plan s mv p (all_at (IsAllowed plan s) moves place mv (candidates_allowed plan s moves are) e)
 
 -- the moves that are taken so far: the layout has what they use, no two share a place, and with the candidates from the place on they make the round
@@ -64,9 +69,11 @@ pub record TakenSoFar (plan : Plan) (moves round : List Move) (place : ℕ) : Ty
 pub taken_none : (plan : Plan) (moves round : List Move) → round ≡ [] → TakenSoFar plan moves round 0
 taken_none plan moves round none = subst (λ (r : List Move). TakenSoFar plan moves r 0) (sym none) (record { there = tt; apart = tt; rest = refl })
 
-pub taken_next : (plan : Plan) (moves round new : List Move) (place : ℕ) (mv : Move) → TakenSoFar plan moves round place → Some mv ≡ slice_get moves place → HasSites plan mv → new ≡ (if shares_any plan round mv then round else round ++ mv ∷ []) → TakenSoFar plan moves new (place + 1)
+pub taken_next : (plan : Plan) (moves round new : List Move) (place : ℕ) (mv : Move) → TakenSoFar plan moves round place → Some mv ≡ slice_get moves place →
+    HasSites plan mv → new ≡ (if shares_any plan round mv then round else round ++ mv ∷ []) → TakenSoFar plan moves new (place + 1)
 unfolding taken
-taken_next plan moves round new place mv h e there is = subst (λ (r : List Move). TakenSoFar plan moves r (place + 1)) (sym is) (by (shares_any plan round mv) refl)
+taken_next plan moves round new place mv h e there is = subst (λ (r : List Move). TakenSoFar plan moves r (place + 1)) (sym is)
+    (by (shares_any plan round mv) refl)
   where
     rest : taken plan (if shares_any plan round mv then round else round ++ mv ∷ []) (drop (place + 1) moves) ≡ taken plan [] moves
     rest = sym (ap (taken plan round) (drop_at moves place mv e)) ∙ h.rest
@@ -91,11 +98,13 @@ pub taken_few : (plan : Plan) (s : State) (moves round : List Move) (place : ℕ
 taken_few plan s moves round place p h = let few_moves : length round ≤ 96 = few plan round p.accepted h.there h.apart in omega (arith, few_moves)
 
 -- the round that was chosen
-pub chose_alone : (plan : Plan) (s : State) (moves new : List Move) (mv : Move) → Some mv ≡ find (stands_alone plan s) moves → new ≡ [] ++ mv ∷ [] → new ≡ round_of plan s moves
+pub chose_alone : (plan : Plan) (s : State) (moves new : List Move) (mv : Move) → Some mv ≡ find (stands_alone plan s) moves → new ≡ [] ++ mv ∷ [] →
+    new ≡ round_of plan s moves
 unfolding round_of
 chose_alone plan s moves new mv found is = is ∙ ap (λ (o : Option Move). on o (taken plan [] moves) (λ m. m ∷ [])) found
 
-pub chose_taken : (plan : Plan) (s : State) (moves new : List Move) → None ≡ find (stands_alone plan s) moves → new ≡ taken plan [] moves → new ≡ round_of plan s moves
+pub chose_taken : (plan : Plan) (s : State) (moves new : List Move) → None ≡ find (stands_alone plan s) moves → new ≡ taken plan [] moves →
+    new ≡ round_of plan s moves
 unfolding round_of
 chose_taken plan s moves new none is = is ∙ ap (λ (o : Option Move). on o (taken plan [] moves) (λ m. m ∷ [])) none
 
@@ -108,6 +117,7 @@ unfolding round_of taken
 round_some plan s [] new h is = absurd (omega arith)
 round_some plan s (mv ∷ moves) new h is = by (find (stands_alone plan s) (mv ∷ moves)) is (taken_more plan (mv ∷ []) moves)
   where
-    by : (o : Option Move) → new ≡ on o (taken plan (mv ∷ []) moves) (λ m. m ∷ []) → ((more : List Move) × (taken plan (mv ∷ []) moves ≡ mv ∷ [] ++ more)) → 0 < length new
+    by : (o : Option Move) → new ≡ on o (taken plan (mv ∷ []) moves) (λ m. m ∷ []) → ((more : List Move) × (taken plan (mv ∷ []) moves ≡ mv ∷ [] ++ more)) →
+        0 < length new
     by (Some m) e more = omega (arith, ap length e)
     by None e more = omega (arith, ap length (e ∙ more.1))

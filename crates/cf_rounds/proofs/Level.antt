@@ -63,16 +63,20 @@ other_than_leave plan mv apart = by (is_leave mv) refl
     by true e = absurd (let both : shares plan Leave mv ≡ true = ap (shares plan Leave) (leave_one mv e) ∙ both_leave plan in cc)
 
 -- so the call that stands there, if one does, is one that was served or not as before
-served_stays : (plan : Plan) (m : Moment) (mv : Move) → bar plan m.state mv ≡ None → shares plan Leave mv ≡ false → served_count plan (next plan m mv).state ≡ served_count plan m.state
+served_stays : (plan : Plan) (m : Moment) (mv : Move) → bar plan m.state mv ≡ None → shares plan Leave mv ≡ false →
+    served_count plan (next plan m mv).state ≡ served_count plan m.state
 served_stays plan m mv free apart =
-    let same : content (next plan m mv) (Stage plan.stages) ≡ content m (Stage plan.stages) = (move_local plan m mv).leaves free (Stage plan.stages) (unwritten plan m.state plan.stages mv (unused_top plan mv apart)) in
-    let cells : cell_at (next plan m mv).state.cells plan.stages ≡ cell_at m.state.cells plan.stages = of_stage (cell_at (next plan m mv).state.cells plan.stages) (cell_at m.state.cells plan.stages) same in
+    let same : content (next plan m mv) (Stage plan.stages) ≡ content m (Stage plan.stages) =
+    (move_local plan m mv).leaves free (Stage plan.stages) (unwritten plan m.state plan.stages mv (unused_top plan mv apart)) in
+    let cells : cell_at (next plan m mv).state.cells plan.stages ≡ cell_at m.state.cells plan.stages =
+    of_stage (cell_at (next plan m mv).state.cells plan.stages) (cell_at m.state.cells plan.stages) same in
     rw cells refl
   where
     of_stage : (c d : Option Cell) → OfStage c ≡ OfStage d → c ≡ d
     of_stage c d e = cc
 
-level_stays : (plan : Plan) (limit : ℕ) (m : Moment) (mv : Move) → bar plan m.state mv ≡ None → shares plan Leave mv ≡ false → Over plan limit m.state → Over plan limit (next plan m mv).state
+level_stays : (plan : Plan) (limit : ℕ) (m : Moment) (mv : Move) → bar plan m.state mv ≡ None → shares plan Leave mv ≡ false → Over plan limit m.state →
+    Over plan limit (next plan m mv).state
 level_stays plan limit m mv free apart over =
     let kept : Counts m.state (next plan m mv).state = kept_counts plan m mv (other_than_leave plan mv apart) in
     record {
@@ -89,41 +93,53 @@ stands_over plan limit s round (inl low) = record { full = λ there. absurd (ome
 stands_over plan limit s round (inr (over, rest)) = over
 
 -- one of them more
-stands_on : (plan : Plan) (limit : ℕ) (m : Moment) (mv : Move) (e : Event) (round : List Move) → IsFree plan m.state (mv ∷ round) → IsEvent plan m.state mv e → Stands plan limit m.state (mv ∷ round) → Stands plan limit (next plan m mv).state round
+stands_on : (plan : Plan) (limit : ℕ) (m : Moment) (mv : Move) (e : Event) (round : List Move) → IsFree plan m.state (mv ∷ round) → IsEvent plan m.state mv e →
+    Stands plan limit m.state (mv ∷ round) → Stands plan limit (next plan m mv).state round
 stands_on plan limit m mv e round f is (inl low) = by (is_leave mv) refl
   where
     by : (b : Bool) → is_leave mv ≡ b → Stands plan limit (next plan m mv).state round
     by false other = inl (let count = (kept_counts plan m mv other).retired in omega (arith, count, low))
-    by true leaves = inr (over-made plan limit m mv e f.plain.0.allowed is low, subst (λ (a : Move). AllByRecursion (λ other. shares plan a other ≡ false) round) (leave_one mv leaves) f.apart.0)
+    by true leaves = inr (
+      over-made plan limit m mv e f.plain.0.allowed is low,
+      subst (λ (a : Move). AllByRecursion (λ other. shares plan a other
+          ≡ false) round) (leave_one mv leaves) f.apart.0,
+    )
 stands_on plan limit m mv e round f is (inr (over, (one, rest))) = inr (level_stays plan limit m mv f.plain.0.allowed one over, rest)
 
 -- all of a round whose moves share no place
-free_level : (plan : Plan) (limit : ℕ) (trace : List Made) (now new : RunPlace) → now.core.plan ≡ plan → IsFree plan now.core.state (moves_of trace) → MakesAll trace now new → Stands plan limit now.core.state (moves_of trace) → Over plan limit new.core.state
+free_level : (plan : Plan) (limit : ℕ) (trace : List Made) (now new : RunPlace) → now.core.plan ≡ plan → IsFree plan now.core.state (moves_of trace) →
+    MakesAll trace now new → Stands plan limit now.core.state (moves_of trace) → Over plan limit new.core.state
 unfolding MakesAll
-free_level plan limit [] now new same f all stands = subst (λ (p : RunPlace). Over plan limit p.core.state) (sym all) (stands_over plan limit now.core.state [] stands)
+free_level plan limit [] now new same f all stands = subst (λ (p : RunPlace). Over plan limit p.core.state) (sym all)
+    (stands_over plan limit now.core.state [] stands)
 free_level plan limit (made ∷ trace) now new same f (there, one, is, all) stands =
     let makes : Makes now.core there.core made.move now.streams there.streams = one.makes.makes in
     let m : Moment = record { state = now.core.state; rest = makes.rest; output = [] } in
-    let state : (next plan m made.move).state ≡ there.core.state = ap (λ (p : Plan). (next p m made.move).state) (sym same) ∙ ap (λ (q : Moment). q.state) makes.is in
-    let event : IsEvent plan now.core.state made.move made.event = subst (λ (p : Plan). IsEvent p now.core.state made.move made.event) same one.makes.is_event in
+    let state : (next plan m made.move).state ≡ there.core.state = ap (λ (p : Plan). (next p m made.move).state) (sym same)
+    ∙ ap (λ (q : Moment). q.state) makes.is in
+    let event : IsEvent plan now.core.state made.move made.event = subst (λ (p : Plan). IsEvent p now.core.state made.move made.event) same one.makes.is_event
+    in
     free_level plan limit trace there new (makes.plan ∙ same)
     (subst (λ (s : State). IsFree plan s (moves_of trace)) state (free_step plan m made.move (moves_of trace) f)) all
     (subst (λ (s : State). Stands plan limit s (moves_of trace)) state (stands_on plan limit m made.move made.event (moves_of trace) f event stands))
 
 -- a move that is made alone
-alone_level : (plan : Plan) (limit : ℕ) (mv : Move) (trace : List Made) (now new : RunPlace) → now.core.plan ≡ plan → moves_of trace ≡ mv ∷ [] → MakesAll trace now new → now.core.state.retired < limit → Over plan limit new.core.state
+alone_level : (plan : Plan) (limit : ℕ) (mv : Move) (trace : List Made) (now new : RunPlace) → now.core.plan ≡ plan → moves_of trace ≡ mv ∷ [] →
+    MakesAll trace now new → now.core.state.retired < limit → Over plan limit new.core.state
 unfolding MakesAll
 alone_level plan limit mv [] now new same is all low = absurd (cc)
 alone_level plan limit mv (made ∷ []) now new same is (there, one, at, all) low =
     let makes : Makes now.core there.core made.move now.streams there.streams = one.makes.makes in
     let m : Moment = record { state = now.core.state; rest = makes.rest; output = [] } in
     let state : (next now.core.plan m made.move).state ≡ there.core.state = ap (λ (q : Moment). q.state) makes.is in
-    let over : Over now.core.plan limit (next now.core.plan m made.move).state = over-made now.core.plan limit m made.move made.event one.makes.allowed one.makes.is_event low in
+    let over : Over now.core.plan limit (next now.core.plan m made.move).state = over-made now.core.plan limit m made.move made.event one.makes.allowed
+    one.makes.is_event low in
     subst (λ (p : Plan). Over p limit new.core.state) same (subst (Over now.core.plan limit) (state ∙ ap (λ (p : RunPlace). p.core.state) (sym all)) over)
 alone_level plan limit mv (made ∷ more ∷ trace) now new same is all low = absurd (cc)
 
 -- so it is after each round that is made below the limit
-pub round-level : (plan : Plan) (limit : ℕ) (trace : List Made) (now new : RunPlace) → now.core.plan ≡ plan → HasSidings plan now.core.state → IsRound plan now.core.state (moves_of trace) → MakesAll trace now new → now.core.state.retired < limit → Over plan limit new.core.state
+pub round-level : (plan : Plan) (limit : ℕ) (trace : List Made) (now new : RunPlace) → now.core.plan ≡ plan → HasSidings plan now.core.state →
+    IsRound plan now.core.state (moves_of trace) → MakesAll trace now new → now.core.state.retired < limit → Over plan limit new.core.state
 round-level plan limit trace now new same sidings r all low = by (round_form plan now.core.state (moves_of trace) sidings r)
   where
     by : Form plan now.core.state (moves_of trace) → Over plan limit new.core.state

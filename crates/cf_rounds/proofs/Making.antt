@@ -38,7 +38,8 @@ use Rattle.cf_rounds.proofs.Chosen.{Form, alone, together, round_form}
 use Rattle.cf_rounds.proofs.Free.{IsFree, free_step, sidings_stay}
 
 -- one more move
-all_more : (trace : List Made) (made : Made) (now mid new : RunPlace) → MakesAll trace now mid → MakesAndShows show.Report made.move made.event mid new → made.state ≡ new.core.state → MakesAll (trace ++ made ∷ []) now new
+all_more : (trace : List Made) (made : Made) (now mid new : RunPlace) → MakesAll trace now mid → MakesAndShows show.Report made.move made.event mid new →
+    made.state ≡ new.core.state → MakesAll (trace ++ made ∷ []) now new
 unfolding MakesAll
 all_more [] made now mid new h d e = (new, subst (λ (p : RunPlace). MakesAndShows show.Report made.move made.event p new) h d, e, refl)
 all_more (first ∷ trace) made now mid new (there, one, is, h) d e = (there, one, is, all_more trace made there mid new h d e)
@@ -51,7 +52,8 @@ moves_more : (trace : List Made) (made : Made) → moves_of (trace ++ made ∷ [
 moves_more [] made = refl
 moves_more (first ∷ trace) made = ap (λ (moves : List Move). first.move ∷ moves) (moves_more trace made)
 
-paced_more : (count : ℕ) (trace : List Made) (made : Made) → paced_by count (trace ++ made ∷ []) ≡ paced (paced_by count trace) made.move made.event (is_drained made.state)
+paced_more : (count : ℕ) (trace : List Made) (made : Made) → paced_by count (trace ++ made ∷ [])
+    ≡ paced (paced_by count trace) made.move made.event (is_drained made.state)
 unfolding paced_by
 paced_more count [] made = refl
 paced_more count (first ∷ trace) made = paced_more (paced count first.move first.event (is_drained first.state)) trace made
@@ -158,7 +160,8 @@ few_leaves plan (mv ∷ round) (h, hs) = by (is_leave mv) refl (few_leaves plan 
   where
     by : (b : Bool) → is_leave mv ≡ b → leaves round ≤ 1 → (if b then suc (leaves round) else leaves round) ≤ 1
     by true f rest =
-        let apart : AllByRecursion (λ other. shares plan Leave other ≡ false) round = subst (λ (a : Move). AllByRecursion (λ other. shares plan a other ≡ false) round) (leave_one mv f) h in
+        let apart : AllByRecursion (λ other. shares plan Leave other ≡ false) round = subst
+        (λ (a : Move). AllByRecursion (λ other. shares plan a other ≡ false) round) (leave_one mv f) h in
         omega (arith, none_leaves plan round apart)
     by false f rest = rest
 
@@ -179,7 +182,8 @@ IsLeft plan s round place =
 take_at : (round : List Move) (place : ℕ) (mv : Move) → Some mv ≡ slice_get round place → take (place + 1) round ≡ take place round ++ mv ∷ []
 take_at [] place mv e = absurd (cc)
 take_at (first ∷ round) zero mv e = let same : first ≡ mv = cc in ap (λ (m : Move). m ∷ []) same
-take_at (first ∷ round) (suc place) mv e = let one : suc place + 1 ≡ suc (place + 1) = omega arith in rw one (ap (λ (moves : List Move). first ∷ moves) (take_at round place mv e))
+take_at (first ∷ round) (suc place) mv e = let one : suc place + 1 ≡ suc (place + 1) = omega arith in
+    rw one (ap (λ (moves : List Move). first ∷ moves) (take_at round place mv e))
 
 one_there : (round : List Move) (other mv : Move) (place : ℕ) → place ≡ 0 → round ≡ other ∷ [] → Some mv ≡ slice_get round place → mv ≡ other
 one_there round other mv place at is e =
@@ -187,12 +191,14 @@ one_there round other mv place at is e =
     cc
 
 -- the move whose turn it is can be made
-pub left_allowed : (plan : Plan) (s : State) (round : List Move) (place : ℕ) (mv : Move) → IsLeft plan s round place → Some mv ≡ slice_get round place → bar plan s mv ≡ None
+pub left_allowed : (plan : Plan) (s : State) (round : List Move) (place : ℕ) (mv : Move) → IsLeft plan s round place → Some mv ≡ slice_get round place →
+    bar plan s mv ≡ None
 left_allowed plan s round place mv (inl f) e = (subst (AllByRecursion (IsPlain plan s)) (drop_at round place mv e) f.plain).0.allowed
 left_allowed plan s round place mv (inr (at, sidings, (other, free, is))) e = ap (bar plan s) (one_there round other mv place at is e) ∙ free
 
 -- and where it is Serve, it is alone
-pub left_serves : (plan : Plan) (s : State) (round : List Move) (place : ℕ) (mv : Move) → IsLeft plan s round place → Some mv ≡ slice_get round place → mv ≡ Serve → (place ≡ 0) × (round ≡ Serve ∷ [])
+pub left_serves : (plan : Plan) (s : State) (round : List Move) (place : ℕ) (mv : Move) → IsLeft plan s round place → Some mv ≡ slice_get round place →
+    mv ≡ Serve → (place ≡ 0) × (round ≡ Serve ∷ [])
 left_serves plan s round place mv (inl f) e serves =
     let plain : stands_alone plan s mv ≡ false = (subst (AllByRecursion (IsPlain plan s)) (drop_at round place mv e) f.plain).0.plain in
     let never : stands_alone plan s Serve ≡ false = ap (stands_alone plan s) (sym serves) ∙ plain in
@@ -201,12 +207,14 @@ left_serves plan s round place mv (inr (at, sidings, (other, free, is))) e serve
     (at, is ∙ ap (λ (m : Move). m ∷ []) (sym (one_there round other mv place at is e) ∙ serves))
 
 -- with it made, the others are left
-left_step : (plan : Plan) (m : Moment) (round : List Move) (place : ℕ) (mv : Move) → IsLeft plan m.state round place → Some mv ≡ slice_get round place → IsLeft plan (next plan m mv).state round (place + 1)
+left_step : (plan : Plan) (m : Moment) (round : List Move) (place : ℕ) (mv : Move) → IsLeft plan m.state round place → Some mv ≡ slice_get round place →
+    IsLeft plan (next plan m mv).state round (place + 1)
 left_step plan m round place mv (inl f) e = inl (free_step plan m mv (drop (place + 1) round) (subst (IsFree plan m.state) (drop_at round place mv e) f))
 left_step plan m round place mv (inr (at, sidings, (other, free, is))) e =
     let same : mv ≡ other = one_there round other mv place at is e in
     let none : drop (place + 1) round ≡ [] = ap (λ (n : ℕ). drop (n + 1) round) at ∙ ap (drop (0 + 1)) is in
-    inl (subst (IsFree plan (next plan m mv).state) (sym none) (record { sidings = sidings_stay plan m mv (ap (bar plan m.state) same ∙ free) sidings; plain = tt; apart = tt }))
+    inl (subst (IsFree plan (next plan m mv).state) (sym none)
+    (record { sidings = sidings_stay plan m mv (ap (bar plan m.state) same ∙ free) sidings; plain = tt; apart = tt }))
 
 -- a round from its start
 pub left_first : (plan : Plan) (s : State) (round : List Move) → HasSidings plan s → IsRound plan s round → IsLeft plan s round 0 × (leaves round ≤ 1)
@@ -227,9 +235,12 @@ pub record FiredSoFar (plan : Plan) (round : List Move) (start now : RunPlace) (
   pub left : IsLeft plan now.core.state round place
   pub first : place ≡ 0 → (now ≡ start) × (current ≡ pace)
   pub retired : now.core.state.retired + leaves (drop place round) ≤ start.core.state.retired + 1
-  pub counts : (now.tally.moves ≤ start.tally.moves + place) × (now.tally.meets ≤ start.tally.meets + place) × (now.tally.kills ≤ start.tally.kills + place) × (now.tally.dead ≤ start.tally.dead + place)
+  pub counts : (now.tally.moves ≤ start.tally.moves + place) × (now.tally.meets ≤ start.tally.meets + place) × (now.tally.kills ≤ start.tally.kills + place)
+      × (now.tally.dead ≤ start.tally.dead + place)
 
-pub fired-none : (start : RunPlace) (pace : PaceCount) (round : List Move) → IsProcessor start.core.plan start.core.state → HasSidings start.core.plan start.core.state → IsRound start.core.plan start.core.state round → FiredSoFar start.core.plan round start start pace pace Plain 0
+pub fired-none : (start : RunPlace) (pace : PaceCount) (round : List Move) → IsProcessor start.core.plan start.core.state →
+    HasSidings start.core.plan start.core.state → IsRound start.core.plan start.core.state round →
+    FiredSoFar start.core.plan round start start pace pace Plain 0
 unfolding MakesAll paced_by
 fired-none start pace round p sidings r =
     let first = left_first start.core.plan start.core.state round sidings r in
@@ -251,8 +262,10 @@ raised true n m place h = omega arith
 raised false n m place h = omega arith
 
 -- with the move whose turn it is, and what is seen of it
-pub fired-more : (plan : Plan) (round : List Move) (start now new : RunPlace) (pace current later : PaceCount) (fired answer : Fired) (place : ℕ) (mv : Move) (e : Event) (drained : Bool) → FiredSoFar plan round start now pace current fired place → Some mv ≡ slice_get round place
-    → MoveDoes show.Report mv now new (Ok e) → drained ≡ is_drained new.core.state → ((stages count : ℕ) → HasCounted stages count current → HasCounted stages (paced count mv e drained) later) → answer ≡ seen fired e
+pub fired-more : (plan : Plan) (round : List Move) (start now new : RunPlace) (pace current later : PaceCount) (fired answer : Fired) (place : ℕ) (mv : Move)
+    (e : Event) (drained : Bool) → FiredSoFar plan round start now pace current fired place → Some mv ≡ slice_get round place
+    → MoveDoes show.Report mv now new (Ok e) → drained ≡ is_drained new.core.state → ((stages count : ℕ) → HasCounted stages count current →
+    HasCounted stages (paced count mv e drained) later) → answer ≡ seen fired e
     → FiredSoFar plan round start new pace later answer (place + 1)
 unfolding MoveDoes
 fired-more plan round start now new pace current later fired answer place mv e drained h there d drained_is counts answer_is =
@@ -261,7 +274,8 @@ fired-more plan round start now new pace current later fired answer place mv e d
     let m : Moment = record { state = now.core.state; rest = makes.rest; output = [] } in
     let state : (next plan m mv).state ≡ new.core.state = ap (λ (l : Plan). (next l m mv).state) (sym h.plan_is) ∙ ap (λ (q : Moment). q.state) makes.is in
     let left : IsLeft plan (next plan m mv).state round (place + 1) = left_step plan m round place mv h.left there in
-    let less : (next plan m mv).state.retired + leaves (drop (place + 1) round) ≤ now.core.state.retired + leaves (mv ∷ drop (place + 1) round) = falls plan m mv (drop (place + 1) round) in
+    let less : (next plan m mv).state.retired + leaves (drop (place + 1) round) ≤ now.core.state.retired + leaves (mv ∷ drop (place + 1) round) =
+    falls plan m mv (drop (place + 1) round) in
     let all : leaves (drop place round) ≡ leaves (mv ∷ drop (place + 1) round) = ap leaves (drop_at round place mv there) in
     let tally : new.tally ≡ counted now.tally mv e = d.makes.tally in
     record {
@@ -269,7 +283,8 @@ fired-more plan round start now new pace current later fired answer place mv e d
       moves = moves_more h.trace made ∙ ap (λ (moves : List Move). moves ++ mv ∷ []) h.moves ∙ sym (take_at round place mv there);
       makes = all_more h.trace made start now new h.makes d refl;
       seen = subst (λ (f : Fired). IsSeen (h.trace ++ made ∷ []) f) (sym answer_is) (seen_more h.trace made fired h.seen);
-      paced = λ stages count held. subst (λ (n : ℕ). HasCounted stages n later) (ap (paced (paced_by count h.trace) mv e) drained_is ∙ sym (paced_more count h.trace made)) (counts stages (paced_by count h.trace) (h.paced stages count held));
+      paced = λ stages count held. subst (λ (n : ℕ). HasCounted stages n later) (ap (paced (paced_by count h.trace) mv e) drained_is
+          ∙ sym (paced_more count h.trace made)) (counts stages (paced_by count h.trace) (h.paced stages count held));
       plan_is = makes.plan ∙ h.plan_is;
       left = subst (λ (s : State). IsLeft plan s round (place + 1)) state left;
       first = λ none. absurd (omega (arith, none));
@@ -283,34 +298,50 @@ fired-more plan round start now new pace current later fired answer place mv e d
     }
 
 -- the move whose turn it is can be made
-pub fired-allowed : (plan : Plan) (round : List Move) (start now : RunPlace) (pace current : PaceCount) (fired : Fired) (place : ℕ) (mv : Move) → FiredSoFar plan round start now pace current fired place → Some mv ≡ slice_get round place → bar now.core.plan now.core.state mv ≡ None
-fired-allowed plan round start now pace current fired place mv h there = ap (λ (l : Plan). bar l now.core.state mv) h.plan_is ∙ left_allowed plan now.core.state round place mv h.left there
+pub fired-allowed : (plan : Plan) (round : List Move) (start now : RunPlace) (pace current : PaceCount) (fired : Fired) (place : ℕ) (mv : Move) →
+    FiredSoFar plan round start now pace current fired place → Some mv ≡ slice_get round place → bar now.core.plan now.core.state mv ≡ None
+fired-allowed plan round start now pace current fired place mv h there = ap (λ (l : Plan). bar l now.core.state mv) h.plan_is
+    ∙ left_allowed plan now.core.state round place mv h.left there
 
 -- all moves of a round were made
 take_all : (round : List Move) (place : ℕ) → place ≡ length round → take place round ≡ round
 take_all round place e = rw e (take-length round)
 
-pub fired-all : (plan : Plan) (round : List Move) (start now : RunPlace) (pace current : PaceCount) (fired : Fired) (place : ℕ) → place ≡ length round → FiredSoFar plan round start now pace current fired place → Fires round start now pace current fired
+pub fired-all : (plan : Plan) (round : List Move) (start now : RunPlace) (pace current : PaceCount) (fired : Fired) (place : ℕ) → place ≡ length round →
+    FiredSoFar plan round start now pace current fired place → Fires round start now pace current fired
 unfolding Fires
-fired-all plan round start now pace current Plain place all h = record { trace = h.trace; moves = h.moves ∙ take_all round place all; makes = h.makes; seen = h.seen; paced = h.paced }
-fired-all plan round start now pace current (Retired line) place all h = record { trace = h.trace; moves = h.moves ∙ take_all round place all; makes = h.makes; seen = h.seen; paced = h.paced }
-fired-all plan round start now pace current (Ended end) place all h = record { trace = h.trace; moves = h.moves ∙ take_all round place all; makes = h.makes; seen = h.seen; paced = h.paced }
+fired-all plan round start now pace current Plain place all h =
+    record { trace = h.trace; moves = h.moves ∙ take_all round place all; makes = h.makes; seen = h.seen; paced = h.paced }
+fired-all plan round start now pace current (Retired line) place all h =
+    record { trace = h.trace; moves = h.moves ∙ take_all round place all; makes = h.makes; seen = h.seen; paced = h.paced }
+fired-all plan round start now pace current (Ended end) place all h =
+    record { trace = h.trace; moves = h.moves ∙ take_all round place all; makes = h.makes; seen = h.seen; paced = h.paced }
 fired-all plan round start now pace current ReadFault place all h = absurd h.seen
 fired-all plan round start now pace current WriteFault place all h = absurd h.seen
 
 -- the input or the output failed its call
-pub fired-unread : (plan : Plan) (round : List Move) (start now new : RunPlace) (pace current : PaceCount) (fired : Fired) (place : ℕ) (mv : Move) → FiredSoFar plan round start now pace current fired place → Some mv ≡ slice_get round place → MoveDoes show.Report mv now new (Err ran.ReadFault)
+pub fired-unread : (plan : Plan) (round : List Move) (start now new : RunPlace) (pace current : PaceCount) (fired : Fired) (place : ℕ) (mv : Move) →
+    FiredSoFar plan round start now pace current fired place → Some mv ≡ slice_get round place → MoveDoes show.Report mv now new (Err ran.ReadFault)
     → Fires round start new pace current ReadFault
 unfolding Fires MoveDoes
 fired-unread plan round start now new pace current fired place mv h there d =
     let alone = left_serves plan now.core.state round place mv h.left there d.0.serves in
-    let start_is = h.first alone.0 in
-    (alone.1, subst (λ (p : RunPlace). MoveDoes show.Report Serve p new (Err ran.ReadFault)) start_is.0 (subst (λ (m : Move). MoveDoes show.Report m now new (Err ran.ReadFault)) d.0.serves d), start_is.1)
+    let start_is = h.first alone.0 in (
+      alone.1,
+      subst (λ (p : RunPlace). MoveDoes show.Report Serve p new (Err ran.ReadFault)) start_is.0
+          (subst (λ (m : Move). MoveDoes show.Report m now new (Err ran.ReadFault)) d.0.serves d),
+      start_is.1,
+    )
 
-pub fired-unwritten : (plan : Plan) (round : List Move) (start now new : RunPlace) (pace current : PaceCount) (fired : Fired) (place : ℕ) (mv : Move) → FiredSoFar plan round start now pace current fired place → Some mv ≡ slice_get round place → MoveDoes show.Report mv now new (Err ran.WriteFault)
+pub fired-unwritten : (plan : Plan) (round : List Move) (start now new : RunPlace) (pace current : PaceCount) (fired : Fired) (place : ℕ) (mv : Move) →
+    FiredSoFar plan round start now pace current fired place → Some mv ≡ slice_get round place → MoveDoes show.Report mv now new (Err ran.WriteFault)
     → Fires round start new pace current WriteFault
 unfolding Fires MoveDoes
 fired-unwritten plan round start now new pace current fired place mv h there d =
     let alone = left_serves plan now.core.state round place mv h.left there d.0.serves in
-    let start_is = h.first alone.0 in
-    (alone.1, subst (λ (p : RunPlace). MoveDoes show.Report Serve p new (Err ran.WriteFault)) start_is.0 (subst (λ (m : Move). MoveDoes show.Report m now new (Err ran.WriteFault)) d.0.serves d), start_is.1)
+    let start_is = h.first alone.0 in (
+      alone.1,
+      subst (λ (p : RunPlace). MoveDoes show.Report Serve p new (Err ran.WriteFault)) start_is.0
+          (subst (λ (m : Move). MoveDoes show.Report m now new (Err ran.WriteFault)) d.0.serves d),
+      start_is.1,
+    )

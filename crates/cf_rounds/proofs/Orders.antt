@@ -17,7 +17,8 @@ one_order mv order (front, after, is, none) = is ∙ go front after none
     go [] after e = ap (λ (moves : List Move). mv ∷ moves) e
     go (first ∷ front) after e = absurd (cc)
 
-pub orders_run : (plan : Plan) (m : Moment) (round order : List Move) → HasSidings plan m.state → IsRound plan m.state round → IsOrderOf round order → IsRun plan m order
+pub orders_run : (plan : Plan) (m : Moment) (round order : List Move) → HasSidings plan m.state → IsRound plan m.state round → IsOrderOf round order →
+    IsRun plan m order
 unfolding IsRun
 orders_run plan m round order sidings r o = by (round_form plan m.state round sidings r)
   where
@@ -25,7 +26,8 @@ orders_run plan m round order sidings r o = by (round_form plan m.state round si
     by (alone mv free stands is) = subst (IsRun plan m) (sym (one_order mv order (subst (λ (moves : List Move). IsOrderOf moves order) is o))) (free, tt)
     by (together f) = free_run plan m order (free_ordered plan m.state round order o f)
 
-pub orders_same : (plan : Plan) (m : Moment) (round order : List Move) → HasSidings plan m.state → IsRound plan m.state round → IsOrderOf round order → run plan m order ≡ run plan m round
+pub orders_same : (plan : Plan) (m : Moment) (round order : List Move) → HasSidings plan m.state → IsRound plan m.state round → IsOrderOf round order →
+    run plan m order ≡ run plan m round
 orders_same plan m round order sidings r o = by (round_form plan m.state round sidings r)
   where
     by : Form plan m.state round → run plan m order ≡ run plan m round

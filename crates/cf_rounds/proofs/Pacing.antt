@@ -87,7 +87,8 @@ one_issue plan a b apart e = by (is_issue a) refl
     by true f = absurd (let both : shares plan a b ≡ true = shared_at plan a b (Stage 1) (issue_there plan a f) (issue_there plan b e) in cc)
 
 -- after a move that is no Issue the candidates are held only where they were
-held_before : (plan : Plan) (count : ℕ) (mv : Move) (e : Event) (drained : Bool) → IsAccepted plan → is_issue mv ≡ false → is_held plan (paced count mv e drained) ≡ true → is_held plan count ≡ true
+held_before : (plan : Plan) (count : ℕ) (mv : Move) (e : Event) (drained : Bool) → IsAccepted plan → is_issue mv ≡ false →
+    is_held plan (paced count mv e drained) ≡ true → is_held plan count ≡ true
 unfolding paced
 held_before plan count mv e drained accepted other held = by (is_retirement e || drained) held
   where
@@ -99,10 +100,12 @@ held_before plan count mv e drained accepted other held = by (is_retirement e ||
     by false h = rw other at h
 
 -- so what may be said of the moves that are left may be said after one that was made
-may_stay : (plan : Plan) (s t : State) (count : ℕ) (mv : Move) (e : Event) (drained : Bool) (round : List Move) → IsAccepted plan → bar plan s mv ≡ None → AllByRecursion (λ other. shares plan mv other ≡ false) round → AllByRecursion (MayIssue plan count s) round
+may_stay : (plan : Plan) (s t : State) (count : ℕ) (mv : Move) (e : Event) (drained : Bool) (round : List Move) → IsAccepted plan → bar plan s mv ≡ None →
+    AllByRecursion (λ other. shares plan mv other ≡ false) round → AllByRecursion (MayIssue plan count s) round
     → AllByRecursion (MayIssue plan (paced count mv e drained) t) round
 may_stay plan s t count mv e drained [] accepted free apart may = tt
-may_stay plan s t count mv e drained (other ∷ round) accepted free (one, apart) (h, may) = (never, may_stay plan s t count mv e drained round accepted free apart may)
+may_stay plan s t count mv e drained (other ∷ round) accepted free (one, apart) (h, may) =
+    (never, may_stay plan s t count mv e drained round accepted free apart may)
   where
     never : MayIssue plan (paced count mv e drained) t other
     never held issue =
@@ -111,39 +114,51 @@ may_stay plan s t count mv e drained (other ∷ round) accepted free (one, apart
 
 -- the moves of a round, and after them those of the others
 record GoesOnAfter (plan : Plan) (limit count : ℕ) (told : Option (List ℕ)) (x : Machine) (s : State) (made rest : List Made) (last : Moment) : Type 0 where
-  go : (m : Moment) (before : List Line) → m.state ≡ state_after s made → HoldsAnew plan x before m → Leads plan limit told m rest last → (written : List Line) × PacesTo plan (paced_by count made) m (moves_of rest) last written
+  go : (m : Moment) (before : List Line) → m.state ≡ state_after s made → HoldsAnew plan x before m → Leads plan limit told m rest last →
+      (written : List Line) × PacesTo plan (paced_by count made) m (moves_of rest) last written
 
-in_round : (plan : Plan) (limit count : ℕ) (told : Option (List ℕ)) (x : Machine) (before : List Line) (m last : Moment) (made rest : List Made) → IsAccepted plan → HoldsAnew plan x before m → Leads plan limit told m (made ++ rest) last → AreApart plan (moves_of made) → AllByRecursion (MayIssue plan count m.state) (moves_of made)
+in_round : (plan : Plan) (limit count : ℕ) (told : Option (List ℕ)) (x : Machine) (before : List Line) (m last : Moment) (made rest : List Made) →
+    IsAccepted plan → HoldsAnew plan x before m → Leads plan limit told m (made ++ rest) last → AreApart plan (moves_of made) →
+    AllByRecursion (MayIssue plan count m.state) (moves_of made)
     → GoesOnAfter plan limit count told x m.state made rest last → (written : List Line) × PacesTo plan count m (moves_of (made ++ rest)) last written
 unfolding Leads PacesTo paced_by
 in_round plan limit count told x before m last [] rest accepted holds leads apart may after = after.go m before refl holds leads
 in_round plan limit count told x before m last (first ∷ made) rest accepted holds (r, finds, is, leads) (apart, aparts) (one, may) after =
     let t : Moment = next plan (record m { rest = r }) first.move in
-    let kept : HoldsAnew plan x (before ++ retires plan m.state first.move) t = anew_kept plan x m first.move r before (accepted_suits plan accepted) is.allowed holds in
+    let kept : HoldsAnew plan x (before ++ retires plan m.state first.move) t = anew_kept plan x m first.move r before
+    (accepted_suits plan accepted) is.allowed holds in
     let later : ℕ = paced count first.move first.event (is_drained first.state) in
-    let stay : AllByRecursion (MayIssue plan later t.state) (moves_of made) = may_stay plan m.state t.state count first.move first.event (is_drained first.state) (moves_of made) accepted is.allowed apart may in
-    let onward : GoesOnAfter plan limit later told x t.state made rest last = record { go = λ q b same h l. after.go q b (same ∙ ap (λ (s : State). state_after s made) (sym is.state)) h l } in
-    let goes : (written : List Line) × PacesTo plan later t (moves_of (made ++ rest)) last written = in_round plan limit later told x (before ++ retires plan m.state first.move) t last made rest accepted kept leads aparts stay onward in
+    let stay : AllByRecursion (MayIssue plan later t.state) (moves_of made) = may_stay plan m.state t.state count first.move first.event
+    (is_drained first.state) (moves_of made) accepted is.allowed apart may in
+    let onward : GoesOnAfter plan limit later told x t.state made rest last =
+    record { go = λ q b same h l. after.go q b (same ∙ ap (λ (s : State). state_after s made) (sym is.state)) h l } in
+    let goes : (written : List Line) × PacesTo plan later t (moves_of (made ++ rest)) last written =
+    in_round plan limit later told x (before ++ retires plan m.state first.move) t last made rest accepted kept leads aparts stay onward in
     let counted : PacesTo plan (paced count first.move first.event (is_drained t.state)) t (moves_of (made ++ rest)) last goes.0 =
     subst (λ (s : State). PacesTo plan (paced count first.move first.event (is_drained s)) t (moves_of (made ++ rest)) last goes.0) is.state goes.1 in
     (retires plan m.state first.move ++ goes.0, (r, goes.0, first.event, is.allowed, one, is.event, counted, refl))
 
 -- the offered moves, where the program goes on
-offered_may : (plan : Plan) (x : Machine) (before : List Line) (m : Moment) (count : ℕ) → HoldsAnew plan x before m → m.state.ending ≡ None → AllByRecursion (MayIssue plan count m.state) (offered plan count m.state)
+offered_may : (plan : Plan) (x : Machine) (before : List Line) (m : Moment) (count : ℕ) → HoldsAnew plan x before m → m.state.ending ≡ None →
+    AllByRecursion (MayIssue plan count m.state) (offered plan count m.state)
 offered_may plan x before m count holds going_on =
     let shape : HasShape plan m.state = anew_shape plan x m before holds going_on in
     all_from (MayIssue plan count m.state) (offered plan count m.state) (λ k mv e held issue. offered_held plan count m.state k mv shape e held issue)
 
 -- all rounds
-pub rounds_paced : (plan : Plan) (limit below count held : ℕ) (told : Option (List ℕ)) (x : Machine) (before : List Line) (m last : Moment) (rounds : List (List Made)) (end : State) → IsAccepted plan → HoldsAnew plan x before m → InRounds plan below count m.state rounds held end → Leads plan limit told m (all_of rounds) last
+pub rounds_paced : (plan : Plan) (limit below count held : ℕ) (told : Option (List ℕ)) (x : Machine) (before : List Line) (m last : Moment)
+    (rounds : List (List Made)) (end : State) → IsAccepted plan → HoldsAnew plan x before m → InRounds plan below count m.state rounds held end →
+    Leads plan limit told m (all_of rounds) last
     → (written : List Line) × PacesTo plan count m (moves_of (all_of rounds)) last written
 unfolding InRounds Leads PacesTo
 rounds_paced plan limit below count held told x before m last [] end accepted holds rounds leads = ([], (leads, refl))
 rounds_paced plan limit below count held told x before m last (made ∷ more) end accepted holds (goes, is, rounds) leads =
     let round : List Move = round_of plan m.state (offered plan count m.state) in
     let apart : AreApart plan (moves_of made) = subst (AreApart plan) (sym is) (round_apart plan m.state (offered plan count m.state)) in
-    let may : AllByRecursion (MayIssue plan count m.state) (moves_of made) = subst (AllByRecursion (MayIssue plan count m.state)) (sym is) (round_all (MayIssue plan count m.state) plan m.state (offered plan count m.state) (offered_may plan x before m count holds goes.unended)) in
+    let may : AllByRecursion (MayIssue plan count m.state) (moves_of made) = subst (AllByRecursion (MayIssue plan count m.state)) (sym is)
+    (round_all (MayIssue plan count m.state) plan m.state (offered plan count m.state) (offered_may plan x before m count holds goes.unended)) in
     let after : GoesOnAfter plan limit count told x m.state made (all_of more) last = record {
-      go = λ q b same h l. rounds_paced plan limit below (paced_by count made) held told x b q last more end accepted h (subst (λ (s : State). InRounds plan below (paced_by count made) s more held end) (sym same) rounds) l;
+      go = λ q b same h l. rounds_paced plan limit below (paced_by count made) held told x b q last more end accepted h
+          (subst (λ (s : State). InRounds plan below (paced_by count made) s more held end) (sym same) rounds) l;
     } in
     in_round plan limit count told x before m last made (all_of more) accepted holds leads apart may after

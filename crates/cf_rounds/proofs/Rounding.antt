@@ -65,13 +65,16 @@ all_more : (rounds : List (List Made)) (made : List Made) → all_of (rounds ++ 
 all_more [] made = append-nil made
 all_more (first ∷ rounds) made = ap (λ (rest : List Made). first ++ rest) (all_more rounds made) ∙ sym (append_assoc first (all_of rounds) made)
 
-rounds_more : (plan : Plan) (limit count : ℕ) (s : State) (rounds : List (List Made)) (held : ℕ) (end : State) (made : List Made) → InRounds plan limit count s rounds held end → GoesOn limit end → moves_of made ≡ round_of plan end (offered plan held end)
+rounds_more : (plan : Plan) (limit count : ℕ) (s : State) (rounds : List (List Made)) (held : ℕ) (end : State) (made : List Made) →
+    InRounds plan limit count s rounds held end → GoesOn limit end → moves_of made ≡ round_of plan end (offered plan held end)
     → InRounds plan limit count s (rounds ++ made ∷ []) (paced_by held made) (state_after end made)
 unfolding InRounds
 rounds_more plan limit count s [] held end made (held_is, end_is) goes is =
-    let P : ℕ → State → Type 0 = λ n q. GoesOn limit q × (moves_of made ≡ round_of plan q (offered plan n q)) × ((paced_by held made ≡ paced_by n made) × (state_after end made ≡ state_after q made)) in
+    let P : ℕ → State → Type 0 = λ n q. GoesOn limit q × (moves_of made ≡ round_of plan q (offered plan n q))
+    × ((paced_by held made ≡ paced_by n made) × (state_after end made ≡ state_after q made)) in
     subst (λ (n : ℕ). P n s) held_is (subst (P held) end_is (goes, is, (refl, refl)))
-rounds_more plan limit count s (first ∷ rounds) held end made (goes_on, first_is, h) goes is = (goes_on, first_is, rounds_more plan limit (paced_by count first) (state_after s first) rounds held end made h goes is)
+rounds_more plan limit count s (first ∷ rounds) held end made (goes_on, first_is, h) goes is =
+    (goes_on, first_is, rounds_more plan limit (paced_by count first) (state_after s first) rounds held end made h goes is)
 
 -- the state after the moves
 state_there : (trace : List Made) (now new : RunPlace) → MakesAll trace now new → state_after now.core.state trace ≡ new.core.state
@@ -85,7 +88,8 @@ record Reached (limit : ℕ) (start new : RunPlace) (before trace : List Made) :
   all : reached.trace ≡ before ++ trace
   within : new.core.state.retired ≤ limit
 
-reach_all : (limit : ℕ) (start now new : RunPlace) (trace : List Made) (h : Reaches (limit + 1) show.Report start now) → MakesAll trace now new → now.core.state.retired + leaves (moves_of trace) ≤ limit → Reached limit start new h.trace trace
+reach_all : (limit : ℕ) (start now new : RunPlace) (trace : List Made) (h : Reaches (limit + 1) show.Report start now) → MakesAll trace now new →
+    now.core.state.retired + leaves (moves_of trace) ≤ limit → Reached limit start new h.trace trace
 unfolding MakesAll
 reach_all limit start now new [] h all low =
     subst (λ (p : RunPlace). Reached limit start p h.trace []) (sym all) (record { reached = h; all = sym (append-nil h.trace); within = omega (arith, low) })
@@ -94,7 +98,8 @@ reach_all limit start now new (made ∷ trace) h (there, one, is, all) low =
     let made_there : Made = record { move = made.move; event = made.event; state = there.core.state } in
     let same : made_there ≡ made = ap (λ (s : State). record { move = made.move; event = made.event; state = s }) (sym is) in
     let more : Reaches (limit + 1) show.Report start there = reached-more (limit + 1) show.Report start now there made.move made.event h below one in
-    let trace_is : more.trace ≡ h.trace ++ made ∷ [] = reached-trace (limit + 1) show.Report start now there made.move made.event h below one ∙ ap (λ (m : Made). h.trace ++ m ∷ []) same in
+    let trace_is : more.trace ≡ h.trace ++ made ∷ [] = reached-trace (limit + 1) show.Report start now there made.move made.event h below one
+    ∙ ap (λ (m : Made). h.trace ++ m ∷ []) same in
     let makes : Makes now.core there.core made.move now.streams there.streams = one.makes.makes in
     let m : Moment = record { state = now.core.state; rest = makes.rest; output = [] } in
     let state : (next now.core.plan m made.move).state.retired ≡ there.core.state.retired = ap (λ (q : Moment). q.state.retired) makes.is in
@@ -119,7 +124,8 @@ pub record Comes (limit : ℕ) (start now : RunPlace) (pace : PaceCount) (number
   pub within : now.core.state.retired ≤ limit
   pub over : Over start.core.plan limit now.core.state
 
-pub comes-first : (limit : ℕ) (start : RunPlace) (pace : PaceCount) (number : ℕ) → start.tally ≡ no_tally → HasCounted start.core.plan.stages 0 pace → number ≡ 0 → start.core.state.retired ≤ limit → Over start.core.plan limit start.core.state → Comes limit start start pace number
+pub comes-first : (limit : ℕ) (start : RunPlace) (pace : PaceCount) (number : ℕ) → start.tally ≡ no_tally → HasCounted start.core.plan.stages 0 pace →
+    number ≡ 0 → start.core.state.retired ≤ limit → Over start.core.plan limit start.core.state → Comes limit start start pace number
 unfolding InRounds
 comes-first limit start pace number none paced zero_rounds within over = record {
   reached = reached-none (limit + 1) show.Report start none;
@@ -138,7 +144,8 @@ comes-first limit start pace number none paced zero_rounds within over = record 
 pub same_plan : (limit : ℕ) (start now : RunPlace) (pace : PaceCount) (number : ℕ) → Comes limit start now pace number → now.core.plan ≡ start.core.plan
 same_plan limit start now pace number c = ap (λ (p : Processor). p.plan) c.reached.core
 
-chosen_here : (limit : ℕ) (start now : RunPlace) (pace : PaceCount) (number : ℕ) (moves round : List Move) → (c : Comes limit start now pace number) → IsOffered now pace moves round → round ≡ round_of start.core.plan now.core.state (offered start.core.plan c.held now.core.state)
+chosen_here : (limit : ℕ) (start now : RunPlace) (pace : PaceCount) (number : ℕ) (moves round : List Move) → (c : Comes limit start now pace number) →
+    IsOffered now pace moves round → round ≡ round_of start.core.plan now.core.state (offered start.core.plan c.held now.core.state)
 chosen_here limit start now pace number moves round c o =
     let plan : now.core.plan ≡ start.core.plan = same_plan limit start now pace number c in
     let counted : HasCounted now.core.plan.stages c.held pace = subst (λ (l : Plan). HasCounted l.stages c.held pace) (sym plan) c.paced in
@@ -156,21 +163,26 @@ moves_length [] = refl
 moves_length (made ∷ trace) = ap suc (moves_length trace)
 
 -- one more round
-pub comes-more : (limit : ℕ) (start now new : RunPlace) (pace later : PaceCount) (number : ℕ) (moves round : List Move) (fired : Fired) → Comes limit start now pace number → GoesOn limit now.core.state → IsOffered now pace moves round → FiresAll round now new pace later fired → Comes limit start new later (number + 1)
+pub comes-more : (limit : ℕ) (start now new : RunPlace) (pace later : PaceCount) (number : ℕ) (moves round : List Move) (fired : Fired) →
+    Comes limit start now pace number → GoesOn limit now.core.state → IsOffered now pace moves round → FiresAll round now new pace later fired →
+    Comes limit start new later (number + 1)
 comes-more limit start now new pace later number moves round fired c goes o f =
     let plan : Plan = start.core.plan in
     let same : now.core.plan ≡ plan = same_plan limit start now pace number c in
     let few : leaves round ≤ 1 = (left_first now.core.plan now.core.state round o.sidings o.is_round).1 in
     let low : now.core.state.retired + leaves (moves_of f.trace) ≤ limit = omega (arith, goes.below, ap leaves f.moves, few) in
     let r : Reached limit start new c.reached.trace f.trace = reach_all limit start now new f.trace c.reached f.makes low in
-    let is : moves_of f.trace ≡ round_of plan now.core.state (offered plan c.held now.core.state) = f.moves ∙ chosen_here limit start now pace number moves round c o in
-    let more : InRounds plan limit 0 start.core.state (c.rounds ++ f.trace ∷ []) (paced_by c.held f.trace) (state_after now.core.state f.trace) = rounds_more plan limit 0 start.core.state c.rounds c.held now.core.state f.trace c.chosen goes is in
+    let is : moves_of f.trace ≡ round_of plan now.core.state (offered plan c.held now.core.state) = f.moves
+    ∙ chosen_here limit start now pace number moves round c o in
+    let more : InRounds plan limit 0 start.core.state (c.rounds ++ f.trace ∷ []) (paced_by c.held f.trace) (state_after now.core.state f.trace) =
+    rounds_more plan limit 0 start.core.state c.rounds c.held now.core.state f.trace c.chosen goes is in
     record {
       reached = r.reached;
       rounds = c.rounds ++ f.trace ∷ [];
       are = r.all ∙ ap (λ (t : List Made). t ++ f.trace) c.are ∙ sym (all_more c.rounds f.trace);
       held = paced_by c.held f.trace;
-      chosen = subst (λ (s : State). InRounds plan limit 0 start.core.state (c.rounds ++ f.trace ∷ []) (paced_by c.held f.trace) s) (state_there f.trace now new f.makes) more;
+      chosen = subst (λ (s : State). InRounds plan limit 0 start.core.state (c.rounds ++ f.trace ∷ []) (paced_by c.held f.trace) s)
+          (state_there f.trace now new f.makes) more;
       paced = f.paced plan.stages c.held c.paced;
       count = omega (arith, c.count, length-append c.rounds (f.trace ∷ []));
       few = omega (arith, c.few, count_all f.trace now new f.makes, o.some, ap length f.moves, moves_length f.trace);
@@ -182,56 +194,72 @@ comes-more limit start now new pace later number moves round fired c goes o f =
     }
 
 -- the rounds so far are a run under the hold rule
-comes_paced : (limit : ℕ) (start now : RunPlace) (pace : PaceCount) (number : ℕ) → IsAccepted start.core.plan → length start.core.state.regs ≡ 32 → (o : IsOpened start.core) → (c : Comes limit start now pace number)
-    → (written : List Line) × PacesTo start.core.plan 0 (start_on start.core.plan (machine_of start.core o c.reached.rest)) (moves_of c.reached.trace) c.reached.last written
+comes_paced : (limit : ℕ) (start now : RunPlace) (pace : PaceCount) (number : ℕ) → IsAccepted start.core.plan → length start.core.state.regs ≡ 32 →
+    (o : IsOpened start.core) → (c : Comes limit start now pace number)
+    → (written : List Line) × PacesTo start.core.plan 0 (start_on start.core.plan (machine_of start.core o c.reached.rest))
+    (moves_of c.reached.trace) c.reached.last written
 comes_paced limit start now pace number accepted wide o c =
     let plan : Plan = start.core.plan in
     let x : Machine = machine_of start.core o c.reached.rest in
     let same : moment_of start.core c.reached.rest ≡ start_on plan x = begins start.core o.hart c.reached.rest c.reached.rest o.is refl in
-    let leads : Leads plan (limit + 1) start.streams.input (start_on plan x) c.reached.trace c.reached.last = subst (λ (q : Moment). Leads plan (limit + 1) start.streams.input q c.reached.trace c.reached.last) same c.reached.leads in
-    let here : Leads plan (limit + 1) start.streams.input (start_on plan x) (all_of c.rounds) c.reached.last = subst (λ (t : List Made). Leads plan (limit + 1) start.streams.input (start_on plan x) t c.reached.last) c.are leads in
-    let chosen : InRounds plan limit 0 (start_on plan x).state c.rounds c.held now.core.state = subst (λ (q : Moment). InRounds plan limit 0 q.state c.rounds c.held now.core.state) same c.chosen in
+    let leads : Leads plan (limit + 1) start.streams.input (start_on plan x) c.reached.trace c.reached.last =
+    subst (λ (q : Moment). Leads plan (limit + 1) start.streams.input q c.reached.trace c.reached.last) same c.reached.leads in
+    let here : Leads plan (limit + 1) start.streams.input (start_on plan x) (all_of c.rounds) c.reached.last =
+    subst (λ (t : List Made). Leads plan (limit + 1) start.streams.input (start_on plan x) t c.reached.last) c.are leads in
+    let chosen : InRounds plan limit 0 (start_on plan x).state c.rounds c.held now.core.state =
+    subst (λ (q : Moment). InRounds plan limit 0 q.state c.rounds c.held now.core.state) same c.chosen in
     let paces : (written : List Line) × PacesTo plan 0 (start_on plan x) (moves_of (all_of c.rounds)) c.reached.last written =
-    rounds_paced plan (limit + 1) limit 0 c.held start.streams.input x [] (start_on plan x) c.reached.last c.rounds now.core.state accepted (anew_started plan x (opened_wide start.core o wide)) chosen here in
+    rounds_paced plan (limit + 1) limit 0 c.held start.streams.input x [] (start_on plan x) c.reached.last c.rounds now.core.state accepted
+    (anew_started plan x (opened_wide start.core o wide)) chosen here in
     (paces.0, subst (λ (t : List Made). PacesTo plan 0 (start_on plan x) (moves_of t) c.reached.last paces.0) (sym c.are) paces.1)
 
 -- so they have a bounded number of moves
-pub comes-bounded : (limit : ℕ) (start now : RunPlace) (pace : PaceCount) (number : ℕ) → IsAccepted start.core.plan → length start.core.state.regs ≡ 32 → IsOpened start.core → Comes limit start now pace number → now.tally.moves ≤ most_moves start.core.plan limit
+pub comes-bounded : (limit : ℕ) (start now : RunPlace) (pace : PaceCount) (number : ℕ) → IsAccepted start.core.plan → length start.core.state.regs ≡ 32 →
+    IsOpened start.core → Comes limit start now pace number → now.tally.moves ≤ most_moves start.core.plan limit
 comes-bounded limit start now pace number accepted wide o c =
     let paces = comes_paced limit start now pace number accepted wide o c in
     let bound = paced-bounded (limit + 1) show.Report start now accepted wide o c.reached paces.0 paces.1 in
     let grows = bound_grows start.core.plan (now.core.state.retired - start.core.state.retired) limit (omega (arith, c.within)) in
     omega (arith, bound, grows)
 
-pub comes-small : (limit : ℕ) (start now : RunPlace) (pace : PaceCount) (number : ℕ) → IsAccepted start.core.plan → length start.core.state.regs ≡ 32 → IsOpened start.core → limit ≤ most_limit → Comes limit start now pace number → now.tally.moves + 1 < 2 ^ 63
+pub comes-small : (limit : ℕ) (start now : RunPlace) (pace : PaceCount) (number : ℕ) → IsAccepted start.core.plan → length start.core.state.regs ≡ 32 →
+    IsOpened start.core → limit ≤ most_limit → Comes limit start now pace number → now.tally.moves + 1 < 2 ^ 63
 comes-small limit start now pace number accepted wide o few c =
     let bound = comes-bounded limit start now pace number accepted wide o c in
     let small = bound_small start.core.plan limit accepted few in
     omega (arith, bound, small)
 
 -- and while the program goes on there is a candidate
-pub comes-offered : (limit : ℕ) (start now : RunPlace) (pace : PaceCount) (number : ℕ) → IsAccepted start.core.plan → length start.core.state.regs ≡ 32 → IsOpened start.core → Comes limit start now pace number → now.core.state.ending ≡ None → (count : ℕ) → 0 < length (offered now.core.plan count now.core.state)
+pub comes-offered : (limit : ℕ) (start now : RunPlace) (pace : PaceCount) (number : ℕ) → IsAccepted start.core.plan → length start.core.state.regs ≡ 32 →
+    IsOpened start.core → Comes limit start now pace number → now.core.state.ending ≡ None → (count : ℕ) →
+    0 < length (offered now.core.plan count now.core.state)
 comes-offered limit start now pace number accepted wide o c unended count =
     let paces = comes_paced limit start now pace number accepted wide o c in
     omega (arith, paced-offered (limit + 1) show.Report start now accepted wide o c.reached paces.0 paces.1 unended count)
 
 -- the pace has counted the Issue moves
-pub comes-counted : (limit : ℕ) (start now : RunPlace) (pace : PaceCount) (number : ℕ) → Comes limit start now pace number → (count : ℕ) × HasCounted now.core.plan.stages count pace
+pub comes-counted : (limit : ℕ) (start now : RunPlace) (pace : PaceCount) (number : ℕ) → Comes limit start now pace number →
+    (count : ℕ) × HasCounted now.core.plan.stages count pace
 comes-counted limit start now pace number c =
     (c.held, subst (λ (l : Plan). HasCounted l.stages c.held pace) (sym (same_plan limit start now pace number c)) c.paced)
 
 -- each round has a move, so fewer are left
-pub comes-nearer : (limit : ℕ) (start now new : RunPlace) (pace later : PaceCount) (number : ℕ) (moves round : List Move) (fired : Fired) → IsAccepted start.core.plan → length start.core.state.regs ≡ 32 → IsOpened start.core → Comes limit start now pace number → GoesOn limit now.core.state → IsOffered now pace moves round → FiresAll round now new pace later fired
+pub comes-nearer : (limit : ℕ) (start now new : RunPlace) (pace later : PaceCount) (number : ℕ) (moves round : List Move) (fired : Fired) →
+    IsAccepted start.core.plan → length start.core.state.regs ≡ 32 → IsOpened start.core → Comes limit start now pace number → GoesOn limit now.core.state →
+    IsOffered now pace moves round → FiresAll round now new pace later fired
     → most_moves start.core.plan limit - new.tally.moves < most_moves start.core.plan limit - now.tally.moves
 comes-nearer limit start now new pace later number moves round fired accepted wide o c goes offer f =
-    let bound = comes-bounded limit start new later (number + 1) accepted wide o (comes-more limit start now new pace later number moves round fired c goes offer f) in
-    less (most_moves start.core.plan limit) now.tally.moves new.tally.moves (length f.trace) (count_all f.trace now new f.makes) (omega (arith, offer.some, ap length f.moves, moves_length f.trace)) bound
+    let bound = comes-bounded limit start new later (number + 1) accepted wide o (comes-more limit start now new pace later number moves round fired c goes
+    offer f) in
+    less (most_moves start.core.plan limit) now.tally.moves new.tally.moves (length f.trace) (count_all f.trace now new f.makes)
+    (omega (arith, offer.some, ap length f.moves, moves_length f.trace)) bound
   where
     less : (most now new n : ℕ) → new ≡ now + n → 0 < n → new ≤ most → most - new < most - now
     less most now new n e some h = omega (arith, e, some, h)
 
 -- the run stops where it has arrived
-pub comes-runs : (limit : ℕ) (start now new : RunPlace) (pace : PaceCount) (number : ℕ) (answer : Clocked) → (c : Comes limit start now pace number) → StopsRounds limit c.held now new answer → RunsRounds limit start new number answer
+pub comes-runs : (limit : ℕ) (start now new : RunPlace) (pace : PaceCount) (number : ℕ) (answer : Clocked) → (c : Comes limit start now pace number) →
+    StopsRounds limit c.held now new answer → RunsRounds limit start new number answer
 comes-runs limit start now new pace number answer c stops = record {
   now = now;
   reaches = c.reached;
@@ -244,42 +272,56 @@ comes-runs limit start now new pace number answer c stops = record {
 }
 
 -- the call of the next round failed
-pub fails-there : (limit : ℕ) (start now new : RunPlace) (pace : PaceCount) (number : ℕ) (moves round : List Move) (answer : Answer) → (c : Comes limit start now pace number) → GoesOn limit now.core.state → IsOffered now pace moves round → round ≡ Serve ∷ [] → MoveDoes show.Report Serve now new (Err answer)
+pub fails-there : (limit : ℕ) (start now new : RunPlace) (pace : PaceCount) (number : ℕ) (moves round : List Move) (answer : Answer) →
+    (c : Comes limit start now pace number) → GoesOn limit now.core.state → IsOffered now pace moves round → round ≡ Serve ∷ [] →
+    MoveDoes show.Report Serve now new (Err answer)
     → FailsThere limit c.held now new answer
 fails-there limit start now new pace number moves round answer c goes o serves does =
     let plan : now.core.plan ≡ start.core.plan = same_plan limit start now pace number c in
     record {
       goes = goes;
-      serves = ap (λ (l : Plan). round_of l now.core.state (offered l c.held now.core.state)) plan ∙ sym (chosen_here limit start now pace number moves round c o) ∙ serves;
+      serves = ap (λ (l : Plan). round_of l now.core.state (offered l c.held now.core.state)) plan
+          ∙ sym (chosen_here limit start now pace number moves round c o) ∙ serves;
       does = does;
     }
 
 -- and the run is a run of the sequential machine
-rounds_come : (limit : ℕ) (start new : RunPlace) (number : ℕ) (answer : Clocked) → IsAccepted start.core.plan → (r : RunsRounds limit start new number answer) → ComesTo (limit + 1) show.Report start (moves_of r.reaches.trace) new (Ran (ran_of answer))
+rounds_come : (limit : ℕ) (start new : RunPlace) (number : ℕ) (answer : Clocked) → IsAccepted start.core.plan → (r : RunsRounds limit start new number answer) →
+    ComesTo (limit + 1) show.Report start (moves_of r.reaches.trace) new (Ran (ran_of answer))
 unfolding StopsAt Gets
 rounds_come limit start new number (Exit status) accepted r = comes_over (limit + 1) show.Report start r.now new (ran.Exit status) r.reaches r.stops.0 r.stops.1
-rounds_come limit start new number (Trap cause pc detail) accepted r = comes_over (limit + 1) show.Report start r.now new (ran.Trap cause pc detail) r.reaches r.stops.0 r.stops.1
-rounds_come limit start new number Limit accepted r = comes_here (limit + 1) show.Report start r.now new (Ran ran.Limit) r.reaches r.stops.1 (λ x m h. h) (λ text w. w)
+rounds_come limit start new number (Trap cause pc detail) accepted r = comes_over (limit + 1) show.Report start r.now new
+    (ran.Trap cause pc detail) r.reaches r.stops.0 r.stops.1
+rounds_come limit start new number Limit accepted r = comes_here (limit + 1) show.Report start r.now new (Ran ran.Limit) r.reaches r.stops.1 (λ x m h. h)
+    (λ text w. w)
 rounds_come limit start new number ReadFault accepted r = comes_unread (limit + 1) show.Report start r.now new Serve r.reaches r.stops.does
 rounds_come limit start new number WriteFault accepted r = comes_unwritten (limit + 1) show.Report start r.now new Serve accepted r.reaches r.stops.does
 
-pub rounds-sequential : (limit : ℕ) (start new : RunPlace) (number : ℕ) (answer : Clocked) → IsAccepted start.core.plan → length start.core.state.regs ≡ 32 → (r : RunsRounds limit start new number answer) → RunsSequentially show.Report (moves_of r.reaches.trace) start new (Ran (ran_of answer))
+pub rounds-sequential : (limit : ℕ) (start new : RunPlace) (number : ℕ) (answer : Clocked) → IsAccepted start.core.plan → length start.core.state.regs ≡ 32 →
+    (r : RunsRounds limit start new number answer) → RunsSequentially show.Report (moves_of r.reaches.trace) start new (Ran (ran_of answer))
 rounds-sequential limit start new number answer accepted wide r =
-    comes_sequentially (limit + 1) show.Report start new (moves_of r.reaches.trace) (Ran (ran_of answer)) accepted wide (rounds_come limit start new number answer accepted r)
+    comes_sequentially (limit + 1) show.Report start new (moves_of r.reaches.trace) (Ran (ran_of answer)) accepted wide
+    (rounds_come limit start new number answer accepted r)
 
 -- what is offered, and its round
-pub offers : (now : RunPlace) (pace : PaceCount) (moves round : List Move) → IsProcessor now.core.plan now.core.state → ((count : ℕ) → HasCounted now.core.plan.stages count pace → moves ≡ offered now.core.plan count now.core.state) → round ≡ round_of now.core.plan now.core.state moves → IsRound now.core.plan now.core.state round → 0 < length round → IsOffered now pace moves round
-offers now pace moves round p are is round_is some = record { moves_are = are; round_is = is; is_round = round_is; sidings = has_sidings now.core.plan now.core.state p; some = some }
+pub offers : (now : RunPlace) (pace : PaceCount) (moves round : List Move) → IsProcessor now.core.plan now.core.state →
+    ((count : ℕ) → HasCounted now.core.plan.stages count pace → moves ≡ offered now.core.plan count now.core.state) →
+    round ≡ round_of now.core.plan now.core.state moves → IsRound now.core.plan now.core.state round → 0 < length round → IsOffered now pace moves round
+offers now pace moves round p are is round_is some =
+    record { moves_are = are; round_is = is; is_round = round_is; sidings = has_sidings now.core.plan now.core.state p; some = some }
 
 -- so its moves are candidates, and there is one
-pub offered-candidates : (plan : Plan) (s : State) (pace : PaceCount) (moves : List Move) → (count : ℕ) × HasCounted plan.stages count pace → ((count : ℕ) → HasCounted plan.stages count pace → moves ≡ offered plan count s) → AreCandidates plan s moves
+pub offered-candidates : (plan : Plan) (s : State) (pace : PaceCount) (moves : List Move) → (count : ℕ) × HasCounted plan.stages count pace →
+    ((count : ℕ) → HasCounted plan.stages count pace → moves ≡ offered plan count s) → AreCandidates plan s moves
 offered-candidates plan s pace moves counted are = subst (AreCandidates plan s) (sym (are counted.0 counted.1)) (offered_are plan counted.0 s)
 
-pub offered-some : (plan : Plan) (s : State) (pace : PaceCount) (moves : List Move) → (count : ℕ) × HasCounted plan.stages count pace → ((count : ℕ) → HasCounted plan.stages count pace → moves ≡ offered plan count s) → ((count : ℕ) → 0 < length (offered plan count s)) → 0 < length moves
+pub offered-some : (plan : Plan) (s : State) (pace : PaceCount) (moves : List Move) → (count : ℕ) × HasCounted plan.stages count pace →
+    ((count : ℕ) → HasCounted plan.stages count pace → moves ≡ offered plan count s) → ((count : ℕ) → 0 < length (offered plan count s)) → 0 < length moves
 offered-some plan s pace moves counted are some = omega (arith, some counted.0, ap length (are counted.0 counted.1))
 
 -- the run is over before the round
-pub turned-over : (limit : ℕ) (now : RunPlace) (pace : PaceCount) (answer : Clocked) → IsOver limit now.core.state (ran_of answer) → RoundTurns limit now now pace pace (Some answer)
+pub turned-over : (limit : ℕ) (now : RunPlace) (pace : PaceCount) (answer : Clocked) → IsOver limit now.core.state (ran_of answer) →
+    RoundTurns limit now now pace pace (Some answer)
 unfolding RoundTurns
 turned-over limit now pace (Exit status) over = (over, refl)
 turned-over limit now pace (Trap cause pc detail) over = (over, refl)
@@ -317,7 +359,9 @@ turned-written (Ended end) = refl
 turned-written fault.ReadFault = refl
 turned-written fault.WriteFault = refl
 
-pub turned : (limit : ℕ) (now new : RunPlace) (pace later : PaceCount) (moves round : List Move) (fired : Fired) (turn : Option Clocked) → GoesOn limit now.core.state → IsOffered now pace moves round → Fires round now new pace later fired → turn ≡ finish_with fired → RoundTurns limit now new pace later turn
+pub turned : (limit : ℕ) (now new : RunPlace) (pace later : PaceCount) (moves round : List Move) (fired : Fired) (turn : Option Clocked) →
+    GoesOn limit now.core.state → IsOffered now pace moves round → Fires round now new pace later fired → turn ≡ finish_with fired →
+    RoundTurns limit now new pace later turn
 unfolding RoundTurns Fires
 turned limit now new pace later moves round fired turn goes o f is = subst (λ (t : Option Clocked). RoundTurns limit now new pace later t) (sym is) (by fired f)
   where
@@ -329,29 +373,37 @@ turned limit now new pace later moves round fired turn goes o f is = subst (λ (
     by fault.WriteFault f = record { goes = goes; moves = moves; round = round; offer = o; serves = f.0; does = f.1 }
 
 -- a turn that goes on
-pub comes-on : (limit : ℕ) (start now new : RunPlace) (pace later : PaceCount) (number : ℕ) → Comes limit start now pace number → RoundTurns limit now new pace later None → Comes limit start new later (number + 1)
+pub comes-on : (limit : ℕ) (start now new : RunPlace) (pace later : PaceCount) (number : ℕ) → Comes limit start now pace number →
+    RoundTurns limit now new pace later None → Comes limit start new later (number + 1)
 unfolding RoundTurns
 comes-on limit start now new pace later number c t = comes-more limit start now new pace later number t.moves t.round t.fired c t.goes t.offer t.fires
 
-pub comes-closer : (limit : ℕ) (start now new : RunPlace) (pace later : PaceCount) (number : ℕ) → IsAccepted start.core.plan → length start.core.state.regs ≡ 32 → IsOpened start.core → Comes limit start now pace number → RoundTurns limit now new pace later None
+pub comes-closer : (limit : ℕ) (start now new : RunPlace) (pace later : PaceCount) (number : ℕ) → IsAccepted start.core.plan →
+    length start.core.state.regs ≡ 32 → IsOpened start.core → Comes limit start now pace number → RoundTurns limit now new pace later None
     → most_moves start.core.plan limit - new.tally.moves < most_moves start.core.plan limit - now.tally.moves
 unfolding RoundTurns
-comes-closer limit start now new pace later number accepted wide o c t = comes-nearer limit start now new pace later number t.moves t.round t.fired accepted wide o c t.goes t.offer t.fires
+comes-closer limit start now new pace later number accepted wide o c t = comes-nearer limit start now new pace later number t.moves t.round t.fired accepted
+    wide o c t.goes t.offer t.fires
 
 -- a turn that ends the run
-pub comes-end : (limit : ℕ) (start now new : RunPlace) (pace later : PaceCount) (number : ℕ) (answer : Clocked) → Comes limit start now pace number → RoundTurns limit now new pace later (Some answer) → RunsRounds limit start new number answer
+pub comes-end : (limit : ℕ) (start now new : RunPlace) (pace later : PaceCount) (number : ℕ) (answer : Clocked) → Comes limit start now pace number →
+    RoundTurns limit now new pace later (Some answer) → RunsRounds limit start new number answer
 unfolding RoundTurns
 comes-end limit start now new pace later number (Exit status) c t = comes-runs limit start now new pace number (Exit status) c t
 comes-end limit start now new pace later number (Trap cause pc detail) c t = comes-runs limit start now new pace number (Trap cause pc detail) c t
 comes-end limit start now new pace later number Limit c t = comes-runs limit start now new pace number Limit c t
-comes-end limit start now new pace later number ReadFault c t = comes-runs limit start now new pace number ReadFault c (fails-there limit start now new pace number t.moves t.round ran.ReadFault c t.goes t.offer t.serves t.does)
-comes-end limit start now new pace later number WriteFault c t = comes-runs limit start now new pace number WriteFault c (fails-there limit start now new pace number t.moves t.round ran.WriteFault c t.goes t.offer t.serves t.does)
+comes-end limit start now new pace later number ReadFault c t = comes-runs limit start now new pace number ReadFault c
+    (fails-there limit start now new pace number t.moves t.round ran.ReadFault c t.goes t.offer t.serves t.does)
+comes-end limit start now new pace later number WriteFault c t = comes-runs limit start now new pace number WriteFault c
+    (fails-there limit start now new pace number t.moves t.round ran.WriteFault c t.goes t.offer t.serves t.does)
 
 -- no move was counted where the run stops but those of the rounds
-pub end-bounded : (limit : ℕ) (start now new : RunPlace) (pace later : PaceCount) (number : ℕ) (answer : Clocked) → IsAccepted start.core.plan → length start.core.state.regs ≡ 32 → IsOpened start.core → Comes limit start now pace number → RoundTurns limit now new pace later (Some answer)
+pub end-bounded : (limit : ℕ) (start now new : RunPlace) (pace later : PaceCount) (number : ℕ) (answer : Clocked) → IsAccepted start.core.plan →
+    length start.core.state.regs ≡ 32 → IsOpened start.core → Comes limit start now pace number → RoundTurns limit now new pace later (Some answer)
     → new.tally.moves ≤ most_moves start.core.plan limit
 unfolding RoundTurns MoveDoes
-end-bounded limit start now new pace later number answer accepted wide o c t = omega (arith, comes-bounded limit start now pace number accepted wide o c, same answer t)
+end-bounded limit start now new pace later number answer accepted wide o c t =
+    omega (arith, comes-bounded limit start now pace number accepted wide o c, same answer t)
   where
     same : (answer : Clocked) → RoundTurns limit now new pace later (Some answer) → new.tally.moves ≡ now.tally.moves
     same (Exit status) t = ap (λ (p : RunPlace). p.tally.moves) t.1
@@ -361,13 +413,16 @@ end-bounded limit start now new pace later number answer accepted wide o c t = o
     same WriteFault t = ap (λ (a : Tally). a.moves) t.does.0.tally
 
 -- and ends as that machine does
-pub rounds-end : (limit : ℕ) (start now new : RunPlace) (pace later : PaceCount) (number : ℕ) (answer : Clocked) → IsAccepted start.core.plan → length start.core.state.regs ≡ 32 → Comes limit start now pace number → RoundTurns limit now new pace later (Some answer) → EndsSequentially limit start new (Ran (ran_of answer))
+pub rounds-end : (limit : ℕ) (start now new : RunPlace) (pace later : PaceCount) (number : ℕ) (answer : Clocked) → IsAccepted start.core.plan →
+    length start.core.state.regs ≡ 32 → Comes limit start now pace number → RoundTurns limit now new pace later (Some answer) →
+    EndsSequentially limit start new (Ran (ran_of answer))
 unfolding EndsSequentially RoundTurns
 rounds-end limit start now new pace later number answer accepted wide c turns plan hart opens = by answer turns
   where
     ends : (end : Answer) → new ≡ now → IsOver limit now.core.state end → EndsAsMachine limit hart start new end
     ends end same over = same_place limit hart start now new end same
-        (ends-level (limit + 1) limit show.Report start now hart end accepted (ap length (sym (opened_regs start.core plan hart opens)) ∙ wide) (opened_here start.core plan hart opens) c.reached c.over over)
+        (ends-level (limit + 1) limit show.Report start now hart end accepted (ap length (sym (opened_regs start.core plan hart opens)) ∙ wide)
+        (opened_here start.core plan hart opens) c.reached c.over over)
 
     by : (answer : Clocked) → RoundTurns limit now new pace later (Some answer) → EndsAlike limit hart start new (Ran (ran_of answer))
     by (Exit status) t = ends (ran.Exit status) t.1 t.0

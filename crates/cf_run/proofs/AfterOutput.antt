@@ -17,15 +17,19 @@ use Rattle.cf_semantics.specs.state.State.{State, Moment, cell_at}
 abbrev pub after_output : List ℕ → Moment → Moment
 after_output earlier m = record m { output = earlier ++ m.output }
 
-served-after : (earlier : List ℕ) (m : Moment) (n : ℕ) (c : Cell) (p : Passenger) (o : Called) → served (after_output earlier m) n c p o ≡ after_output earlier (served m n c p o)
-served-after earlier m n c p (called.Value a) = ap (λ (output : List ℕ). record (served m n c p (called.Value a)) { output = output }) (append_assoc earlier m.output a.output)
+served-after : (earlier : List ℕ) (m : Moment) (n : ℕ) (c : Cell) (p : Passenger) (o : Called) →
+    served (after_output earlier m) n c p o ≡ after_output earlier (served m n c p o)
+served-after earlier m n c p (called.Value a) = ap (λ (output : List ℕ). record (served m n c p (called.Value a)) { output = output })
+    (append_assoc earlier m.output a.output)
 served-after earlier m n c p (called.Exit status) = refl
 
-rider-after : (earlier : List ℕ) (m : Moment) (n : ℕ) (c : Cell) (rider : Option Passenger) → on rider (after_output earlier m) (asked (after_output earlier m) n c) ≡ after_output earlier (on rider m (asked m n c))
+rider-after : (earlier : List ℕ) (m : Moment) (n : ℕ) (c : Cell) (rider : Option Passenger) →
+    on rider (after_output earlier m) (asked (after_output earlier m) n c) ≡ after_output earlier (on rider m (asked m n c))
 rider-after earlier m n c None = refl
 rider-after earlier m n c (Some p) = served-after earlier m n c p (serve_of (instruction p) m.state.regs m.state.mem m.rest)
 
-stage-after : (earlier : List ℕ) (m : Moment) (n : ℕ) (cell : Option Cell) → on cell (after_output earlier m) (λ c. on c.passenger (after_output earlier m) (asked (after_output earlier m) n c)) ≡ after_output earlier (on cell m (λ c. on c.passenger m (asked m n c)))
+stage-after : (earlier : List ℕ) (m : Moment) (n : ℕ) (cell : Option Cell) → on cell (after_output earlier m)
+    (λ c. on c.passenger (after_output earlier m) (asked (after_output earlier m) n c)) ≡ after_output earlier (on cell m (λ c. on c.passenger m (asked m n c)))
 stage-after earlier m n None = refl
 stage-after earlier m n (Some c) = rider-after earlier m n c c.passenger
 

@@ -39,7 +39,8 @@ unfolding opened opened_on
 opened_same plan hart rest = refl
 
 -- and its moment, with this left of the input, is the start of a run
-pub begins : (core : Processor) (hart : Hart) (rest left : List ℕ) → core ≡ opened core.plan hart → left ≡ rest → moment_of core left ≡ start_on core.plan (machine_on hart rest)
+pub begins : (core : Processor) (hart : Hart) (rest left : List ℕ) → core ≡ opened core.plan hart → left ≡ rest →
+    moment_of core left ≡ start_on core.plan (machine_on hart rest)
 begins core hart rest left is same =
     let state : core.state ≡ opened_on core.plan (machine_on hart rest) = ap (λ (p : Processor). p.state) is ∙ opened_same core.plan hart rest in
     ap (λ (s : State). record { state = s; rest = left; output = [] }) state
@@ -59,18 +60,23 @@ pub record ArrivesBy (shows : Show) (x : Machine) (moves : List Move) (begin now
   pub arrives : Arrives shows x (moment_after begin.core.plan x moves) (x.hart.retired + 1) (lines_after begin.core.plan x moves) begin now
 
 -- a run that leads to a moment has arrived there
-arrived : (limit : ℕ) (shows : Show) (hart : Hart) (rest left : List ℕ) (begin now : RunPlace) (trace : List Made) (last : Moment) → IsAccepted begin.core.plan → length hart.regs ≡ 32 → begin.core ≡ opened begin.core.plan hart → begin.streams.input ≡ Some rest
-    → IsTold begin.streams.input left → Leads begin.core.plan limit begin.streams.input (moment_of begin.core left) trace last → now.core ≡ in_state begin.core last.state → Leaves begin.streams now.streams last.rest last.output
+arrived : (limit : ℕ) (shows : Show) (hart : Hart) (rest left : List ℕ) (begin now : RunPlace) (trace : List Made) (last : Moment) →
+    IsAccepted begin.core.plan → length hart.regs ≡ 32 → begin.core ≡ opened begin.core.plan hart → begin.streams.input ≡ Some rest
+    → IsTold begin.streams.input left → Leads begin.core.plan limit begin.streams.input (moment_of begin.core left) trace last →
+    now.core ≡ in_state begin.core last.state → Leaves begin.streams now.streams last.rest last.output
     → Writes begin.report now.report (all_shown shows begin.core.plan 1 trace) → ArrivesBy shows (machine_on hart rest) (moves_of trace) begin now
 arrived limit shows hart rest left begin now trace last accepted wide opens tells told leads core streams report =
     let plan : Plan = begin.core.plan in
     let x : Machine = machine_on hart rest in
-    let same : moment_of begin.core left ≡ start_on plan x = begins begin.core hart rest left opens (subst (λ (o : Option (List ℕ)). IsTold o left) tells told) in
-    let here : Leads plan limit (Some rest) (moment_of begin.core left) trace last = subst (λ (o : Option (List ℕ)). Leads plan limit o (moment_of begin.core left) trace last) tells leads in
+    let same : moment_of begin.core left ≡ start_on plan x = begins begin.core hart rest left opens
+    (subst (λ (o : Option (List ℕ)). IsTold o left) tells told) in
+    let here : Leads plan limit (Some rest) (moment_of begin.core left) trace last = subst
+    (λ (o : Option (List ℕ)). Leads plan limit o (moment_of begin.core left) trace last) tells leads in
     let there : Leads plan limit (Some rest) (start_on plan x) trace last = subst (λ (m : Moment). Leads plan limit (Some rest) m trace last) same here in
     let runs = leads-run plan limit rest (start_on plan x) trace last there in
     let is : IsRight plan x (moves_of trace) = right plan x (moves_of trace) accepted wide runs.0 in
-    let texts = subst (λ (n : ℕ). AreTexts (n + 1) (lines plan (start_on plan x) (moves_of trace)) (all_shown show.Retired plan 1 trace)) (opened_retired plan x) (shown-lines plan limit rest (start_on plan x) 1 trace last there) in
+    let texts = subst (λ (n : ℕ). AreTexts (n + 1) (lines plan (start_on plan x) (moves_of trace)) (all_shown show.Retired plan 1 trace))
+    (opened_retired plan x) (shown-lines plan limit rest (start_on plan x) 1 trace last there) in
     record {
       right = is;
       arrives = record {
@@ -84,7 +90,8 @@ arrived limit shows hart rest left begin now trace last accepted wide opens tell
     }
 
 -- so has a run that has reached a place
-pub arrives-by : (limit : ℕ) (shows : Show) (hart : Hart) (rest : List ℕ) (begin now : RunPlace) → IsAccepted begin.core.plan → length hart.regs ≡ 32 → begin.core ≡ opened begin.core.plan hart → begin.streams.input ≡ Some rest → (h : Reaches limit shows begin now)
+pub arrives-by : (limit : ℕ) (shows : Show) (hart : Hart) (rest : List ℕ) (begin now : RunPlace) → IsAccepted begin.core.plan → length hart.regs ≡ 32 →
+    begin.core ≡ opened begin.core.plan hart → begin.streams.input ≡ Some rest → (h : Reaches limit shows begin now)
     → ArrivesBy shows (machine_on hart rest) (moves_of h.trace) begin now
 arrives-by limit shows hart rest begin now accepted wide opens tells h =
     arrived limit shows hart rest h.rest begin now h.trace h.last accepted wide opens tells h.told h.leads h.core h.streams h.report

@@ -43,28 +43,36 @@ abbrev pub machine_of : (core : Processor) → IsOpened core → List ℕ → Ma
 machine_of core o rest = machine_on o.hart rest
 
 -- the picks of a policy on an opened processor are a run under the hold rule
-reached-paced : {P : Type 0} (picked : P → List Move → ℕ) (onward : P → List Move → P) (limit : ℕ) (shows : Show) (begin now : RunPlace) (policy : P) (at : Chooser P) → IsAccepted begin.core.plan → length begin.core.state.regs ≡ 32 → (o : IsOpened begin.core) → (h : Reaches limit shows begin now) → Picks picked onward begin.core.plan (fresh policy) begin.core.state h.trace at
+reached-paced : {P : Type 0} (picked : P → List Move → ℕ) (onward : P → List Move → P) (limit : ℕ) (shows : Show) (begin now : RunPlace) (policy : P)
+    (at : Chooser P) → IsAccepted begin.core.plan → length begin.core.state.regs ≡ 32 → (o : IsOpened begin.core) → (h : Reaches limit shows begin now) →
+    Picks picked onward begin.core.plan (fresh policy) begin.core.state h.trace at
     → (written : List Line) × PacesTo begin.core.plan 0 (start_on begin.core.plan (machine_of begin.core o h.rest)) (moves_of h.trace) h.last written
 reached-paced {P} picked onward limit shows begin now policy at accepted wide o h picks =
     let plan : Plan = begin.core.plan in
     let x : Machine = machine_of begin.core o h.rest in
     let m : Moment = moment_of begin.core h.rest in
     let same : m ≡ start_on plan x = begins begin.core o.hart h.rest h.rest o.is refl in
-    let leads : Leads plan limit begin.streams.input (start_on plan x) h.trace h.last = subst (λ (q : Moment). Leads plan limit begin.streams.input q h.trace h.last) same h.leads in
-    let first : Picks picked onward plan (fresh policy) (start_on plan x).state h.trace at = subst (λ (q : Moment). Picks picked onward plan (fresh policy) q.state h.trace at) same picks in
-    picks-paced picked onward plan limit begin.streams.input x [] (start_on plan x) h.trace h.last (fresh policy) at accepted (anew_started plan x (opened_wide begin.core o wide)) leads first
+    let leads : Leads plan limit begin.streams.input (start_on plan x) h.trace h.last = subst
+    (λ (q : Moment). Leads plan limit begin.streams.input q h.trace h.last) same h.leads in
+    let first : Picks picked onward plan (fresh policy) (start_on plan x).state h.trace at =
+    subst (λ (q : Moment). Picks picked onward plan (fresh policy) q.state h.trace at) same picks in
+    picks-paced picked onward plan limit begin.streams.input x [] (start_on plan x) h.trace h.last (fresh policy) at accepted
+    (anew_started plan x (opened_wide begin.core o wide)) leads first
 
 -- so it has a bounded number of moves
 counted-moves : (trace : List Made) → (tally_of trace).moves ≡ length (moves_of trace)
 unfolding tally_of
 counted-moves trace = sym (length-map trace (λ made. made.move))
 
-pub paced-bounded : (limit : ℕ) (shows : Show) (begin now : RunPlace) → IsAccepted begin.core.plan → length begin.core.state.regs ≡ 32 → (o : IsOpened begin.core) → (h : Reaches limit shows begin now) (written : List Line) → PacesTo begin.core.plan 0 (start_on begin.core.plan (machine_of begin.core o h.rest)) (moves_of h.trace) h.last written
+pub paced-bounded : (limit : ℕ) (shows : Show) (begin now : RunPlace) → IsAccepted begin.core.plan → length begin.core.state.regs ≡ 32 →
+    (o : IsOpened begin.core) → (h : Reaches limit shows begin now) (written : List Line) →
+    PacesTo begin.core.plan 0 (start_on begin.core.plan (machine_of begin.core o h.rest)) (moves_of h.trace) h.last written
     → now.tally.moves ≤ most_moves begin.core.plan (now.core.state.retired - begin.core.state.retired)
 paced-bounded limit shows begin now accepted wide o h written paces =
     let plan : Plan = begin.core.plan in
     let x : Machine = machine_of begin.core o h.rest in
-    let bound : length (moves_of h.trace) ≤ most_moves plan (gained x h.last.state) = paced_bounded_anew plan x (moves_of h.trace) h.last written accepted (opened_wide begin.core o wide) paces in
+    let bound : length (moves_of h.trace) ≤ most_moves plan (gained x h.last.state) = paced_bounded_anew plan x (moves_of h.trace) h.last written accepted
+    (opened_wide begin.core o wide) paces in
     let count : now.tally.moves ≡ length (moves_of h.trace) = ap (λ tally. tally.moves) h.tally ∙ counted-moves h.trace in
     let retired : h.last.state.retired ≡ now.core.state.retired = ap (λ (p : Processor). p.state.retired) (sym h.core) in
     let grown : gained x h.last.state ≡ now.core.state.retired - begin.core.state.retired = omega (arith, retired, opened_count begin.core o) in
@@ -72,24 +80,31 @@ paced-bounded limit shows begin now accepted wide o h written paces =
     (subst (λ (r : ℕ). length (moves_of h.trace) ≤ most_moves plan r) grown bound)
 
 -- and while it goes on a move is offered
-pub paced-offered : (limit : ℕ) (shows : Show) (begin now : RunPlace) → IsAccepted begin.core.plan → length begin.core.state.regs ≡ 32 → (o : IsOpened begin.core) → (h : Reaches limit shows begin now) (written : List Line) → PacesTo begin.core.plan 0 (start_on begin.core.plan (machine_of begin.core o h.rest)) (moves_of h.trace) h.last written
+pub paced-offered : (limit : ℕ) (shows : Show) (begin now : RunPlace) → IsAccepted begin.core.plan → length begin.core.state.regs ≡ 32 →
+    (o : IsOpened begin.core) → (h : Reaches limit shows begin now) (written : List Line) →
+    PacesTo begin.core.plan 0 (start_on begin.core.plan (machine_of begin.core o h.rest)) (moves_of h.trace) h.last written
     → now.core.state.ending ≡ None → (count : ℕ) → 1 ≤ length (offered now.core.plan count now.core.state)
 paced-offered limit shows begin now accepted wide o h written paces unended count =
     let plan : Plan = begin.core.plan in
     let x : Machine = machine_of begin.core o h.rest in
-    let holds : HoldsAnew plan x written h.last = holds_anew plan x (moves_of h.trace) h.last written accepted (opened_wide begin.core o wide) (paces_leads plan 0 (start_on plan x) h.last (moves_of h.trace) written paces) in
+    let holds : HoldsAnew plan x written h.last = holds_anew plan x (moves_of h.trace) h.last written accepted (opened_wide begin.core o wide)
+    (paces_leads plan 0 (start_on plan x) h.last (moves_of h.trace) written paces) in
     let P : Processor → Type 0 = λ p. p.state.ending ≡ None → 1 ≤ length (offered p.plan count p.state) in
     let there : P (in_state begin.core h.last.state) = offered_some plan x h.last count written accepted holds in
     subst P (sym h.core) there unended
 
 -- so the picks of a policy are bounded in number
-pub reached-bounded : {P : Type 0} (picked : P → List Move → ℕ) (onward : P → List Move → P) (limit : ℕ) (shows : Show) (begin now : RunPlace) (policy : P) (at : Chooser P) → IsAccepted begin.core.plan → length begin.core.state.regs ≡ 32 → IsOpened begin.core → (h : Reaches limit shows begin now) → Picks picked onward begin.core.plan (fresh policy) begin.core.state h.trace at
+pub reached-bounded : {P : Type 0} (picked : P → List Move → ℕ) (onward : P → List Move → P) (limit : ℕ) (shows : Show) (begin now : RunPlace) (policy : P)
+    (at : Chooser P) → IsAccepted begin.core.plan → length begin.core.state.regs ≡ 32 → IsOpened begin.core → (h : Reaches limit shows begin now) →
+    Picks picked onward begin.core.plan (fresh policy) begin.core.state h.trace at
     → now.tally.moves ≤ most_moves begin.core.plan (now.core.state.retired - begin.core.state.retired)
 reached-bounded {P} picked onward limit shows begin now policy at accepted wide o h picks =
     let paces = reached-paced picked onward limit shows begin now policy at accepted wide o h picks in
     paced-bounded limit shows begin now accepted wide o h paces.0 paces.1
 
-pub reached-offered : {P : Type 0} (picked : P → List Move → ℕ) (onward : P → List Move → P) (limit : ℕ) (shows : Show) (begin now : RunPlace) (policy : P) (at : Chooser P) → IsAccepted begin.core.plan → length begin.core.state.regs ≡ 32 → IsOpened begin.core → (h : Reaches limit shows begin now) → Picks picked onward begin.core.plan (fresh policy) begin.core.state h.trace at
+pub reached-offered : {P : Type 0} (picked : P → List Move → ℕ) (onward : P → List Move → P) (limit : ℕ) (shows : Show) (begin now : RunPlace) (policy : P)
+    (at : Chooser P) → IsAccepted begin.core.plan → length begin.core.state.regs ≡ 32 → IsOpened begin.core → (h : Reaches limit shows begin now) →
+    Picks picked onward begin.core.plan (fresh policy) begin.core.state h.trace at
     → now.core.state.ending ≡ None → (count : ℕ) → 1 ≤ length (offered now.core.plan count now.core.state)
 reached-offered {P} picked onward limit shows begin now policy at accepted wide o h picks =
     let paces = reached-paced picked onward limit shows begin now policy at accepted wide o h picks in

@@ -26,7 +26,8 @@ use Rattle.cf_run.proofs.Runs.{reached-none, none-trace, made-within}
 use Rattle.cf_run.proofs.Stopped.{offered-stopped, paced-stopped}
 
 -- the picks so far lead from one place to another, and leave this policy, and this count, which stops where the candidates are held
-pub record Comes {P : Type 0} (picked : P → List Move → ℕ) (onward : P → List Move → P) (limit : ℕ) (shows : Show) (begin now : RunPlace) (first current : P) (held : ℕ) : Type 0 where
+pub record Comes {P : Type 0} (picked : P → List Move → ℕ) (onward : P → List Move → P) (limit : ℕ) (shows : Show) (begin now : RunPlace) (first current : P)
+    (held : ℕ) : Type 0 where
   pub at : Chooser P
   pub reached : Reaches limit shows begin now
   pub picks : PicksTo picked onward begin first reached.trace at
@@ -34,7 +35,9 @@ pub record Comes {P : Type 0} (picked : P → List Move → ℕ) (onward : P →
   pub count_is : held ≡ stopped begin.core.plan.stages at.count
 
 -- no pick yet
-pub comes-first : {P : Type 0} (picked : P → List Move → ℕ) (onward : P → List Move → P) (limit : ℕ) (shows : Show) (begin : RunPlace) (policy : P) (held stages : ℕ) → begin.tally ≡ no_tally → stages ≡ begin.core.plan.stages → held ≡ stopped stages 0 → Comes picked onward limit shows begin begin policy policy held
+pub comes-first : {P : Type 0} (picked : P → List Move → ℕ) (onward : P → List Move → P) (limit : ℕ) (shows : Show) (begin : RunPlace) (policy : P)
+    (held stages : ℕ) → begin.tally ≡ no_tally → stages ≡ begin.core.plan.stages → held ≡ stopped stages 0 →
+    Comes picked onward limit shows begin begin policy policy held
 unfolding Picks
 comes-first picked onward limit shows begin policy held stages none beside zero_held = record {
   at = fresh policy;
@@ -49,25 +52,34 @@ same_plan : (limit : ℕ) (shows : Show) (begin now : RunPlace) → Reaches limi
 same_plan limit shows begin now h = ap (λ (p : Processor). p.plan) h.core
 
 -- what is offered with the count that stops is what is offered
-offers : {P : Type 0} (picked : P → List Move → ℕ) (onward : P → List Move → P) (limit : ℕ) (shows : Show) (begin now : RunPlace) (first current : P) (held : ℕ) → (c : Comes picked onward limit shows begin now first current held) → offered now.core.plan held now.core.state ≡ offered now.core.plan c.at.count now.core.state
+offers : {P : Type 0} (picked : P → List Move → ℕ) (onward : P → List Move → P) (limit : ℕ) (shows : Show) (begin now : RunPlace) (first current : P)
+    (held : ℕ) → (c : Comes picked onward limit shows begin now first current held) → offered now.core.plan held now.core.state
+    ≡ offered now.core.plan c.at.count now.core.state
 offers picked onward limit shows begin now first current held c =
-    ap (λ (n : ℕ). offered now.core.plan n now.core.state) (c.count_is ∙ ap (λ (p : Plan). stopped p.stages c.at.count) (sym (same_plan limit shows begin now c.reached)))
+    ap (λ (n : ℕ). offered now.core.plan n now.core.state) (c.count_is ∙ ap (λ (p : Plan). stopped p.stages c.at.count)
+    (sym (same_plan limit shows begin now c.reached)))
     ∙ offered-stopped now.core.plan c.at.count now.core.state
 
 -- so the pick is the same
-chosen_same : {P : Type 0} (picked : P → List Move → ℕ) (onward : P → List Move → P) (limit : ℕ) (shows : Show) (begin now : RunPlace) (first current : P) (held : ℕ) → (c : Comes picked onward limit shows begin now first current held) → choice picked now.core.plan (chooser current held) now.core.state ≡ choice picked now.core.plan c.at now.core.state
+chosen_same : {P : Type 0} (picked : P → List Move → ℕ) (onward : P → List Move → P) (limit : ℕ) (shows : Show) (begin now : RunPlace) (first current : P)
+    (held : ℕ) → (c : Comes picked onward limit shows begin now first current held) → choice picked now.core.plan (chooser current held) now.core.state
+    ≡ choice picked now.core.plan c.at now.core.state
 chosen_same {P} picked onward limit shows begin now first current held c =
     ap (λ (moves : List Move). slice_get moves (picked current moves)) (offers picked onward limit shows begin now first current held c)
     ∙ ap (λ (p : P). slice_get (offered_to now.core.plan c.at now.core.state) (picked p (offered_to now.core.plan c.at now.core.state))) c.policy_is
 
 -- and the policy after it
-onward_same : {P : Type 0} (picked : P → List Move → ℕ) (onward : P → List Move → P) (limit : ℕ) (shows : Show) (begin now : RunPlace) (first current : P) (held : ℕ) → (c : Comes picked onward limit shows begin now first current held) → onward current (offered_to now.core.plan (chooser current held) now.core.state) ≡ onward c.at.policy (offered_to now.core.plan c.at now.core.state)
+onward_same : {P : Type 0} (picked : P → List Move → ℕ) (onward : P → List Move → P) (limit : ℕ) (shows : Show) (begin now : RunPlace) (first current : P)
+    (held : ℕ) → (c : Comes picked onward limit shows begin now first current held) → onward current
+    (offered_to now.core.plan (chooser current held) now.core.state) ≡ onward c.at.policy (offered_to now.core.plan c.at now.core.state)
 onward_same {P} picked onward limit shows begin now first current held c =
     ap (λ (moves : List Move). onward current moves) (offers picked onward limit shows begin now first current held c)
     ∙ ap (λ (p : P). onward p (offered_to now.core.plan c.at now.core.state)) c.policy_is
 
 -- the move that is taken by the count that stops is taken
-took : {P : Type 0} (picked : P → List Move → ℕ) (onward : P → List Move → P) (limit : ℕ) (shows : Show) (begin now new : RunPlace) (first current : P) (held : ℕ) → (c : Comes picked onward limit shows begin now first current held) → TakesPick picked limit shows (chooser current held) now new → TakesPick picked limit shows c.at now new
+took : {P : Type 0} (picked : P → List Move → ℕ) (onward : P → List Move → P) (limit : ℕ) (shows : Show) (begin now new : RunPlace) (first current : P)
+    (held : ℕ) → (c : Comes picked onward limit shows begin now first current held) → TakesPick picked limit shows (chooser current held) now new →
+    TakesPick picked limit shows c.at now new
 took picked onward limit shows begin now new first current held c t = record {
   goes = t.goes;
   move = t.move;
@@ -77,7 +89,9 @@ took picked onward limit shows begin now new first current held c t = record {
 }
 
 -- one more pick
-pub comes-more : {P : Type 0} (picked : P → List Move → ℕ) (onward : P → List Move → P) (limit : ℕ) (shows : Show) (begin now new : RunPlace) (first current : P) (held : ℕ) (later : Chooser P) → Comes picked onward limit shows begin now first current held → Turned picked onward limit shows now new (chooser current held) later → Comes picked onward limit shows begin new first later.policy later.count
+pub comes-more : {P : Type 0} (picked : P → List Move → ℕ) (onward : P → List Move → P) (limit : ℕ) (shows : Show) (begin now new : RunPlace)
+    (first current : P) (held : ℕ) (later : Chooser P) → Comes picked onward limit shows begin now first current held →
+    Turned picked onward limit shows now new (chooser current held) later → Comes picked onward limit shows begin new first later.policy later.count
 unfolding took
 comes-more {P} picked onward limit shows begin now new first current held later c t =
     let takes : TakesPick picked limit shows c.at now new = took picked onward limit shows begin now new first current held c t.takes in
@@ -94,23 +108,40 @@ comes-more {P} picked onward limit shows begin now new first current held later 
     }
 
 -- what no move asked has stayed as it was, with one more pick
-pub unasked-comes : {P T : Type 0} (picked : P → List Move → ℕ) (onward : P → List Move → P) (asks : Processor → Move → Type 0) (limit : ℕ) (shows : Show) (begin now new : RunPlace) (first current : P) (held : ℕ) (later : Chooser P) (c : Comes picked onward limit shows begin now first current held) (t : Turned picked onward limit shows now new (chooser current held) later) (before between rest : T)
-    → ((SomeAsks asks begin.core.plan begin.core.state c.reached.trace → ⊥) → between ≡ before) → ((ChoiceAsks asks picked limit (chooser current held) now.core → ⊥) → rest ≡ between)
-    → (SomeAsks asks begin.core.plan begin.core.state (comes-more picked onward limit shows begin now new first current held later c t).reached.trace → ⊥) → rest ≡ before
+pub unasked-comes : {P T : Type 0} (picked : P → List Move → ℕ) (onward : P → List Move → P) (asks : Processor → Move →
+    Type 0) (limit : ℕ) (shows : Show) (begin now new : RunPlace) (first current : P) (held : ℕ) (later : Chooser P)
+    (c : Comes picked onward limit shows begin now first current held) (t : Turned picked onward limit shows now new (chooser current held) later)
+    (before between rest : T)
+    → ((SomeAsks asks begin.core.plan begin.core.state c.reached.trace → ⊥) → between ≡ before) →
+    ((ChoiceAsks asks picked limit (chooser current held) now.core → ⊥) → rest ≡ between)
+    → (SomeAsks asks begin.core.plan begin.core.state (comes-more picked onward limit shows begin now new first current held later c t).reached.trace → ⊥) →
+    rest ≡ before
 unfolding comes-more
 unasked-comes picked onward asks limit shows begin now new first current held later c t before between rest so_far one unasked =
-    unasked-turn picked asks limit shows begin now new c.at c.reached (took picked onward limit shows begin now new first current held c t.takes) before between rest so_far
-    (λ none. one (λ a. none (record { goes = a.goes; move = a.move; choice_is = sym (chosen_same picked onward limit shows begin now first current held c) ∙ a.choice_is; asked = a.asked })))
+    unasked-turn picked asks limit shows begin now new c.at c.reached (took picked onward limit shows begin now new first current held c t.takes) before between
+    rest so_far
+    (λ none. one (λ a. none
+    (record {
+      goes = a.goes;
+      move = a.move;
+      choice_is = sym (chosen_same picked onward limit shows begin now first current held c) ∙ a.choice_is;
+      asked =
+          a.asked;
+    })))
     unasked
 
 -- while it goes on the policy is offered a move
-pub comes-offered : {P : Type 0} (picked : P → List Move → ℕ) (onward : P → List Move → P) (limit : ℕ) (shows : Show) (begin now : RunPlace) (first current : P) (held : ℕ) → IsAccepted begin.core.plan → length begin.core.state.regs ≡ 32 → IsOpened begin.core → Comes picked onward limit shows begin now first current held
+pub comes-offered : {P : Type 0} (picked : P → List Move → ℕ) (onward : P → List Move → P) (limit : ℕ) (shows : Show) (begin now : RunPlace) (first current : P)
+    (held : ℕ) → IsAccepted begin.core.plan → length begin.core.state.regs ≡ 32 → IsOpened begin.core →
+    Comes picked onward limit shows begin now first current held
     → now.core.state.ending ≡ None → 0 < length (offered now.core.plan held now.core.state)
 comes-offered picked onward limit shows begin now first current held accepted wide o c unended =
     reached-offered picked onward limit shows begin now first c.at accepted wide o c.reached c.picks unended held
 
 -- it has made at most as many moves as the limit allows for
-pub comes-bounded : {P : Type 0} (picked : P → List Move → ℕ) (onward : P → List Move → P) (limit : ℕ) (shows : Show) (begin now : RunPlace) (first current : P) (held : ℕ) → IsAccepted begin.core.plan → length begin.core.state.regs ≡ 32 → IsOpened begin.core → Comes picked onward limit shows begin now first current held
+pub comes-bounded : {P : Type 0} (picked : P → List Move → ℕ) (onward : P → List Move → P) (limit : ℕ) (shows : Show) (begin now : RunPlace) (first current : P)
+    (held : ℕ) → IsAccepted begin.core.plan → length begin.core.state.regs ≡ 32 → IsOpened begin.core →
+    Comes picked onward limit shows begin now first current held
     → now.core.state.retired ≤ limit → now.tally.moves ≤ most_moves begin.core.plan limit
 comes-bounded picked onward limit shows begin now first current held accepted wide o c within =
     let a = reached-bounded picked onward limit shows begin now first c.at accepted wide o c.reached c.picks in
@@ -118,7 +149,9 @@ comes-bounded picked onward limit shows begin now first current held accepted wi
     omega (arith, a, b)
 
 -- which can be counted
-pub comes-counted : {P : Type 0} (picked : P → List Move → ℕ) (onward : P → List Move → P) (limit : ℕ) (shows : Show) (begin now : RunPlace) (first current : P) (held : ℕ) → IsAccepted begin.core.plan → length begin.core.state.regs ≡ 32 → IsOpened begin.core → Comes picked onward limit shows begin now first current held
+pub comes-counted : {P : Type 0} (picked : P → List Move → ℕ) (onward : P → List Move → P) (limit : ℕ) (shows : Show) (begin now : RunPlace) (first current : P)
+    (held : ℕ) → IsAccepted begin.core.plan → length begin.core.state.regs ≡ 32 → IsOpened begin.core →
+    Comes picked onward limit shows begin now first current held
     → now.core.state.retired ≤ limit → limit ≤ most_limit → now.tally.moves + 1 < 2 ^ 63
 comes-counted picked onward limit shows begin now first current held accepted wide o c within few =
     let a = comes-bounded picked onward limit shows begin now first current held accepted wide o c within in
@@ -126,20 +159,26 @@ comes-counted picked onward limit shows begin now first current held accepted wi
     omega (arith, a, b)
 
 -- no more instructions than the limit have retired
-pub turned-within : {P : Type 0} (picked : P → List Move → ℕ) (onward : P → List Move → P) (limit : ℕ) (shows : Show) (now new : RunPlace) (at later : Chooser P) → Turned picked onward limit shows now new at later → new.core.state.retired ≤ limit
+pub turned-within : {P : Type 0} (picked : P → List Move → ℕ) (onward : P → List Move → P) (limit : ℕ) (shows : Show) (now new : RunPlace)
+    (at later : Chooser P) → Turned picked onward limit shows now new at later → new.core.state.retired ≤ limit
 unfolding MoveDoes
 turned-within picked onward limit shows now new at later t = made-within limit shows now new t.takes.move t.takes.event t.takes.goes.below t.takes.does
 
 -- each pick is counted
-pub turned-counted : {P : Type 0} (picked : P → List Move → ℕ) (onward : P → List Move → P) (limit : ℕ) (shows : Show) (now new : RunPlace) (at later : Chooser P) → Turned picked onward limit shows now new at later → new.tally.moves ≡ now.tally.moves + 1
+pub turned-counted : {P : Type 0} (picked : P → List Move → ℕ) (onward : P → List Move → P) (limit : ℕ) (shows : Show) (now new : RunPlace)
+    (at later : Chooser P) → Turned picked onward limit shows now new at later → new.tally.moves ≡ now.tally.moves + 1
 unfolding MoveDoes
 turned-counted picked onward limit shows now new at later t = ap (λ (tally : Tally). tally.moves) t.takes.does.makes.tally
 
 -- so the moves that are left become fewer
-pub comes-nearer : {P : Type 0} (picked : P → List Move → ℕ) (onward : P → List Move → P) (limit : ℕ) (shows : Show) (begin now new : RunPlace) (first current : P) (held : ℕ) (later : Chooser P) → IsAccepted begin.core.plan → length begin.core.state.regs ≡ 32 → IsOpened begin.core → Comes picked onward limit shows begin now first current held → Turned picked onward limit shows now new (chooser current held) later
+pub comes-nearer : {P : Type 0} (picked : P → List Move → ℕ) (onward : P → List Move → P) (limit : ℕ) (shows : Show) (begin now new : RunPlace)
+    (first current : P) (held : ℕ) (later : Chooser P) → IsAccepted begin.core.plan → length begin.core.state.regs ≡ 32 → IsOpened begin.core →
+    Comes picked onward limit shows begin now first current held → Turned picked onward limit shows now new (chooser current held) later
     → most_moves begin.core.plan limit - new.tally.moves < most_moves begin.core.plan limit - now.tally.moves
 comes-nearer picked onward limit shows begin now new first current held later accepted wide o c t =
-    let a = comes-bounded picked onward limit shows begin new first later.policy later.count accepted wide o (comes-more picked onward limit shows begin now new first current held later c t) (turned-within picked onward limit shows now new (chooser current held) later t) in
+    let a = comes-bounded picked onward limit shows begin new first later.policy later.count accepted wide o
+    (comes-more picked onward limit shows begin now new first current held later c t) (turned-within picked onward limit shows now new
+    (chooser current held) later t) in
     let b = turned-counted picked onward limit shows now new (chooser current held) later t in
     less (most_moves begin.core.plan limit) now.tally.moves new.tally.moves b a
   where
@@ -147,10 +186,13 @@ comes-nearer picked onward limit shows begin now new first current held later ac
     less most now new e h = omega (arith, e, h)
 
 -- the run stops where it has arrived
-stops_same : {P : Type 0} (picked : P → List Move → ℕ) (onward : P → List Move → P) (limit : ℕ) (shows : Show) (begin now new : RunPlace) (first current later : P) (held : ℕ) (answer : Answer) → (c : Comes picked onward limit shows begin now first current held) → StopsPolicy picked onward limit shows (chooser current held) now new later answer → StopsPolicy picked onward limit shows c.at now new later answer
+stops_same : {P : Type 0} (picked : P → List Move → ℕ) (onward : P → List Move → P) (limit : ℕ) (shows : Show) (begin now new : RunPlace)
+    (first current later : P) (held : ℕ) (answer : Answer) → (c : Comes picked onward limit shows begin now first current held) →
+    StopsPolicy picked onward limit shows (chooser current held) now new later answer → StopsPolicy picked onward limit shows c.at now new later answer
 stops_same {P} picked onward limit shows begin now new first current later held answer c stops = go answer stops
   where
-    chooses : (answer : Answer) → StopsAtPick picked onward limit shows (chooser current held) now new later answer → StopsAtPick picked onward limit shows c.at now new later answer
+    chooses : (answer : Answer) → StopsAtPick picked onward limit shows (chooser current held) now new later answer →
+        StopsAtPick picked onward limit shows c.at now new later answer
     chooses answer h = record {
       goes = h.goes;
       move = h.move;
@@ -159,7 +201,8 @@ stops_same {P} picked onward limit shows begin now new first current later held 
       does = h.does;
     }
 
-    go : (answer : Answer) → StopsPolicy picked onward limit shows (chooser current held) now new later answer → StopsPolicy picked onward limit shows c.at now new later answer
+    go : (answer : Answer) → StopsPolicy picked onward limit shows (chooser current held) now new later answer →
+        StopsPolicy picked onward limit shows c.at now new later answer
     go (ran.Exit status) h = (h.0, h.1, h.2 ∙ c.policy_is)
     go (ran.Trap cause pc detail) h = (h.0, h.1, h.2 ∙ c.policy_is)
     go ran.Limit h = (h.0, h.1, h.2 ∙ c.policy_is)
@@ -168,12 +211,18 @@ stops_same {P} picked onward limit shows begin now new first current later held 
     go ran.ReportFault h = chooses ran.ReportFault h
 
 -- the moves of a run that stops there
-pub all-made : {P : Type 0} (picked : P → List Move → ℕ) (onward : P → List Move → P) (limit : ℕ) (shows : Show) (begin now new : RunPlace) (first current later : P) (held : ℕ) (answer : Answer) → Comes picked onward limit shows begin now first current held → StopsPolicy picked onward limit shows (chooser current held) now new later answer → List Move
+pub all-made : {P : Type 0} (picked : P → List Move → ℕ) (onward : P → List Move → P) (limit : ℕ) (shows : Show) (begin now new : RunPlace)
+    (first current later : P) (held : ℕ) (answer : Answer) → Comes picked onward limit shows begin now first current held →
+    StopsPolicy picked onward limit shows (chooser current held) now new later answer → List Move
 all-made picked onward limit shows begin now new first current later held answer c stops =
-    moves_of c.reached.trace ++ made_last picked onward limit shows c.at now new later answer (stops_same picked onward limit shows begin now new first current later held answer c stops)
+    moves_of c.reached.trace ++ made_last picked onward limit shows c.at now new later answer
+    (stops_same picked onward limit shows begin now new first current later held answer c stops)
 
-pub comes-runs : {P : Type 0} (picked : P → List Move → ℕ) (onward : P → List Move → P) (limit : ℕ) (shows : Show) (begin now new : RunPlace) (first current later : P) (held : ℕ) (answer : Answer) → (c : Comes picked onward limit shows begin now first current held) → (stops : StopsPolicy picked onward limit shows (chooser current held) now new later answer)
-    → RunsPolicy picked onward limit shows begin new first later (all-made picked onward limit shows begin now new first current later held answer c stops) answer
+pub comes-runs : {P : Type 0} (picked : P → List Move → ℕ) (onward : P → List Move → P) (limit : ℕ) (shows : Show) (begin now new : RunPlace)
+    (first current later : P) (held : ℕ) (answer : Answer) → (c : Comes picked onward limit shows begin now first current held) →
+    (stops : StopsPolicy picked onward limit shows (chooser current held) now new later answer)
+    → RunsPolicy picked onward limit shows begin new first later (all-made picked onward limit shows begin now new first current later held answer c stops)
+    answer
 unfolding all-made
 comes-runs picked onward limit shows begin now new first current later held answer c stops = record {
   now = now;
@@ -185,32 +234,49 @@ comes-runs picked onward limit shows begin now new first current later held answ
 }
 
 -- after the move the count that stops is what the whole count is
-pub seen-count : (before after : PaceCount) (mv : Move) (e : Event) (seen drained : Bool) (stages : ℕ) → after ≡ saw before mv e seen → seen ≡ drained → before.stages ≡ stages → after.count ≡ stopped stages (paced before.count mv e drained)
+pub seen-count : (before after : PaceCount) (mv : Move) (e : Event) (seen drained : Bool) (stages : ℕ) → after ≡ saw before mv e seen → seen ≡ drained →
+    before.stages ≡ stages → after.count ≡ stopped stages (paced before.count mv e drained)
 seen-count before after mv e seen drained stages is same beside =
-    ap (λ (c : PaceCount). c.count) is ∙ ap (λ (d : Bool). stopped before.stages (paced before.count mv e d)) same ∙ ap (λ (n : ℕ). stopped n (paced before.count mv e drained)) beside
+    ap (λ (c : PaceCount). c.count) is ∙ ap (λ (d : Bool). stopped before.stages (paced before.count mv e d)) same
+    ∙ ap (λ (n : ℕ). stopped n (paced before.count mv e drained)) beside
 
 -- the layout stays
-pub turned-plan : {P : Type 0} (picked : P → List Move → ℕ) (onward : P → List Move → P) (limit : ℕ) (shows : Show) (now new : RunPlace) (at later : Chooser P) → Turned picked onward limit shows now new at later → new.core.plan ≡ now.core.plan
+pub turned-plan : {P : Type 0} (picked : P → List Move → ℕ) (onward : P → List Move → P) (limit : ℕ) (shows : Show) (now new : RunPlace)
+    (at later : Chooser P) → Turned picked onward limit shows now new at later → new.core.plan ≡ now.core.plan
 unfolding MoveDoes
 turned-plan picked onward limit shows now new at later t = t.takes.does.makes.makes.plan
 
 -- what asks at the next pick by the count that stops asks there
-choice-asks : {P : Type 0} (asks : Processor → Move → Type 0) (picked : P → List Move → ℕ) (onward : P → List Move → P) (limit : ℕ) (shows : Show) (begin now : RunPlace) (first current : P) (held : ℕ) → (c : Comes picked onward limit shows begin now first current held) → ChoiceAsks asks picked limit (chooser current held) now.core → ChoiceAsks asks picked limit c.at now.core
+choice-asks : {P : Type 0} (asks : Processor → Move → Type 0) (picked : P → List Move → ℕ) (onward : P → List Move →
+    P) (limit : ℕ) (shows : Show) (begin now : RunPlace) (first current : P) (held : ℕ) → (c : Comes picked onward limit shows begin now first current held) →
+    ChoiceAsks asks picked limit (chooser current held) now.core → ChoiceAsks asks picked limit c.at now.core
 choice-asks asks picked onward limit shows begin now first current held c a =
-    record { goes = a.goes; move = a.move; choice_is = sym (chosen_same picked onward limit shows begin now first current held c) ∙ a.choice_is; asked = a.asked }
+    record {
+      goes = a.goes;
+      move = a.move;
+      choice_is = sym (chosen_same picked onward limit shows begin now first current held c) ∙ a.choice_is;
+      asked =
+          a.asked;
+    }
 
 -- what no move of the run asked has stayed as it was
-pub comes-unasked : {P S K : Type 0} (picked : P → List Move → ℕ) (onward : P → List Move → P) (limit : ℕ) (shows : Show) (begin now new : RunPlace) (first current later : P) (held : ℕ) (answer : Answer) (before between rest : S) (blank half full : K) → (c : Comes picked onward limit shows begin now first current held) → StopsPolicy picked onward limit shows (chooser current held) now new later answer
-    → ((SomeAsks AsksInput begin.core.plan begin.core.state c.reached.trace → ⊥) → between ≡ before) → ((ChoiceAsks AsksInput picked limit (chooser current held) now.core → ⊥) → rest ≡ between)
-    → ((SomeAsks AsksOutput begin.core.plan begin.core.state c.reached.trace → ⊥) → half ≡ blank) → ((ChoiceAsks AsksOutput picked limit (chooser current held) now.core → ⊥) → full ≡ half)
+pub comes-unasked : {P S K : Type 0} (picked : P → List Move → ℕ) (onward : P → List Move →
+    P) (limit : ℕ) (shows : Show) (begin now new : RunPlace) (first current later : P) (held : ℕ) (answer : Answer) (before between rest : S)
+    (blank half full : K) → (c : Comes picked onward limit shows begin now first current held) →
+    StopsPolicy picked onward limit shows (chooser current held) now new later answer
+    → ((SomeAsks AsksInput begin.core.plan begin.core.state c.reached.trace → ⊥) → between ≡ before) →
+    ((ChoiceAsks AsksInput picked limit (chooser current held) now.core → ⊥) → rest ≡ between)
+    → ((SomeAsks AsksOutput begin.core.plan begin.core.state c.reached.trace → ⊥) → half ≡ blank) →
+    ((ChoiceAsks AsksOutput picked limit (chooser current held) now.core → ⊥) → full ≡ half)
     → PolicyUnasked picked onward limit shows begin new first later answer (rest ≡ before) (full ≡ blank)
 unfolding comes-runs
-comes-unasked picked onward limit shows begin now new first current later held answer before between rest blank half full c stops input input_next output output_next = record {
-  moves = all-made picked onward limit shows begin now new first current later held answer c stops;
-  runs = comes-runs picked onward limit shows begin now new first current later held answer c stops;
-  input_asked = λ unasked. input_next (λ a. unasked (inr (there AsksInput a))) ∙ input (λ some. unasked (inl some));
-  output_asked = λ unasked. output_next (λ a. unasked (inr (there AsksOutput a))) ∙ output (λ some. unasked (inl some));
-}
+comes-unasked picked onward limit shows begin now new first current later held answer before between rest blank half full c stops input input_next output
+    output_next = record {
+      moves = all-made picked onward limit shows begin now new first current later held answer c stops;
+      runs = comes-runs picked onward limit shows begin now new first current later held answer c stops;
+      input_asked = λ unasked. input_next (λ a. unasked (inr (there AsksInput a))) ∙ input (λ some. unasked (inl some));
+      output_asked = λ unasked. output_next (λ a. unasked (inr (there AsksOutput a))) ∙ output (λ some. unasked (inl some));
+    }
   where
     there : (asks : Processor → Move → Type 0) → ChoiceAsks asks picked limit (chooser current held) now.core → ChoiceAsks asks picked limit c.at now.core
     there asks a = choice-asks asks picked onward limit shows begin now first current held c a

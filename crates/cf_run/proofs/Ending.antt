@@ -58,14 +58,16 @@ pub record Over (plan : Plan) (limit : ℕ) (s : State) : Type 0 where
   pub below : (e : End) → s.ending ≡ Some e → s.retired < limit
 
 -- so it is after a move that is made below the limit: the last move retired an instruction, or ended the program and retired none
-pub over-made : (plan : Plan) (limit : ℕ) (m : Moment) (mv : Move) (e : Event) → bar plan m.state mv ≡ None → IsEvent plan m.state mv e → m.state.retired < limit → Over plan limit (next plan m mv).state
+pub over-made : (plan : Plan) (limit : ℕ) (m : Moment) (mv : Move) (e : Event) → bar plan m.state mv ≡ None → IsEvent plan m.state mv e →
+    m.state.retired < limit → Over plan limit (next plan m mv).state
 over-made plan limit m mv e free is low = record {
   full = λ there. retired_unserved plan m mv free (omega (arith, low, there));
   below = λ end ended. let same = ended-kept plan m mv e end free is ended in omega (arith, same, low);
 }
 
 -- and after all moves that are
-over-led : (plan : Plan) (limit : ℕ) (told : Option (List ℕ)) (m : Moment) (trace : List Made) (last : Moment) → Over plan limit m.state → Leads plan limit told m trace last → Over plan limit last.state
+over-led : (plan : Plan) (limit : ℕ) (told : Option (List ℕ)) (m : Moment) (trace : List Made) (last : Moment) → Over plan limit m.state →
+    Leads plan limit told m trace last → Over plan limit last.state
 unfolding Leads
 over-led plan limit told m [] last over leads = subst (λ (q : Moment). Over plan limit q.state) (sym leads) over
 over-led plan limit told m (made ∷ trace) last over (rest, finds, is, leads) =
@@ -95,7 +97,8 @@ record Level (plan : Plan) (limit : ℕ) (begin new : RunPlace) (m : Moment) (an
   streams : Leaves begin.streams new.streams at.rest at.output
 
 -- no call is ahead where a run is over
-unserved : (plan : Plan) (limit : ℕ) (x : Machine) (written : List Line) (m : Moment) (answer : Answer) → Refines plan x written m → (m.state.retired ≡ limit → served_count plan m.state ≡ 0) → IsOver limit m.state answer → served_count plan m.state ≡ 0
+unserved : (plan : Plan) (limit : ℕ) (x : Machine) (written : List Line) (m : Moment) (answer : Answer) → Refines plan x written m →
+    (m.state.retired ≡ limit → served_count plan m.state ≡ 0) → IsOver limit m.state answer → served_count plan m.state ≡ 0
 unserved plan limit x written m (ran.Exit status) r full over = (r.level (ending.Exit status) over).0
 unserved plan limit x written m (ran.Trap cause pc detail) r full over = (r.level (ending.Trap cause pc detail) over).0
 unserved plan limit x written m ran.Limit r full over = full over.1
@@ -103,11 +106,19 @@ unserved plan limit x written m ran.ReadFault r full over = absurd over
 unserved plan limit x written m ran.WriteFault r full over = absurd over
 unserved plan limit x written m ran.ReportFault r full over = absurd over
 
-over_ends : (plan : Plan) (limit : ℕ) (x : Machine) (written : List Line) (m : Moment) (answer : Answer) (r : Refines plan x written m) → r.at.hart.retired ≡ m.state.retired → ((e : End) → m.state.ending ≡ Some e → m.state.retired < limit) → IsOver limit m.state answer → EndsUnderLimit (isa_of plan) limit r.at answer
-over_ends plan limit x written m (ran.Exit status) r count below over =
-    (subst (λ (n : ℕ). n < limit) (sym count) (below (ending.Exit status) over), exits (step (isa_of plan) r.at) status (step_ends (isa_of plan) r.at (ending.Exit status) (r.ends (ending.Exit status) over)))
-over_ends plan limit x written m (ran.Trap cause pc detail) r count below over =
-    (subst (λ (n : ℕ). n < limit) (sym count) (below (ending.Trap cause pc detail) over), traps (step (isa_of plan) r.at) cause pc detail (step_ends (isa_of plan) r.at (ending.Trap cause pc detail) (r.ends (ending.Trap cause pc detail) over)))
+over_ends : (plan : Plan) (limit : ℕ) (x : Machine) (written : List Line) (m : Moment) (answer : Answer) (r : Refines plan x written m) →
+    r.at.hart.retired ≡ m.state.retired → ((e : End) → m.state.ending ≡ Some e → m.state.retired < limit) → IsOver limit m.state answer →
+    EndsUnderLimit (isa_of plan) limit r.at answer
+over_ends plan limit x written m (ran.Exit status) r count below over = (
+  subst (λ (n : ℕ). n < limit) (sym count) (below (ending.Exit status) over),
+  exits (step (isa_of plan) r.at) status
+      (step_ends (isa_of plan) r.at (ending.Exit status) (r.ends (ending.Exit status) over)),
+)
+over_ends plan limit x written m (ran.Trap cause pc detail) r count below over = (
+  subst (λ (n : ℕ). n < limit) (sym count) (below (ending.Trap cause pc detail) over),
+  traps (step (isa_of plan) r.at) cause pc detail
+      (step_ends (isa_of plan) r.at (ending.Trap cause pc detail) (r.ends (ending.Trap cause pc detail) over)),
+)
 over_ends plan limit x written m ran.Limit r count below over = count ∙ over.1
 over_ends plan limit x written m ran.ReadFault r count below over = absurd over
 over_ends plan limit x written m ran.WriteFault r count below over = absurd over
@@ -117,8 +128,11 @@ over_ends plan limit x written m ran.ReportFault r count below over = absurd ove
 one_after : (o : Option Machine) (a b : Machine) → o ≡ Some a → o ≡ Some b → a ≡ b
 one_after o a b e f = cc
 
-leveled : (plan : Plan) (limit : ℕ) (x : Machine) (written : List Line) (begin new : RunPlace) (m : Moment) (answer : Answer) (r : Refines plan x written m) → r.at.hart.retired ≡ m.state.retired → (m.state.retired ≡ limit → served_count plan m.state ≡ 0) → ((e : End) → m.state.ending ≡ Some e → m.state.retired < limit)
-    → new.core ≡ in_state begin.core m.state → Leaves begin.streams new.streams m.rest m.output → IsOver limit m.state answer → Level plan limit begin new m answer r.at
+leveled : (plan : Plan) (limit : ℕ) (x : Machine) (written : List Line) (begin new : RunPlace) (m : Moment) (answer : Answer) (r : Refines plan x written m) →
+    r.at.hart.retired ≡ m.state.retired → (m.state.retired ≡ limit → served_count plan m.state ≡ 0) →
+    ((e : End) → m.state.ending ≡ Some e → m.state.retired < limit)
+    → new.core ≡ in_state begin.core m.state → Leaves begin.streams new.streams m.rest m.output → IsOver limit m.state answer →
+    Level plan limit begin new m answer r.at
 leveled plan limit x written begin new m answer r count full below core streams over =
     let none : served_count plan m.state ≡ 0 = unserved plan limit x written m answer r full over in
     let steps : gained x m.state + served_count plan m.state ≡ gained x m.state = omega (arith, none) in
@@ -130,7 +144,8 @@ leveled plan limit x written begin new m answer r count full below core streams 
       ends = over_ends plan limit x written m answer r count below over;
       retired = ap (λ (p : Processor). p.state.retired) core ∙ sym count;
       regs = ap (λ (p : Processor). p.state.regs) core ∙ r.regs;
-      streams = subst (λ (o : List ℕ). Leaves begin.streams new.streams r.at.rest o) output (subst (λ (i : List ℕ). Leaves begin.streams new.streams i m.output) rest streams);
+      streams = subst (λ (o : List ℕ). Leaves begin.streams new.streams r.at.rest o) output
+          (subst (λ (i : List ℕ). Leaves begin.streams new.streams i m.output) rest streams);
     }
 
 -- the processor as it starts on a machine: nothing is served, and the program has not ended
@@ -152,38 +167,54 @@ over-started plan limit x accepted wide = record {
   below = λ e ended. absurd (let none = started_going plan x in cc);
 }
 
-pub over-opened : (limit : ℕ) (core : Processor) (hart : Hart) → IsAccepted core.plan → length hart.regs ≡ 32 → core ≡ opened core.plan hart → Over core.plan limit core.state
+pub over-opened : (limit : ℕ) (core : Processor) (hart : Hart) → IsAccepted core.plan → length hart.regs ≡ 32 → core ≡ opened core.plan hart →
+    Over core.plan limit core.state
 unfolding opened
 over-opened limit core hart accepted wide opens =
     subst (Over core.plan limit) (sym (ap (λ (p : Processor). p.state) opens)) (over-started core.plan limit (machine_on hart []) accepted wide)
 
 -- and where a run leads to
-over-reached : (limit : ℕ) (shows : Show) (begin now : RunPlace) (hart : Hart) → IsAccepted begin.core.plan → length hart.regs ≡ 32 → begin.core ≡ opened begin.core.plan hart → Reaches limit shows begin now → Over begin.core.plan limit now.core.state
+over-reached : (limit : ℕ) (shows : Show) (begin now : RunPlace) (hart : Hart) → IsAccepted begin.core.plan → length hart.regs ≡ 32 →
+    begin.core ≡ opened begin.core.plan hart → Reaches limit shows begin now → Over begin.core.plan limit now.core.state
 over-reached limit shows begin now hart accepted wide opens h =
     subst (Over begin.core.plan limit) (sym (ap (λ (p : Processor). p.state) h.core))
-    (over-led begin.core.plan limit begin.streams.input (moment_of begin.core h.rest) h.trace h.last (over-opened limit begin.core hart accepted wide opens) h.leads)
+    (over-led begin.core.plan limit begin.streams.input (moment_of begin.core h.rest) h.trace h.last
+    (over-opened limit begin.core hart accepted wide opens) h.leads)
 
 -- over an input that tells
-ends_told : (bound limit : ℕ) (shows : Show) (begin now : RunPlace) (hart : Hart) (rest : List ℕ) (answer : Answer) → IsAccepted begin.core.plan → length hart.regs ≡ 32 → begin.core ≡ opened begin.core.plan hart → begin.streams.input ≡ Some rest → Reaches bound shows begin now → Over begin.core.plan limit now.core.state → IsOver limit now.core.state answer
-    → (at : Machine) × (after (isa_of begin.core.plan) (machine_on hart rest) (now.core.state.retired - hart.retired) ≡ Some at) × Level begin.core.plan limit begin now (record { state = now.core.state; rest = at.rest; output = at.output }) answer at
+ends_told : (bound limit : ℕ) (shows : Show) (begin now : RunPlace) (hart : Hart) (rest : List ℕ) (answer : Answer) → IsAccepted begin.core.plan →
+    length hart.regs ≡ 32 → begin.core ≡ opened begin.core.plan hart → begin.streams.input ≡ Some rest → Reaches bound shows begin now →
+    Over begin.core.plan limit now.core.state → IsOver limit now.core.state answer
+    → (at : Machine) × (after (isa_of begin.core.plan) (machine_on hart rest) (now.core.state.retired - hart.retired) ≡ Some at)
+    × Level begin.core.plan limit begin now (record { state = now.core.state; rest = at.rest; output = at.output }) answer at
 ends_told bound limit shows begin now hart rest answer accepted wide opens tells h level over =
     let plan : Plan = begin.core.plan in
     let x : Machine = machine_on hart rest in
     let leads : Leads plan bound (Some rest) (start_on plan x) h.trace h.last =
-    subst (λ (m : Moment). Leads plan bound (Some rest) m h.trace h.last) (begins begin.core hart rest h.rest opens (subst (λ (o : Option (List ℕ)). IsTold o h.rest) tells h.told))
+    subst (λ (m : Moment). Leads plan bound (Some rest) m h.trace h.last) (begins begin.core hart rest h.rest opens
+    (subst (λ (o : Option (List ℕ)). IsTold o h.rest) tells h.told))
     (subst (λ (o : Option (List ℕ)). Leads plan bound o (record { state = begin.core.state; rest = h.rest; output = [] }) h.trace h.last) tells h.leads) in
     let runs = leads-run plan bound rest (start_on plan x) h.trace h.last leads in
-    let r : Refines plan x (lines plan (start_on plan x) (moves_of h.trace)) h.last = subst (λ (m : Moment). Refines plan x (lines plan (start_on plan x) (moves_of h.trace)) m) (sym runs.1) (run_refines plan x (moves_of h.trace) accepted wide runs.0) in
+    let r : Refines plan x (lines plan (start_on plan x) (moves_of h.trace)) h.last = subst
+    (λ (m : Moment). Refines plan x (lines plan (start_on plan x) (moves_of h.trace)) m) (sym runs.1)
+    (run_refines plan x (moves_of h.trace) accepted wide runs.0) in
     let c = after_counts (isa_of plan) x r.at (gained x h.last.state) r.count in
     let count : r.at.hart.retired ≡ h.last.state.retired = let rises = r.rises in omega (arith, c, rises) in
     let state : now.core.state ≡ h.last.state = ap (λ (p : Processor). p.state) h.core in
     let o : Over plan limit h.last.state = subst (Over plan limit) state level in
-    let l : Level plan limit begin now h.last answer r.at = leveled plan limit x (lines plan (start_on plan x) (moves_of h.trace)) begin now h.last answer r count o.full o.below h.core h.streams (subst (λ (s : State). IsOver limit s answer) state over) in
-    (r.at, subst (λ (s : State). after (isa_of plan) x (s.retired - hart.retired) ≡ Some r.at) (sym state) r.count, record { ends = l.ends; retired = l.retired; regs = l.regs; streams = l.streams })
+    let l : Level plan limit begin now h.last answer r.at = leveled plan limit x (lines plan (start_on plan x) (moves_of h.trace)) begin now h.last answer r
+    count o.full o.below h.core h.streams (subst (λ (s : State). IsOver limit s answer) state over) in (
+      r.at,
+      subst (λ (s : State). after (isa_of plan) x (s.retired - hart.retired) ≡ Some r.at) (sym state) r.count,
+      record { ends = l.ends; retired = l.retired; regs = l.regs; streams = l.streams },
+    )
 
 -- over an input that does not
-ends_untold : (bound limit : ℕ) (shows : Show) (begin now : RunPlace) (hart : Hart) (answer : Answer) → IsAccepted begin.core.plan → length hart.regs ≡ 32 → begin.core ≡ opened begin.core.plan hart → begin.streams.input ≡ None → Reaches bound shows begin now → Over begin.core.plan limit now.core.state → IsOver limit now.core.state answer
-    → (at : Machine) × ((written : List Line) × GoesTo (isa_of begin.core.plan) (machine_on hart []) (now.core.state.retired - hart.retired) at written) × Level begin.core.plan limit begin now (record { state = now.core.state; rest = at.rest; output = at.output }) answer at
+ends_untold : (bound limit : ℕ) (shows : Show) (begin now : RunPlace) (hart : Hart) (answer : Answer) → IsAccepted begin.core.plan → length hart.regs ≡ 32 →
+    begin.core ≡ opened begin.core.plan hart → begin.streams.input ≡ None → Reaches bound shows begin now → Over begin.core.plan limit now.core.state →
+    IsOver limit now.core.state answer
+    → (at : Machine) × ((written : List Line) × GoesTo (isa_of begin.core.plan) (machine_on hart []) (now.core.state.retired - hart.retired) at written)
+    × Level begin.core.plan limit begin now (record { state = now.core.state; rest = at.rest; output = at.output }) answer at
 unfolding after
 ends_untold bound limit shows begin now hart answer accepted wide opens none h level over =
     let plan : Plan = begin.core.plan in
@@ -201,12 +232,20 @@ ends_untold bound limit shows begin now hart answer accepted wide opens none h l
     let count : r.at.hart.retired ≡ h.last.state.retired = ap (λ (k : Machine). k.hart.retired) (sym same) ∙ sym same_count in
     let state : now.core.state ≡ h.last.state = ap (λ (p : Processor). p.state) h.core in
     let o : Over plan limit h.last.state = subst (Over plan limit) state level in
-    let l : Level plan limit begin now m answer r.at = leveled plan limit holds.at [] begin now m answer r count o.full o.below h.core (left-untold begin.streams now.streams h.last.rest holds.rest h.last.output none h.streams) (subst (λ (s : State). IsOver limit s answer) state over) in
-    let goes : GoesTo (isa_of plan) (machine_on hart []) (gained x h.last.state) r.at leads.written = subst (λ (k : Machine). GoesTo (isa_of plan) (machine_on hart []) (gained x h.last.state) k leads.written) same (goes-anew (isa_of plan) hart h.rest (gained x h.last.state) holds.at leads.written holds.goes) in
-    (r.at, (leads.written, subst (λ (s : State). GoesTo (isa_of plan) (machine_on hart []) (s.retired - hart.retired) r.at leads.written) (sym state) goes), record { ends = l.ends; retired = l.retired; regs = l.regs; streams = l.streams })
+    let l : Level plan limit begin now m answer r.at = leveled plan limit holds.at [] begin now m answer r count o.full o.below h.core
+    (left-untold begin.streams now.streams h.last.rest holds.rest h.last.output none h.streams) (subst (λ (s : State). IsOver limit s answer) state over) in
+    let goes : GoesTo (isa_of plan) (machine_on hart []) (gained x h.last.state) r.at leads.written =
+    subst (λ (k : Machine). GoesTo (isa_of plan) (machine_on hart []) (gained x h.last.state) k leads.written) same
+    (goes-anew (isa_of plan) hart h.rest (gained x h.last.state) holds.at leads.written holds.goes) in (
+      r.at,
+      (leads.written, subst (λ (s : State). GoesTo (isa_of plan) (machine_on hart []) (s.retired - hart.retired) r.at leads.written) (sym state) goes),
+      record { ends = l.ends; retired = l.retired; regs = l.regs; streams = l.streams },
+    )
 
 -- a run that is over where it is level ends as the machine does
-pub ends-level : (bound limit : ℕ) (shows : Show) (begin now : RunPlace) (hart : Hart) (answer : Answer) → IsAccepted begin.core.plan → length hart.regs ≡ 32 → begin.core ≡ opened begin.core.plan hart → Reaches bound shows begin now → Over begin.core.plan limit now.core.state → IsOver limit now.core.state answer → EndsAsMachine limit hart begin now answer
+pub ends-level : (bound limit : ℕ) (shows : Show) (begin now : RunPlace) (hart : Hart) (answer : Answer) → IsAccepted begin.core.plan → length hart.regs ≡ 32 →
+    begin.core ≡ opened begin.core.plan hart → Reaches bound shows begin now → Over begin.core.plan limit now.core.state → IsOver limit now.core.state answer →
+    EndsAsMachine limit hart begin now answer
 ends-level bound limit shows begin now hart answer accepted wide opens h level over = go begin.streams.input refl
   where
     go : (o : Option (List ℕ)) → begin.streams.input ≡ o → EndsAsMachine limit hart begin now answer
@@ -232,20 +271,30 @@ ends-level bound limit shows begin now hart answer accepted wide opens h level o
         }
 
 -- so does a run whose moves were all made below the limit
-pub ends-sequentially : (limit : ℕ) (shows : Show) (begin now : RunPlace) (hart : Hart) (answer : Answer) → IsAccepted begin.core.plan → length hart.regs ≡ 32 → begin.core ≡ opened begin.core.plan hart → Reaches limit shows begin now → IsOver limit now.core.state answer → EndsAsMachine limit hart begin now answer
+pub ends-sequentially : (limit : ℕ) (shows : Show) (begin now : RunPlace) (hart : Hart) (answer : Answer) → IsAccepted begin.core.plan → length hart.regs ≡ 32 →
+    begin.core ≡ opened begin.core.plan hart → Reaches limit shows begin now → IsOver limit now.core.state answer → EndsAsMachine limit hart begin now answer
 ends-sequentially limit shows begin now hart answer accepted wide opens h over =
     ends-level limit limit shows begin now hart answer accepted wide opens h (over-reached limit shows begin now hart accepted wide opens h) over
 
 -- the same of a run whose last place is that one
-pub same_place : (limit : ℕ) (hart : Hart) (begin now new : RunPlace) (answer : Answer) → new ≡ now → EndsAsMachine limit hart begin now answer → EndsAsMachine limit hart begin new answer
+pub same_place : (limit : ℕ) (hart : Hart) (begin now new : RunPlace) (answer : Answer) → new ≡ now → EndsAsMachine limit hart begin now answer →
+    EndsAsMachine limit hart begin new answer
 same_place limit hart begin now new answer same e = subst (λ (p : RunPlace). EndsAsMachine limit hart begin p answer) (sym same) e
 
 -- so does the run of a script
-pub script-ends : (limit : ℕ) (shows : Show) (begin new : ScriptRun) (hart : Hart) (answer : Scripted) → IsAccepted begin.place.core.plan → length hart.regs ≡ 32 → begin.place.core ≡ opened begin.place.core.plan hart → RunsScript limit shows begin new answer → EndsAlike limit hart begin.place new.place answer
+pub script-ends : (limit : ℕ) (shows : Show) (begin new : ScriptRun) (hart : Hart) (answer : Scripted) → IsAccepted begin.place.core.plan →
+    length hart.regs ≡ 32 → begin.place.core ≡ opened begin.place.core.plan hart → RunsScript limit shows begin new answer →
+    EndsAlike limit hart begin.place new.place answer
 unfolding ScriptStops
-script-ends limit shows begin new hart (Ran (ran.Exit status)) accepted wide opens r = same_place limit hart begin.place r.now.place new.place (ran.Exit status) (ap (λ (s : ScriptRun). s.place) r.stops.1) (ends-sequentially limit shows begin.place r.now.place hart (ran.Exit status) accepted wide opens r.follows.reaches r.stops.0)
-script-ends limit shows begin new hart (Ran (ran.Trap cause pc detail)) accepted wide opens r = same_place limit hart begin.place r.now.place new.place (ran.Trap cause pc detail) (ap (λ (s : ScriptRun). s.place) r.stops.1) (ends-sequentially limit shows begin.place r.now.place hart (ran.Trap cause pc detail) accepted wide opens r.follows.reaches r.stops.0)
-script-ends limit shows begin new hart (Ran ran.Limit) accepted wide opens r = same_place limit hart begin.place r.now.place new.place ran.Limit (ap (λ (s : ScriptRun). s.place) r.stops.1) (ends-sequentially limit shows begin.place r.now.place hart ran.Limit accepted wide opens r.follows.reaches r.stops.0)
+script-ends limit shows begin new hart (Ran (ran.Exit status)) accepted wide opens r = same_place limit hart begin.place r.now.place new.place (ran.Exit status)
+    (ap (λ (s : ScriptRun). s.place) r.stops.1) (ends-sequentially limit shows begin.place r.now.place hart
+    (ran.Exit status) accepted wide opens r.follows.reaches r.stops.0)
+script-ends limit shows begin new hart (Ran (ran.Trap cause pc detail)) accepted wide opens r =
+    same_place limit hart begin.place r.now.place new.place (ran.Trap cause pc detail) (ap (λ (s : ScriptRun). s.place) r.stops.1)
+    (ends-sequentially limit shows begin.place r.now.place hart (ran.Trap cause pc detail) accepted wide opens r.follows.reaches r.stops.0)
+script-ends limit shows begin new hart (Ran ran.Limit) accepted wide opens r = same_place limit hart begin.place r.now.place new.place ran.Limit
+    (ap (λ (s : ScriptRun). s.place) r.stops.1) (ends-sequentially limit shows begin.place r.now.place hart ran.Limit accepted wide opens r.follows.reaches
+    r.stops.0)
 script-ends limit shows begin new hart (Ran ran.ReadFault) accepted wide opens r = tt
 script-ends limit shows begin new hart (Ran ran.WriteFault) accepted wide opens r = tt
 script-ends limit shows begin new hart (Ran ran.ReportFault) accepted wide opens r = tt
@@ -254,21 +303,33 @@ script-ends limit shows begin new hart (BadScript refusal) accepted wide opens r
 script-ends limit shows begin new hart (BarredAt line bar) accepted wide opens r = tt
 
 -- and of a policy
-pub policy-ends : {P : Type 0} (picked : P → List Move → ℕ) (onward : P → List Move → P) (limit : ℕ) (shows : Show) (begin new : RunPlace) (policy later : P) (moves : List Move) (hart : Hart) (answer : Answer) → IsAccepted begin.core.plan → length hart.regs ≡ 32 → begin.core ≡ opened begin.core.plan hart → RunsPolicy picked onward limit shows begin new policy later moves answer → EndsAlike limit hart begin new (Ran answer)
-policy-ends picked onward limit shows begin new policy later moves hart (ran.Exit status) accepted wide opens r = same_place limit hart begin r.now new (ran.Exit status) r.stops.1 (ends-sequentially limit shows begin r.now hart (ran.Exit status) accepted wide opens r.reaches r.stops.0)
-policy-ends picked onward limit shows begin new policy later moves hart (ran.Trap cause pc detail) accepted wide opens r = same_place limit hart begin r.now new (ran.Trap cause pc detail) r.stops.1 (ends-sequentially limit shows begin r.now hart (ran.Trap cause pc detail) accepted wide opens r.reaches r.stops.0)
-policy-ends picked onward limit shows begin new policy later moves hart ran.Limit accepted wide opens r = same_place limit hart begin r.now new ran.Limit r.stops.1 (ends-sequentially limit shows begin r.now hart ran.Limit accepted wide opens r.reaches r.stops.0)
+pub policy-ends : {P : Type 0} (picked : P → List Move → ℕ) (onward : P → List Move → P) (limit : ℕ) (shows : Show) (begin new : RunPlace) (policy later : P)
+    (moves : List Move) (hart : Hart) (answer : Answer) → IsAccepted begin.core.plan → length hart.regs ≡ 32 → begin.core ≡ opened begin.core.plan hart →
+    RunsPolicy picked onward limit shows begin new policy later moves answer → EndsAlike limit hart begin new (Ran answer)
+policy-ends picked onward limit shows begin new policy later moves hart (ran.Exit status) accepted wide opens r =
+    same_place limit hart begin r.now new (ran.Exit status) r.stops.1 (ends-sequentially limit shows begin r.now hart
+    (ran.Exit status) accepted wide opens r.reaches r.stops.0)
+policy-ends picked onward limit shows begin new policy later moves hart (ran.Trap cause pc detail) accepted wide opens r =
+    same_place limit hart begin r.now new (ran.Trap cause pc detail) r.stops.1 (ends-sequentially limit shows begin r.now hart
+    (ran.Trap cause pc detail) accepted wide opens r.reaches r.stops.0)
+policy-ends picked onward limit shows begin new policy later moves hart ran.Limit accepted wide opens r =
+    same_place limit hart begin r.now new ran.Limit r.stops.1 (ends-sequentially limit shows begin r.now hart ran.Limit accepted wide opens r.reaches r.stops.0)
 policy-ends picked onward limit shows begin new policy later moves hart ran.ReadFault accepted wide opens r = tt
 policy-ends picked onward limit shows begin new policy later moves hart ran.WriteFault accepted wide opens r = tt
 policy-ends picked onward limit shows begin new policy later moves hart ran.ReportFault accepted wide opens r = tt
 
 -- on whatever hart the processor was opened
-pub script-ends-sequentially : (limit : ℕ) (shows : Show) (begin new : ScriptRun) (answer : Scripted) → IsAccepted begin.place.core.plan → length begin.place.core.state.regs ≡ 32 → RunsScript limit shows begin new answer → EndsSequentially limit begin.place new.place answer
+pub script-ends-sequentially : (limit : ℕ) (shows : Show) (begin new : ScriptRun) (answer : Scripted) → IsAccepted begin.place.core.plan →
+    length begin.place.core.state.regs ≡ 32 → RunsScript limit shows begin new answer → EndsSequentially limit begin.place new.place answer
 unfolding EndsSequentially
 script-ends-sequentially limit shows begin new answer accepted wide r plan hart opens =
-    script-ends limit shows begin new hart answer accepted (ap length (sym (opened_regs begin.place.core plan hart opens)) ∙ wide) (opened_here begin.place.core plan hart opens) r
+    script-ends limit shows begin new hart answer accepted (ap length (sym (opened_regs begin.place.core plan hart opens)) ∙ wide)
+    (opened_here begin.place.core plan hart opens) r
 
-pub policy-ends-sequentially : {P : Type 0} (picked : P → List Move → ℕ) (onward : P → List Move → P) (limit : ℕ) (shows : Show) (begin new : RunPlace) (policy later : P) (moves : List Move) (answer : Answer) → IsAccepted begin.core.plan → length begin.core.state.regs ≡ 32 → RunsPolicy picked onward limit shows begin new policy later moves answer → EndsSequentially limit begin new (Ran answer)
+pub policy-ends-sequentially : {P : Type 0} (picked : P → List Move → ℕ) (onward : P → List Move →
+    P) (limit : ℕ) (shows : Show) (begin new : RunPlace) (policy later : P) (moves : List Move) (answer : Answer) → IsAccepted begin.core.plan →
+    length begin.core.state.regs ≡ 32 → RunsPolicy picked onward limit shows begin new policy later moves answer → EndsSequentially limit begin new (Ran answer)
 unfolding EndsSequentially
 policy-ends-sequentially picked onward limit shows begin new policy later moves answer accepted wide r plan hart opens =
-    policy-ends picked onward limit shows begin new policy later moves hart answer accepted (ap length (sym (opened_regs begin.core plan hart opens)) ∙ wide) (opened_here begin.core plan hart opens) r
+    policy-ends picked onward limit shows begin new policy later moves hart answer accepted (ap length (sym (opened_regs begin.core plan hart opens)) ∙ wide)
+    (opened_here begin.core plan hart opens) r

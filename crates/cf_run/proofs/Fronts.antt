@@ -38,7 +38,8 @@ use Rattle.cf_stages.specs.Changes.{passenger_at}
 use Rattle.cf_run.specs.Headline.{IsFrontAfter}
 
 -- a write that passes its tests adds the bytes of its buffer to the output
-asked_bytes : (regs : List ℕ) (mem : Memory) (rest bytes : List ℕ) → IsTrue (asks_output regs mem) → range_of mem (second_argument regs) (third_argument regs) ≡ Some bytes
+asked_bytes : (regs : List ℕ) (mem : Memory) (rest bytes : List ℕ) → IsTrue (asks_output regs mem) →
+    range_of mem (second_argument regs) (third_argument regs) ≡ Some bytes
     → call regs mem rest ≡ called.Value (record { value = third_argument regs; mem = mem; rest = rest; output = bytes })
 unfolding asks_output call write
 asked_bytes regs mem rest bytes asks is = grind arith
@@ -59,11 +60,13 @@ put_there (first ∷ cells) (suc (suc n)) c d e = put_there cells (suc n) c d e
 has_answered : (p : Passenger) (v : ℕ) → p.dead ≡ false → is_serial (kind p) ≡ true → p.ending ≡ None → one (has_served (answered p v)) ≡ 1
 has_answered p v d k e = grind arith
 
-count_there : (cells : List Cell) (n : ℕ) (c : Cell) (p q : Passenger) → cell_at cells n ≡ Some c → one (has_served q) ≡ 1 → on (cell_at (put_cell cells n (with_passenger c q)) n) 0 (λ c. on c.passenger 0 (λ p. one (has_served p))) ≡ 1
+count_there : (cells : List Cell) (n : ℕ) (c : Cell) (p q : Passenger) → cell_at cells n ≡ Some c → one (has_served q) ≡ 1 →
+    on (cell_at (put_cell cells n (with_passenger c q)) n) 0 (λ c. on c.passenger 0 (λ p. one (has_served p))) ≡ 1
 count_there cells n c p q e k = rw (put_there cells n c (with_passenger c q) e, k) refl
 
 -- the instruction in the highest stage is that of the passenger there
-calls_there : (cells : List Cell) (n : ℕ) (c : Cell) (p : Passenger) → cell_at cells n ≡ Some c → c.passenger ≡ Some p → Where (passenger_at cells n) ⊥ (λ q. instruction q ≡ Ecall) → instruction p ≡ Ecall
+calls_there : (cells : List Cell) (n : ℕ) (c : Cell) (p : Passenger) → cell_at cells n ≡ Some c → c.passenger ≡ Some p →
+    Where (passenger_at cells n) ⊥ (λ q. instruction q ≡ Ecall) → instruction p ≡ Ecall
 calls_there cells n c p e f h =
     let is : passenger_at cells n ≡ Some p = rw e f in
     let P : Option Passenger → Type 0 = λ o. Where o ⊥ (λ q. instruction q ≡ Ecall) in
@@ -74,16 +77,20 @@ record Wrote (plan : Plan) (m : Moment) (bytes : List ℕ) : Type 0 where
   output : (next plan m Serve).output ≡ m.output ++ bytes
   count : served_count plan (next plan m Serve).state ≡ 1
 
-wrote : (plan : Plan) (m : Moment) (bytes : List ℕ) (r : Serves plan m.state) → r.who.ending ≡ None → Where (passenger_at m.state.cells plan.stages) ⊥ (λ q. instruction q ≡ Ecall)
-    → IsTrue (asks_output m.state.regs m.state.mem) → range_of m.state.mem (second_argument m.state.regs) (third_argument m.state.regs) ≡ Some bytes → Wrote plan m bytes
+wrote : (plan : Plan) (m : Moment) (bytes : List ℕ) (r : Serves plan m.state) → r.who.ending ≡ None →
+    Where (passenger_at m.state.cells plan.stages) ⊥ (λ q. instruction q ≡ Ecall)
+    → IsTrue (asks_output m.state.regs m.state.mem) → range_of m.state.mem (second_argument m.state.regs) (third_argument m.state.regs) ≡ Some bytes →
+    Wrote plan m bytes
 wrote plan m bytes r unended calls asks is =
     let ecall : instruction r.who ≡ Ecall = calls_there m.state.cells plan.stages r.here r.who r.at_here r.sits calls in
     let a : CallAnswer = record { value = third_argument m.state.regs; mem = m.state.mem; rest = m.rest; output = bytes } in
-    let answer : serve_of (instruction r.who) m.state.regs m.state.mem m.rest ≡ called.Value a = serve_ecall (instruction r.who) m.state.regs m.state.mem m.rest ecall ∙ asked_bytes m.state.regs m.state.mem m.rest bytes asks is in
+    let answer : serve_of (instruction r.who) m.state.regs m.state.mem m.rest ≡ called.Value a =
+    serve_ecall (instruction r.who) m.state.regs m.state.mem m.rest ecall ∙ asked_bytes m.state.regs m.state.mem m.rest bytes asks is in
     let to : next plan m Serve ≡ served m plan.stages r.here r.who (called.Value a) = next_serve plan m r.here r.who (called.Value a) r.at_here r.sits answer in
     record {
       output = ap (λ (q : Moment). q.output) to;
-      count = ap (λ (q : Moment). served_count plan q.state) to ∙ count_there m.state.cells plan.stages r.here r.who (answered r.who a.value) r.at_here (has_answered r.who a.value r.live (ap is_serial r.serial) unended);
+      count = ap (λ (q : Moment). served_count plan q.state) to ∙ count_there m.state.cells plan.stages r.here r.who (answered r.who a.value) r.at_here
+          (has_answered r.who a.value r.live (ap is_serial r.serial) unended);
     }
 
 -- the passenger that is to be served has not ended
@@ -94,7 +101,8 @@ unended_here plan m x r h =
     c.certain.0.unended r.undone
 
 -- a front of more bytes
-front_of : (isa : Isa) (x : Machine) (n : ℕ) (output bytes : List ℕ) (k : ℕ) (at : Machine) → after isa x n ≡ Some at → at.output ≡ output ++ bytes → IsFrontAfter isa x n (output ++ take k bytes)
+front_of : (isa : Isa) (x : Machine) (n : ℕ) (output bytes : List ℕ) (k : ℕ) (at : Machine) → after isa x n ≡ Some at → at.output ≡ output ++ bytes →
+    IsFrontAfter isa x n (output ++ take k bytes)
 front_of isa x n output bytes k at count is = record {
   at = at;
   count = count;
@@ -103,7 +111,8 @@ front_of isa x n output bytes k at count is = record {
 }
 
 -- after a write that the output failed at a moment at which the invariant holds: the output of the moment and any front of the buffer's bytes
-pub front-after : (plan : Plan) (x : Machine) (m : Moment) (bytes : List ℕ) (k : ℕ) → IsAccepted plan → HoldsAfter plan x m → bar plan m.state Serve ≡ None → Where (passenger_at m.state.cells plan.stages) ⊥ (λ q. instruction q ≡ Ecall)
+pub front-after : (plan : Plan) (x : Machine) (m : Moment) (bytes : List ℕ) (k : ℕ) → IsAccepted plan → HoldsAfter plan x m → bar plan m.state Serve ≡ None →
+    Where (passenger_at m.state.cells plan.stages) ⊥ (λ q. instruction q ≡ Ecall)
     → IsTrue (asks_output m.state.regs m.state.mem) → range_of m.state.mem (second_argument m.state.regs) (third_argument m.state.regs) ≡ Some bytes
     → IsFrontAfter (isa_of plan) x (gained x m.state + 1) (m.output ++ take k bytes)
 front-after plan x m bytes k accepted h free calls asks buffer =
@@ -113,6 +122,8 @@ front-after plan x m bytes k accepted h free calls asks buffer =
     let later : HoldsAfter plan x t = kept plan x m Serve (accepted_suits plan accepted) free h in
     let unended : t.state.ending ≡ None = (serve_counts plan m).ending ∙ going plan m.state Serve free in
     let sound : Sound plan t.state t.rest t.output later.machine = subst (HoldsAt plan t.state t.rest t.output later.machine) unended later.stage in
-    let spoke : Spoke (isa_of plan) x (gained x t.state + served_count plan t.state) t = output_ahead plan x t.state later.machine (after_gained plan x t later) sound in
+    let spoke : Spoke (isa_of plan) x (gained x t.state + served_count plan t.state) t = output_ahead plan x t.state later.machine
+    (after_gained plan x t later) sound in
     let number : gained x t.state + served_count plan t.state ≡ gained x m.state + 1 = omega (arith, (serve_counts plan m).retired, w.count) in
-    front_of (isa_of plan) x (gained x m.state + 1) m.output bytes k spoke.at (ap (after (isa_of plan) x) (sym number) ∙ spoke.count) (sym spoke.output ∙ w.output)
+    front_of (isa_of plan) x (gained x m.state + 1) m.output bytes k spoke.at (ap (after (isa_of plan) x) (sym number) ∙ spoke.count) (sym spoke.output
+    ∙ w.output)

@@ -1,4 +1,5 @@
--- A run is a run of the sequential machine on which its processor was opened, whatever chose its moves and whatever stops it, and whether or not the input tells what it has left.
+-- A run is a run of the sequential machine on which its processor was opened, whatever chose its moves and whatever
+-- stops it, and whether or not the input tells what it has left.
 use Rattle.std.proofs.Common.{◌≡◌, ℕ, ◌+◌, List, Option, Some, None, refl, sym, ap, subst, ◌∙◌, length}
 use Rattle.run_options.specs.declared.show.Show.{Show}
 use Rattle.rv_machine.specs.Hart.{Hart}
@@ -21,18 +22,21 @@ use Rattle.cf_run.proofs.Stopping.{IsStopped, ComesTo}
 use Rattle.cf_run.proofs.UnknownInput.{ArrivesAnew, arrives-anew}
 
 -- a run on an opened processor, over an input that tells
-run-told : (limit : ℕ) (shows : Show) (hart : Hart) (rest : List ℕ) (begin new : RunPlace) (moves : List Move) (answer : Scripted) → IsAccepted begin.core.plan → length hart.regs ≡ 32 → begin.core ≡ opened begin.core.plan hart → begin.streams.input ≡ Some rest
+run-told : (limit : ℕ) (shows : Show) (hart : Hart) (rest : List ℕ) (begin new : RunPlace) (moves : List Move) (answer : Scripted) →
+    IsAccepted begin.core.plan → length hart.regs ≡ 32 → begin.core ≡ opened begin.core.plan hart → begin.streams.input ≡ Some rest
     → ComesTo limit shows begin moves new answer → RunsAs shows (machine_on hart rest) moves begin new answer
 run-told limit shows hart rest begin new moves answer accepted wide opens tells c =
     let plan : Plan = begin.core.plan in
     let x : Machine = machine_on hart rest in
     let made : List Move = moves_of c.reaches.trace in
     let a : ArrivesBy shows x made begin c.now = arrives-by limit shows hart rest begin c.now accepted wide opens tells c.reaches in
-    let h : IsStopped shows x (moment_after plan x made) (hart.retired + 1) (lines_after plan x made) begin new answer = c.stops x (moment_after plan x made) (hart.retired + 1) (lines_after plan x made) a.arrives in
+    let h : IsStopped shows x (moment_after plan x made) (hart.retired + 1) (lines_after plan x made) begin new answer =
+    c.stops x (moment_after plan x made) (hart.retired + 1) (lines_after plan x made) a.arrives in
     subst (λ (moves : List Move). RunsAs shows x moves begin new answer) c.moves_are (record { right = a.right; stops = h.stops; report = h.report })
 
 -- and over one that does not tell
-run-untold : (limit : ℕ) (shows : Show) (hart : Hart) (begin new : RunPlace) (moves : List Move) (answer : Scripted) → IsAccepted begin.core.plan → length hart.regs ≡ 32 → begin.core ≡ opened begin.core.plan hart → begin.streams.input ≡ None
+run-untold : (limit : ℕ) (shows : Show) (hart : Hart) (begin new : RunPlace) (moves : List Move) (answer : Scripted) → IsAccepted begin.core.plan →
+    length hart.regs ≡ 32 → begin.core ≡ opened begin.core.plan hart → begin.streams.input ≡ None
     → ComesTo limit shows begin moves new answer → RunsOverUnknownInput shows hart begin new answer
 run-untold limit shows hart begin new moves answer accepted wide opens none c =
     let plan : Plan = begin.core.plan in
@@ -62,7 +66,8 @@ unfolding opened opened_on
 opened_regs core plan hart is = ap (λ (p : Processor). p.state.regs) is
 
 -- a run that reached some place is a run of that machine
-runs_over : (limit : ℕ) (shows : Show) (hart : Hart) (begin new : RunPlace) (moves : List Move) (answer : Scripted) → IsAccepted begin.core.plan → length hart.regs ≡ 32 → begin.core ≡ opened begin.core.plan hart
+runs_over : (limit : ℕ) (shows : Show) (hart : Hart) (begin new : RunPlace) (moves : List Move) (answer : Scripted) → IsAccepted begin.core.plan →
+    length hart.regs ≡ 32 → begin.core ≡ opened begin.core.plan hart
     → ComesTo limit shows begin moves new answer → RunsOver begin.streams.input shows hart moves begin new answer
 runs_over limit shows hart begin new moves answer accepted wide opens c = over begin.streams.input refl
   where
@@ -71,12 +76,17 @@ runs_over limit shows hart begin new moves answer accepted wide opens c = over b
     over None tells = run-untold limit shows hart begin new moves answer accepted wide opens tells c
 
 -- the headline
-pub comes_sequentially : (limit : ℕ) (shows : Show) (begin new : RunPlace) (moves : List Move) (answer : Scripted) → IsAccepted begin.core.plan → length begin.core.state.regs ≡ 32 → ComesTo limit shows begin moves new answer → RunsSequentially shows moves begin new answer
+pub comes_sequentially : (limit : ℕ) (shows : Show) (begin new : RunPlace) (moves : List Move) (answer : Scripted) → IsAccepted begin.core.plan →
+    length begin.core.state.regs ≡ 32 → ComesTo limit shows begin moves new answer → RunsSequentially shows moves begin new answer
 unfolding RunsSequentially
 comes_sequentially limit shows begin new moves answer accepted wide c plan hart opens =
-    runs_over limit shows hart begin new moves answer accepted (ap length (sym (opened_regs begin.core plan hart opens)) ∙ wide) (opened_here begin.core plan hart opens) c
+    runs_over limit shows hart begin new moves answer accepted (ap length (sym (opened_regs begin.core plan hart opens)) ∙ wide)
+    (opened_here begin.core plan hart opens) c
 
 -- of a script
-pub runs-sequentially : (limit : ℕ) (shows : Show) (begin new : ScriptRun) (answer : Scripted) → IsAccepted begin.place.core.plan → length begin.place.core.state.regs ≡ 32 → RunsScript limit shows begin new answer → RunsSequentially shows (first_moves begin.script new.place.tally) begin.place new.place answer
+pub runs-sequentially : (limit : ℕ) (shows : Show) (begin new : ScriptRun) (answer : Scripted) → IsAccepted begin.place.core.plan →
+    length begin.place.core.state.regs ≡ 32 → RunsScript limit shows begin new answer → RunsSequentially shows
+    (first_moves begin.script new.place.tally) begin.place new.place answer
 runs-sequentially limit shows begin new answer accepted wide r =
-    comes_sequentially limit shows begin.place new.place (first_moves begin.script new.place.tally) answer accepted wide (comes-to limit shows begin r.now new answer accepted r.follows r.stops)
+    comes_sequentially limit shows begin.place new.place (first_moves begin.script new.place.tally) answer accepted wide
+    (comes-to limit shows begin r.now new answer accepted r.follows r.stops)

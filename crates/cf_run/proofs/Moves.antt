@@ -21,7 +21,8 @@ use Rattle.cf_run.specs.Scripts.{ScriptRun, DoesLine, ScriptStops, ScriptTries}
 use Rattle.run_scripts.specs.Scripts.{next_of, after_next}
 
 -- the move was made and counted
-made : (mv : Move) (now new : RunPlace) (e : Event) → bar now.core.plan now.core.state mv ≡ None → MakesOrFails now.core new.core mv now.streams new.streams (Ok e) → new.tally ≡ counted now.tally mv e → MakesMove mv e now new
+made : (mv : Move) (now new : RunPlace) (e : Event) → bar now.core.plan now.core.state mv ≡ None →
+    MakesOrFails now.core new.core mv now.streams new.streams (Ok e) → new.tally ≡ counted now.tally mv e → MakesMove mv e now new
 unfolding MakesOrFails
 made mv now new e free h counts = record { allowed = free; makes = h.0; is_event = h.1; tally = counts }
 
@@ -30,40 +31,58 @@ same_plan : (mv : Move) (now new : RunPlace) (e : Event) → MakesOrFails now.co
 unfolding MakesOrFails
 same_plan mv now new e h = h.0.plan
 
-pub made-shown : {E : Type 0} (show : Show) (mv : Move) (now new : RunPlace) (e : Event) (i j : ℕ) (done : Unit {0}) → bar now.core.plan now.core.state mv ≡ None → MakesOrFails now.core new.core mv now.streams new.streams (Ok e) → new.tally ≡ counted now.tally mv e
-    → PutsText {E = E} now.report new.report i j (shown show new.core.plan new.tally.moves (record { move = mv; event = e; state = new.core.state })) (Ok done) → MakesAndShows show mv e now new
+pub made-shown : {E : Type 0} (show : Show) (mv : Move) (now new : RunPlace) (e : Event) (i j : ℕ) (done : Unit {0}) →
+    bar now.core.plan now.core.state mv ≡ None → MakesOrFails now.core new.core mv now.streams new.streams (Ok e) → new.tally ≡ counted now.tally mv e
+    → PutsText {E = E} now.report new.report i j (shown show new.core.plan new.tally.moves (record { move = mv; event = e; state = new.core.state }))
+    (Ok done) → MakesAndShows show mv e now new
 unfolding MakesOrFails made
 made-shown {E = E} show mv now new e i j done free h counts put =
-    let P : Plan → Type 0 = λ plan. PutsText {T = Unit {0}} {E = E} now.report new.report i j (shown show plan new.tally.moves (record { move = mv; event = e; state = new.core.state })) (Ok done) in
+    let P : Plan → Type 0 = λ plan. PutsText {T = Unit {0}} {E = E} now.report new.report i j
+    (shown show plan new.tally.moves (record { move = mv; event = e; state = new.core.state })) (Ok done) in
     record { makes = made mv now new e free h counts; report = (subst P (same_plan mv now new e h) put).all }
 
-pub made-unshown : {T E : Type 0} (show : Show) (mv : Move) (now new : RunPlace) (e : Event) (i j : ℕ) (failed : E) → bar now.core.plan now.core.state mv ≡ None → MakesOrFails now.core new.core mv now.streams new.streams (Ok e) → new.tally ≡ counted now.tally mv e
-    → PutsText {T = T} now.report new.report i j (shown show new.core.plan new.tally.moves (record { move = mv; event = e; state = new.core.state })) (Err failed) → MakesUnshown show mv e now new
+pub made-unshown : {T E : Type 0} (show : Show) (mv : Move) (now new : RunPlace) (e : Event) (i j : ℕ) (failed : E) →
+    bar now.core.plan now.core.state mv ≡ None → MakesOrFails now.core new.core mv now.streams new.streams (Ok e) → new.tally ≡ counted now.tally mv e
+    → PutsText {T = T} now.report new.report i j (shown show new.core.plan new.tally.moves (record { move = mv; event = e; state = new.core.state }))
+    (Err failed) → MakesUnshown show mv e now new
 unfolding MakesOrFails made
 made-unshown {T = T} {E = E} show mv now new e i j failed free h counts put =
-    let P : Plan → Type 0 = λ plan. PutsText {T = T} {E = E} now.report new.report i j (shown show plan new.tally.moves (record { move = mv; event = e; state = new.core.state })) (Err failed) in
+    let P : Plan → Type 0 = λ plan. PutsText {T = T} {E = E} now.report new.report i j (shown show plan new.tally.moves
+    (record { move = mv; event = e; state = new.core.state })) (Err failed) in
     record { makes = made mv now new e free h counts; report = (subst P (same_plan mv now new e h) put).front }
 
 -- the outside failed the move
-pub does-read_fault : (show : Show) (mv : Move) (old new : Processor) (before after : Streams) (report : Option (List ℕ)) (tally : Tally) → bar old.plan old.state mv ≡ None → MakesOrFails old new mv before after (Err fault.Read) → MoveDoes show mv (place_of old before report tally) (place_of new after report tally) (Err ran.ReadFault)
+pub does-read_fault : (show : Show) (mv : Move) (old new : Processor) (before after : Streams) (report : Option (List ℕ)) (tally : Tally) →
+    bar old.plan old.state mv ≡ None → MakesOrFails old new mv before after (Err fault.Read) →
+    MoveDoes show mv (place_of old before report tally) (place_of new after report tally) (Err ran.ReadFault)
 unfolding MakesOrFails MoveDoes
 does-read_fault show mv old new before after report tally free h = (record { allowed = free; serves = h.0; report = refl; tally = refl }, h.1)
 
-pub does-write_fault : (show : Show) (mv : Move) (old new : Processor) (before after : Streams) (report : Option (List ℕ)) (tally : Tally) → bar old.plan old.state mv ≡ None → MakesOrFails old new mv before after (Err fault.Write) → MoveDoes show mv (place_of old before report tally) (place_of new after report tally) (Err ran.WriteFault)
+pub does-write_fault : (show : Show) (mv : Move) (old new : Processor) (before after : Streams) (report : Option (List ℕ)) (tally : Tally) →
+    bar old.plan old.state mv ≡ None → MakesOrFails old new mv before after (Err fault.Write) →
+    MoveDoes show mv (place_of old before report tally) (place_of new after report tally) (Err ran.WriteFault)
 unfolding MakesOrFails MoveDoes
 does-write_fault show mv old new before after report tally free h = (record { allowed = free; serves = h.0; report = refl; tally = refl }, h.1)
 
 -- a turn whose move is made
-pub turned-made : (limit : ℕ) (show : Show) (now new : ScriptRun) (line : ℕ) (mv : Move) (event : Event) → GoesOn limit now.place.core.state → next_of now.script ≡ Ok (Some (line, mv)) → new.script ≡ after_next now.script → MoveDoes show mv now.place new.place (Ok event) → ScriptTries limit show now new None
+pub turned-made : (limit : ℕ) (show : Show) (now new : ScriptRun) (line : ℕ) (mv : Move) (event : Event) → GoesOn limit now.place.core.state →
+    next_of now.script ≡ Ok (Some (line, mv)) → new.script ≡ after_next now.script → MoveDoes show mv now.place new.place (Ok event) →
+    ScriptTries limit show now new None
 unfolding DoesLine
-turned-made limit show now new line mv event goes next left does = record { goes = goes; line = line; move = mv; next = next; script = left; does = (event, does) }
+turned-made limit show now new line mv event goes next left does =
+    record { goes = goes; line = line; move = mv; next = next; script = left; does = (event, does) }
 
 -- and a turn whose move stops the run
-pub turned-stopped : (limit : ℕ) (show : Show) (now new : ScriptRun) (line : ℕ) (mv : Move) (answer : Answer) → GoesOn limit now.place.core.state → next_of now.script ≡ Ok (Some (line, mv)) → new.script ≡ after_next now.script → MoveDoes show mv now.place new.place (Err answer) → ScriptStops limit show now new (Ran answer)
+pub turned-stopped : (limit : ℕ) (show : Show) (now new : ScriptRun) (line : ℕ) (mv : Move) (answer : Answer) → GoesOn limit now.place.core.state →
+    next_of now.script ≡ Ok (Some (line, mv)) → new.script ≡ after_next now.script → MoveDoes show mv now.place new.place (Err answer) →
+    ScriptStops limit show now new (Ran answer)
 unfolding ScriptStops DoesLine MoveDoes
-turned-stopped limit show now new line mv ran.ReadFault goes next left does = record { goes = goes; line = line; move = mv; next = next; script = left; does = does }
-turned-stopped limit show now new line mv ran.WriteFault goes next left does = record { goes = goes; line = line; move = mv; next = next; script = left; does = does }
-turned-stopped limit show now new line mv ran.ReportFault goes next left does = record { goes = goes; line = line; move = mv; next = next; script = left; does = does }
+turned-stopped limit show now new line mv ran.ReadFault goes next left does =
+    record { goes = goes; line = line; move = mv; next = next; script = left; does = does }
+turned-stopped limit show now new line mv ran.WriteFault goes next left does =
+    record { goes = goes; line = line; move = mv; next = next; script = left; does = does }
+turned-stopped limit show now new line mv ran.ReportFault goes next left does =
+    record { goes = goes; line = line; move = mv; next = next; script = left; does = does }
 turned-stopped limit show now new line mv (ran.Exit status) goes next left does = absurd does
 turned-stopped limit show now new line mv (ran.Trap cause pc detail) goes next left does = absurd does
 turned-stopped limit show now new line mv ran.Limit goes next left does = absurd does

@@ -22,23 +22,30 @@ use Rattle.cf_run.specs.Going.{Leads}
 use Rattle.cf_run.specs.Policies.{Chooser, choice, after_choice, offered_to, Picks}
 
 -- one more pick
-pub picks-more : {P : Type 0} (picked : P → List Move → ℕ) (onward : P → List Move → P) (plan : Plan) (limit : ℕ) (told : Option (List ℕ)) (m : Moment) (trace : List Made) (last : Moment) (at now : Chooser P) (made : Made) → Leads plan limit told m trace last → Picks picked onward plan at m.state trace now → choice picked plan now last.state ≡ Some made.move
+pub picks-more : {P : Type 0} (picked : P → List Move → ℕ) (onward : P → List Move → P) (plan : Plan) (limit : ℕ) (told : Option (List ℕ)) (m : Moment)
+    (trace : List Made) (last : Moment) (at now : Chooser P) (made : Made) → Leads plan limit told m trace last →
+    Picks picked onward plan at m.state trace now → choice picked plan now last.state ≡ Some made.move
     → Picks picked onward plan at m.state (trace ++ made ∷ []) (after_choice onward plan now last.state made)
 unfolding Leads Picks
 picks-more {P} picked onward plan limit told m [] last at now made leads picks next =
-    let Q : Chooser P → Type 0 = λ c. (choice picked plan c m.state ≡ Some made.move) × (after_choice onward plan now last.state made ≡ after_choice onward plan c m.state made) in
-    let R : Moment → Type 0 = λ q. (choice picked plan now q.state ≡ Some made.move) × (after_choice onward plan now last.state made ≡ after_choice onward plan now q.state made) in
+    let Q : Chooser P → Type 0 = λ c. (choice picked plan c m.state ≡ Some made.move) × (after_choice onward plan now last.state made
+    ≡ after_choice onward plan c m.state made) in
+    let R : Moment → Type 0 = λ q. (choice picked plan now q.state ≡ Some made.move) × (after_choice onward plan now last.state made
+    ≡ after_choice onward plan now q.state made) in
     let here : R m = subst R leads (next, refl) in
     subst Q picks here
 picks-more {P} picked onward plan limit told m (first ∷ trace) last at now made (rest, finds, is, leads) (pick, picks) next_is =
     let t : Moment = next plan (record m { rest = rest }) first.move in
     let on : Chooser P = after_choice onward plan at m.state first in
     let there : Picks picked onward plan on t.state trace now = subst (λ (s : State). Picks picked onward plan on s trace now) is.state picks in
-    let more : Picks picked onward plan on t.state (trace ++ made ∷ []) (after_choice onward plan now last.state made) = picks-more picked onward plan limit told t trace last on now made leads there next_is in
+    let more : Picks picked onward plan on t.state (trace ++ made ∷ []) (after_choice onward plan now last.state made) =
+    picks-more picked onward plan limit told t trace last on now made leads there next_is in
     (pick, subst (λ (s : State). Picks picked onward plan on s (trace ++ made ∷ []) (after_choice onward plan now last.state made)) (sym is.state) more)
 
 -- a run of picks from a moment at which what every move keeps holds is a run under the hold rule
-pub picks-paced : {P : Type 0} (picked : P → List Move → ℕ) (onward : P → List Move → P) (plan : Plan) (limit : ℕ) (told : Option (List ℕ)) (x : Machine) (before : List Line) (m : Moment) (trace : List Made) (last : Moment) (at now : Chooser P) → IsAccepted plan → HoldsAnew plan x before m → Leads plan limit told m trace last → Picks picked onward plan at m.state trace now
+pub picks-paced : {P : Type 0} (picked : P → List Move → ℕ) (onward : P → List Move → P) (plan : Plan) (limit : ℕ) (told : Option (List ℕ)) (x : Machine)
+    (before : List Line) (m : Moment) (trace : List Made) (last : Moment) (at now : Chooser P) → IsAccepted plan → HoldsAnew plan x before m →
+    Leads plan limit told m trace last → Picks picked onward plan at m.state trace now
     → (written : List Line) × PacesTo plan at.count m (moves_of trace) last written
 unfolding Leads Picks PacesTo
 picks-paced {P} picked onward plan limit told x before m [] last at now accepted holds leads picks = ([], (leads, refl))
@@ -48,9 +55,11 @@ picks-paced {P} picked onward plan limit told x before m (made ∷ trace) last a
     let unended = going plan m.state made.move is.allowed in
     let free : is_held plan at.count ≡ true → is_issue made.move ≡ true → IsStuck plan m.state =
     offered_held plan at.count m.state (picked at.policy (offered_to plan at m.state)) made.move (anew_shape plan x m before holds unended) pick in
-    let kept : HoldsAnew plan x (before ++ retires plan m.state made.move) t = anew_kept plan x m made.move rest before (accepted_suits plan accepted) is.allowed holds in
+    let kept : HoldsAnew plan x (before ++ retires plan m.state made.move) t = anew_kept plan x m made.move rest before
+    (accepted_suits plan accepted) is.allowed holds in
     let there : Picks picked onward plan on t.state trace now = subst (λ (s : State). Picks picked onward plan on s trace now) is.state picks in
-    let later : (written : List Line) × PacesTo plan on.count t (moves_of trace) last written = picks-paced picked onward plan limit told x (before ++ retires plan m.state made.move) t trace last on now accepted kept leads there in
+    let later : (written : List Line) × PacesTo plan on.count t (moves_of trace) last written =
+    picks-paced picked onward plan limit told x (before ++ retires plan m.state made.move) t trace last on now accepted kept leads there in
     let counted : PacesTo plan (paced at.count made.move made.event (is_drained t.state)) t (moves_of trace) last later.0 =
     subst (λ (s : State). PacesTo plan (paced at.count made.move made.event (is_drained s)) t (moves_of trace) last later.0) is.state later.1 in
     (retires plan m.state made.move ++ later.0, (rest, later.0, made.event, is.allowed, free, is.event, counted, refl))

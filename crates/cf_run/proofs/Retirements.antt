@@ -46,14 +46,16 @@ abbrev Tells : Plan → Moment → Move → Event → Type 0
 Tells plan m mv e = Keeps plan m mv e ⊎ Retires plan m mv e
 
 -- a move whose event is plain
-quiet : (plan : Plan) (m : Moment) (mv : Move) (e : Event) → retires plan m.state mv ≡ [] → (next plan m mv).state.retired ≡ m.state.retired → e ≡ event.Plain → Tells plan m mv e
+quiet : (plan : Plan) (m : Moment) (mv : Move) (e : Event) → retires plan m.state mv ≡ [] → (next plan m mv).state.retired ≡ m.state.retired → e ≡ event.Plain →
+    Tells plan m mv e
 quiet plan m mv e none same plain = inl (record { lines = none; text = λ k. ap (retirement k) plain; count = same })
 
 -- a meeting retires nothing
 meets : (k : ℕ) (p : Passenger) (q : Packet) → retirement k (meeting_event p q) ≡ []
 meets k p q = grind arith
 
-meets_here : (k : ℕ) (cell : Option Cell) → retirement k (on cell event.Plain (λ c. on c.passenger event.Plain (λ p. on c.packet event.Plain (meeting_event p)))) ≡ []
+meets_here : (k : ℕ) (cell : Option Cell) → retirement k (on cell event.Plain (λ c. on c.passenger event.Plain
+    (λ p. on c.packet event.Plain (meeting_event p)))) ≡ []
 meets_here k None = refl
 meets_here k (Some c) = of c.passenger c.packet
   where
@@ -75,7 +77,8 @@ left_retired s n c p d f = rw (d, f) refl
 left_going : (s : State) (n : ℕ) (c : Cell) (p : Passenger) → p.dead ≡ false → p.ending ≡ None → (left s n c p).ending ≡ s.ending
 left_going s n c p d f = rw (d, f) refl
 
-leaving : (plan : Plan) (m : Moment) (c : Cell) (p : Passenger) (e : Event) → retires plan m.state Leave ≡ retired_by p → (next plan m Leave).state ≡ left m.state plan.stages c p → IsLeaving p e → Tells plan m Leave e
+leaving : (plan : Plan) (m : Moment) (c : Cell) (p : Passenger) (e : Event) → retires plan m.state Leave ≡ retired_by p →
+    (next plan m Leave).state ≡ left m.state plan.stages c p → IsLeaving p e → Tells plan m Leave e
 leaving plan m c p (event.Retired shown) lines is h = inr (record {
   line = line_of p;
   shown = shown;
@@ -127,7 +130,8 @@ tells plan m Exit e free is = quiet plan m Exit e refl (exit_counts plan m.state
 tells plan m Serve e free is = quiet plan m Serve e refl (serve_counts plan m).retired is
 
 -- a move that ends the program retires nothing
-pub ended-kept : (plan : Plan) (m : Moment) (mv : Move) (e : Event) (end : End) → bar plan m.state mv ≡ None → IsEvent plan m.state mv e → (next plan m mv).state.ending ≡ Some end → (next plan m mv).state.retired ≡ m.state.retired
+pub ended-kept : (plan : Plan) (m : Moment) (mv : Move) (e : Event) (end : End) → bar plan m.state mv ≡ None → IsEvent plan m.state mv e →
+    (next plan m mv).state.ending ≡ Some end → (next plan m mv).state.retired ≡ m.state.retired
 ended-kept plan m mv e end free is ended = of (tells plan m mv e free is)
   where
     of : Tells plan m mv e → (next plan m mv).state.retired ≡ m.state.retired
@@ -135,7 +139,8 @@ ended-kept plan m mv e end free is ended = of (tells plan m mv e free is)
     of (inr h) = absurd (let none : Some end ≡ None = sym ended ∙ h.ending ∙ going plan m.state mv free in cc)
 
 -- the texts of a move's lines and of those after it
-joined : (plan : Plan) (m : Moment) (mv : Move) (e : Event) (k : ℕ) (more : List Line) (text : List ℕ) → Tells plan m mv e → k ≡ (next plan m mv).state.retired → AreTexts ((next plan m mv).state.retired + 1) more text
+joined : (plan : Plan) (m : Moment) (mv : Move) (e : Event) (k : ℕ) (more : List Line) (text : List ℕ) → Tells plan m mv e →
+    k ≡ (next plan m mv).state.retired → AreTexts ((next plan m mv).state.retired + 1) more text
     → AreTexts (m.state.retired + 1) (retires plan m.state mv ++ more) (retirement k e ++ text)
 joined plan m mv e k more text (inl h) same texts =
     rw (h.lines, h.text k) (subst (λ (n : ℕ). AreTexts (n + 1) more text) h.count texts)
@@ -144,20 +149,27 @@ joined plan m mv e k more text (inr h) same texts =
     rw (h.lines, h.text k, number) (h.shown, text, h.shows, refl, subst (λ (n : ℕ). AreTexts (n + 1) more text) h.count texts)
 
 -- the same of a move that was made
-pub made-texts : (plan : Plan) (limit : ℕ) (m : Moment) (made : Made) (more : List Line) (text : List ℕ) → IsMade plan limit m made → AreTexts ((next plan m made.move).state.retired + 1) more text
+pub made-texts : (plan : Plan) (limit : ℕ) (m : Moment) (made : Made) (more : List Line) (text : List ℕ) → IsMade plan limit m made →
+    AreTexts ((next plan m made.move).state.retired + 1) more text
     → AreTexts (m.state.retired + 1) (retires plan m.state made.move ++ more) (retirement made.state.retired made.event ++ text)
 made-texts plan limit m made more text is texts =
-    joined plan m made.move made.event made.state.retired more text (tells plan m made.move made.event is.allowed is.event) (ap (λ (s : State). s.retired) is.state) texts
+    joined plan m made.move made.event made.state.retired more text (tells plan m made.move made.event is.allowed is.event)
+    (ap (λ (s : State). s.retired) is.state) texts
 
 -- what is shown of the moves where retirements are, is a text of the lines of the run
-pub shown-lines : (plan : Plan) (limit : ℕ) (told : List ℕ) (m : Moment) (n : ℕ) (trace : List Made) (last : Moment) → Leads plan limit (Some told) m trace last → AreTexts (m.state.retired + 1) (lines plan m (moves_of trace)) (all_shown show.Retired plan n trace)
+pub shown-lines : (plan : Plan) (limit : ℕ) (told : List ℕ) (m : Moment) (n : ℕ) (trace : List Made) (last : Moment) →
+    Leads plan limit (Some told) m trace last → AreTexts (m.state.retired + 1) (lines plan m (moves_of trace)) (all_shown show.Retired plan n trace)
 unfolding Leads lines all_shown shown next
 shown-lines plan limit told m n [] last h = refl
 shown-lines plan limit told m n (made ∷ trace) last (rest, same, is, h) =
     let t : Moment = next plan (record m { rest = rest }) made.move in
-    let later : AreTexts (t.state.retired + 1) (lines plan t (moves_of trace)) (all_shown show.Retired plan (n + 1) trace) = shown-lines plan limit told t (n + 1) trace last h in
-    let P : List ℕ → Type 0 = λ r. AreTexts (m.state.retired + 1) (retires plan m.state made.move ++ lines plan (next plan (record m { rest = r }) made.move) (moves_of trace)) (retirement made.state.retired made.event ++ all_shown show.Retired plan (n + 1) trace) in
-    let here : P rest = made-texts plan limit (record m { rest = rest }) made (lines plan t (moves_of trace)) (all_shown show.Retired plan (n + 1) trace) is later in
+    let later : AreTexts (t.state.retired + 1) (lines plan t (moves_of trace)) (all_shown show.Retired plan (n + 1) trace) =
+    shown-lines plan limit told t (n + 1) trace last h in
+    let P : List ℕ → Type 0 = λ r. AreTexts (m.state.retired + 1) (retires plan m.state made.move
+    ++ lines plan (next plan (record m { rest = r }) made.move) (moves_of trace)) (retirement made.state.retired made.event
+    ++ all_shown show.Retired plan (n + 1) trace) in
+    let here : P rest = made-texts plan limit (record m { rest = rest }) made (lines plan t (moves_of trace))
+    (all_shown show.Retired plan (n + 1) trace) is later in
     subst P same here
 
 -- a line is shown in one way

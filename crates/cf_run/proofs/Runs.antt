@@ -29,26 +29,34 @@ use Rattle.cf_run.specs.Scripts.{ScriptRun, Follows, DoesLine, ScriptTries}
 use Rattle.cf_run.proofs.AfterOutput.{next-after, next-retired}
 
 -- one more move
-leads-more : (plan : Plan) (limit : ℕ) (told : Option (List ℕ)) (m : Moment) (trace : List Made) (last : Moment) (rest : List ℕ) (made : Made) → Leads plan limit told m trace last → Finds told last.rest rest → IsMade plan limit (record last { rest = rest }) made
+leads-more : (plan : Plan) (limit : ℕ) (told : Option (List ℕ)) (m : Moment) (trace : List Made) (last : Moment) (rest : List ℕ) (made : Made) →
+    Leads plan limit told m trace last → Finds told last.rest rest → IsMade plan limit (record last { rest = rest }) made
     → Leads plan limit told m (trace ++ made ∷ []) (next plan (record last { rest = rest }) made.move)
 unfolding Leads
 leads-more plan limit told m [] last rest made h finds is =
-    let P : Moment → Type 0 = λ q. Finds told q.rest rest × IsMade plan limit (record q { rest = rest }) made × (next plan (record last { rest = rest }) made.move ≡ next plan (record q { rest = rest }) made.move) in
+    let P : Moment → Type 0 = λ q. Finds told q.rest rest × IsMade plan limit (record q { rest = rest }) made
+    × (next plan (record last { rest = rest }) made.move ≡ next plan (record q { rest = rest }) made.move) in
     let k : P m = subst P h (finds, is, refl) in
     (rest, k.0, k.1, k.2)
-leads-more plan limit told m (first ∷ trace) last rest made (r, f, i, h) finds is = (r, f, i, leads-more plan limit told (next plan (record m { rest = r }) first.move) trace last rest made h finds is)
+leads-more plan limit told m (first ∷ trace) last rest made (r, f, i, h) finds is =
+    (r, f, i, leads-more plan limit told (next plan (record m { rest = r }) first.move) trace last rest made h finds is)
 
 -- over an input that tells what it has left the moves are a run
-pub leads-run : (plan : Plan) (limit : ℕ) (told : List ℕ) (m : Moment) (trace : List Made) (last : Moment) → Leads plan limit (Some told) m trace last → IsRun plan m (moves_of trace) × (last ≡ run plan m (moves_of trace))
+pub leads-run : (plan : Plan) (limit : ℕ) (told : List ℕ) (m : Moment) (trace : List Made) (last : Moment) → Leads plan limit (Some told) m trace last →
+    IsRun plan m (moves_of trace) × (last ≡ run plan m (moves_of trace))
 unfolding Leads IsRun run
 leads-run plan limit told m [] last h = (tt, h)
 leads-run plan limit told m (made ∷ trace) last (rest, same, is, h) =
-    let P : List ℕ → Type 0 = λ r. (bar plan m.state made.move ≡ None) × IsRun plan (next plan (record m { rest = r }) made.move) (moves_of trace) × (last ≡ run plan (next plan (record m { rest = r }) made.move) (moves_of trace)) in
-    let tail : IsRun plan (next plan (record m { rest = rest }) made.move) (moves_of trace) × (last ≡ run plan (next plan (record m { rest = rest }) made.move) (moves_of trace)) = leads-run plan limit told (next plan (record m { rest = rest }) made.move) trace last h in
+    let P : List ℕ → Type 0 = λ r. (bar plan m.state made.move ≡ None) × IsRun plan (next plan (record m { rest = r }) made.move) (moves_of trace)
+    × (last ≡ run plan (next plan (record m { rest = r }) made.move) (moves_of trace)) in
+    let tail : IsRun plan (next plan (record m { rest = rest }) made.move) (moves_of trace)
+    × (last ≡ run plan (next plan (record m { rest = rest }) made.move) (moves_of trace)) =
+    leads-run plan limit told (next plan (record m { rest = rest }) made.move) trace last h in
     let k : P m.rest = subst P same (is.allowed, tail.0, tail.1) in
     ((k.0, k.1), k.2)
 
-runs-to : (plan : Plan) (limit : ℕ) (told : Option (List ℕ)) (m : Moment) (trace : List Made) (last : Moment) → Leads plan limit told m trace last → RunsTo plan told m trace last
+runs-to : (plan : Plan) (limit : ℕ) (told : Option (List ℕ)) (m : Moment) (trace : List Made) (last : Moment) → Leads plan limit told m trace last →
+    RunsTo plan told m trace last
 runs-to plan limit None m trace last h = tt
 runs-to plan limit (Some told) m trace last h = leads-run plan limit told m trace last h
 
@@ -88,7 +96,8 @@ finds-rest (Some told) between left rest h k =
     subst P h k
 
 -- the moment after it, where something was written before
-next-moment : (plan : Plan) (last : Moment) (mv : Move) (rest later added : List ℕ) (s : State) → next plan (record { state = last.state; rest = rest; output = [] }) mv ≡ record { state = s; rest = later; output = added }
+next-moment : (plan : Plan) (last : Moment) (mv : Move) (rest later added : List ℕ) (s : State) →
+    next plan (record { state = last.state; rest = rest; output = [] }) mv ≡ record { state = s; rest = later; output = added }
     → next plan (record last { rest = rest }) mv ≡ record { state = s; rest = later; output = last.output ++ added }
 next-moment plan last mv rest later added s is =
     let blank : Moment = record { state = last.state; rest = rest; output = [] } in
@@ -103,20 +112,25 @@ record Led (plan : Plan) (limit : ℕ) (told : Option (List ℕ)) (m : Moment) (
   core : new ≡ in_state start last.state
   streams : Leaves before after last.rest last.output
 
-led : (start core new : Processor) (limit : ℕ) (m last : Moment) (trace : List Made) (before between after : Streams) (mv : Move) (e : Event) → core ≡ in_state start last.state → Leads start.plan limit before.input m trace last → Leaves before between last.rest last.output
+led : (start core new : Processor) (limit : ℕ) (m last : Moment) (trace : List Made) (before between after : Streams) (mv : Move) (e : Event) →
+    core ≡ in_state start last.state → Leads start.plan limit before.input m trace last → Leaves before between last.rest last.output
     → core.state.retired < limit → bar core.plan core.state mv ≡ None → IsEvent core.plan core.state mv e → Makes core new mv between after
     → Led start.plan limit before.input m (trace ++ record { move = mv; event = e; state = new.state } ∷ []) start new before after
 led start core new limit m last trace before between after mv e same leads streams below allowed event makes =
     let made : Made = record { move = mv; event = e; state = new.state } in
-    let P : Processor → Type 0 = λ p. next p.plan (record { state = p.state; rest = makes.rest; output = [] }) mv ≡ record { state = new.state; rest = makes.later; output = makes.added } in
+    let P : Processor → Type 0 = λ p. next p.plan (record { state = p.state; rest = makes.rest; output = [] }) mv
+    ≡ record { state = new.state; rest = makes.later; output = makes.added } in
     let following : Moment = record { state = new.state; rest = makes.later; output = last.output ++ makes.added } in
-    let is : next start.plan (record last { rest = makes.rest }) mv ≡ following = next-moment start.plan last mv makes.rest makes.later makes.added new.state (subst P same makes.is) in
+    let is : next start.plan (record last { rest = makes.rest }) mv ≡ following = next-moment start.plan last mv makes.rest makes.later makes.added new.state
+    (subst P same makes.is) in
     let Q : Processor → Type 0 = λ p. (p.state.retired < limit) × (bar p.plan p.state mv ≡ None) × IsEvent p.plan p.state mv e in
     let here : Q (in_state start last.state) = subst Q same (below, allowed, event) in
-    let one : IsMade start.plan limit (record last { rest = makes.rest }) made = record { below = here.0; allowed = here.1; event = here.2; state = ap (λ (q : Moment). q.state) (sym is) } in
+    let one : IsMade start.plan limit (record last { rest = makes.rest }) made =
+    record { below = here.0; allowed = here.1; event = here.2; state = ap (λ (q : Moment). q.state) (sym is) } in
     record {
       last = following;
-      leads = subst (Leads start.plan limit before.input m (trace ++ made ∷ [])) is (leads-more start.plan limit before.input m trace last makes.rest made leads (finds-rest before.input between.input last.rest makes.rest streams.input makes.told) one);
+      leads = subst (Leads start.plan limit before.input m (trace ++ made ∷ [])) is (leads-more start.plan limit before.input m trace last makes.rest made leads
+          (finds-rest before.input between.input last.rest makes.rest streams.input makes.told) one);
       core = ap (λ (plan : Plan). record { plan = plan; state = new.state }) (makes.plan ∙ ap (λ (p : Processor). p.plan) same);
       streams = leaves-again before between after last.rest makes.later last.output makes.added streams makes.leaves;
     }
@@ -134,7 +148,8 @@ nothing-next : (refused : Option ScriptErr) (line : ℕ) (mv : Move) → first_o
 nothing-next None line mv e = absurd (cc)
 nothing-next (Some refusal) line mv e = absurd (cc)
 
-pub taken-more : (moves : List (ℕ × Move)) (refused : Option ScriptErr) (n line : ℕ) (mv : Move) → first_of (drop n moves) refused ≡ Ok (Some (line, mv)) → map (λ line. line.1) (take (suc n) moves) ≡ map (λ line. line.1) (take n moves) ++ mv ∷ []
+pub taken-more : (moves : List (ℕ × Move)) (refused : Option ScriptErr) (n line : ℕ) (mv : Move) → first_of (drop n moves) refused ≡ Ok (Some (line, mv)) →
+    map (λ line. line.1) (take (suc n) moves) ≡ map (λ line. line.1) (take n moves) ++ mv ∷ []
 taken-more [] refused zero line mv e = absurd (nothing-next refused line mv e)
 taken-more [] refused (suc n) line mv e = absurd (nothing-next refused line mv e)
 taken-more (first ∷ moves) refused zero line mv e =
@@ -158,10 +173,16 @@ count-more p trace made = sum_by-append _ trace (made ∷ []) ∙ raised-by (p m
 tally-more : (trace : List Made) (made : Made) → tally_of (trace ++ made ∷ []) ≡ counted (tally_of trace) made.move made.event
 unfolding tally_of
 tally-more trace made =
-    rw (length-more trace made, count-more (λ made. is_meeting made.move) trace made, count-more (λ made. is_killed made.event) trace made, count-more (λ made. is_died made.event) trace made) refl
+    rw (
+      length-more trace made,
+      count-more (λ made. is_meeting made.move) trace made,
+      count-more (λ made. is_killed made.event) trace made,
+      count-more (λ made. is_died made.event) trace made,
+    ) refl
 
 -- what is shown of one more move
-shown-more : (show : Show) (plan : Plan) (n k : ℕ) (trace : List Made) (made : Made) → k ≡ n + length trace → all_shown show plan n (trace ++ made ∷ []) ≡ all_shown show plan n trace ++ shown show plan k made
+shown-more : (show : Show) (plan : Plan) (n k : ℕ) (trace : List Made) (made : Made) → k ≡ n + length trace →
+    all_shown show plan n (trace ++ made ∷ []) ≡ all_shown show plan n trace ++ shown show plan k made
 unfolding all_shown
 shown-more show plan n k [] made e = let same : k ≡ n = omega arith in rw same (append-nil (shown show plan n made))
 shown-more show plan n k (first ∷ trace) made e =
@@ -174,13 +195,15 @@ unfolding tally_of
 moves-counted trace now new mv e same counts = rw (counts, same) (omega arith)
 
 -- one more move
-pub reached-more : (limit : ℕ) (show : Show) (start now new : RunPlace) (mv : Move) (e : Event) → Reaches limit show start now → now.core.state.retired < limit → MakesAndShows show mv e now new → Reaches limit show start new
+pub reached-more : (limit : ℕ) (show : Show) (start now new : RunPlace) (mv : Move) (e : Event) → Reaches limit show start now →
+    now.core.state.retired < limit → MakesAndShows show mv e now new → Reaches limit show start new
 reached-more limit show start now new mv e h below d =
     let o : MakesMove mv e now new = d.makes in
     let made : Made = record { move = mv; event = e; state = new.core.state } in
     let trace : List Made = h.trace ++ made ∷ [] in
     let l : Led start.core.plan limit start.streams.input (moment_of start.core h.rest) trace start.core new.core start.streams new.streams =
-    led start.core now.core new.core limit (moment_of start.core h.rest) h.last h.trace start.streams now.streams new.streams mv e h.core h.leads h.streams below o.allowed o.is_event o.makes in
+    led start.core now.core new.core limit (moment_of start.core h.rest) h.last h.trace start.streams now.streams new.streams mv e h.core h.leads h.streams
+    below o.allowed o.is_event o.makes in
     let plan : now.core.plan ≡ start.core.plan = ap (λ (p : Processor). p.plan) h.core in
     let text : List ℕ = shown show start.core.plan new.tally.moves made in
     let last : Writes now.report new.report text = subst (λ (p : Plan). Writes now.report new.report (shown show p new.tally.moves made)) plan d.report in
@@ -195,22 +218,26 @@ reached-more limit show start now new mv e h below d =
       core = l.core;
       streams = l.streams;
       tally = o.tally ∙ ap (λ (tally : Tally). counted tally mv e) h.tally ∙ sym (tally-more h.trace made);
-      report = subst (Writes start.report new.report) (sym (shown-more show start.core.plan 1 new.tally.moves h.trace made number)) (writes-again start.report now.report new.report _ text h.report last);
+      report = subst (Writes start.report new.report) (sym (shown-more show start.core.plan 1 new.tally.moves h.trace made number))
+          (writes-again start.report now.report new.report _ text h.report last);
     }
 
 -- the moves that led here, and that one
-pub reached-trace : (limit : ℕ) (show : Show) (start now new : RunPlace) (mv : Move) (e : Event) (h : Reaches limit show start now) (below : now.core.state.retired < limit) (d : MakesAndShows show mv e now new)
+pub reached-trace : (limit : ℕ) (show : Show) (start now new : RunPlace) (mv : Move) (e : Event) (h : Reaches limit show start now)
+    (below : now.core.state.retired < limit) (d : MakesAndShows show mv e now new)
     → (reached-more limit show start now new mv e h below d).trace ≡ h.trace ++ record { move = mv; event = e; state = new.core.state } ∷ []
 unfolding reached-more
 reached-trace limit show start now new mv e h below d = refl
 
 -- and the input that they found
-pub reached-rest : (limit : ℕ) (show : Show) (start now new : RunPlace) (mv : Move) (e : Event) (h : Reaches limit show start now) (below : now.core.state.retired < limit) (d : MakesAndShows show mv e now new)
+pub reached-rest : (limit : ℕ) (show : Show) (start now new : RunPlace) (mv : Move) (e : Event) (h : Reaches limit show start now)
+    (below : now.core.state.retired < limit) (d : MakesAndShows show mv e now new)
     → (reached-more limit show start now new mv e h below d).rest ≡ h.rest
 unfolding reached-more
 reached-rest limit show start now new mv e h below d = refl
 
-pub followed-more : (limit : ℕ) (show : Show) (start now new : ScriptRun) → Follows limit show start now → ScriptTries limit show now new None → Follows limit show start new
+pub followed-more : (limit : ℕ) (show : Show) (start now new : ScriptRun) → Follows limit show start now → ScriptTries limit show now new None →
+    Follows limit show start new
 unfolding DoesLine MoveDoes reached-more
 followed-more limit show start now new f t =
     let h : Reaches limit show start.place now.place = f.reaches in
@@ -222,22 +249,27 @@ followed-more limit show start now new f t =
     let size : length (h.trace ++ made ∷ []) ≡ suc (length h.trace) = length-more h.trace made ∙ add-one (length h.trace) in
     record {
       reaches = reached-more limit show start.place now.place new.place t.move e h t.goes.below d;
-      moves = moves-more h.trace made ∙ ap (λ moves. moves ++ t.move ∷ []) f.moves ∙ sym (taken-more start.script.moves start.script.refused (length h.trace) t.line t.move next) ∙ ap (λ (n : ℕ). map (λ (line : ℕ × Move). line.1) (take n start.script.moves)) (sym size);
-      script = t.script ∙ ap after_next f.script ∙ ap (λ (moves : List (ℕ × Move)). record start.script { moves = moves }) (dropped-more start.script.moves (length h.trace) ∙ ap (λ (n : ℕ). drop n start.script.moves) (sym size));
+      moves = moves-more h.trace made ∙ ap (λ moves. moves ++ t.move ∷ []) f.moves ∙ sym (taken-more start.script.moves start.script.refused
+          (length h.trace) t.line t.move next) ∙ ap (λ (n : ℕ). map (λ (line : ℕ × Move). line.1) (take n start.script.moves)) (sym size);
+      script = t.script ∙ ap after_next f.script ∙ ap (λ (moves : List (ℕ × Move)). record start.script { moves = moves })
+          (dropped-more start.script.moves (length h.trace) ∙ ap (λ (n : ℕ). drop n start.script.moves) (sym size));
     }
 
 -- the moves that led here, and that one
-pub followed-trace : (limit : ℕ) (show : Show) (start now new : ScriptRun) (f : Follows limit show start now) (t : ScriptTries limit show now new None) → (made : Made) × (made.move ≡ t.move) × ((followed-more limit show start now new f t).reaches.trace ≡ f.reaches.trace ++ made ∷ [])
+pub followed-trace : (limit : ℕ) (show : Show) (start now new : ScriptRun) (f : Follows limit show start now) (t : ScriptTries limit show now new None) →
+    (made : Made) × (made.move ≡ t.move) × ((followed-more limit show start now new f t).reaches.trace ≡ f.reaches.trace ++ made ∷ [])
 unfolding DoesLine MoveDoes followed-more reached-more
 followed-trace limit show start now new f t = (record { move = t.move; event = t.does.0; state = new.place.core.state }, refl, refl)
 
 -- no more instructions than the limit have retired
-retired-within : (limit : ℕ) (old new : Processor) (mv : Move) (before after : Streams) → old.state.retired < limit → Makes old new mv before after → new.state.retired ≤ limit
+retired-within : (limit : ℕ) (old new : Processor) (mv : Move) (before after : Streams) → old.state.retired < limit → Makes old new mv before after →
+    new.state.retired ≤ limit
 retired-within limit old new mv before after below makes =
     let m : Moment = record { state = old.state; rest = makes.rest; output = [] } in
     omega (arith, next-retired old.plan m mv, ap (λ (q : Moment). q.state.retired) makes.is)
 
-pub made-within : (limit : ℕ) (show : Show) (now new : RunPlace) (mv : Move) (e : Event) → now.core.state.retired < limit → MakesAndShows show mv e now new → new.core.state.retired ≤ limit
+pub made-within : (limit : ℕ) (show : Show) (now new : RunPlace) (mv : Move) (e : Event) → now.core.state.retired < limit → MakesAndShows show mv e now new →
+    new.core.state.retired ≤ limit
 made-within limit show now new mv e below d = retired-within limit now.core new.core mv now.streams new.streams below d.makes.makes
 
 pub tried-within : (limit : ℕ) (show : Show) (now new : ScriptRun) → ScriptTries limit show now new None → new.place.core.state.retired ≤ limit
@@ -245,7 +277,8 @@ unfolding DoesLine MoveDoes
 tried-within limit show now new t = made-within limit show now.place new.place t.move t.does.0 t.goes.below t.does.1
 
 -- a script has one move less for each that is counted
-lengths : (moves : List (ℕ × Move)) (refused : Option ScriptErr) (line : ℕ) (mv : Move) → first_of moves refused ≡ Ok (Some (line, mv)) → length (drop 1 moves) + 1 ≡ length moves
+lengths : (moves : List (ℕ × Move)) (refused : Option ScriptErr) (line : ℕ) (mv : Move) → first_of moves refused ≡ Ok (Some (line, mv)) →
+    length (drop 1 moves) + 1 ≡ length moves
 lengths [] refused line mv e = absurd (nothing-next refused line mv e)
 lengths (first ∷ moves) refused line mv e = add-one (length moves)
 
@@ -257,10 +290,15 @@ unfolding DoesLine MoveDoes
 tried-counted limit show now new t = ap (λ (tally : Tally). tally.moves) t.does.1.makes.tally
 
 -- no count is greater than that of the moves
-pub counts-within : (limit : ℕ) (show : Show) (start now : RunPlace) → Reaches limit show start now → (now.tally.meets ≤ now.tally.moves) × (now.tally.kills ≤ now.tally.moves) × (now.tally.dead ≤ now.tally.moves)
+pub counts-within : (limit : ℕ) (show : Show) (start now : RunPlace) → Reaches limit show start now →
+    (now.tally.meets ≤ now.tally.moves) × (now.tally.kills ≤ now.tally.moves) × (now.tally.dead ≤ now.tally.moves)
 unfolding tally_of
 counts-within limit show start now h =
-    rw h.tally (count_by-le-length (λ made. is_meeting made.move) h.trace, count_by-le-length (λ made. is_killed made.event) h.trace, count_by-le-length (λ made. is_died made.event) h.trace)
+    rw h.tally (
+      count_by-le-length (λ made. is_meeting made.move) h.trace,
+      count_by-le-length (λ made. is_killed made.event) h.trace,
+      count_by-le-length (λ made. is_died made.event) h.trace,
+    )
 
 -- so all can be counted on where the moves can
 pub can-count : (limit : ℕ) (show : Show) (start now : RunPlace) → Reaches limit show start now → now.tally.moves + 1 < 2 ^ 64 → CanCount now.tally
@@ -273,6 +311,7 @@ pub few-made : (made left : ℕ) → (0 < made → made + left < 2 ^ 25) → mad
 few-made zero left few = omega arith
 few-made (suc made) left few = let all = few (omega arith) in omega (arith, all)
 
-pub few-more : (made left new following : ℕ) → (0 < made → made + left < 2 ^ 25) → left < 2 ^ 25 → following + 1 ≡ left → new ≡ made + 1 → new + following < 2 ^ 25
+pub few-more : (made left new following : ℕ) → (0 < made → made + left < 2 ^ 25) → left < 2 ^ 25 → following + 1 ≡ left → new ≡ made + 1 →
+    new + following < 2 ^ 25
 few-more zero left new following few all one more = omega arith
 few-more (suc made) left new following few all one more = let now = few (omega arith) in omega (arith, now)

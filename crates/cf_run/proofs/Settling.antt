@@ -34,7 +34,8 @@ pub record IsKept (plan : Plan) (x : Machine) (m : Moment) : Type 0 where
   pub tidy : IsTidy plan m.state
 
 -- so it does after every run from the machine
-pub kept-run : (plan : Plan) (x : Machine) (moves : List Move) → IsAccepted plan → length x.hart.regs ≡ 32 → IsRun plan (start plan x) moves → IsKept plan x (run plan (start plan x) moves)
+pub kept-run : (plan : Plan) (x : Machine) (moves : List Move) → IsAccepted plan → length x.hart.regs ≡ 32 → IsRun plan (start plan x) moves →
+    IsKept plan x (run plan (start plan x) moves)
 kept-run plan x moves accepted wide allowed = record {
   held = holds_after plan x moves accepted wide allowed;
   tidy = tidy_run plan (start plan x) moves allowed (tidy_opened plan x);
@@ -66,7 +67,8 @@ unbarred None e = refl
 unbarred (Some b) e = absurd (cc)
 
 -- a candidate other than Issue is allowed
-other_allowed : (plan : Plan) (s : State) (mv : Move) (more : List Move) → other_moves (candidates plan s) ≡ mv ∷ more → (is_issue mv ≡ false) × (bar plan s mv ≡ None)
+other_allowed : (plan : Plan) (s : State) (mv : Move) (more : List Move) → other_moves (candidates plan s) ≡ mv ∷ more →
+    (is_issue mv ≡ false) × (bar plan s mv ≡ None)
 unfolding candidates
 other_allowed plan s mv more e =
     let h = first_holds (λ (v : Move). not (is_issue v)) (λ (v : Move). not (is_some (bar plan s v))) (all_moves plan) mv more e in
@@ -93,14 +95,16 @@ unfolding IsRun run
 before plan m t mv other free d = record { moves = mv ∷ d.moves; allowed = (free, d.allowed); held = rw (other, d.held) refl; is = d.is; stuck = d.stuck }
 
 -- a move other than Issue makes it lighter
-lighter : (plan : Plan) (x : Machine) (m : Moment) (mv : Move) → Suits plan → IsKept plan x m → is_issue mv ≡ false → bar plan m.state mv ≡ None → suc (weight plan (next plan m mv).state) ≤ weight plan m.state
+lighter : (plan : Plan) (x : Machine) (m : Moment) (mv : Move) → Suits plan → IsKept plan x m → is_issue mv ≡ false → bar plan m.state mv ≡ None →
+    suc (weight plan (next plan m mv).state) ≤ weight plan m.state
 lighter plan x m mv suits k other free =
     let cost = costs plan m k.held.machine mv suits free (sound_at plan x m mv free k.held) in
     let none : moves_per_issue plan * counts (is_issue mv) 1 ≡ 0 = rw other (omega arith) in
     omega (arith, cost, none)
 
 -- a moment drains where every moment to which a move other than Issue leads does
-drains_after : (plan : Plan) (x : Machine) (m : Moment) → IsKept plan x m → ((mv : Move) → is_issue mv ≡ false → bar plan m.state mv ≡ None → (t : Moment) × Drains plan (next plan m mv) t) → (t : Moment) × Drains plan m t
+drains_after : (plan : Plan) (x : Machine) (m : Moment) → IsKept plan x m → ((mv : Move) → is_issue mv ≡ false → bar plan m.state mv ≡ None →
+    (t : Moment) × Drains plan (next plan m mv) t) → (t : Moment) × Drains plan m t
 drains_after plan x m k deeper = of m.state.ending refl
   where
     on_moves : (moves : List Move) → other_moves (candidates plan m.state) ≡ moves → HasShape plan m.state → (t : Moment) × Drains plan m t

@@ -20,11 +20,13 @@ unfolding offered
 offered-stopped plan count s = rw (held_stopped plan count) refl
 
 -- and it goes on as the count does
-pub paced-stopped : (stages count : ℕ) (mv : Move) (e : Event) (drained : Bool) → stopped stages (paced (stopped stages count) mv e drained) ≡ stopped stages (paced count mv e drained)
+pub paced-stopped : (stages count : ℕ) (mv : Move) (e : Event) (drained : Bool) → stopped stages (paced (stopped stages count) mv e drained)
+    ≡ stopped stages (paced count mv e drained)
 unfolding paced
 paced-stopped stages count mv e drained = go (is_retirement e || drained) (is_issue mv)
   where
-    go : (b c : Bool) → min (if b then 0 else (if c then min count (2 * stages) + 1 else min count (2 * stages))) (2 * stages) ≡ min (if b then 0 else (if c then count + 1 else count)) (2 * stages)
+    go : (b c : Bool) → min (if b then 0 else (if c then min count (2 * stages) + 1 else min count (2 * stages))) (2 * stages)
+        ≡ min (if b then 0 else (if c then count + 1 else count)) (2 * stages)
     go true c = refl
     go false true = grind (arith, nat_tests)
     go false false = grind (arith, nat_tests)

@@ -40,39 +40,51 @@ StopsFrom shows begin now new answer =
     (x : Machine) (m : Moment) (n : ℕ) (written : List Line) → Arrives shows x m n written begin now → IsStopped shows x m n written begin new answer
 
 -- the report of a run that stopped in this way
-told_lines : (shows : Show) (begin new : RunPlace) (answer : Scripted) (trace : List Made) (n : ℕ) (written : List Line) → AreTexts n written (all_shown show.Retired begin.core.plan 1 trace)
+told_lines : (shows : Show) (begin new : RunPlace) (answer : Scripted) (trace : List Made) (n : ℕ) (written : List Line) →
+    AreTexts n written (all_shown show.Retired begin.core.plan 1 trace)
     → Gets begin.report new.report answer (all_shown shows begin.core.plan 1 trace) → ReportsLines shows n written begin new answer
 told_lines show.Retired begin new answer trace n written texts gets = (all_shown show.Retired begin.core.plan 1 trace, texts, gets)
 told_lines show.Report begin new answer trace n written texts gets = tt
 told_lines show.Moves begin new answer trace n written texts gets = (trace, texts, gets)
 
 -- a run that does not go on from where it has arrived
-stays : (shows : Show) (begin now new : RunPlace) (answer : Scripted) → new ≡ now → ((x : Machine) (m : Moment) → StandsAt m begin new → StopsAt x m begin new answer)
+stays : (shows : Show) (begin now new : RunPlace) (answer : Scripted) → new ≡ now → ((x : Machine) (m : Moment) → StandsAt m begin new →
+    StopsAt x m begin new answer)
     → ((text : List ℕ) → Writes begin.report new.report text → Gets begin.report new.report answer text) → StopsFrom shows begin now new answer
 stays shows begin now new answer same stops gets x m n written a =
     let h : Arrives shows x m n written begin new = subst (Arrives shows x m n written begin) (sym same) a in
-    record { stops = stops x m (record { core = h.core; streams = h.streams }); report = told_lines shows begin new answer h.trace n written h.texts (gets _ h.report) }
+    record {
+      stops = stops x m (record { core = h.core; streams = h.streams });
+      report = told_lines shows begin new answer h.trace n written h.texts
+          (gets _ h.report);
+    }
 
 -- the processor that a failed read leaves
-unread : (begin old new : Processor) (m : Moment) (before after : Streams) → old ≡ in_state begin m.state → FailsToRead old new before after → IsUnmoved m new.state
+unread : (begin old new : Processor) (m : Moment) (before after : Streams) → old ≡ in_state begin m.state → FailsToRead old new before after →
+    IsUnmoved m new.state
 unread begin old new m before after same h =
-    let is : new.state ≡ record m.state { mem = new.state.mem; failed = true } = ap (λ (p : Processor). p.state) h.processor ∙ ap (λ (p : Processor). record p.state { mem = new.state.mem; failed = true }) same in
+    let is : new.state ≡ record m.state { mem = new.state.mem; failed = true } = ap (λ (p : Processor). p.state) h.processor
+    ∙ ap (λ (p : Processor). record p.state { mem = new.state.mem; failed = true }) same in
     record { regs = ap (λ (s : State). s.regs) is; retired = ap (λ (s : State). s.retired) is; ending = ap (λ (s : State). s.ending) is }
 
 -- and a failed write
-unwritten : (begin old new : Processor) (m : Moment) (before after : Streams) → old ≡ in_state begin m.state → FailsToWrite old new before after → IsUnmoved m new.state
+unwritten : (begin old new : Processor) (m : Moment) (before after : Streams) → old ≡ in_state begin m.state → FailsToWrite old new before after →
+    IsUnmoved m new.state
 unwritten begin old new m before after same h =
-    let is : new.state ≡ record m.state { failed = true } = ap (λ (p : Processor). p.state) h.processor ∙ ap (λ (p : Processor). record p.state { failed = true }) same in
+    let is : new.state ≡ record m.state { failed = true } = ap (λ (p : Processor). p.state) h.processor
+    ∙ ap (λ (p : Processor). record p.state { failed = true }) same in
     record { regs = ap (λ (s : State). s.regs) is; retired = ap (λ (s : State). s.retired) is; ending = ap (λ (s : State). s.ending) is }
 
 -- the call was to be served
-served_next : (begin old : Processor) (m : Moment) (mv : Move) → old ≡ in_state begin m.state → mv ≡ Serve → bar old.plan old.state mv ≡ None → bar begin.plan m.state Serve ≡ None
+served_next : (begin old : Processor) (m : Moment) (mv : Move) → old ≡ in_state begin m.state → mv ≡ Serve → bar old.plan old.state mv ≡ None →
+    bar begin.plan m.state Serve ≡ None
 served_next begin old m mv same serves free =
     let P : Processor → Type 0 = λ p. bar p.plan p.state mv ≡ None in
     subst (λ (v : Move). bar begin.plan m.state v ≡ None) serves (subst P same free)
 
 -- the input failed the call
-no_input : (mv : Move) (m : Moment) (begin now new : RunPlace) → now.core ≡ in_state begin.core m.state → Leaves begin.streams now.streams m.rest m.output → FailsOutside mv now new → FailsToRead now.core new.core now.streams new.streams → FailsInput m begin new
+no_input : (mv : Move) (m : Moment) (begin now new : RunPlace) → now.core ≡ in_state begin.core m.state → Leaves begin.streams now.streams m.rest m.output →
+    FailsOutside mv now new → FailsToRead now.core new.core now.streams new.streams → FailsInput m begin new
 no_input mv m begin now new core streams outside h = record {
   allowed = served_next begin.core now.core m mv core outside.serves outside.allowed;
   before = now.streams;
@@ -92,12 +104,15 @@ written_front None after bytes front = record { count = 0; told = tt }
 written_front (Some told) after bytes front = record { count = front.0; told = front.2 }
 
 -- the output failed the call
-no_output : (mv : Move) (x : Machine) (m : Moment) (begin now new : RunPlace) → IsAccepted begin.core.plan → HoldsAfter begin.core.plan x m → now.core ≡ in_state begin.core m.state → Leaves begin.streams now.streams m.rest m.output
+no_output : (mv : Move) (x : Machine) (m : Moment) (begin now new : RunPlace) → IsAccepted begin.core.plan → HoldsAfter begin.core.plan x m →
+    now.core ≡ in_state begin.core m.state → Leaves begin.streams now.streams m.rest m.output
     → FailsOutside mv now new → FailsToWrite now.core new.core now.streams new.streams → FailsOutput x m begin new
 no_output mv x m begin now new accepted held core streams outside h =
     let free : bar begin.core.plan m.state Serve ≡ None = served_next begin.core now.core m mv core outside.serves outside.allowed in
-    let fails : FailsToWrite (in_state begin.core m.state) new.core now.streams new.streams = subst (λ (p : Processor). FailsToWrite p new.core now.streams new.streams) core h in
-    let part : Written now.streams.output new.streams.output fails.fails.bytes = written_front now.streams.output new.streams.output fails.fails.bytes fails.fails.output in
+    let fails : FailsToWrite (in_state begin.core m.state) new.core now.streams new.streams =
+    subst (λ (p : Processor). FailsToWrite p new.core now.streams new.streams) core h in
+    let part : Written now.streams.output new.streams.output fails.fails.bytes = written_front now.streams.output new.streams.output fails.fails.bytes
+    fails.fails.output in
     record {
       allowed = free;
       before = now.streams;
@@ -110,14 +125,16 @@ no_output mv x m begin now new accepted held core streams outside h =
     }
 
 -- the report of a run that a failed call stops, which is not counted or shown
-broken_lines : (shows : Show) (x : Machine) (m : Moment) (n : ℕ) (written : List Line) (begin now new : RunPlace) (answer : Scripted) (mv : Move) → Arrives shows x m n written begin now → FailsOutside mv now new
+broken_lines : (shows : Show) (x : Machine) (m : Moment) (n : ℕ) (written : List Line) (begin now new : RunPlace) (answer : Scripted) (mv : Move) →
+    Arrives shows x m n written begin now → FailsOutside mv now new
     → ((text : List ℕ) → Writes begin.report new.report text → Gets begin.report new.report answer text) → ReportsLines shows n written begin new answer
 broken_lines shows x m n written begin now new answer mv a outside gets =
     told_lines shows begin new answer a.trace n written a.texts
     (gets _ (subst (λ (o : Option (List ℕ)). Writes begin.report o (all_shown shows begin.core.plan 1 a.trace)) (sym outside.report) a.report))
 
 -- it stops at a failed read
-unread_stop : (shows : Show) (begin now new : RunPlace) (mv : Move) → FailsOutside mv now new → FailsToRead now.core new.core now.streams new.streams → StopsFrom shows begin now new (Ran ran.ReadFault)
+unread_stop : (shows : Show) (begin now new : RunPlace) (mv : Move) → FailsOutside mv now new → FailsToRead now.core new.core now.streams new.streams →
+    StopsFrom shows begin now new (Ran ran.ReadFault)
 unfolding StopsAt Gets
 unread_stop shows begin now new mv outside fails x m n written a = record {
   stops = no_input mv m begin now new a.core a.streams outside fails;
@@ -125,7 +142,8 @@ unread_stop shows begin now new mv outside fails x m n written a = record {
 }
 
 -- or at a failed write
-unwritten_stop : (shows : Show) (begin now new : RunPlace) (mv : Move) → IsAccepted begin.core.plan → FailsOutside mv now new → FailsToWrite now.core new.core now.streams new.streams → StopsFrom shows begin now new (Ran ran.WriteFault)
+unwritten_stop : (shows : Show) (begin now new : RunPlace) (mv : Move) → IsAccepted begin.core.plan → FailsOutside mv now new →
+    FailsToWrite now.core new.core now.streams new.streams → StopsFrom shows begin now new (Ran ran.WriteFault)
 unfolding StopsAt Gets
 unwritten_stop shows begin now new mv accepted outside fails x m n written a = record {
   stops = no_output mv x m begin now new accepted a.kept.held a.core a.streams outside fails;
@@ -152,7 +170,8 @@ front_whole (Some told) b c x y z h front whole =
     subst (WritesFront (Some told) c) same (front-again (Some told) b c x y h front)
 
 -- the last move of a run whose report failed, as if it had not failed
-pub shown_too : (shows : Show) (mv : Move) (e : Event) (now new : RunPlace) → MakesMove mv e now new → MakesAndShows shows mv e now (record new { report = filled now.report (shown_of shows mv e now new) })
+pub shown_too : (shows : Show) (mv : Move) (e : Event) (now new : RunPlace) → MakesMove mv e now new →
+    MakesAndShows shows mv e now (record new { report = filled now.report (shown_of shows mv e now new) })
 shown_too shows mv e now new d =
     let text : List ℕ = shown_of shows mv e now new in
     record {
@@ -168,8 +187,10 @@ pub record ComesTo (limit : ℕ) (shows : Show) (begin : RunPlace) (moves : List
   pub stops : StopsFrom shows begin now new answer
 
 -- a run that has reached a place and does not go on
-pub comes_here : (limit : ℕ) (shows : Show) (begin now new : RunPlace) (answer : Scripted) (h : Reaches limit shows begin now) → new ≡ now → ((x : Machine) (m : Moment) → StandsAt m begin new → StopsAt x m begin new answer)
-    → ((text : List ℕ) → Writes begin.report new.report text → Gets begin.report new.report answer text) → ComesTo limit shows begin (moves_of h.trace) new answer
+pub comes_here : (limit : ℕ) (shows : Show) (begin now new : RunPlace) (answer : Scripted) (h : Reaches limit shows begin now) → new ≡ now →
+    ((x : Machine) (m : Moment) → StandsAt m begin new → StopsAt x m begin new answer)
+    → ((text : List ℕ) → Writes begin.report new.report text → Gets begin.report new.report answer text) →
+    ComesTo limit shows begin (moves_of h.trace) new answer
 comes_here limit shows begin now new answer h same stops gets = record {
   now = now;
   reaches = h;
@@ -178,27 +199,34 @@ comes_here limit shows begin now new answer h same stops gets = record {
 }
 
 -- a run that is over
-pub comes_over : (limit : ℕ) (shows : Show) (begin now new : RunPlace) (answer : Answer) (h : Reaches limit shows begin now) → IsOver limit now.core.state answer → new ≡ now → ComesTo limit shows begin (moves_of h.trace) new (Ran answer)
+pub comes_over : (limit : ℕ) (shows : Show) (begin now new : RunPlace) (answer : Answer) (h : Reaches limit shows begin now) →
+    IsOver limit now.core.state answer → new ≡ now → ComesTo limit shows begin (moves_of h.trace) new (Ran answer)
 unfolding StopsAt Gets
-comes_over limit shows begin now new (ran.Exit status) h is same = comes_here limit shows begin now new (Ran (ran.Exit status)) h same (λ x m h. h) (λ text w. w)
-comes_over limit shows begin now new (ran.Trap cause pc detail) h is same = comes_here limit shows begin now new (Ran (ran.Trap cause pc detail)) h same (λ x m h. h) (λ text w. w)
+comes_over limit shows begin now new (ran.Exit status) h is same = comes_here limit shows begin now new (Ran (ran.Exit status)) h same (λ x m h. h)
+    (λ text w. w)
+comes_over limit shows begin now new (ran.Trap cause pc detail) h is same = comes_here limit shows begin now new (Ran (ran.Trap cause pc detail)) h same
+    (λ x m h. h) (λ text w. w)
 comes_over limit shows begin now new ran.Limit h is same = comes_here limit shows begin now new (Ran ran.Limit) h same (λ x m h. h) (λ text w. w)
 comes_over limit shows begin now new ran.ReadFault h is same = absurd is
 comes_over limit shows begin now new ran.WriteFault h is same = absurd is
 comes_over limit shows begin now new ran.ReportFault h is same = absurd is
 
 -- a run whose next move the input failed
-pub comes_unread : (limit : ℕ) (shows : Show) (begin now new : RunPlace) (mv : Move) (h : Reaches limit shows begin now) → MoveDoes shows mv now new (Err ran.ReadFault) → ComesTo limit shows begin (moves_of h.trace) new (Ran ran.ReadFault)
+pub comes_unread : (limit : ℕ) (shows : Show) (begin now new : RunPlace) (mv : Move) (h : Reaches limit shows begin now) →
+    MoveDoes shows mv now new (Err ran.ReadFault) → ComesTo limit shows begin (moves_of h.trace) new (Ran ran.ReadFault)
 unfolding MoveDoes
 comes_unread limit shows begin now new mv h does = record { now = now; reaches = h; moves_are = refl; stops = unread_stop shows begin now new mv does.0 does.1 }
 
 -- or the output
-pub comes_unwritten : (limit : ℕ) (shows : Show) (begin now new : RunPlace) (mv : Move) → IsAccepted begin.core.plan → (h : Reaches limit shows begin now) → MoveDoes shows mv now new (Err ran.WriteFault) → ComesTo limit shows begin (moves_of h.trace) new (Ran ran.WriteFault)
+pub comes_unwritten : (limit : ℕ) (shows : Show) (begin now new : RunPlace) (mv : Move) → IsAccepted begin.core.plan → (h : Reaches limit shows begin now) →
+    MoveDoes shows mv now new (Err ran.WriteFault) → ComesTo limit shows begin (moves_of h.trace) new (Ran ran.WriteFault)
 unfolding MoveDoes
-comes_unwritten limit shows begin now new mv accepted h does = record { now = now; reaches = h; moves_are = refl; stops = unwritten_stop shows begin now new mv accepted does.0 does.1 }
+comes_unwritten limit shows begin now new mv accepted h does =
+    record { now = now; reaches = h; moves_are = refl; stops = unwritten_stop shows begin now new mv accepted does.0 does.1 }
 
 -- a run whose report failed, after a move that was made and counted
-pub comes_unshown : (limit : ℕ) (shows : Show) (begin now new : RunPlace) (mv : Move) (h : Reaches limit shows begin now) → now.core.state.retired < limit → MoveDoes shows mv now new (Err ran.ReportFault) → ComesTo limit shows begin (moves_of h.trace ++ mv ∷ []) new (Ran ran.ReportFault)
+pub comes_unshown : (limit : ℕ) (shows : Show) (begin now new : RunPlace) (mv : Move) (h : Reaches limit shows begin now) → now.core.state.retired < limit →
+    MoveDoes shows mv now new (Err ran.ReportFault) → ComesTo limit shows begin (moves_of h.trace ++ mv ∷ []) new (Ran ran.ReportFault)
 unfolding MoveDoes StopsAt Gets
 comes_unshown limit shows begin now new mv h below (e, d) =
     let text : List ℕ = shown_of shows mv e now new in
@@ -207,10 +235,12 @@ comes_unshown limit shows begin now new mv h below (e, d) =
     record {
       now = full;
       reaches = reached-more limit shows begin now full mv e h below made;
-      moves_are = ap moves_of (reached-trace limit shows begin now full mv e h below made) ∙ moves-more h.trace (record { move = mv; event = e; state = full.core.state });
+      moves_are = ap moves_of (reached-trace limit shows begin now full mv e h below made)
+          ∙ moves-more h.trace (record { move = mv; event = e; state = full.core.state });
       stops = λ x m n written a. record {
         stops = record { core = a.core; streams = a.streams };
         report = told_lines shows begin new (Ran ran.ReportFault) a.trace n written a.texts
-            (front_whole begin.report now.report new.report (all_shown shows begin.core.plan 1 h.trace) text (all_shown shows begin.core.plan 1 a.trace) h.report d.report a.report);
+            (front_whole begin.report now.report new.report (all_shown shows begin.core.plan 1 h.trace) text
+            (all_shown shows begin.core.plan 1 a.trace) h.report d.report a.report);
       };
     }

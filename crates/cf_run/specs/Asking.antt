@@ -27,7 +27,8 @@ pub record NextAsks (asks : Processor → Move → Type 0) (limit : ℕ) (core :
   pub asked : asks core move
 
 -- a move of the run asks this: one of those that lead to where it stops, or the next one there
-abbrev pub RunAsks : (asks : Processor → Move → Type 0) (limit : ℕ) (show : Show) (start new : ScriptRun) (answer : Scripted) → RunsScript limit show start new answer → Type 0
+abbrev pub RunAsks : (asks : Processor → Move → Type 0) (limit : ℕ) (show : Show) (start new : ScriptRun) (answer : Scripted) →
+    RunsScript limit show start new answer → Type 0
 RunAsks asks limit show start new answer runs =
     SomeAsks asks start.place.core.plan start.place.core.state runs.follows.reaches.trace
     ⊎ NextAsks asks limit runs.now.place.core runs.now.script

@@ -1,4 +1,5 @@
--- How a run ends as the sequential machine does under the same limit ("Counterflow Pipeline Processor Architecture", 1994: the order of the local actions is free).
+-- How a run ends as the sequential machine does under the same limit ("Counterflow Pipeline Processor Architecture",
+-- 1994: the order of the local actions is free).
 use Rattle.std.specs.Prelude.{◌≡◌, ℕ, ◌<◌, ◌-◌, List, [], Option, Some, None}
 use Rattle.rv_inst.specs.declared.isa.Isa.{Isa}
 use Rattle.rv_machine.specs.After.{after}
@@ -33,7 +34,9 @@ EndsUnderLimit isa limit at ran.ReadFault = ⊥
 EndsUnderLimit isa limit at ran.WriteFault = ⊥
 EndsUnderLimit isa limit at ran.ReportFault = ⊥
 
--- the run of a processor that was opened on this hart ends as that machine does: in its ending, the retired count, the registers, what is left of the input and what was written to the output; it multiplies and divides where the layout does
+-- the run of a processor that was opened on this hart ends as that machine does: in its ending, the retired count, the
+-- registers, what is left of the input and what was written to the output; it multiplies and divides where the layout
+-- does
 pub record EndsAsMachine (limit : ℕ) (hart : Hart) (begin new : RunPlace) (answer : Answer) : Type 0 where
   pub at : Machine
   pub comes : IsAfterSteps (isa_of begin.core.plan) begin.streams.input hart (new.core.state.retired - hart.retired) at

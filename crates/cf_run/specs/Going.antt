@@ -1,4 +1,5 @@
--- Moves made one after another from a processor, and where they lead ("Counterflow Pipeline Processor Architecture", 1994: any schedule of local actions is a run).
+-- Moves made one after another from a processor, and where they lead ("Counterflow Pipeline Processor Architecture",
+-- 1994: any schedule of local actions is a run).
 use Rattle.std.specs.Prelude.{◌≡◌, ℕ, ◌<◌, List, [], ◌∷◌, Option, Some, None}
 use Rattle.cf_layout.specs.Layout.{Plan}
 use Rattle.cf_semantics.specs.moves.Bars.{bar}

@@ -1,4 +1,6 @@
--- The headline: a run leaves what the sequential machine on which the processor was opened leaves, whether or not the input tells what it has left, and comes to rest ("Counterflow Pipeline Processor Architecture", 1994: the order of the local actions is free).
+-- The headline: a run leaves what the sequential machine on which the processor was opened leaves, whether or not the
+-- input tells what it has left, and comes to rest ("Counterflow Pipeline Processor Architecture", 1994: the order of
+-- the local actions is free).
 use Rattle.std.specs.Prelude.{◌≡◌, ℕ, ◌+◌, ◌≤◌, List, [], ◌∷◌, ◌++◌, length, Option, Some, None}
 use Rattle.run_options.specs.declared.show.Show.{Show}
 use Rattle.run_options.specs.declared.show.Show.TheVariants as show
@@ -43,7 +45,8 @@ moment_after plan x moves = run plan (start_on plan x) moves
 abbrev pub lines_after : Plan → Machine → List Move → List Line
 lines_after plan x moves = sequence (isa_of plan) x (gained x (moment_after plan x moves).state)
 
--- With issue held back the processor drains, within a stated number of moves, to one end: drained, but for what is kept at the bottom in one state, or with the end of the program.
+-- With issue held back the processor drains, within a stated number of moves, to one end: drained, but for what is kept
+-- at the bottom in one state, or with the end of the program.
 pub record Settles (plan : Plan) (x : Machine) (m : Moment) : Type 0 where
   -- every run without Issue has at most as many moves as the weight of the state
   pub bounded : (moves : List Move) → IsRun plan m moves → issues moves ≡ 0 → length moves ≤ weight plan m.state
@@ -54,7 +57,10 @@ pub record Settles (plan : Plan) (x : Machine) (m : Moment) : Type 0 where
   -- any two such runs end alike
   pub alike : (t u : Moment) → Drains plan m t → Drains plan m u → EndAlike t u
 
--- The moves are a run of the processor from the machine. At the moment to which they lead, the retired instructions, the registers and the ending are those of the sequential machine after as many instructions, and input, output and memory are those after the instructions that were served or have passed the memory port; and from there the processor drains.
+-- The moves are a run of the processor from the machine. At the moment to which they lead, the retired instructions,
+-- the registers and the ending are those of the sequential machine after as many instructions, and input, output and
+-- memory are those after the instructions that were served or have passed the memory port; and from there the processor
+-- drains.
 pub record IsRight (plan : Plan) (x : Machine) (moves : List Move) : Type 0 where
   pub allowed : IsRun plan (start_on plan x) moves
   pub refines : Refines plan x (lines plan (start_on plan x) moves) (moment_after plan x moves)
@@ -87,7 +93,9 @@ pub record IsFrontAfter (isa : Isa) (x : Machine) (n : ℕ) (written : List ℕ)
   pub more : List ℕ
   pub front : at.output ≡ written ++ more
 
--- The output failed the call that was to be served at the moment: registers, count and ending are those before the call, and what was written is a front of what the sequential machine has written after its next step, which is the call.
+-- The output failed the call that was to be served at the moment: registers, count and ending are those before the
+-- call, and what was written is a front of what the sequential machine has written after its next step, which is the
+-- call.
 pub record FailsOutput (x : Machine) (m : Moment) (begin new : RunPlace) : Type 0 where
   pub allowed : bar begin.core.plan m.state Serve ≡ None
   pub before : Streams
@@ -115,7 +123,8 @@ unfoldable pub Gets : Option (List ℕ) → Option (List ℕ) → Scripted → L
 Gets before after (Ran ran.ReportFault) text = WritesFront before after text
 Gets before after answer text = Writes before after text
 
--- What the report got of these instructions: where retirements alone are shown, their lines; where moves are shown, a group for each move, and the lines of retirement in these groups are theirs.
+-- What the report got of these instructions: where retirements alone are shown, their lines; where moves are shown, a
+-- group for each move, and the lines of retirement in these groups are theirs.
 abbrev pub ReportsLines : Show → ℕ → List Line → (begin new : RunPlace) → Scripted → Type 0
 ReportsLines show.Retired n written begin new answer =
     (text : List ℕ) × AreTexts n written text × Gets begin.report new.report answer text
@@ -124,13 +133,16 @@ ReportsLines show.Moves n written begin new answer =
     × Gets begin.report new.report answer (all_shown show.Moves begin.core.plan 1 trace)
 ReportsLines show.Report n written begin new answer = Unit {0}
 
--- The run is a run of this machine, by these moves: they are right, it stops at the moment to which they lead, and the instructions that it reports are those that the machine retires, numbered by the machine's count.
+-- The run is a run of this machine, by these moves: they are right, it stops at the moment to which they lead, and the
+-- instructions that it reports are those that the machine retires, numbered by the machine's count.
 pub record RunsAs (shows : Show) (x : Machine) (moves : List Move) (begin new : RunPlace) (answer : Scripted) : Type 0 where
   pub right : IsRight begin.core.plan x moves
   pub stops : StopsAt x (moment_after begin.core.plan x moves) begin new answer
   pub report : ReportsLines shows (x.hart.retired + 1) (lines_after begin.core.plan x moves) begin new answer
 
--- The run is a run of the machine that starts on this hart, over an input that does not tell what it has left: as many steps as have retired, each of which finds some input, lead to a machine, with these lines; and with some input left, what is seen of the moment where the run stops is what that machine does, and from there the processor drains.
+-- The run is a run of the machine that starts on this hart, over an input that does not tell what it has left: as many
+-- steps as have retired, each of which finds some input, lead to a machine, with these lines; and with some input left,
+-- what is seen of the moment where the run stops is what that machine does, and from there the processor drains.
 pub record RunsOverUnknownInput (shows : Show) (hart : Hart) (begin new : RunPlace) (answer : Scripted) : Type 0 where
   pub at : Machine
   pub written : List Line
@@ -140,16 +152,19 @@ pub record RunsOverUnknownInput (shows : Show) (hart : Hart) (begin new : RunPla
   pub refines : Refines begin.core.plan at [] last
   pub settles : Settles begin.core.plan at last
   -- whatever the moves find of the input, without Issue they are at most as many as the weight of the state
-  pub bounded : (moves : List Move) (t : Moment) (more : List Line) → LeadsTo begin.core.plan last moves t more → issues moves ≡ 0 → length moves ≤ weight begin.core.plan last.state
+  pub bounded : (moves : List Move) (t : Moment) (more : List Line) → LeadsTo begin.core.plan last moves t more → issues moves ≡ 0 →
+      length moves ≤ weight begin.core.plan last.state
   pub stops : StopsAt at last begin new answer
   pub report : ReportsLines shows (hart.retired + 1) written begin new answer
 
--- The run is a run of the machine that starts on this hart with what the input tells, by these moves; where the input does not tell that, of the machine each of whose calls finds some input.
+-- The run is a run of the machine that starts on this hart with what the input tells, by these moves; where the input
+-- does not tell that, of the machine each of whose calls finds some input.
 abbrev pub RunsOver : Option (List ℕ) → Show → Hart → List Move → (begin new : RunPlace) → Scripted → Type 0
 RunsOver (Some rest) shows hart moves begin new answer = RunsAs shows (machine_on hart rest) moves begin new answer
 RunsOver None shows hart moves begin new answer = RunsOverUnknownInput shows hart begin new answer
 
--- The headline, of a run that made these moves, whatever chose them: on whatever hart the processor was opened, and whatever the input tells or does not tell, the run is a run of the machine that starts on that hart.
+-- The headline, of a run that made these moves, whatever chose them: on whatever hart the processor was opened, and
+-- whatever the input tells or does not tell, the run is a run of the machine that starts on that hart.
 unfoldable pub RunsSequentially : Show → List Move → (begin new : RunPlace) → Scripted → Type 0
 RunsSequentially shows moves begin new answer =
     (plan : Plan) (hart : Hart) → begin.core ≡ opened plan hart → RunsOver begin.streams.input shows hart moves begin new answer

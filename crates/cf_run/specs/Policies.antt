@@ -1,4 +1,5 @@
--- What the run of a policy does: the moves that it picks from what it is offered, why it stops after them, and what it leaves ("Counterflow Pipeline Processor Architecture", 1994: any schedule of local actions is a run).
+-- What the run of a policy does: the moves that it picks from what it is offered, why it stops after them, and what it
+-- leaves ("Counterflow Pipeline Processor Architecture", 1994: any schedule of local actions is a run).
 use Rattle.std.specs.Prelude.{◌≡◌, ◌≤◌, ◌⊎◌, ℕ, ◌+◌, ◌*◌, List, [], ◌∷◌, ◌++◌, slice_get, drop, Option, Some, None, Result, Ok, Err}
 use Rattle.run_options.specs.Limits.{most_limit}
 use Rattle.run_options.specs.declared.show.Show.{Show}
@@ -85,7 +86,8 @@ pub record TakesPick {P : Type 0} (picked : P → List Move → ℕ) (limit : �
   pub does : MoveDoes show move now new (Ok event)
 
 -- the run goes on to the move that the policy picks, which stops it with this answer
-pub record StopsAtPick {P : Type 0} (picked : P → List Move → ℕ) (onward : P → List Move → P) (limit : ℕ) (show : Show) (at : Chooser P) (now new : RunPlace) (later : P) (answer : Answer) : Type 0 where
+pub record StopsAtPick {P : Type 0} (picked : P → List Move → ℕ) (onward : P → List Move →
+    P) (limit : ℕ) (show : Show) (at : Chooser P) (now new : RunPlace) (later : P) (answer : Answer) : Type 0 where
   pub goes : GoesOn limit now.core.state
   pub move : Move
   pub choice_is : choice picked now.core.plan at now.core.state ≡ Some move
@@ -93,27 +95,32 @@ pub record StopsAtPick {P : Type 0} (picked : P → List Move → ℕ) (onward :
   pub does : MoveDoes show move now new (Err answer)
 
 -- the run stops here: it is over, and all stays; or the next move that the policy picks is the last that it tries
-abbrev pub StopsPolicy : {P : Type 0} → (picked : P → List Move → ℕ) → (onward : P → List Move → P) → ℕ → Show → Chooser P → (now new : RunPlace) → P → Answer → Type 0
+abbrev pub StopsPolicy : {P : Type 0} → (picked : P → List Move → ℕ) → (onward : P → List Move → P) → ℕ → Show → Chooser P → (now new : RunPlace) → P → Answer →
+    Type 0
 StopsPolicy picked onward limit show at now new later (ran.Exit status) = IsOver limit now.core.state (ran.Exit status) × (new ≡ now) × (later ≡ at.policy)
-StopsPolicy picked onward limit show at now new later (ran.Trap cause pc detail) = IsOver limit now.core.state (ran.Trap cause pc detail) × (new ≡ now) × (later ≡ at.policy)
+StopsPolicy picked onward limit show at now new later (ran.Trap cause pc detail) = IsOver limit now.core.state (ran.Trap cause pc detail) × (new ≡ now)
+    × (later ≡ at.policy)
 StopsPolicy picked onward limit show at now new later ran.Limit = IsOver limit now.core.state ran.Limit × (new ≡ now) × (later ≡ at.policy)
 StopsPolicy picked onward limit show at now new later ran.ReadFault = StopsAtPick picked onward limit show at now new later ran.ReadFault
 StopsPolicy picked onward limit show at now new later ran.WriteFault = StopsAtPick picked onward limit show at now new later ran.WriteFault
 StopsPolicy picked onward limit show at now new later ran.ReportFault = StopsAtPick picked onward limit show at now new later ran.ReportFault
 
 -- one turn of the run, by a pace that counts up to where the candidates are held: the policy picks a move and it is made
-pub record Turned {P : Type 0} (picked : P → List Move → ℕ) (onward : P → List Move → P) (limit : ℕ) (show : Show) (now new : RunPlace) (at later : Chooser P) : Type 0 where
+pub record Turned {P : Type 0} (picked : P → List Move → ℕ) (onward : P → List Move → P) (limit : ℕ) (show : Show) (now new : RunPlace)
+    (at later : Chooser P) : Type 0 where
   pub takes : TakesPick picked limit show at now new
   pub policy_is : later.policy ≡ onward at.policy (offered_to now.core.plan at now.core.state)
   pub count_is : later.count ≡ stopped now.core.plan.stages (paced at.count takes.move takes.event (is_drained new.core.state))
 
 -- or the run stops
-abbrev pub PolicyTurns : {P : Type 0} → (picked : P → List Move → ℕ) → (onward : P → List Move → P) → ℕ → Show → (now new : RunPlace) → (at later : Chooser P) → Option Answer → Type 0
+abbrev pub PolicyTurns : {P : Type 0} → (picked : P → List Move → ℕ) → (onward : P → List Move → P) → ℕ → Show → (now new : RunPlace) → (at later : Chooser P) →
+    Option Answer → Type 0
 PolicyTurns picked onward limit show now new at later None = Turned picked onward limit show now new at later
 PolicyTurns picked onward limit show now new at later (Some answer) = StopsPolicy picked onward limit show at now new later.policy answer
 
 -- the last move, where the report failed after it
-abbrev pub made_last : {P : Type 0} → (picked : P → List Move → ℕ) → (onward : P → List Move → P) → (limit : ℕ) → (show : Show) → (at : Chooser P) → (now new : RunPlace) → (later : P) → (answer : Answer) → StopsPolicy picked onward limit show at now new later answer → List Move
+abbrev pub made_last : {P : Type 0} → (picked : P → List Move → ℕ) → (onward : P → List Move → P) → (limit : ℕ) → (show : Show) → (at : Chooser P) →
+    (now new : RunPlace) → (later : P) → (answer : Answer) → StopsPolicy picked onward limit show at now new later answer → List Move
 made_last picked onward limit show at now new later (ran.Exit status) stops = []
 made_last picked onward limit show at now new later (ran.Trap cause pc detail) stops = []
 made_last picked onward limit show at now new later ran.Limit stops = []
@@ -122,7 +129,8 @@ made_last picked onward limit show at now new later ran.WriteFault stops = []
 made_last picked onward limit show at now new later ran.ReportFault stops = stops.move ∷ []
 
 -- the run makes these moves, the picks of the policy, and stops after them with this answer
-pub record RunsPolicy {P : Type 0} (picked : P → List Move → ℕ) (onward : P → List Move → P) (limit : ℕ) (show : Show) (start new : RunPlace) (policy later : P) (moves : List Move) (answer : Answer) : Type 0 where
+pub record RunsPolicy {P : Type 0} (picked : P → List Move → ℕ) (onward : P → List Move → P) (limit : ℕ) (show : Show) (start new : RunPlace) (policy later : P)
+    (moves : List Move) (answer : Answer) : Type 0 where
   pub now : RunPlace
   pub reaches : Reaches limit show start now
   pub at : Chooser P
@@ -131,7 +139,8 @@ pub record RunsPolicy {P : Type 0} (picked : P → List Move → ℕ) (onward : 
   pub made : moves ≡ moves_of reaches.trace ++ made_last picked onward limit show at now new later answer stops
 
 -- and by these moves it is a run of the sequential machine
-pub record RunsRight {P : Type 0} (picked : P → List Move → ℕ) (onward : P → List Move → P) (limit : ℕ) (show : Show) (start new : RunPlace) (policy later : P) (answer : Answer) : Type 0 where
+pub record RunsRight {P : Type 0} (picked : P → List Move → ℕ) (onward : P → List Move → P) (limit : ℕ) (show : Show) (start new : RunPlace) (policy later : P)
+    (answer : Answer) : Type 0 where
   pub moves : List Move
   pub runs : RunsPolicy picked onward limit show start new policy later moves answer
   pub sequential : RunsSequentially show moves start new (Ran answer)
@@ -156,20 +165,24 @@ abbrev pub most_moves : Plan → ℕ → ℕ
 most_moves plan r = 4 * plan.stages * moves_per_issue plan * (r + 1)
 
 -- the run goes on to the move that the policy picks, which asks this
-pub record ChoiceAsks {P : Type 0} (asks : Processor → Move → Type 0) (picked : P → List Move → ℕ) (limit : ℕ) (at : Chooser P) (core : Processor) : Type 0 where
+pub record ChoiceAsks {P : Type 0} (asks : Processor → Move → Type 0) (picked : P → List Move →
+    ℕ) (limit : ℕ) (at : Chooser P) (core : Processor) : Type 0 where
   pub goes : GoesOn limit core.state
   pub move : Move
   pub choice_is : choice picked core.plan at core.state ≡ Some move
   pub asked : asks core move
 
 -- a move of the run asks this: one of those that lead to where it stops, or the next one there
-abbrev pub PolicyAsks : {P : Type 0} (asks : Processor → Move → Type 0) (picked : P → List Move → ℕ) (onward : P → List Move → P) (limit : ℕ) (show : Show) (start new : RunPlace) (policy later : P) (moves : List Move) (answer : Answer) → RunsPolicy picked onward limit show start new policy later moves answer → Type 0
+abbrev pub PolicyAsks : {P : Type 0} (asks : Processor → Move → Type 0) (picked : P → List Move → ℕ) (onward : P → List Move →
+    P) (limit : ℕ) (show : Show) (start new : RunPlace) (policy later : P) (moves : List Move) (answer : Answer) →
+    RunsPolicy picked onward limit show start new policy later moves answer → Type 0
 PolicyAsks asks picked onward limit show start new policy later moves answer runs =
     SomeAsks asks start.core.plan start.core.state runs.reaches.trace
     ⊎ ChoiceAsks asks picked limit runs.at runs.now.core
 
 -- a run, with a claim about the input that holds unless a move of the run asks it, and one about the output
-pub record PolicyUnasked {P : Type 0} (picked : P → List Move → ℕ) (onward : P → List Move → P) (limit : ℕ) (show : Show) (start new : RunPlace) (policy later : P) (answer : Answer) (input output : Type 0) : Type 0 where
+pub record PolicyUnasked {P : Type 0} (picked : P → List Move → ℕ) (onward : P → List Move →
+    P) (limit : ℕ) (show : Show) (start new : RunPlace) (policy later : P) (answer : Answer) (input output : Type 0) : Type 0 where
   pub moves : List Move
   pub runs : RunsPolicy picked onward limit show start new policy later moves answer
   pub input_asked : (PolicyAsks AsksInput picked onward limit show start new policy later moves answer runs → ⊥) → input

@@ -12,9 +12,9 @@ mod script;
 mod showing;
 
 pub use answer::{Ran, Scripted};
-pub use run_options::Show;
 pub use facts::known;
 pub use finished::over;
 pub use making::make_and_show;
 pub use policy::run_policy;
+pub use run_options::Show;
 pub use script::run_script;

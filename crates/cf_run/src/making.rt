@@ -11,11 +11,11 @@ ghost use Rattle.cf_run.specs.Moving.{place_by, MoveDoes, input_done, output_don
 use crate::answer::Ran;
 use crate::counting::count;
 use crate::showing::put_shown;
-use run_options::Show;
 use cf_bind::Move;
 use cf_core::{Core, Event, Fault};
 use cf_io::{Sink, Source};
 use cf_report::Tally;
+use run_options::Show;
 
 /// Makes an allowed move, counts it and shows it, and gives what is seen of it; or says why the run stops there.
 #[inline(always)]

@@ -16,13 +16,13 @@ use crate::answer::Ran;
 use crate::facts::known;
 use crate::finished::over;
 use crate::making::make_and_show;
-use run_options::Show;
 use cf_bind::Move;
 use cf_core::Core;
 use cf_index::Candidates;
 use cf_io::{Sink, Source};
 use cf_report::Tally;
 use cf_sched::{Pace, Policy};
+use run_options::Show;
 
 /// The move that the policy picks from what it is offered.
 #[inline(always)]

@@ -17,10 +17,10 @@ use crate::answer::Scripted;
 use crate::facts::known;
 use crate::finished::over;
 use crate::making::make_and_show;
-use run_options::Show;
 use cf_core::Core;
 use cf_io::{Sink, Source};
 use cf_report::Tally;
+use run_options::Show;
 use run_scripts::Script;
 
 /// Makes the next move of the script, counts it and shows it; or says why the run stops.

@@ -5,11 +5,11 @@ ghost use Rattle.std.specs.Prelude.{◌≡◌};
 ghost use Rattle.cf_report.specs.Putting.{PutsText};
 ghost use Rattle.cf_run.specs.Made.{retirement, shown_after};
 
-use run_options::Show;
 use cf_bind::Move;
 use cf_core::{Core, Event};
 use cf_io::{Failed, Sink};
 use cf_report::{put_move, put_picture, put_retired};
+use run_options::Show;
 
 /// A move that was made: how many were made with it, and what is seen of it.
 #[derive(Clone, Copy)]

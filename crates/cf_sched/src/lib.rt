@@ -7,8 +7,8 @@ mod pace;
 mod policy;
 mod round;
 
-pub use run_scripts::{Script, ScriptErr, ScriptKind, Words, read_move, write_move};
 pub use drawn::Drawn;
 pub use pace::Pace;
 pub use policy::Policy;
 pub use round::Round;
+pub use run_scripts::{Script, ScriptErr, ScriptKind, Words, read_move, write_move};

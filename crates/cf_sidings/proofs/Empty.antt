@@ -5,7 +5,8 @@ use Rattle.cf_layout.specs.Layout.{SidingPlan, Plan, no_siding, cells_of}
 use Rattle.std.specs.Prelude.{slice_get, unwrap_or}
 
 -- one more element, and what it becomes
-pub take-more : {A B : Type 0} (f : A → B) (xs : List A) (k n : ℕ) (d : A) → n ≡ suc k → k < length xs → map f (take n xs) ≡ map f (take k xs) ++ f (unwrap_or (slice_get xs k) d) ∷ []
+pub take-more : {A B : Type 0} (f : A → B) (xs : List A) (k n : ℕ) (d : A) → n ≡ suc k → k < length xs →
+    map f (take n xs) ≡ map f (take k xs) ++ f (unwrap_or (slice_get xs k) d) ∷ []
 take-more f [] k n d e h = absurd (omega arith)
 take-more f (x ∷ xs) zero n d e h = rw e refl
 take-more f (x ∷ xs) (suc k) n d e h = rw e (ap (λ (l : List _). f x ∷ l) (take-more f xs k (suc k) d refl (omega arith)))
@@ -15,7 +16,8 @@ abbrev empty : SidingPlan → List (Option Op)
 empty siding = replicate siding.cells None
 
 -- one more siding is empty
-pub one-more : (plan : Plan) (k : ℕ) → k < length plan.sidings → map empty (take (k + 1) plan.sidings) ≡ map empty (take k plan.sidings) ++ replicate (cells_of plan k) None ∷ []
+pub one-more : (plan : Plan) (k : ℕ) → k < length plan.sidings → map empty (take (k + 1) plan.sidings) ≡ map empty (take k plan.sidings)
+    ++ replicate (cells_of plan k) None ∷ []
 unfolding cells_of
 one-more plan k h = take-more empty plan.sidings k (k + 1) no_siding (omega arith) h
 

@@ -16,7 +16,8 @@ not_refused pc access (Err Misaligned) e = absurd (cc)
 not_refused pc access (Err NoAccess) e = absurd (cc)
 
 -- the value of a store decides nothing
-pub permitted-with : (i : Instr) (pc a b : ℕ) (bounds : List Bounds) → access_trap i pc a bounds ≡ None → permits_at bounds (access_made i a b).addr (access_made i a b).width (access_made i a b).write ≡ Ok tt
+pub permitted-with : (i : Instr) (pc a b : ℕ) (bounds : List Bounds) → access_trap i pc a bounds ≡ None →
+    permits_at bounds (access_made i a b).addr (access_made i a b).width (access_made i a b).write ≡ Ok tt
 unfolding access_trap access_made
 permitted-with (Load k rd rs1 imm) pc a b bounds e = not_refused pc (access_made (Load k rd rs1 imm) a 0) _ e
 permitted-with (Store k rs1 rs2 imm) pc a b bounds e = not_refused pc (access_made (Store k rs1 rs2 imm) a 0) _ e

@@ -73,18 +73,22 @@ word-agrees test other zero same = refl
 word-agrees test other (suc n) same = rw (same (suc n) (omega arith) (omega arith), word-agrees test other n (λ i low high. same i low (omega arith))) refl
 
 -- tests that agree except at one stage give words that differ only in its bit
-pub word-with-bit : (test other : ℕ → Bool) (n k : ℕ) → n ≤ 32 → k < n → ((i : ℕ) → i ≢ suc k → other i ≡ test i) → word_of other n ≡ with_bit (word_of test n) k (other (suc k))
+pub word-with-bit : (test other : ℕ → Bool) (n k : ℕ) → n ≤ 32 → k < n → ((i : ℕ) → i ≢ suc k → other i ≡ test i) →
+    word_of other n ≡ with_bit (word_of test n) k (other (suc k))
 word-with-bit test other n k few within same =
-    same-words (word_of other n) (with_bit (word_of test n) k (other (suc k))) (word_small other n few) (with_bit-lt (word_of test n) k (other (suc k)) (omega arith) (word_small test n few)) bits
+    same-words (word_of other n) (with_bit (word_of test n) k (other (suc k))) (word_small other n few)
+    (with_bit-lt (word_of test n) k (other (suc k)) (omega arith) (word_small test n few)) bits
   where
-    bit : (j : ℕ) (here inner : Bool) → nat_eq j k ≡ here → nat_lt j n ≡ inner → j < 32 → has_bit (word_of other n) j ≡ has_bit (with_bit (word_of test n) k (other (suc k))) j
+    bit : (j : ℕ) (here inner : Bool) → nat_eq j k ≡ here → nat_lt j n ≡ inner → j < 32 → has_bit (word_of other n) j
+        ≡ has_bit (with_bit (word_of test n) k (other (suc k))) j
     bit j true inner e f below =
         let at : j ≡ k = grind (arith, nat_tests) in
         rw at (word-bit other n k within ∙ sym (bit-same (word_of test n) k (other (suc k)) (omega arith)))
     bit j false true e f below =
         let off : j ≢ k = grind (arith, nat_tests) in
         let inside : j < n = grind (arith, nat_tests) in
-        word-bit other n j inside ∙ same (suc j) (λ g. off (omega arith)) ∙ sym (word-bit test n j inside) ∙ sym (bit-other (word_of test n) k j (other (suc k)) (omega arith) below off)
+        word-bit other n j inside ∙ same (suc j) (λ g. off (omega arith)) ∙ sym (word-bit test n j inside)
+        ∙ sym (bit-other (word_of test n) k j (other (suc k)) (omega arith) below off)
     bit j false false e f below =
         let off : j ≢ k = grind (arith, nat_tests) in
         let outside : n ≤ j = grind (arith, nat_tests) in

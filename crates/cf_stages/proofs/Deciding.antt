@@ -59,6 +59,23 @@ passenger_decides a b =
     (Decides-and _ _ (option_decides Decides-eqb a.next b.next)
     (Decides-and _ _ (option_decides end_decides a.ending b.ending)
     (Decides-and _ _ (option_decides packet_decides a.owes b.owes) (booleans_Decides a.dead b.dead)))))))))))) in (
-      λ t. let f = d.0 t in λ i. record { pc = f.0 i; what = f.1.0 i; guess = f.1.1.0 i; src1 = f.1.1.1.0 i; src2 = f.1.1.1.1.0 i; dst = f.1.1.1.1.1.0 i; done = f.1.1.1.1.1.1.0 i; launched = f.1.1.1.1.1.1.1.0 i; recovered = f.1.1.1.1.1.1.1.1.0 i; next = f.1.1.1.1.1.1.1.1.1.0 i; ending = f.1.1.1.1.1.1.1.1.1.1.0 i; owes = f.1.1.1.1.1.1.1.1.1.1.1.0 i; dead = f.1.1.1.1.1.1.1.1.1.1.1.1 i },
+      λ t. let f = d.0 t in
+          λ i. record {
+            pc = f.0 i;
+            what = f.1.0 i;
+            guess = f.1.1.0 i;
+            src1 = f.1.1.1.0 i;
+            src2 = f.1.1.1.1.0 i;
+            dst = f.1.1.1.1.1.0 i;
+            done =
+                f.1.1.1.1.1.1.0 i;
+            launched = f.1.1.1.1.1.1.1.0 i;
+            recovered = f.1.1.1.1.1.1.1.1.0 i;
+            next = f.1.1.1.1.1.1.1.1.1.0 i;
+            ending =
+                f.1.1.1.1.1.1.1.1.1.1.0 i;
+            owes = f.1.1.1.1.1.1.1.1.1.1.1.0 i;
+            dead = f.1.1.1.1.1.1.1.1.1.1.1.1 i;
+          },
       λ e. d.1 (rw e (refl, (refl, (refl, (refl, (refl, (refl, (refl, (refl, (refl, (refl, (refl, (refl, refl))))))))))))),
     )

@@ -40,7 +40,8 @@ nowhere test (suc n) e (suc zero) = e
 nowhere test (suc n) e (suc (suc k)) = nowhere test n e (suc k)
 
 word_empty : (test : Cell → Bool) (n : ℕ) → test empty_cell ≡ false → 0 ≡ word_where test (replicate n empty_cell)
-word_empty test n e = sym (word-agrees (λ i. on (cell_at (replicate n empty_cell) i) false test) (λ i. false) (length (replicate n empty_cell)) (λ j low high. nowhere test n e j) ∙ word-none (length (replicate n empty_cell)))
+word_empty test n e = sym (word-agrees (λ i. on (cell_at (replicate n empty_cell) i) false test) (λ i. false) (length (replicate n empty_cell))
+    (λ j low high. nowhere test n e j) ∙ word-none (length (replicate n empty_cell)))
 
 all_empty : (n : ℕ) → All IsCell (replicate n empty_cell)
 all_empty n = λ k d within. rw (get_or-replicate n k empty_cell d (rw length-replicate at within)) (λ g. absurd (cc))
@@ -66,14 +67,16 @@ empty-parts n least most =
 pub ruleset emptying = (empty-cells, empty-parts)
 
 -- where a word is 0 its test holds nowhere
-none_at : (test : Cell → Bool) (cells : List Cell) (k : ℕ) (d : Cell) → length cells ≤ 32 → word_where test cells ≡ 0 → k < length cells → test (get_or cells k d) ≡ false
+none_at : (test : Cell → Bool) (cells : List Cell) (k : ℕ) (d : Cell) → length cells ≤ 32 → word_where test cells ≡ 0 → k < length cells →
+    test (get_or cells k d) ≡ false
 none_at test cells k d few e within =
     sym (ap (λ (o : Option Cell). on o false test) (slice_get-get_or cells k d within))
     ∙ sym (word-bit (λ i. on (cell_at cells i) false test) (length cells) k within)
     ∙ ap (λ (w : ℕ). has_bit w k) e ∙ no_bits k
 
 pub none-occupied : (cells : List Cell) → length cells ≤ 32 → passenger_word cells ≡ 0 → packet_word cells ≡ 0 → list_any is_occupied cells ≡ false
-none-occupied cells few e f = list_any_none is_occupied cells (λ k d within. rw (none_at (λ c. is_some c.passenger) cells k d few e within, none_at (λ c. is_some c.packet) cells k d few f within) refl)
+none-occupied cells few e f = list_any_none is_occupied cells
+    (λ k d within. rw (none_at (λ c. is_some c.passenger) cells k d few e within, none_at (λ c. is_some c.packet) cells k d few f within) refl)
 
 -- where a test holds nowhere its word is 0
 nowhere_from : (test : Cell → Bool) (cells : List Cell) → list_any test cells ≡ false → (j : ℕ) → on (cell_at cells j) false test ≡ false
@@ -83,9 +86,11 @@ nowhere_from test (c ∷ cells) e (suc zero) = grind arith
 nowhere_from test (c ∷ cells) e (suc (suc k)) = nowhere_from test cells (grind arith) (suc k)
 
 word_nowhere : (test : Cell → Bool) (cells : List Cell) → list_any test cells ≡ false → word_where test cells ≡ 0
-word_nowhere test cells e = word-agrees (λ i. on (cell_at cells i) false test) (λ i. false) (length cells) (λ j low high. nowhere_from test cells e j) ∙ word-none (length cells)
+word_nowhere test cells e = word-agrees (λ i. on (cell_at cells i) false test) (λ i. false) (length cells) (λ j low high. nowhere_from test cells e j)
+    ∙ word-none (length cells)
 
-either_none : (cells : List Cell) → list_any is_occupied cells ≡ false → (list_any (λ c. is_some c.passenger) cells ≡ false) × (list_any (λ c. is_some c.packet) cells ≡ false)
+either_none : (cells : List Cell) → list_any is_occupied cells ≡ false → (list_any (λ c. is_some c.passenger) cells ≡ false)
+    × (list_any (λ c. is_some c.packet) cells ≡ false)
 either_none [] e = (refl, refl)
 either_none (c ∷ cells) e = let r = either_none cells (grind arith) in grind (arith, r)
 
@@ -96,7 +101,8 @@ pub no-packet : (cells : List Cell) → list_any is_occupied cells ≡ false →
 no-packet cells e = word_nowhere (λ c. is_some c.packet) cells (either_none cells e).1
 
 -- what the two words decide
-answered_as : (cells : List Cell) (a b some : Bool) → list_any is_occupied cells ≡ some → length cells ≤ 32 → nat_eq (passenger_word cells) 0 ≡ a → nat_eq (packet_word cells) 0 ≡ b → (a && b) ≡ not some
+answered_as : (cells : List Cell) (a b some : Bool) → list_any is_occupied cells ≡ some → length cells ≤ 32 → nat_eq (passenger_word cells) 0 ≡ a →
+    nat_eq (packet_word cells) 0 ≡ b → (a && b) ≡ not some
 answered_as cells a b false e few f g =
     let p = no-passenger cells e in
     let q = no-packet cells e in
@@ -110,18 +116,22 @@ answered_as cells true false true e few f g = refl
 answered_as cells false true true e few f g = refl
 answered_as cells false false true e few f g = refl
 
-pub none-answered : (cells : List Cell) → length cells ≤ 32 → (nat_eq (passenger_word cells) 0 && nat_eq (packet_word cells) 0) ≡ not (list_any is_occupied cells)
+pub none-answered : (cells : List Cell) → length cells ≤ 32 → (nat_eq (passenger_word cells) 0 && nat_eq (packet_word cells) 0)
+    ≡ not (list_any is_occupied cells)
 none-answered cells few = answered_as cells (nat_eq (passenger_word cells) 0) (nat_eq (packet_word cells) 0) (list_any is_occupied cells) refl few refl refl
 
 -- the same for the words that are kept
-kept : (ps : List (Option Passenger)) (qs : List (Option Packet)) (r f m : ℕ) (now : List Cell) → AreParts ps qs r f m → cells_of ps qs m ≡ now → (nat_eq r 0 && nat_eq f 0) ≡ not (list_any is_occupied now)
+kept : (ps : List (Option Passenger)) (qs : List (Option Packet)) (r f m : ℕ) (now : List Cell) → AreParts ps qs r f m → cells_of ps qs m ≡ now →
+    (nat_eq r 0 && nat_eq f 0) ≡ not (list_any is_occupied now)
 kept ps qs r f m now h e =
     let n = length-cells 0 ps qs m h.pipes in
     let l = ap length e in
     rw (h.passenger_bits, h.packet_bits, e) (none-answered now (omega (arith, h.most)))
 
-pub empty-then : (ps : List (Option Passenger)) (qs : List (Option Packet)) (r f m : ℕ) (now : List Cell) → AreParts ps qs r f m → cells_of ps qs m ≡ now → r ≡ 0 → nat_eq f 0 ≡ not (list_any is_occupied now)
+pub empty-then : (ps : List (Option Passenger)) (qs : List (Option Packet)) (r f m : ℕ) (now : List Cell) → AreParts ps qs r f m → cells_of ps qs m ≡ now →
+    r ≡ 0 → nat_eq f 0 ≡ not (list_any is_occupied now)
 empty-then ps qs r f m now h e none = let k = kept ps qs r f m now h e in grind (arith, nat_tests)
 
-pub empty-else : (ps : List (Option Passenger)) (qs : List (Option Packet)) (r f m : ℕ) (now : List Cell) → AreParts ps qs r f m → cells_of ps qs m ≡ now → (r ≡ 0 → ⊥) → nat_eq r 0 ≡ not (list_any is_occupied now)
+pub empty-else : (ps : List (Option Passenger)) (qs : List (Option Packet)) (r f m : ℕ) (now : List Cell) → AreParts ps qs r f m → cells_of ps qs m ≡ now →
+    (r ≡ 0 → ⊥) → nat_eq r 0 ≡ not (list_any is_occupied now)
 empty-else ps qs r f m now h e some = let k = kept ps qs r f m now h e in grind (arith, nat_tests)

@@ -32,7 +32,8 @@ some_true : (o : Option Passenger) → IsSome o → true ≡ is_some o
 some_true None g = absurd (cc)
 some_true (Some p) g = refl
 
-lifts : (ps : List (Option Passenger)) (qs : List (Option Packet)) (riding flying met i : ℕ) → AreParts ps qs riding flying met → IsTrue (climbs (cells_of ps qs met) i) → Lifts ps qs met i
+lifts : (ps : List (Option Passenger)) (qs : List (Option Packet)) (riding flying met i : ℕ) → AreParts ps qs riding flying met →
+    IsTrue (climbs (cells_of ps qs met) i) → Lifts ps qs met i
 lifts ps qs riding flying met i h c =
     let cells = cells_of ps qs met in
     let n = count-read ps qs riding flying met h in
@@ -49,33 +50,41 @@ lifts ps qs riding flying met i h c =
     }
 
 -- the two places are changed in either order
-swapped : (ps : List (Option Passenger)) (i : ℕ) (p : Option Passenger) → 0 < i → slice_set (slice_set ps i p) (i - 1) None ≡ slice_set (slice_set ps (i - 1) None) (i + 1 - 1) p
+swapped : (ps : List (Option Passenger)) (i : ℕ) (p : Option Passenger) → 0 < i → slice_set (slice_set ps i p) (i - 1) None
+    ≡ slice_set (slice_set ps (i - 1) None) (i + 1 - 1) p
 swapped ps i p low =
     let j : i + 1 - 1 ≡ i = omega arith in
     rw j (set_comm ps i (i - 1) p None (λ g. absurd (omega arith)))
 
-pub lifted-parts : (ps ps1 : List (Option Passenger)) (qs : List (Option Packet)) (riding flying met riding1 met1 i : ℕ) → AreParts ps qs riding flying met → IsTrue (climbs (cells_of ps qs met) i) →
-    ps1 ≡ slice_set ps i (slice_index_or ps (i - 1) None) → riding1 ≡ with_bit (with_bit riding (i - 1) false) (i + 1 - 1) true → met1 ≡ with_bit (with_bit met (i - 1) false) (i + 1 - 1) false →
+pub lifted-parts : (ps ps1 : List (Option Passenger)) (qs : List (Option Packet)) (riding flying met riding1 met1 i : ℕ) → AreParts ps qs riding flying met →
+    IsTrue (climbs (cells_of ps qs met) i) →
+    ps1 ≡ slice_set ps i (slice_index_or ps (i - 1) None) → riding1 ≡ with_bit (with_bit riding (i - 1) false) (i + 1 - 1) true →
+    met1 ≡ with_bit (with_bit met (i - 1) false) (i + 1 - 1) false →
     AreParts (slice_set ps1 (i - 1) None) qs riding1 flying met1
 lifted-parts ps ps1 qs riding flying met riding1 met1 i h c e r m =
     let l = lifts ps qs riding flying met i h c in
-    let one = passenger-parts ps qs riding flying met (with_bit riding (i - 1) false) (with_bit met (i - 1) false) i None false h l.low l.within refl refl refl in
+    let one = passenger-parts ps qs riding flying met (with_bit riding (i - 1) false) (with_bit met (i - 1) false) i None false h l.low l.within refl refl refl
+    in
     let empty : Option Passenger = None in
     let long = length-set ps (i - 1) empty in
-    let two = passenger-parts (slice_set ps (i - 1) None) qs (with_bit riding (i - 1) false) flying (with_bit met (i - 1) false) riding1 met1 (i + 1) (slice_index_or ps (i - 1) None) true one (omega arith) (omega (arith, l.above)) l.rides r m in
+    let two = passenger-parts (slice_set ps (i - 1) None) qs (with_bit riding (i - 1) false) flying (with_bit met (i - 1) false) riding1 met1 (i + 1)
+    (slice_index_or ps (i - 1) None) true one (omega arith) (omega (arith, l.above)) l.rides r m in
     rw (e, swapped ps i (slice_index_or ps (i - 1) None) l.low) two
 
-pub lifted-is : (ps ps1 : List (Option Passenger)) (qs : List (Option Packet)) (riding flying met met1 i : ℕ) → AreParts ps qs riding flying met → IsTrue (climbs (cells_of ps qs met) i) →
+pub lifted-is : (ps ps1 : List (Option Passenger)) (qs : List (Option Packet)) (riding flying met met1 i : ℕ) → AreParts ps qs riding flying met →
+    IsTrue (climbs (cells_of ps qs met) i) →
     ps1 ≡ slice_set ps i (slice_index_or ps (i - 1) None) → met1 ≡ with_bit (with_bit met (i - 1) false) (i + 1 - 1) false →
     cells_of (slice_set ps1 (i - 1) None) qs met1 ≡ climbed (cells_of ps qs met) i
 lifted-is ps ps1 qs riding flying met met1 i h c e m =
     let l = lifts ps qs riding flying met i h c in
     let q = slice_index_or ps (i - 1) None in
-    let one = passenger-parts ps qs riding flying met (with_bit riding (i - 1) false) (with_bit met (i - 1) false) i None false h l.low l.within refl refl refl in
+    let one = passenger-parts ps qs riding flying met (with_bit riding (i - 1) false) (with_bit met (i - 1) false) i None false h l.low l.within refl refl refl
+    in
     let empty : Option Passenger = None in
     let long = length-set ps (i - 1) empty in
     let first = passenger-placed ps qs riding flying met (with_bit met (i - 1) false) i None h l.low l.within refl in
-    let second = passenger-placed (slice_set ps (i - 1) None) qs (with_bit riding (i - 1) false) flying (with_bit met (i - 1) false) met1 (i + 1) q one (omega arith) (omega (arith, l.above)) m in
+    let second = passenger-placed (slice_set ps (i - 1) None) qs (with_bit riding (i - 1) false) flying (with_bit met (i - 1) false) met1 (i + 1) q one
+    (omega arith) (omega (arith, l.above)) m in
     ap (λ (xs : List (Option Passenger)). cells_of (slice_set xs (i - 1) None) qs met1) e
     ∙ ap (λ (xs : List (Option Passenger)). cells_of xs qs met1) (swapped ps i q l.low)
     ∙ second
@@ -95,7 +104,8 @@ some_packet : (o : Option Packet) → IsSome o → true ≡ is_some o
 some_packet None g = absurd (cc)
 some_packet (Some q) g = refl
 
-drops : (ps : List (Option Passenger)) (qs : List (Option Packet)) (riding flying met i : ℕ) (q : Option Packet) → AreParts ps qs riding flying met → IsTrue (falls (cells_of ps qs met) i) →
+drops : (ps : List (Option Passenger)) (qs : List (Option Packet)) (riding flying met i : ℕ) (q : Option Packet) → AreParts ps qs riding flying met →
+    IsTrue (falls (cells_of ps qs met) i) →
     q ≡ slice_index_or qs (i - 1) q → Drops ps qs met i q
 drops ps qs riding flying met i q h c e =
     let cells = cells_of ps qs met in
@@ -110,28 +120,36 @@ drops ps qs riding flying met i q h c e =
       flies = some_packet q (subst (λ (o : Option Packet). IsSome o) (sym is) (falls-result cells i c));
     }
 
-lowered : (qs : List (Option Packet)) (i : ℕ) (q : Option Packet) → 1 < i → slice_set (slice_set qs (i - 2) q) (i - 1) None ≡ slice_set (slice_set qs (i - 1) None) (i - 1 - 1) q
+lowered : (qs : List (Option Packet)) (i : ℕ) (q : Option Packet) → 1 < i → slice_set (slice_set qs (i - 2) q) (i - 1) None
+    ≡ slice_set (slice_set qs (i - 1) None) (i - 1 - 1) q
 lowered qs i q low =
     let j : i - 1 - 1 ≡ i - 2 = omega arith in
     rw j (set_comm qs (i - 2) (i - 1) q None (λ g. absurd (omega arith)))
 
-pub dropped-parts : (ps : List (Option Passenger)) (qs : List (Option Packet)) (riding flying met flying1 met1 i : ℕ) (q : Option Packet) → AreParts ps qs riding flying met → IsTrue (falls (cells_of ps qs met) i) →
-    q ≡ slice_index_or qs (i - 1) q → flying1 ≡ with_bit (with_bit flying (i - 1) false) (i - 1 - 1) true → met1 ≡ with_bit (with_bit met (i - 1) false) (i - 1 - 1) false →
+pub dropped-parts : (ps : List (Option Passenger)) (qs : List (Option Packet)) (riding flying met flying1 met1 i : ℕ) (q : Option Packet) →
+    AreParts ps qs riding flying met → IsTrue (falls (cells_of ps qs met) i) →
+    q ≡ slice_index_or qs (i - 1) q → flying1 ≡ with_bit (with_bit flying (i - 1) false) (i - 1 - 1) true →
+    met1 ≡ with_bit (with_bit met (i - 1) false) (i - 1 - 1) false →
     AreParts ps (slice_set (slice_set qs (i - 2) q) (i - 1) None) riding flying1 met1
 dropped-parts ps qs riding flying met flying1 met1 i q h c e f m =
     let l = drops ps qs riding flying met i q h c e in
-    let one = packet-parts ps qs riding flying met (with_bit flying (i - 1) false) (with_bit met (i - 1) false) i None false false h (omega (arith, l.low)) l.within (λ g. absurd (cc)) (λ g. absurd (cc)) refl refl refl in
-    let two = packet-parts ps (slice_set qs (i - 1) None) riding (with_bit flying (i - 1) false) (with_bit met (i - 1) false) flying1 met1 (i - 1) q false true one (omega (arith, l.low)) (omega (arith, l.within)) (λ g. absurd (cc)) (λ g. absurd (cc)) l.flies f m in
+    let one = packet-parts ps qs riding flying met (with_bit flying (i - 1) false) (with_bit met (i - 1) false) i None false false h
+    (omega (arith, l.low)) l.within (λ g. absurd (cc)) (λ g. absurd (cc)) refl refl refl in
+    let two = packet-parts ps (slice_set qs (i - 1) None) riding (with_bit flying (i - 1) false) (with_bit met (i - 1) false) flying1 met1
+    (i - 1) q false true one (omega (arith, l.low)) (omega (arith, l.within)) (λ g. absurd (cc)) (λ g. absurd (cc)) l.flies f m in
     rw (lowered qs i q l.low) two
 
-pub dropped-is : (ps : List (Option Passenger)) (qs : List (Option Packet)) (riding flying met met1 i : ℕ) (q : Option Packet) → AreParts ps qs riding flying met → IsTrue (falls (cells_of ps qs met) i) →
+pub dropped-is : (ps : List (Option Passenger)) (qs : List (Option Packet)) (riding flying met met1 i : ℕ) (q : Option Packet) →
+    AreParts ps qs riding flying met → IsTrue (falls (cells_of ps qs met) i) →
     q ≡ slice_index_or qs (i - 1) q → met1 ≡ with_bit (with_bit met (i - 1) false) (i - 1 - 1) false →
     cells_of ps (slice_set (slice_set qs (i - 2) q) (i - 1) None) met1 ≡ fallen (cells_of ps qs met) i
 dropped-is ps qs riding flying met met1 i q h c e m =
     let l = drops ps qs riding flying met i q h c e in
-    let one = packet-parts ps qs riding flying met (with_bit flying (i - 1) false) (with_bit met (i - 1) false) i None false false h (omega (arith, l.low)) l.within (λ g. absurd (cc)) (λ g. absurd (cc)) refl refl refl in
+    let one = packet-parts ps qs riding flying met (with_bit flying (i - 1) false) (with_bit met (i - 1) false) i None false false h
+    (omega (arith, l.low)) l.within (λ g. absurd (cc)) (λ g. absurd (cc)) refl refl refl in
     let first = packet-placed ps qs riding flying met (with_bit met (i - 1) false) i None false h (omega (arith, l.low)) l.within refl in
-    let second = packet-placed ps (slice_set qs (i - 1) None) riding (with_bit flying (i - 1) false) (with_bit met (i - 1) false) met1 (i - 1) q false one (omega (arith, l.low)) (omega (arith, l.within)) m in
+    let second = packet-placed ps (slice_set qs (i - 1) None) riding (with_bit flying (i - 1) false) (with_bit met (i - 1) false) met1 (i - 1) q false one
+    (omega (arith, l.low)) (omega (arith, l.within)) m in
     ap (λ (xs : List (Option Packet)). cells_of ps xs met1) (lowered qs i q l.low)
     ∙ second
     ∙ ap (λ (cells : List Cell). changed cells (i - 1) (with_place q false)) first

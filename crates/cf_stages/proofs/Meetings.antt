@@ -19,18 +19,22 @@ put_twice cells zero c d = refl
 put_twice cells (suc k) c d = set-set cells k c d
 
 -- the instruction that has met the result is what meeting it makes of the one that stands there
-pub rider-met-is : (cells : List Cell) (i : ℕ) (p q : Passenger) (k : Packet) → Some p ≡ passenger_at cells i → q ≡ (meeting p k).passenger → changed cells i (λ c. with_passenger c q) ≡ changed cells i (rider_met k)
+pub rider-met-is : (cells : List Cell) (i : ℕ) (p q : Passenger) (k : Packet) → Some p ≡ passenger_at cells i → q ≡ (meeting p k).passenger →
+    changed cells i (λ c. with_passenger c q) ≡ changed cells i (rider_met k)
 rider-met-is cells i p q k rides e = by (cell_at cells i) rides
   where
-    by : (o : Option Cell) → Some p ≡ on o None (λ c. c.passenger) → on o cells (λ c. put_cell cells i (with_passenger c q)) ≡ on o cells (λ c. put_cell cells i (rider_met k c))
+    by : (o : Option Cell) → Some p ≡ on o None (λ c. c.passenger) → on o cells (λ c. put_cell cells i (with_passenger c q))
+        ≡ on o cells (λ c. put_cell cells i (rider_met k c))
     by None here = absurd (cc)
     by (Some b) here = rw (← here, e) refl
 
-pub left-is : (cells : List Cell) (i : ℕ) (p : Passenger) (k : Packet) (left : Option Packet) → Some p ≡ passenger_at cells i → left ≡ (meeting p k).packet → left ≡ on (passenger_at cells i) None (λ r. (meeting r k).packet)
+pub left-is : (cells : List Cell) (i : ℕ) (p : Passenger) (k : Packet) (left : Option Packet) → Some p ≡ passenger_at cells i → left ≡ (meeting p k).packet →
+    left ≡ on (passenger_at cells i) None (λ r. (meeting r k).packet)
 left-is cells i p k left rides e = rw (← rides) e
 
 -- and then the stage holds it and what is left of the result
-met_there : (cells : List Cell) (i : ℕ) (b : Cell) (k : Packet) (left : Option Packet) (met : Bool) (o : Option Passenger) → cell_at cells i ≡ Some b → b.passenger ≡ o → IsTrue (is_some o) → b.packet ≡ Some k →
+met_there : (cells : List Cell) (i : ℕ) (b : Cell) (k : Packet) (left : Option Packet) (met : Bool) (o : Option Passenger) → cell_at cells i ≡ Some b →
+    b.passenger ≡ o → IsTrue (is_some o) → b.packet ≡ Some k →
     left ≡ on o None (λ r. (meeting r k).packet) → met ≡ is_some left →
     changed (changed cells i (rider_met k)) i (with_place left met) ≡ changed cells i met_in
 met_there cells i b k left met None here rides some flies f g = absurd (cc)
@@ -42,7 +46,8 @@ both_there : (p : Option Passenger) (b c : Bool) → IsTrue (is_some p && b && n
 both_there None b c h = absurd (cc)
 both_there (Some p) b c h = refl
 
-pub met-is : (cells : List Cell) (i : ℕ) (k : Packet) (left : Option Packet) (met : Bool) → IsTrue (is_full_at cells i) → Some k ≡ packet_at cells i → left ≡ on (passenger_at cells i) None (λ r. (meeting r k).packet) → met ≡ is_some left →
+pub met-is : (cells : List Cell) (i : ℕ) (k : Packet) (left : Option Packet) (met : Bool) → IsTrue (is_full_at cells i) → Some k ≡ packet_at cells i →
+    left ≡ on (passenger_at cells i) None (λ r. (meeting r k).packet) → met ≡ is_some left →
     changed (changed cells i (rider_met k)) i (with_place left met) ≡ changed cells i met_in
 met-is cells i k left met full flies f g = by_cell (cell_at cells i) refl
   where
@@ -50,7 +55,8 @@ met-is cells i k left met full flies f g = by_cell (cell_at cells i) refl
     by_cell None here = let n : Some k ≡ None = flies ∙ ap (λ (o : Option Cell). on o None (λ c. c.packet)) here in absurd (cc)
     by_cell (Some b) here =
         let full_here : IsTrue (is_full b) = subst (λ (o : Option Cell). IsTrue (on o false is_full)) here full in
-        met_there cells i b k left met b.passenger here refl (both_there b.passenger (is_some b.packet) b.met full_here) (sym (flies ∙ ap (λ (o : Option Cell). on o None (λ c. c.packet)) here))
+        met_there cells i b k left met b.passenger here refl (both_there b.passenger (is_some b.packet) b.met full_here)
+        (sym (flies ∙ ap (λ (o : Option Cell). on o None (λ c. c.packet)) here))
         (f ∙ ap (λ (o : Option Cell). on (on o None (λ c. c.passenger)) None (λ r. (meeting r k).packet)) here) g
 
 pub rider-there : (cells : List Cell) (i : ℕ) → IsTrue (is_full_at cells i) → IsSome (passenger_at cells i)

@@ -12,16 +12,19 @@ use Rattle.cf_stages.specs.Parts.{with_place}
 use Rattle.cf_stages.proofs.Parts.{cell-put-other, stage-low, stage-high}
 
 -- what stands in two different stages is changed
-two_changed : (cells : List Cell) (i j : ℕ) (c d : Cell) (f g : Cell → Cell) → j ≢ i → cell_at cells i ≡ Some c → cell_at cells j ≡ Some d → changed (changed cells i f) j g ≡ put_cell (put_cell cells i (f c)) j (g d)
+two_changed : (cells : List Cell) (i j : ℕ) (c d : Cell) (f g : Cell → Cell) → j ≢ i → cell_at cells i ≡ Some c → cell_at cells j ≡ Some d →
+    changed (changed cells i f) j g ≡ put_cell (put_cell cells i (f c)) j (g d)
 two_changed cells i j c d f g off here there =
     let e = cell-put-other cells i j (f c) off ∙ there in
     rw here (rw e refl)
 
-climbed_there : (cells : List Cell) (i : ℕ) (c d : Cell) → cell_at cells i ≡ Some c → cell_at cells (i + 1) ≡ Some d → climbed cells i ≡ put_cell (put_cell cells i (without_passenger c)) (i + 1) (with_new_passenger c.passenger d)
+climbed_there : (cells : List Cell) (i : ℕ) (c d : Cell) → cell_at cells i ≡ Some c → cell_at cells (i + 1) ≡ Some d →
+    climbed cells i ≡ put_cell (put_cell cells i (without_passenger c)) (i + 1) (with_new_passenger c.passenger d)
 unfolding climbed
 climbed_there cells i c d here there = rw (here, there) refl
 
-fallen_there : (cells : List Cell) (i : ℕ) (c d : Cell) → cell_at cells i ≡ Some c → cell_at cells (i - 1) ≡ Some d → fallen cells i ≡ put_cell (put_cell cells i (without_packet c)) (i - 1) (with_new_packet c.packet d)
+fallen_there : (cells : List Cell) (i : ℕ) (c d : Cell) → cell_at cells i ≡ Some c → cell_at cells (i - 1) ≡ Some d →
+    fallen cells i ≡ put_cell (put_cell cells i (without_packet c)) (i - 1) (with_new_packet c.packet d)
 unfolding fallen
 fallen_there cells i c d here there = rw (here, there) refl
 
@@ -32,7 +35,8 @@ record Climbs (cells : List Cell) (i : ℕ) : Type 0 where
   here : cell_at cells i ≡ Some from
   there : cell_at cells (i + 1) ≡ Some to
 
-climbs_as : (cells : List Cell) (i : ℕ) (o q : Option Cell) → cell_at cells i ≡ o → cell_at cells (i + 1) ≡ q → IsTrue (on o false (λ c. can_climb c q)) → Climbs cells i
+climbs_as : (cells : List Cell) (i : ℕ) (o q : Option Cell) → cell_at cells i ≡ o → cell_at cells (i + 1) ≡ q → IsTrue (on o false (λ c. can_climb c q)) →
+    Climbs cells i
 climbs_as cells i None q e f h = absurd (cc)
 climbs_as cells i (Some c) None e f h = absurd (cc)
 climbs_as cells i (Some c) (Some d) e f h = record { from = c; to = d; here = e; there = f }
@@ -56,11 +60,13 @@ climbs-rider cells i h = rider_by (cell_at cells i) (cell_at cells (i + 1)) h
     rider_by (Some c) None g = absurd (cc)
     rider_by (Some c) (Some d) g = grind arith
 
-pub climbed-is : (cells : List Cell) (i : ℕ) (p : Option Passenger) → IsTrue (climbs cells i) → p ≡ passenger_at cells i → changed (changed cells i (with_new_passenger None)) (i + 1) (with_new_passenger p) ≡ climbed cells i
+pub climbed-is : (cells : List Cell) (i : ℕ) (p : Option Passenger) → IsTrue (climbs cells i) → p ≡ passenger_at cells i →
+    changed (changed cells i (with_new_passenger None)) (i + 1) (with_new_passenger p) ≡ climbed cells i
 climbed-is cells i p h e =
     let r = climbs_from cells i h in
     let rides : p ≡ r.from.passenger = e ∙ ap (λ (o : Option Cell). on o None (λ c. c.passenger)) r.here in
-    rw rides (two_changed cells i (i + 1) r.from r.to (with_new_passenger None) (with_new_passenger r.from.passenger) (λ g. absurd (omega arith)) r.here r.there ∙ sym (climbed_there cells i r.from r.to r.here r.there))
+    rw rides (two_changed cells i (i + 1) r.from r.to (with_new_passenger None) (with_new_passenger r.from.passenger) (λ g. absurd (omega arith)) r.here r.there
+    ∙ sym (climbed_there cells i r.from r.to r.here r.there))
 
 pub ruleset climbing = (climbs-low, climbs-high, climbed-is)
 
@@ -71,7 +77,8 @@ record Falls (cells : List Cell) (i : ℕ) : Type 0 where
   here : cell_at cells i ≡ Some from
   there : cell_at cells (i - 1) ≡ Some to
 
-falls_as : (cells : List Cell) (i : ℕ) (o q : Option Cell) → cell_at cells i ≡ o → cell_at cells (i - 1) ≡ q → IsTrue (on o false (λ c. can_fall c q)) → Falls cells i
+falls_as : (cells : List Cell) (i : ℕ) (o q : Option Cell) → cell_at cells i ≡ o → cell_at cells (i - 1) ≡ q → IsTrue (on o false (λ c. can_fall c q)) →
+    Falls cells i
 falls_as cells i None q e f h = absurd (cc)
 falls_as cells i (Some c) None e f h = absurd (cc)
 falls_as cells i (Some c) (Some d) e f h = record { from = c; to = d; here = e; there = f }
@@ -95,11 +102,13 @@ falls-result cells i h = result_by (cell_at cells i) (cell_at cells (i - 1)) h
     result_by (Some c) None g = absurd (cc)
     result_by (Some c) (Some d) g = grind arith
 
-pub fallen-is : (cells : List Cell) (i : ℕ) (q : Option Packet) → IsTrue (falls cells i) → q ≡ packet_at cells i → changed (changed cells i (with_place None false)) (i - 1) (with_place q false) ≡ fallen cells i
+pub fallen-is : (cells : List Cell) (i : ℕ) (q : Option Packet) → IsTrue (falls cells i) → q ≡ packet_at cells i →
+    changed (changed cells i (with_place None false)) (i - 1) (with_place q false) ≡ fallen cells i
 fallen-is cells i q h e =
     let r = falls_from cells i h in
     let low = falls-low cells i h in
     let flies : q ≡ r.from.packet = e ∙ ap (λ (o : Option Cell). on o None (λ c. c.packet)) r.here in
-    rw flies (two_changed cells i (i - 1) r.from r.to (with_place None false) (with_place r.from.packet false) (λ g. absurd (omega arith)) r.here r.there ∙ sym (fallen_there cells i r.from r.to r.here r.there))
+    rw flies (two_changed cells i (i - 1) r.from r.to (with_place None false) (with_place r.from.packet false) (λ g. absurd (omega arith)) r.here r.there
+    ∙ sym (fallen_there cells i r.from r.to r.here r.there))
 
 pub ruleset falling = (falls-low, falls-within, fallen-is)

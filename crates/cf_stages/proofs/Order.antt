@@ -50,7 +50,8 @@ pub record BothWays (cells : List Cell) (k : ℕ) (c1 d1 : Cell) : Type 0 where
   pub up : stacked (slice_set (slice_set cells k c1) (suc k) d1) ≡ stacked cells
   pub down : stacked (slice_set (slice_set cells (suc k) d1) k c1) ≡ stacked cells
 
-pair-changed : (cells : List Cell) (k : ℕ) (c d c1 d1 : Cell) → slice_get cells k ≡ Some c → slice_get cells (suc k) ≡ Some d → SamePair c d c1 d1 → BothWays cells k c1 d1
+pair-changed : (cells : List Cell) (k : ℕ) (c d c1 d1 : Cell) → slice_get cells k ≡ Some c → slice_get cells (suc k) ≡ Some d → SamePair c d c1 d1 →
+    BothWays cells k c1 d1
 pair-changed [] k c d c1 d1 e f same = absurd (cc)
 pair-changed (x ∷ []) zero c d c1 d1 e f same = absurd (cc)
 pair-changed (x ∷ y ∷ cells) zero c d c1 d1 e f same =
@@ -67,7 +68,8 @@ climb-pair c d h = grind arith
 fall-pair : (c d : Cell) → IsTrue (can_fall d (Some c)) → SamePair c d (with_new_packet d.packet c) (without_packet d)
 fall-pair c d h = grind arith
 
-climb_step : (cells : List Cell) (i j : ℕ) (o q : Option Cell) → j ≡ suc i → cell_at cells i ≡ o → cell_at cells j ≡ q → IsTrue (on o false (λ c. can_climb c q)) →
+climb_step : (cells : List Cell) (i j : ℕ) (o q : Option Cell) → j ≡ suc i → cell_at cells i ≡ o → cell_at cells j ≡ q →
+    IsTrue (on o false (λ c. can_climb c q)) →
     stacked (on o cells (λ c. on q cells (λ d. put_cell (put_cell cells i (without_passenger c)) j (with_new_passenger c.passenger d)))) ≡ stacked cells
 climb_step cells i j None q n e f h = absurd (cc)
 climb_step cells i j (Some c) None n e f h = absurd (cc)
@@ -77,7 +79,8 @@ climb_step cells (suc k) j (Some c) (Some d) n e f h =
     let r = pair-changed cells k c d (without_passenger c) (with_new_passenger c.passenger d) e g (climb-pair c d h) in
     subst (λ (m : ℕ). stacked (put_cell (put_cell cells (suc k) (without_passenger c)) m (with_new_passenger c.passenger d)) ≡ stacked cells) (sym n) r.up
 
-fall_step : (cells : List Cell) (i j : ℕ) (o q : Option Cell) → i ≡ suc j → cell_at cells i ≡ o → cell_at cells j ≡ q → IsTrue (on o false (λ c. can_fall c q)) →
+fall_step : (cells : List Cell) (i j : ℕ) (o q : Option Cell) → i ≡ suc j → cell_at cells i ≡ o → cell_at cells j ≡ q →
+    IsTrue (on o false (λ c. can_fall c q)) →
     stacked (on o cells (λ c. on q cells (λ d. put_cell (put_cell cells i (without_packet c)) j (with_new_packet c.packet d)))) ≡ stacked cells
 fall_step cells i j None q n e f h = absurd (cc)
 fall_step cells i j (Some c) None n e f h = absurd (cc)
@@ -97,13 +100,15 @@ falls-high cells (suc k) h = omega arith
 pub contents-climbed : (cells : List Cell) (i : ℕ) → IsTrue (climbs cells i) → contents (climbed cells i) ≡ contents cells
 unfolding contents climbs climbed
 contents-climbed cells i h =
-    stacked-from 1 (climbed cells i) ∙ climb_step cells i (i + 1) (cell_at cells i) (cell_at cells (i + 1)) (omega arith) refl refl h ∙ sym (stacked-from 1 cells)
+    stacked-from 1 (climbed cells i) ∙ climb_step cells i (i + 1) (cell_at cells i) (cell_at cells (i + 1)) (omega arith) refl refl h
+    ∙ sym (stacked-from 1 cells)
 
 -- a result that moves down
 pub contents-fallen : (cells : List Cell) (i : ℕ) → IsTrue (falls cells i) → contents (fallen cells i) ≡ contents cells
 unfolding contents falls fallen
 contents-fallen cells i h =
-    stacked-from 1 (fallen cells i) ∙ fall_step cells i (i - 1) (cell_at cells i) (cell_at cells (i - 1)) (falls-high cells i h) refl refl h ∙ sym (stacked-from 1 cells)
+    stacked-from 1 (fallen cells i) ∙ fall_step cells i (i - 1) (cell_at cells i) (cell_at cells (i - 1)) (falls-high cells i h) refl refl h
+    ∙ sym (stacked-from 1 cells)
 
 pub ruleset climbing = (contents-climbed)
 

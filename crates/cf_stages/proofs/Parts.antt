@@ -15,7 +15,8 @@ use Rattle.cf_stages.proofs.Bits.{word-agrees, word-with-bit}
 use Rattle.cf_stages.proofs.Cells.{length-put}
 
 -- there are as many as in each pipe
-pub length-cells : (k : ℕ) (ps : List (Option Passenger)) (qs : List (Option Packet)) (met : ℕ) → length qs ≡ length ps → length (cells_from k ps qs met) ≡ length ps
+pub length-cells : (k : ℕ) (ps : List (Option Passenger)) (qs : List (Option Packet)) (met : ℕ) → length qs ≡ length ps →
+    length (cells_from k ps qs met) ≡ length ps
 unfolding cells_from
 length-cells k [] qs met e = refl
 length-cells k (p ∷ ps) [] met e = absurd (cc)
@@ -23,7 +24,8 @@ length-cells k (p ∷ ps) (q ∷ qs) met e = ap suc (length-cells (suc k) ps qs 
 
 -- what stands in a stage
 get_cells : (k : ℕ) (ps : List (Option Passenger)) (qs : List (Option Packet)) (met j : ℕ) (p : Option Passenger) (q : Option Packet) →
-    slice_get ps j ≡ Some p → slice_get qs j ≡ Some q → slice_get (cells_from k ps qs met) j ≡ Some (record { passenger = p; packet = q; met = has_bit met (k + j) })
+    slice_get ps j ≡ Some p → slice_get qs j ≡ Some q → slice_get (cells_from k ps qs met) j
+    ≡ Some (record { passenger = p; packet = q; met = has_bit met (k + j) })
 unfolding cells_from
 get_cells k [] qs met j p q e f = absurd (cc)
 get_cells k (x ∷ ps) [] met j p q e f = absurd (cc)
@@ -37,7 +39,8 @@ get_cells k (x ∷ ps) (y ∷ qs) met (suc j) p q e f =
     rw z (get_cells (suc k) ps qs met j p q e f)
 
 pub cell-parts : (ps : List (Option Passenger)) (qs : List (Option Packet)) (met i : ℕ) (p : Option Passenger) (q : Option Packet) → 0 < i →
-    slice_get ps (i - 1) ≡ Some p → slice_get qs (i - 1) ≡ Some q → cell_at (cells_of ps qs met) i ≡ Some (record { passenger = p; packet = q; met = has_bit met (i - 1) })
+    slice_get ps (i - 1) ≡ Some p → slice_get qs (i - 1) ≡ Some q → cell_at (cells_of ps qs met) i
+    ≡ Some (record { passenger = p; packet = q; met = has_bit met (i - 1) })
 cell-parts ps qs met zero p q low e f = absurd (omega arith)
 cell-parts ps qs met (suc j) p q low e f =
     let z : suc j - 1 ≡ j = omega arith in
@@ -61,9 +64,11 @@ same_cells k (p ∷ ps) (q ∷ qs) met other most same =
     rw (same k (omega arith) (omega arith), same_cells (suc k) ps qs met other (omega arith) (λ i below high. same i below (omega arith))) refl
 
 -- one place of each pipe gets other contents, and the words agree except there
-set_cells : (k : ℕ) (ps : List (Option Passenger)) (qs : List (Option Packet)) (met other j : ℕ) (p : Option Passenger) (q : Option Packet) → j < length ps → length qs ≡ length ps → k + length ps ≤ 32 →
+set_cells : (k : ℕ) (ps : List (Option Passenger)) (qs : List (Option Packet)) (met other j : ℕ) (p : Option Passenger) (q : Option Packet) → j < length ps →
+    length qs ≡ length ps → k + length ps ≤ 32 →
     ((i : ℕ) → i < 32 → i ≢ k + j → has_bit other i ≡ has_bit met i) →
-    cells_from k (slice_set ps j p) (slice_set qs j q) other ≡ slice_set (cells_from k ps qs met) j (record { passenger = p; packet = q; met = has_bit other (k + j) })
+    cells_from k (slice_set ps j p) (slice_set qs j q) other ≡ slice_set (cells_from k ps qs met) j
+    (record { passenger = p; packet = q; met = has_bit other (k + j) })
 unfolding cells_from
 set_cells k [] qs met other j p q within e most same = absurd (omega arith)
 set_cells k (x ∷ ps) [] met other j p q within e most same = absurd (cc)
@@ -75,9 +80,11 @@ set_cells k (x ∷ ps) (y ∷ qs) met other (suc j) p q within e most same =
     let r = set_cells (suc k) ps qs met other j p q (omega arith) (omega arith) (omega arith) (λ i below off. same i below (λ g. off (g ∙ z))) in
     rw (z, same k (omega arith) (λ g. absurd (omega arith)), r) refl
 
-pub put-parts : (ps : List (Option Passenger)) (qs : List (Option Packet)) (met other i : ℕ) (p : Option Passenger) (q : Option Packet) → 0 < i → i ≤ length ps → length qs ≡ length ps → length ps ≤ 32 →
+pub put-parts : (ps : List (Option Passenger)) (qs : List (Option Packet)) (met other i : ℕ) (p : Option Passenger) (q : Option Packet) → 0 < i →
+    i ≤ length ps → length qs ≡ length ps → length ps ≤ 32 →
     ((k : ℕ) → k < 32 → k ≢ i - 1 → has_bit other k ≡ has_bit met k) →
-    cells_of (slice_set ps (i - 1) p) (slice_set qs (i - 1) q) other ≡ put_cell (cells_of ps qs met) i (record { passenger = p; packet = q; met = has_bit other (i - 1) })
+    cells_of (slice_set ps (i - 1) p) (slice_set qs (i - 1) q) other ≡ put_cell (cells_of ps qs met) i
+    (record { passenger = p; packet = q; met = has_bit other (i - 1) })
 put-parts ps qs met other zero p q low within e most same = absurd (omega arith)
 put-parts ps qs met other (suc j) p q low within e most same =
     let z : suc j - 1 ≡ j = omega arith in
@@ -123,7 +130,8 @@ word-put test cells zero c low within few = absurd (omega arith)
 word-put test cells (suc k) c low within few =
     let z : suc k - 1 ≡ k = omega arith in
     let tests = λ (cs : List Cell) (j : ℕ). on (cell_at cs j) false test in
-    let e = word-with-bit (tests cells) (tests (put_cell cells (suc k) c)) (length cells) k few (omega arith) (λ j off. ap (λ (o : Option Cell). on o false test) (cell-put-other cells (suc k) j c off)) in
+    let e = word-with-bit (tests cells) (tests (put_cell cells (suc k) c)) (length cells) k few (omega arith)
+    (λ j off. ap (λ (o : Option Cell). on o false test) (cell-put-other cells (suc k) j c off)) in
     let n = ap (λ (n : ℕ). word_of (tests (put_cell cells (suc k) c)) n) (length-put cells (suc k) c) in
     let h = ap (λ (o : Option Cell). with_bit (word_of (tests cells) (length cells)) k (on o false test)) (cell-put cells (suc k) c low within) in
     rw z (n ∙ e ∙ h)
@@ -132,7 +140,8 @@ word-put test cells (suc k) c low within few =
 abbrev tested : (Cell → Bool) → List Cell → ℕ → Bool
 tested test cells j = on (cell_at cells j) false test
 
-same_test : (test : Cell → Bool) (cells : List Cell) (i : ℕ) (b c : Cell) → cell_at cells i ≡ Some b → test c ≡ test b → (j : ℕ) (at : Bool) → nat_eq j i ≡ at → tested test (put_cell cells i c) j ≡ tested test cells j
+same_test : (test : Cell → Bool) (cells : List Cell) (i : ℕ) (b c : Cell) → cell_at cells i ≡ Some b → test c ≡ test b → (j : ℕ) (at : Bool) → nat_eq j i ≡ at →
+    tested test (put_cell cells i c) j ≡ tested test cells j
 same_test test cells i b c here same j true e =
     let at : j ≡ i = grind (arith, nat_tests) in
     rw (at, cell-put cells i c (stage-low cells i b here) (stage-high cells i b here), here) same
@@ -140,7 +149,8 @@ same_test test cells i b c here same j false e =
     let off : j ≢ i = grind (arith, nat_tests) in
     ap (λ (o : Option Cell). on o false test) (cell-put-other cells i j c off)
 
-pub word-put-same : (test : Cell → Bool) (cells : List Cell) (i : ℕ) (b c : Cell) → cell_at cells i ≡ Some b → test c ≡ test b → word_where test (put_cell cells i c) ≡ word_where test cells
+pub word-put-same : (test : Cell → Bool) (cells : List Cell) (i : ℕ) (b c : Cell) → cell_at cells i ≡ Some b → test c ≡ test b →
+    word_where test (put_cell cells i c) ≡ word_where test cells
 word-put-same test cells i b c here same =
     ap (λ (n : ℕ). word_of (tested test (put_cell cells i c)) n) (length-put cells i c)
     ∙ word-agrees (tested test (put_cell cells i c)) (tested test cells) (length cells) (λ j low high. same_test test cells i b c here same j (nat_eq j i) refl)

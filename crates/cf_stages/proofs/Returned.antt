@@ -26,14 +26,16 @@ put-put cells (suc k) c d = set-set cells k c d
 changed_there : (cells : List Cell) (i : ℕ) (c : Cell) (f : Cell → Cell) → cell_at cells i ≡ Some c → changed cells i f ≡ put_cell cells i (f c)
 changed_there cells i c f here = rw here refl
 
-pub stage-returned : (cells : List Cell) (i : ℕ) (c : Cell) → 0 < i → i ≤ length cells → changed (changed cells i (with_new_passenger c.passenger)) i (with_place c.packet c.met) ≡ put_cell cells i c
+pub stage-returned : (cells : List Cell) (i : ℕ) (c : Cell) → 0 < i → i ≤ length cells → changed (changed cells i (with_new_passenger c.passenger)) i
+    (with_place c.packet c.met) ≡ put_cell cells i c
 stage-returned cells i c low within =
     let s = stood cells i low within in
     let first = changed_there cells i s.0 (with_new_passenger c.passenger) s.1 in
     let there = cell-put cells i (with_new_passenger c.passenger s.0) low within in
     rw first (changed_there (put_cell cells i (with_new_passenger c.passenger s.0)) i _ (with_place c.packet c.met) there ∙ put-put cells i _ c)
 
-pub passenger-returned : (cells : List Cell) (i : ℕ) (c : Cell) → 0 < i → i ≤ length cells → IsCell c → IsTrue c.met → IsSome (passenger_at (changed cells i (with_new_passenger c.passenger)) i)
+pub passenger-returned : (cells : List Cell) (i : ℕ) (c : Cell) → 0 < i → i ≤ length cells → IsCell c → IsTrue c.met →
+    IsSome (passenger_at (changed cells i (with_new_passenger c.passenger)) i)
 passenger-returned cells i c low within one met =
     let s = stood cells i low within in
     let first = changed_there cells i s.0 (with_new_passenger c.passenger) s.1 in

@@ -1,4 +1,5 @@
--- What stands in the pipes from the top down, wherever it stands. No move up or down changes it ("Counterflow Pipeline Processor Architecture", 1994: the order of instructions and results).
+-- What stands in the pipes from the top down, wherever it stands. No move up or down changes it ("Counterflow Pipeline
+-- Processor Architecture", 1994: the order of instructions and results).
 use Rattle.std.specs.Prelude.{List, map}
 use Rattle.cf_bind.specs.declared.cell.Cell.{Cell}
 use Rattle.cf_bind.specs.declared.packet.Packet.{Packet}

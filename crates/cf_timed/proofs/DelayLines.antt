@@ -11,7 +11,8 @@ use Rattle.texts.specs.Answers.{and_then}
 use Rattle.cf_timed.specs.DelayLines.{delays_in, filled, lines_told, unnamed}
 
 -- at the end of the text
-pub told_at_end : (text rest : List ℕ) (above : ℕ) (named : List (Option ℕ)) → length rest ≡ 0 → lines_told above named (text_lines rest) ≡ lines_told 0 unnamed (text_lines text) → Ok (filled named) ≡ delays_in text
+pub told_at_end : (text rest : List ℕ) (above : ℕ) (named : List (Option ℕ)) → length rest ≡ 0 →
+    lines_told above named (text_lines rest) ≡ lines_told 0 unnamed (text_lines text) → Ok (filled named) ≡ delays_in text
 unfolding delays_in
 told_at_end text rest above named none same =
     let e : Ok named ≡ lines_told 0 unnamed (text_lines text) = sym (ap (lines_told above named) (no_lines rest none)) ∙ same in
@@ -23,10 +24,12 @@ one_filled None h = (omega arith, omega arith)
 one_filled (Some n) h = h
 
 -- the delays that were told, and 1 for the other kinds
-pub filled_delays : (told : List (Option ℕ)) (ticks : List ℕ) → length told ≡ 14 → length ticks ≡ 14 → take 14 ticks ≡ map (λ t. unwrap_or t 1) (take 14 told) → All (λ t. IfSome t IsDelay) told → AreDelays ticks
+pub filled_delays : (told : List (Option ℕ)) (ticks : List ℕ) → length told ≡ 14 → length ticks ≡ 14 → take 14 ticks ≡ map (λ t. unwrap_or t 1) (take 14 told) →
+    All (λ t. IfSome t IsDelay) told → AreDelays ticks
 filled_delays told ticks size room same each =
     let e : ticks ≡ filled told = sym (take_all 14 ticks (omega (arith, room))) ∙ same ∙ ap filled (take_all 14 told (omega (arith, size))) in
     record {
       kinds = room;
-      each = All-same IsDelay ticks (filled told) e (All-map IsDelay (λ t. unwrap_or t 1) told (All-weaker (λ t. IfSome t IsDelay) (λ t. IsDelay (unwrap_or t 1)) one_filled told each));
+      each = All-same IsDelay ticks (filled told) e (All-map IsDelay (λ t. unwrap_or t 1) told
+          (All-weaker (λ t. IfSome t IsDelay) (λ t. IsDelay (unwrap_or t 1)) one_filled told each));
     }

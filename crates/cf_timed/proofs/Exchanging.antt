@@ -44,7 +44,8 @@ unfolding IsRun run
 sidings-run plan m [] h s = s
 sidings-run plan m (mv ∷ moves) h s = sidings-run plan (next plan m mv) moves h.1 (λ k. sym (((move_local plan m mv).frame h.0).sizes k) ∙ s k)
 
-empty-cells : (plans : List SidingPlan) (k : ℕ) → length (on (slice_get (map empty_siding plans) k) [] (λ ops. ops)) ≡ (unwrap_or (slice_get plans k) no_siding).cells
+empty-cells : (plans : List SidingPlan) (k : ℕ) → length (on (slice_get (map empty_siding plans) k) [] (λ ops. ops))
+    ≡ (unwrap_or (slice_get plans k) no_siding).cells
 empty-cells [] k = refl
 empty-cells (p ∷ plans) zero = size p.cells
   where
@@ -58,7 +59,9 @@ unfolding opened cells_of
 sidings-start plan x k = empty-cells plan.sidings k
 
 -- two of them at one moment
-exchanged : (plan : Plan) (m : Moment) (a b : Move) (rest : List Move) → HasSidings plan m.state → IsRun plan m (a ∷ b ∷ rest) → shares plan a b ≡ false → stands_alone plan m.state a ≡ false → stands_alone plan (next plan m a).state b ≡ false → IsRun plan m (b ∷ a ∷ rest) × (run plan m (b ∷ a ∷ rest) ≡ run plan m (a ∷ b ∷ rest))
+exchanged : (plan : Plan) (m : Moment) (a b : Move) (rest : List Move) → HasSidings plan m.state → IsRun plan m (a ∷ b ∷ rest) → shares plan a b ≡ false →
+    stands_alone plan m.state a ≡ false → stands_alone plan (next plan m a).state b ≡ false →
+    IsRun plan m (b ∷ a ∷ rest) × (run plan m (b ∷ a ∷ rest) ≡ run plan m (a ∷ b ∷ rest))
 unfolding IsRun run
 exchanged plan m a b rest sidings (free, (after, there)) apart first second =
     let i = apart_neighbours plan m a b sidings free after first second apart in
@@ -66,14 +69,17 @@ exchanged plan m a b rest sidings (free, (after, there)) apart first second =
     let s = independent_swap plan m a b i free before in
     ((before, (s.1, subst (λ (q : Moment). IsRun plan q rest) s.2 there)), ap (λ (q : Moment). run plan q rest) (sym s.2))
 
-pub can-exchange : (plan : Plan) (x : Machine) (delays : List ℕ) (front : List Move) (a b : Move) (rest : List Move) → IsRun plan (start plan x) (front ++ a ∷ b ∷ rest) → shares plan a b ≡ false → stands_alone plan (run plan (start plan x) front).state a ≡ false → stands_alone plan (run plan (start plan x) (front ++ a ∷ [])).state b ≡ false → CanExchange plan (start plan x) delays front a b rest
+pub can-exchange : (plan : Plan) (x : Machine) (delays : List ℕ) (front : List Move) (a b : Move) (rest : List Move) →
+    IsRun plan (start plan x) (front ++ a ∷ b ∷ rest) → shares plan a b ≡ false → stands_alone plan (run plan (start plan x) front).state a ≡ false →
+    stands_alone plan (run plan (start plan x) (front ++ a ∷ [])).state b ≡ false → CanExchange plan (start plan x) delays front a b rest
 unfolding run
 can-exchange plan x delays front a b rest h apart first second =
     let m : Moment = start plan x in
     let at : Moment = run plan m front in
     let begun = allowed-front plan m front (a ∷ b ∷ rest) h in
     let there = allowed-rest plan m front (a ∷ b ∷ rest) h in
-    let alone : stands_alone plan (next plan at a).state b ≡ false = subst (λ (q : Moment). stands_alone plan q.state b ≡ false) (run-after plan m front (a ∷ [])) second in
+    let alone : stands_alone plan (next plan at a).state b ≡ false = subst (λ (q : Moment). stands_alone plan q.state b ≡ false)
+    (run-after plan m front (a ∷ [])) second in
     let e = exchanged plan at a b rest (sidings-run plan m front begun (sidings-start plan x)) there apart first alone in
     record {
       allowed = allowed-both plan m front (b ∷ a ∷ rest) begun e.0;

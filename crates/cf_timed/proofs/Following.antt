@@ -57,7 +57,8 @@ map_same f g (x ∷ xs) kept same =
     rw (h, r) refl
 
 -- when a further move is done
-pub finish_follows : (plan : Plan) (delays : List ℕ) (moves : List Done) (c : SiteTimes) (mv : Move) → Follows plan delays moves c → AreKept plan mv → finish c mv ≡ time_after plan delays moves mv
+pub finish_follows : (plan : Plan) (delays : List ℕ) (moves : List Done) (c : SiteTimes) (mv : Move) → Follows plan delays moves c → AreKept plan mv →
+    finish c mv ≡ time_after plan delays moves mv
 unfolding finish time_after shares
 finish_follows plan delays moves c mv h kept =
     let p = h.plan_is in
@@ -72,26 +73,31 @@ number_put [] i j t within = absurd (omega arith)
 number_put (x ∷ xs) zero zero t within = refl
 number_put (x ∷ xs) zero (suc j) t within = let e : nat_eq (suc j) 0 ≡ false = grind (arith, nat_tests) in rw e refl
 number_put (x ∷ xs) (suc i) zero t within = let e : nat_eq 0 (suc i) ≡ false = grind (arith, nat_tests) in rw e refl
-number_put (x ∷ xs) (suc i) (suc j) t within = let e : nat_eq (suc j) (suc i) ≡ nat_eq j i = grind (arith, nat_tests) in rw e (number_put xs i j t (omega arith))
+number_put (x ∷ xs) (suc i) (suc j) t within = let e : nat_eq (suc j) (suc i) ≡ nat_eq j i = grind (arith, nat_tests) in
+    rw e (number_put xs i j t (omega arith))
 
 row_put : (rows : List (List ℕ)) (k m : ℕ) (row : List ℕ) → k < length rows → row_at (slice_set rows k row) m ≡ cond (nat_eq m k) row (row_at rows m)
 row_put [] k m row within = absurd (omega arith)
 row_put (r ∷ rows) zero zero row within = refl
 row_put (r ∷ rows) zero (suc m) row within = let e : nat_eq (suc m) 0 ≡ false = grind (arith, nat_tests) in rw e refl
 row_put (r ∷ rows) (suc k) zero row within = let e : nat_eq 0 (suc k) ≡ false = grind (arith, nat_tests) in rw e refl
-row_put (r ∷ rows) (suc k) (suc m) row within = let e : nat_eq (suc m) (suc k) ≡ nat_eq m k = grind (arith, nat_tests) in rw e (row_put rows k m row (omega arith))
+row_put (r ∷ rows) (suc k) (suc m) row within = let e : nat_eq (suc m) (suc k) ≡ nat_eq m k = grind (arith, nat_tests) in
+    rw e (row_put rows k m row (omega arith))
 
-cell_put : (rows : List (List ℕ)) (k i m j t : ℕ) → k < length rows → i < length (row_at rows k) → number_at (row_at (slice_set rows k (slice_set (row_at rows k) i t)) m) j ≡ cond (nat_eq m k && nat_eq j i) t (number_at (row_at rows m) j)
+cell_put : (rows : List (List ℕ)) (k i m j t : ℕ) → k < length rows → i < length (row_at rows k) →
+    number_at (row_at (slice_set rows k (slice_set (row_at rows k) i t)) m) j ≡ cond (nat_eq m k && nat_eq j i) t (number_at (row_at rows m) j)
 cell_put rows k i m j t within inside = ap (λ (row : List ℕ). number_at row j) (row_put rows k m (slice_set (row_at rows k) i t) within) ∙ by (nat_eq m k) refl
   where
-    by : (same : Bool) → nat_eq m k ≡ same → number_at (cond same (slice_set (row_at rows k) i t) (row_at rows m)) j ≡ cond (same && nat_eq j i) t (number_at (row_at rows m) j)
+    by : (same : Bool) → nat_eq m k ≡ same → number_at (cond same (slice_set (row_at rows k) i t) (row_at rows m)) j
+        ≡ cond (same && nat_eq j i) t (number_at (row_at rows m) j)
     by true e = let q : m ≡ k = grind (arith, nat_tests) in rw q (number_put (row_at rows k) i j t inside)
     by false e = refl
 
 -- the time of a place after one was put
 pub time_put : (c : SiteTimes) (t : ℕ) (y x : Site) → HasRoom c → IsKept y → IsKept x → time_at (put_time c t y) x ≡ cond (same_site x y) t (time_at c x)
 time_put c t (Stage i) (Stage j) room ky kx = number_put c.stages i j t (omega (arith, room.stages, ky))
-time_put c t (SidingCell k i) (SidingCell m j) room ky kx = cell_put c.cells k i m j t (omega (arith, room.sidings, ky.0)) (omega (arith, room.cells k ky.0, ky.1))
+time_put c t (SidingCell k i) (SidingCell m j) room ky kx = cell_put c.cells k i m j t (omega (arith, room.sidings, ky.0))
+    (omega (arith, room.cells k ky.0, ky.1))
 time_put c t (Stage i) (SidingCell m j) room ky kx = refl
 time_put c t (Stage i) Lane room ky kx = refl
 time_put c t (Stage i) Fetching room ky kx = refl
@@ -136,7 +142,8 @@ room_put c t (Stage i) room kept = record { stages = size c.stages i t ∙ room.
     size [] i t = refl
     size (x ∷ xs) zero t = refl
     size (x ∷ xs) (suc i) t = ap suc (size xs i t)
-room_put c t (SidingCell k i) room kept = record { stages = room.stages; sidings = sizes c.cells k (slice_set (row_at c.cells k) i t) ∙ room.sidings; cells = cells }
+room_put c t (SidingCell k i) room kept =
+    record { stages = room.stages; sidings = sizes c.cells k (slice_set (row_at c.cells k) i t) ∙ room.sidings; cells = cells }
   where
     size : (xs : List ℕ) (i t : ℕ) → length (slice_set xs i t) ≡ length xs
     size [] i t = refl
@@ -161,7 +168,8 @@ room_put c t Code room kept = record { stages = room.stages; sidings = room.sidi
 room_put c t _ room kept = absurd (search kept)
 
 -- what is put at each of some places
-pub times_put : (c : SiteTimes) (t : ℕ) (ys : List Site) (x : Site) → HasRoom c → AllByRecursion IsKept ys → IsKept x → time_at (put_times c t ys) x ≡ cond (among x ys) t (time_at c x)
+pub times_put : (c : SiteTimes) (t : ℕ) (ys : List Site) (x : Site) → HasRoom c → AllByRecursion IsKept ys → IsKept x →
+    time_at (put_times c t ys) x ≡ cond (among x ys) t (time_at c x)
 times_put c t [] x room kept here = refl
 times_put c t (y ∷ ys) x room kept here =
     times_put (put_time c t y) t ys x (room_put c t y room kept.0) kept.1 here
@@ -188,7 +196,9 @@ reaches f x (y ∷ ys) e = by (same_site x y) refl (reaches f x ys)
     by false s rest = let r = rest (rw s at e) in omega (arith, r)
 
 -- the time of a place after one more move
-place_more : (plan : Plan) (moves : List Done) (c : SiteTimes) (mv : Move) (t : ℕ) (x : Site) → HasRoom c → AreKept plan mv → IsKept x → time_at c x ≡ last_at plan moves x → (uses_place plan mv x ≡ true → last_at plan moves x ≤ t) → time_at (put_times (allowed c t) t (used plan mv)) x ≡ last_at plan (done_at mv t ∷ moves) x
+place_more : (plan : Plan) (moves : List Done) (c : SiteTimes) (mv : Move) (t : ℕ) (x : Site) → HasRoom c → AreKept plan mv → IsKept x →
+    time_at c x ≡ last_at plan moves x → (uses_place plan mv x ≡ true → last_at plan moves x ≤ t) →
+    time_at (put_times (allowed c t) t (used plan mv)) x ≡ last_at plan (done_at mv t ∷ moves) x
 unfolding uses_place
 place_more plan moves c mv t x room kept here before_is late =
     times_put (allowed c t) t (used plan mv) x (record { stages = room.stages; sidings = room.sidings; cells = room.cells }) kept here
@@ -206,7 +216,8 @@ unfolding greatest_time
 latest_more moves mv t = omega arith
 
 -- no place that a move uses has a later time than the move
-pub no_later : (plan : Plan) (delays : List ℕ) (moves : List Done) (mv : Move) (x : Site) → uses_place plan mv x ≡ true → last_at plan moves x ≤ time_after plan delays moves mv
+pub no_later : (plan : Plan) (delays : List ℕ) (moves : List Done) (mv : Move) (x : Site) → uses_place plan mv x ≡ true →
+    last_at plan moves x ≤ time_after plan delays moves mv
 unfolding time_after shares uses_place
 no_later plan delays moves mv x e =
     let r = reaches (last_at plan moves) x (used plan mv) e in
@@ -214,7 +225,8 @@ no_later plan delays moves mv x e =
     omega (arith, r, a)
 
 -- a clock that is told one more move
-pub follows_more : (plan : Plan) (delays : List ℕ) (moves : List Done) (c : SiteTimes) (mv : Move) → Follows plan delays moves c → AreKept plan mv → Follows plan delays (done_after plan delays moves mv ∷ moves) (stamped c mv (time_after plan delays moves mv))
+pub follows_more : (plan : Plan) (delays : List ℕ) (moves : List Done) (c : SiteTimes) (mv : Move) → Follows plan delays moves c → AreKept plan mv →
+    Follows plan delays (done_after plan delays moves mv ∷ moves) (stamped c mv (time_after plan delays moves mv))
 follows_more plan delays moves c mv h kept =
     let t : ℕ = time_after plan delays moves mv in
     subst (λ (l : Plan). Follows plan delays (done_after plan delays moves mv ∷ moves) (put_times (allowed c t) t (used l mv))) (sym h.plan_is) (record {
@@ -266,7 +278,8 @@ pub moves_kept : (plan : Plan) (mv : Move) → IsAccepted plan → HasSites plan
 moves_kept plan mv a there = all_kept plan (used plan mv) a (used_ones plan mv) there
 
 -- so it tells when a further move is done
-pub follows_tells : (plan : Plan) (delays : List ℕ) (moves : List Done) (c : SiteTimes) → IsAccepted plan → Follows plan delays moves c → ClockKnows plan delays moves c
+pub follows_tells : (plan : Plan) (delays : List ℕ) (moves : List Done) (c : SiteTimes) → IsAccepted plan → Follows plan delays moves c →
+    ClockKnows plan delays moves c
 follows_tells plan delays moves c a h = record {
   plan_is = h.plan_is;
   delays_are = h.delays_are;
@@ -275,15 +288,19 @@ follows_tells plan delays moves c a h = record {
 }
 
 -- and so does a clock that is told the moves of a run
-pub follows_all : (plan : Plan) (delays : List ℕ) (earlier : List Done) (c : SiteTimes) (moves : List Move) → IsAccepted plan → AllByRecursion (HasSites plan) moves → Follows plan delays earlier c → Follows plan delays (times_after plan delays earlier moves) (made_all c moves)
+pub follows_all : (plan : Plan) (delays : List ℕ) (earlier : List Done) (c : SiteTimes) (moves : List Move) → IsAccepted plan →
+    AllByRecursion (HasSites plan) moves → Follows plan delays earlier c → Follows plan delays (times_after plan delays earlier moves) (made_all c moves)
 unfolding made
 follows_all plan delays earlier c [] a there h = h
 follows_all plan delays earlier c (mv ∷ moves) a there h =
     let kept = moves_kept plan mv a there.0 in
     let e = finish_follows plan delays earlier c mv h kept in
-    let next : Follows plan delays (done_after plan delays earlier mv ∷ earlier) (stamped c mv (finish c mv)) = rw e (follows_more plan delays earlier c mv h kept) in
+    let next : Follows plan delays (done_after plan delays earlier mv ∷ earlier) (stamped c mv (finish c mv)) =
+    rw e (follows_more plan delays earlier c mv h kept) in
     follows_all plan delays (done_after plan delays earlier mv ∷ earlier) (stamped c mv (finish c mv)) moves a there.1 next
 
-pub run_told : (plan : Plan) (delays : List ℕ) (moves : List Move) → IsAccepted plan → AllByRecursion (HasSites plan) moves → ClockKnows plan delays (times plan delays moves) (made_all (started plan delays) moves)
+pub run_told : (plan : Plan) (delays : List ℕ) (moves : List Move) → IsAccepted plan → AllByRecursion (HasSites plan) moves →
+    ClockKnows plan delays (times plan delays moves) (made_all (started plan delays) moves)
 unfolding times
-run_told plan delays moves a there = follows_tells plan delays (times_after plan delays [] moves) (made_all (started plan delays) moves) a (follows_all plan delays [] (started plan delays) moves a there (follows_start plan delays))
+run_told plan delays moves a there = follows_tells plan delays (times_after plan delays [] moves) (made_all (started plan delays) moves) a
+    (follows_all plan delays [] (started plan delays) moves a there (follows_start plan delays))

@@ -9,7 +9,8 @@ abbrev pub greatest_where : (Done → Bool) → List Done → ℕ
 greatest_where test moves = greatest_time (filter test moves)
 
 -- one more move
-pub where_more : (test : Done → Bool) (done : Done) (moves : List Done) → greatest_where test (done ∷ moves) ≡ max (cond (test done) done.time 0) (greatest_where test moves)
+pub where_more : (test : Done → Bool) (done : Done) (moves : List Done) → greatest_where test (done ∷ moves)
+    ≡ max (cond (test done) done.time 0) (greatest_where test moves)
 unfolding greatest_time
 where_more test done moves = by (test done)
   where
@@ -27,7 +28,8 @@ where_never [] = where_none (λ done. false)
 where_never (done ∷ moves) = let r = where_never moves in where_more (λ d. false) done moves ∙ omega (arith, r)
 
 -- one test or another
-pub where_either : (p q : Done → Bool) (moves : List Done) → greatest_where (λ done. p done || q done) moves ≡ max (greatest_where p moves) (greatest_where q moves)
+pub where_either : (p q : Done → Bool) (moves : List Done) → greatest_where (λ done. p done || q done) moves
+    ≡ max (greatest_where p moves) (greatest_where q moves)
 where_either p q [] = let a = where_none (λ done. p done || q done) in let b = where_none p in let c = where_none q in omega (arith, a, b, c)
 where_either p q (done ∷ moves) =
     let r = where_either p q moves in
@@ -44,7 +46,8 @@ where_either p q (done ∷ moves) =
     one false false t = refl
 
 -- the tests of a list, one after the other
-pub where_any : {X : Type 0} (test : X → Done → Bool) (xs : List X) (moves : List Done) → greatest (map (λ x. greatest_where (test x) moves) xs) ≡ greatest_where (λ done. list_any (λ x. test x done) xs) moves
+pub where_any : {X : Type 0} (test : X → Done → Bool) (xs : List X) (moves : List Done) → greatest (map (λ x. greatest_where (test x) moves) xs)
+    ≡ greatest_where (λ done. list_any (λ x. test x done) xs) moves
 where_any test [] moves = sym (where_never moves)
 where_any {X} test (x ∷ xs) moves =
     ap (λ (n : ℕ). max (greatest_where (test x) moves) n) (where_any test xs moves)

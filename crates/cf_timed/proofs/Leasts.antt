@@ -30,10 +30,12 @@ least-of_all time moves place least d h =
         list_all_at (λ other. nat_le (time (get_or moves k d)) (time other)) moves place d w (grind (arith, nat_tests, f, i))
 
     here : list_all (λ other. nat_le (time (get_or moves place d)) (time other)) moves ≡ true
-    here = list_all-from_AllPass (λ other. nat_le (time (get_or moves place d)) (time other)) moves (λ k e below. let m = h.most k e below in let i = h.is d in grind (arith, nat_tests, m, i))
+    here = list_all-from_AllPass (λ other. nat_le (time (get_or moves place d)) (time other)) moves (λ k e below. let m = h.most k e below in let i = h.is d in
+        grind (arith, nat_tests, m, i))
 
 -- after a move that is later it is still the least
-after_one : (time : Move → ℕ) (x : Move) (moves : List Move) (place least : ℕ) → least < time x → IsLeast time moves place least → IsLeast time (x ∷ moves) (suc place) least
+after_one : (time : Move → ℕ) (x : Move) (moves : List Move) (place least : ℕ) → least < time x → IsLeast time moves place least →
+    IsLeast time (x ∷ moves) (suc place) least
 after_one time x moves place least later h = record {
   within = let w = h.within in omega (arith, w);
   is = h.is;
@@ -50,7 +52,8 @@ after_one time x moves place least later h = record {
     first (suc k) d before = h.first k d (omega arith)
 
 -- and after some that are later
-pub least-after : (time : Move → ℕ) (front moves : List Move) (place least : ℕ) → ((k : ℕ) (d : Move) → k < length front → least < time (get_or front k d)) → IsLeast time moves place least →
+pub least-after : (time : Move → ℕ) (front moves : List Move) (place least : ℕ) → ((k : ℕ) (d : Move) → k < length front → least < time (get_or front k d)) →
+    IsLeast time moves place least →
     IsLeast time (front ++ moves) (length front + place) least
 least-after time [] moves place least later h = let z : 0 + place ≡ place = omega arith in rw z h
 least-after time (x ∷ front) moves place least later h =
@@ -59,7 +62,8 @@ least-after time (x ∷ front) moves place least later h =
     rw e (after_one time x (front ++ moves) (length front + place) least (later 0 x (omega arith)) r)
 
 -- the first of some moves of one time, where the moves after them are no sooner
-pub least-front : (time : Move → ℕ) (front moves : List Move) (least : ℕ) → 0 < length front → ((k : ℕ) (d : Move) → k < length front → time (get_or front k d) ≡ least) → ((k : ℕ) (d : Move) → k < length moves → least ≤ time (get_or moves k d)) →
+pub least-front : (time : Move → ℕ) (front moves : List Move) (least : ℕ) → 0 < length front →
+    ((k : ℕ) (d : Move) → k < length front → time (get_or front k d) ≡ least) → ((k : ℕ) (d : Move) → k < length moves → least ≤ time (get_or moves k d)) →
     IsLeast time (front ++ moves) 0 least
 least-front time [] moves least some same later = absurd (omega arith)
 least-front time (x ∷ front) moves least some same later = record {
@@ -69,7 +73,8 @@ least-front time (x ∷ front) moves least some same later = record {
   first = λ k d before. absurd (omega arith);
 }
   where
-    all : (xs : List Move) → ((k : ℕ) (d : Move) → k < length xs → time (get_or xs k d) ≡ least) → (k : ℕ) (d : Move) → k < length (xs ++ moves) → least ≤ time (get_or (xs ++ moves) k d)
+    all : (xs : List Move) → ((k : ℕ) (d : Move) → k < length xs → time (get_or xs k d) ≡ least) → (k : ℕ) (d : Move) → k < length (xs ++ moves) →
+        least ≤ time (get_or (xs ++ moves) k d)
     all [] same k d below = later k d below
     all (x ∷ xs) same zero d below = let e = same 0 d (omega arith) in omega (arith, e)
     all (x ∷ xs) same (suc k) d below = all xs (λ j e low. same (suc j) e (omega arith)) k d (omega arith)
@@ -84,7 +89,8 @@ position_same p q [] same = refl
 position_same p q (mv ∷ moves) same = let h = same.0 in let r = position_same p q moves same.1 in rw (h, r) refl
 
 -- what each of some moves passes by what all of them do
-each_same : (f g : Move → ℕ) (all moves : List Move) → AllByRecursion (λ mv. f mv ≡ g mv) all → AllByRecursion (λ mv. f mv ≡ g mv) moves → AllByRecursion (λ mv. list_all (λ other. nat_le (f mv) (f other)) all ≡ list_all (λ other. nat_le (g mv) (g other)) all) moves
+each_same : (f g : Move → ℕ) (all moves : List Move) → AllByRecursion (λ mv. f mv ≡ g mv) all → AllByRecursion (λ mv. f mv ≡ g mv) moves →
+    AllByRecursion (λ mv. list_all (λ other. nat_le (f mv) (f other)) all ≡ list_all (λ other. nat_le (g mv) (g other)) all) moves
 each_same f g all [] same here = tt
 each_same f g all (mv ∷ moves) same here = (one, each_same f g all moves same here.1)
   where
@@ -98,4 +104,5 @@ each_same f g all (mv ∷ moves) same here = (one, each_same f g all moves same 
 -- two times that agree on the moves have the same first of the least
 pub least-same : (f g : Move → ℕ) (moves : List Move) → AllByRecursion (λ mv. f mv ≡ g mv) moves → first_least f moves ≡ first_least g moves
 unfolding first_least
-least-same f g moves same = position_same (λ mv. list_all (λ other. nat_le (f mv) (f other)) moves) (λ mv. list_all (λ other. nat_le (g mv) (g other)) moves) moves (each_same f g moves moves same same)
+least-same f g moves same = position_same (λ mv. list_all (λ other. nat_le (f mv) (f other)) moves)
+    (λ mv. list_all (λ other. nat_le (g mv) (g other)) moves) moves (each_same f g moves moves same same)

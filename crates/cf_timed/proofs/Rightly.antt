@@ -36,7 +36,8 @@ use Rattle.cf_timed.proofs.Room.{offered_kept}
 use Rattle.cf_timed.proofs.Simulated.{Ahead, picks-same, simulated}
 
 -- no more instructions than the limit retire in a run
-leads-within : (plan : Plan) (limit : ℕ) (told_is : Option (List ℕ)) (m : Moment) (trace : List Made) (last : Moment) → Leads plan limit told_is m trace last → m.state.retired ≤ limit → last.state.retired ≤ limit
+leads-within : (plan : Plan) (limit : ℕ) (told_is : Option (List ℕ)) (m : Moment) (trace : List Made) (last : Moment) → Leads plan limit told_is m trace last →
+    m.state.retired ≤ limit → last.state.retired ≤ limit
 unfolding Leads
 leads-within plan limit told_is m [] last leads within = subst (λ (q : Moment). q.state.retired ≤ limit) (sym leads) within
 leads-within plan limit told_is m (made ∷ trace) last (rest, finds, is, leads) within =
@@ -44,13 +45,17 @@ leads-within plan limit told_is m (made ∷ trace) last (rest, finds, is, leads)
     let b = is.below in
     leads-within plan limit told_is (next plan (record m { rest = rest }) made.move) trace last leads (omega (arith, r, b))
 
-reached-within : (limit : ℕ) (begin now : RunPlace) → (h : Reaches limit show.Report begin now) → begin.core.state.retired ≤ limit → now.core.state.retired ≤ limit
+reached-within : (limit : ℕ) (begin now : RunPlace) → (h : Reaches limit show.Report begin now) → begin.core.state.retired ≤ limit →
+    now.core.state.retired ≤ limit
 reached-within limit begin now h within =
     let l = leads-within begin.core.plan limit begin.streams.input (moment_of begin.core h.rest) h.trace h.last h.leads within in
     subst (λ (p : Processor). p.state.retired ≤ limit) (sym h.core) l
 
 -- so few moves are made that no time is beyond 64 bits
-pub moves-few : (limit : ℕ) (begin now : RunPlace) (first : PendingMove) (at : Chooser PendingMove) → IsAccepted begin.core.plan → length begin.core.state.regs ≡ 32 → IsOpened begin.core → limit ≤ most_limit → begin.core.state.retired ≤ limit → (h : Reaches limit show.Report begin now) → Picks pending_pick after_pick begin.core.plan (fresh first) begin.core.state h.trace at → 1000 * (length h.trace + 1) < 2 ^ 64
+pub moves-few : (limit : ℕ) (begin now : RunPlace) (first : PendingMove) (at : Chooser PendingMove) → IsAccepted begin.core.plan →
+    length begin.core.state.regs ≡ 32 → IsOpened begin.core → limit ≤ most_limit → begin.core.state.retired ≤ limit →
+    (h : Reaches limit show.Report begin now) → Picks pending_pick after_pick begin.core.plan (fresh first) begin.core.state h.trace at →
+    1000 * (length h.trace + 1) < 2 ^ 64
 unfolding tally_of
 moves-few limit begin now first at acc wide o few within h picks =
     let b = reached-bounded pending_pick after_pick limit show.Report begin now first at acc wide o h picks in
@@ -66,7 +71,8 @@ unfolding told greatest_time
 ahead-start n plan delays small = record { follows = follows_start plan delays; early = omega (arith, small) }
 
 -- where the run stops
-record Stopped (plan : Plan) (delays : List ℕ) (limit : ℕ) (now new : RunPlace) (at : Chooser PendingMove) (to : Chooser (List Done)) (later : PendingMove) (answer : Answer) (stops : StopsPolicy pending_pick after_pick limit show.Report at now new later answer) : Type 0 where
+record Stopped (plan : Plan) (delays : List ℕ) (limit : ℕ) (now new : RunPlace) (at : Chooser PendingMove) (to : Chooser (List Done)) (later : PendingMove)
+    (answer : Answer) (stops : StopsPolicy pending_pick after_pick limit show.Report at now new later answer) : Type 0 where
   picked : List Done
   stops_so : StopsPolicy (earliest plan delays) (after_earliest plan delays) limit show.Report to now new picked answer
   none : made_last pending_pick after_pick limit show.Report at now new later answer stops ≡ []
@@ -74,15 +80,21 @@ record Stopped (plan : Plan) (delays : List ℕ) (limit : ℕ) (now new : RunPla
   clock_is : clock_after later answer ≡ told at.policy
 
 -- the move that is picked last
-chosen-so : (plan beside : Plan) (delays : List ℕ) (s : State) (at : Chooser PendingMove) (to : Chooser (List Done)) (mv : Move) → beside ≡ plan → IsAccepted plan → AreDelays delays → at.count ≡ to.count → Ahead 1 plan delays at.policy to.policy → choice pending_pick beside at s ≡ Some mv → choice (earliest plan delays) beside to s ≡ Some mv
+chosen-so : (plan beside : Plan) (delays : List ℕ) (s : State) (at : Chooser PendingMove) (to : Chooser (List Done)) (mv : Move) → beside ≡ plan →
+    IsAccepted plan → AreDelays delays → at.count ≡ to.count → Ahead 1 plan delays at.policy to.policy → choice pending_pick beside at s ≡ Some mv →
+    choice (earliest plan delays) beside to s ≡ Some mv
 chosen-so plan beside delays s at to mv e acc few count ahead pick =
     let there : choice pending_pick plan at s ≡ Some mv = subst (λ (l : Plan). choice pending_pick l at s ≡ Some mv) e pick in
     let same = picks-same 0 plan delays at.policy to.policy (offered plan at.count s) few ahead (offered_kept plan at.count s acc) in
     let here : choice (earliest plan delays) plan to s ≡ Some mv =
-    subst (λ (k : ℕ). slice_get (offered plan k s) (earliest plan delays to.policy (offered plan k s)) ≡ Some mv) count (sym (ap (slice_get (offered plan at.count s)) same) ∙ there) in
+    subst (λ (k : ℕ). slice_get (offered plan k s) (earliest plan delays to.policy (offered plan k s)) ≡ Some mv) count
+    (sym (ap (slice_get (offered plan at.count s)) same) ∙ there) in
     subst (λ (l : Plan). choice (earliest plan delays) l to s ≡ Some mv) (sym e) here
 
-fault-so : (plan : Plan) (delays : List ℕ) (limit : ℕ) (now new : RunPlace) (at : Chooser PendingMove) (to : Chooser (List Done)) (later : PendingMove) (answer : Answer) → now.core.plan ≡ plan → IsAccepted plan → AreDelays delays → at.count ≡ to.count → Ahead 1 plan delays at.policy to.policy → StopsAtPick pending_pick after_pick limit show.Report at now new later answer → StopsAtPick (earliest plan delays) (after_earliest plan delays) limit show.Report to now new (after_earliest plan delays to.policy (offered_to now.core.plan to now.core.state)) answer
+fault-so : (plan : Plan) (delays : List ℕ) (limit : ℕ) (now new : RunPlace) (at : Chooser PendingMove) (to : Chooser (List Done)) (later : PendingMove)
+    (answer : Answer) → now.core.plan ≡ plan → IsAccepted plan → AreDelays delays → at.count ≡ to.count → Ahead 1 plan delays at.policy to.policy →
+    StopsAtPick pending_pick after_pick limit show.Report at now new later answer → StopsAtPick (earliest plan delays)
+    (after_earliest plan delays) limit show.Report to now new (after_earliest plan delays to.policy (offered_to now.core.plan to now.core.state)) answer
 fault-so plan delays limit now new at to later answer e acc few count ahead h = record {
   goes = h.goes;
   move = h.move;
@@ -95,7 +107,10 @@ after-clock : (p : PendingMove) (moves : List Move) (later : PendingMove) → la
 unfolding after_pick
 after-clock p moves later e = ap (λ (q : PendingMove). q.clock) e
 
-stopped : (plan : Plan) (delays : List ℕ) (limit : ℕ) (now new : RunPlace) (at : Chooser PendingMove) (to : Chooser (List Done)) (later : PendingMove) (answer : Answer) → now.core.plan ≡ plan → IsAccepted plan → AreDelays delays → at.count ≡ to.count → Ahead 1 plan delays at.policy to.policy → answer ≢ ran.ReportFault → (stops : StopsPolicy pending_pick after_pick limit show.Report at now new later answer) → Stopped plan delays limit now new at to later answer stops
+stopped : (plan : Plan) (delays : List ℕ) (limit : ℕ) (now new : RunPlace) (at : Chooser PendingMove) (to : Chooser (List Done)) (later : PendingMove)
+    (answer : Answer) → now.core.plan ≡ plan → IsAccepted plan → AreDelays delays → at.count ≡ to.count → Ahead 1 plan delays at.policy to.policy →
+    answer ≢ ran.ReportFault → (stops : StopsPolicy pending_pick after_pick limit show.Report at now new later answer) →
+    Stopped plan delays limit now new at to later answer stops
 unfolding clock_after
 stopped plan delays limit now new at to later (ran.Exit status) e acc few count ahead none stops =
     record { picked = to.policy; stops_so = (stops.0, stops.1, refl); none = refl; none_so = refl; clock_is = ap told stops.2 }
@@ -104,9 +119,25 @@ stopped plan delays limit now new at to later (ran.Trap cause pc detail) e acc f
 stopped plan delays limit now new at to later ran.Limit e acc few count ahead none stops =
     record { picked = to.policy; stops_so = (stops.0, stops.1, refl); none = refl; none_so = refl; clock_is = ap told stops.2 }
 stopped plan delays limit now new at to later ran.ReadFault e acc few count ahead none stops =
-    record { picked = after_earliest plan delays to.policy (offered_to now.core.plan to now.core.state); stops_so = fault-so plan delays limit now new at to later ran.ReadFault e acc few count ahead stops; none = refl; none_so = refl; clock_is = after-clock at.policy (offered_to now.core.plan at now.core.state) later stops.later_is }
+    record {
+      picked = after_earliest plan delays to.policy (offered_to now.core.plan to now.core.state);
+      stops_so =
+          fault-so plan delays limit now new at to later ran.ReadFault e acc few count ahead stops;
+      none = refl;
+      none_so = refl;
+      clock_is =
+          after-clock at.policy (offered_to now.core.plan at now.core.state) later stops.later_is;
+    }
 stopped plan delays limit now new at to later ran.WriteFault e acc few count ahead none stops =
-    record { picked = after_earliest plan delays to.policy (offered_to now.core.plan to now.core.state); stops_so = fault-so plan delays limit now new at to later ran.WriteFault e acc few count ahead stops; none = refl; none_so = refl; clock_is = after-clock at.policy (offered_to now.core.plan at now.core.state) later stops.later_is }
+    record {
+      picked = after_earliest plan delays to.policy (offered_to now.core.plan to now.core.state);
+      stops_so =
+          fault-so plan delays limit now new at to later ran.WriteFault e acc few count ahead stops;
+      none = refl;
+      none_so = refl;
+      clock_is =
+          after-clock at.policy (offered_to now.core.plan at now.core.state) later stops.later_is;
+    }
 stopped plan delays limit now new at to later ran.ReportFault e acc few count ahead none stops = absurd (none refl)
 
 -- the run is a run of the policy by times, the clock was told its moves, and this holds of them
@@ -116,18 +147,25 @@ pub record IsTimed (Holds : List Move → Type 0) (delays : List ℕ) (limit : �
   pub told_is : ClockKnows begin.core.plan delays (times begin.core.plan delays right.moves) clock
   pub holds : Holds right.moves
 
-pub is-timed : (Holds : List Move → Type 0) (delays : List ℕ) (limit : ℕ) (begin new : RunPlace) (later : PendingMove) (answer : Answer) → IsAccepted begin.core.plan → length begin.core.state.regs ≡ 32 → IsOpened begin.core → AreDelays delays → limit ≤ most_limit → begin.core.state.retired ≤ limit → answer ≢ ran.ReportFault → (r : RunsRight pending_pick after_pick limit show.Report begin new (record { clock = started begin.core.plan delays; last = None }) later answer) → Holds r.moves → IsTimed Holds delays limit begin new answer (clock_after later answer)
+pub is-timed : (Holds : List Move → Type 0) (delays : List ℕ) (limit : ℕ) (begin new : RunPlace) (later : PendingMove) (answer : Answer) →
+    IsAccepted begin.core.plan → length begin.core.state.regs ≡ 32 → IsOpened begin.core → AreDelays delays → limit ≤ most_limit →
+    begin.core.state.retired ≤ limit → answer ≢ ran.ReportFault → (r : RunsRight pending_pick after_pick limit show.Report begin new
+    (record { clock = started begin.core.plan delays; last = None }) later answer) → Holds r.moves →
+    IsTimed Holds delays limit begin new answer (clock_after later answer)
 unfolding times
 is-timed Holds delays limit begin new later answer acc wide o few small within none r holds =
     let plan : Plan = begin.core.plan in
     let runs = r.runs in
     let first : PendingMove = record { clock = started plan delays; last = None } in
     let count = moves-few limit begin runs.now first runs.at acc wide o small within runs.reaches runs.picks in
-    let s = simulated 1 plan delays (fresh first) (fresh []) begin.core.state runs.reaches.trace runs.at acc few refl (ahead-start (length runs.reaches.trace + 1) plan delays count) runs.picks in
+    let s = simulated 1 plan delays (fresh first) (fresh []) begin.core.state runs.reaches.trace runs.at acc few refl
+    (ahead-start (length runs.reaches.trace + 1) plan delays count) runs.picks in
     let e : runs.now.core.plan ≡ plan = ap (λ (p : Processor). p.plan) runs.reaches.core in
     let t = stopped plan delays limit runs.now new runs.at s.later later answer e acc few s.count_is s.ahead none runs.stops in
-    let made_is : r.moves ≡ moves_of runs.reaches.trace = runs.made ∙ ap (λ (l : List Move). moves_of runs.reaches.trace ++ l) t.none ∙ append-nil (moves_of runs.reaches.trace) in
-    let tells : ClockKnows plan delays s.later.policy (told runs.at.policy) = follows_tells plan delays s.later.policy (told runs.at.policy) acc s.ahead.follows in
+    let made_is : r.moves ≡ moves_of runs.reaches.trace = runs.made ∙ ap (λ (l : List Move). moves_of runs.reaches.trace ++ l) t.none
+    ∙ append-nil (moves_of runs.reaches.trace) in
+    let tells : ClockKnows plan delays s.later.policy (told runs.at.policy) = follows_tells plan delays s.later.policy
+    (told runs.at.policy) acc s.ahead.follows in
     let there : ClockKnows plan delays (times_after plan delays [] r.moves) (told runs.at.policy) =
     subst (λ (l : List Done). ClockKnows plan delays l (told runs.at.policy)) (s.times_are ∙ ap (times_after plan delays []) (sym made_is)) tells in
     record {
@@ -149,12 +187,17 @@ is-timed Holds delays limit begin new later answer acc wide o few small within n
     }
 
 -- so a timed run is what it should be, and this holds of its moves
-pub record RunsTimedSo (Holds : List Move → Type 0) (delays : List ℕ) (limit : ℕ) (begin : RunPlace) (core : Processor) (streams : Streams) (clock : SiteTimes) (moves : ℕ) (answer : Timed) : Type 0 where
+pub record RunsTimedSo (Holds : List Move → Type 0) (delays : List ℕ) (limit : ℕ) (begin : RunPlace) (core : Processor) (streams : Streams) (clock : SiteTimes)
+    (moves : ℕ) (answer : Timed) : Type 0 where
   pub timed : RunsTimed delays limit begin core streams clock moves answer
   pub holds : Holds timed.right.moves
 
-pub runs-timed-so : (Holds : List Move → Type 0) (delays : List ℕ) (limit : ℕ) (core new : Processor) (before after : Streams) (tally : Tally) (later : PendingMove) (answer : Answer) (timed : Timed) (clock : SiteTimes) → IsAccepted core.plan → length core.state.regs ≡ 32 → IsOpened core → AreDelays delays → limit ≤ most_limit → core.state.retired ≤ limit → answer ≢ ran.ReportFault
-    → (right : RunsRight pending_pick after_pick limit show.Report (begins core before) (place_of new after None tally) (record { clock = started core.plan delays; last = None }) later answer) → Holds right.moves → EndsSequentially limit (begins core before) (place_of new after None tally) (Ran answer)
+pub runs-timed-so : (Holds : List Move → Type 0) (delays : List ℕ) (limit : ℕ) (core new : Processor) (before after : Streams) (tally : Tally)
+    (later : PendingMove) (answer : Answer) (timed : Timed) (clock : SiteTimes) → IsAccepted core.plan → length core.state.regs ≡ 32 → IsOpened core →
+    AreDelays delays → limit ≤ most_limit → core.state.retired ≤ limit → answer ≢ ran.ReportFault
+    → (right : RunsRight pending_pick after_pick limit show.Report (begins core before) (place_of new after None tally)
+    (record { clock = started core.plan delays; last = None }) later answer) → Holds right.moves →
+    EndsSequentially limit (begins core before) (place_of new after None tally) (Ran answer)
     → answer_of timed ≡ answer → clock ≡ clock_after later answer → RunsTimedSo Holds delays limit (begins core before) new after clock tally.moves timed
 runs-timed-so Holds delays limit core new before after tally later answer timed clock acc wide o few small within none right holds ends e clock_is =
     let begin : RunPlace = begins core before in
@@ -164,7 +207,10 @@ runs-timed-so Holds delays limit core new before after tally later answer timed 
     subst-answer delays limit core new before after tally answer timed (clock_after later answer) (sym e) t ends in
     subst (λ (k : SiteTimes). RunsTimedSo Holds delays limit begin new after k tally.moves timed) (sym clock_is) all
   where
-    subst-answer : (delays : List ℕ) (limit : ℕ) (core new : Processor) (before after : Streams) (tally : Tally) (answer : Answer) (timed : Timed) (clock : SiteTimes) → answer ≡ answer_of timed → IsTimed Holds delays limit (begins core before) (place_of new after None tally) answer clock → EndsSequentially limit (begins core before) (place_of new after None tally) (Ran answer) → RunsTimedSo Holds delays limit (begins core before) new after clock tally.moves timed
+    subst-answer : (delays : List ℕ) (limit : ℕ) (core new : Processor) (before after : Streams) (tally : Tally) (answer : Answer) (timed : Timed)
+        (clock : SiteTimes) → answer ≡ answer_of timed → IsTimed Holds delays limit (begins core before) (place_of new after None tally) answer clock →
+        EndsSequentially limit (begins core before) (place_of new after None tally) (Ran answer) →
+        RunsTimedSo Holds delays limit (begins core before) new after clock tally.moves timed
     subst-answer delays limit core new before after tally answer timed clock e t ends =
         let begin : RunPlace = begins core before in
         let there : RunPlace = place_of new after None tally in
@@ -172,13 +218,19 @@ runs-timed-so Holds delays limit core new before after tally later answer timed 
         let f : EndsSequentially limit begin there (Ran (answer_of timed)) = subst (λ (a : Answer). EndsSequentially limit begin there (Ran a)) e ends in
         record { timed = record { tally = tally; counted = refl; picked = u.picked; right = u.right; told = u.told_is; ends = f }; holds = u.holds }
 
-pub runs-timed : (delays : List ℕ) (limit : ℕ) (core new : Processor) (before after : Streams) (tally : Tally) (first later : PendingMove) (answer : Answer) (timed : Timed) (clock : SiteTimes) → IsAccepted core.plan → length core.state.regs ≡ 32 → IsOpened core → AreDelays delays → limit ≤ most_limit → core.state.retired ≤ limit → answer ≢ ran.ReportFault → first ≡ record { clock = started core.plan delays; last = None }
-    → RunsRight pending_pick after_pick limit show.Report (begins core before) (place_of new after None tally) first later answer → EndsSequentially limit (begins core before) (place_of new after None tally) (Ran answer)
+pub runs-timed : (delays : List ℕ) (limit : ℕ) (core new : Processor) (before after : Streams) (tally : Tally) (first later : PendingMove) (answer : Answer)
+    (timed : Timed) (clock : SiteTimes) → IsAccepted core.plan → length core.state.regs ≡ 32 → IsOpened core → AreDelays delays → limit ≤ most_limit →
+    core.state.retired ≤ limit → answer ≢ ran.ReportFault → first ≡ record { clock = started core.plan delays; last = None }
+    → RunsRight pending_pick after_pick limit show.Report (begins core before) (place_of new after None tally) first later answer →
+    EndsSequentially limit (begins core before) (place_of new after None tally) (Ran answer)
     → answer_of timed ≡ answer → clock ≡ clock_after later answer → RunsTimed delays limit (begins core before) new after clock tally.moves timed
 runs-timed delays limit core new before after tally first later answer timed clock acc wide o few small within none fresh_is right ends e clock_is =
-    let r = subst (λ (p : PendingMove). RunsRight pending_pick after_pick limit show.Report (begins core before) (place_of new after None tally) p later answer) fresh_is right in
-    (runs-timed-so (λ moves. Unit {0}) delays limit core new before after tally later answer timed clock acc wide o few small within none r tt ends e clock_is).timed
+    let r = subst (λ (p : PendingMove). RunsRight pending_pick after_pick limit show.Report (begins core before) (place_of new after None tally) p later answer)
+    fresh_is right in
+    (runs-timed-so (λ moves. Unit {0}) delays limit core new before after tally later answer timed clock acc wide o few small within none r tt ends e
+    clock_is).timed
 
 -- the report never fails, since its count of faults never rises
 pub never-fails : (answer : Answer) → HasCause 0 0 (report_stopped (Some answer)) → answer ≢ ran.ReportFault
-never-fails answer h e = absurd (let g : HasCause 0 0 (report_stopped (Some ran.ReportFault)) = subst (λ (a : Answer). HasCause 0 0 (report_stopped (Some a))) e h in let r = g.rose in omega (arith, r))
+never-fails answer h e = absurd (let g : HasCause 0 0 (report_stopped (Some ran.ReportFault)) =
+    subst (λ (a : Answer). HasCause 0 0 (report_stopped (Some a))) e h in let r = g.rose in omega (arith, r))

@@ -42,7 +42,8 @@ one_of_all P (y ∷ ys) zero x h e = let q : y ≡ x = cc in subst P q h.0
 one_of_all P (y ∷ ys) (suc k) x h e = one_of_all P ys k x h.1 e
 
 -- numbers from one on
-all_counted : {X : Type 0} (P : X → Type 0) (make : ℕ → X) (first n : ℕ) → ((i : ℕ) → first ≤ i → i < first + n → P (make i)) → AllByRecursion P (map make (counted_from first n))
+all_counted : {X : Type 0} (P : X → Type 0) (make : ℕ → X) (first n : ℕ) → ((i : ℕ) → first ≤ i → i < first + n → P (make i)) →
+    AllByRecursion P (map make (counted_from first n))
 all_counted P make first zero h = tt
 all_counted P make first (suc n) h = (h first (omega arith) (omega arith), all_counted P make (suc first) n (λ i low high. h i (omega arith) (omega arith)))
 
@@ -55,7 +56,8 @@ mapped place [] h = tt
 mapped place (k ∷ ks) h = (h.0, mapped place ks h.1)
 
 -- the first and last cells of sidings
-ways_kept : (plan : Plan) (place : ℕ → Site) (test : ℕ → Bool) → ((k : ℕ) → k < length plan.sidings → IsKept (place k)) → AllByRecursion IsKept (map place (sidings_where plan test))
+ways_kept : (plan : Plan) (place : ℕ → Site) (test : ℕ → Bool) → ((k : ℕ) → k < length plan.sidings → IsKept (place k)) →
+    AllByRecursion IsKept (map place (sidings_where plan test))
 ways_kept plan place test each =
     mapped place (sidings_where plan test) (all_passed (λ k. IsKept (place k)) test (counted_from 0 (length plan.sidings))
     (numbers (λ k. IsKept (place k)) 0 (length plan.sidings) (λ k low high. each k (omega arith))))
@@ -66,7 +68,8 @@ in_kept plan i a = ways_kept plan way_in (λ k. launch_stage plan k == i) (λ k 
 
 out_kept : (plan : Plan) (i : ℕ) → IsAccepted plan → AllByRecursion IsKept (ways_out plan i)
 unfolding ways_out
-out_kept plan i a = ways_kept plan (way_out plan) (λ k. recover_stage plan k == i) (λ k within. let w = siding_within plan k a within in (w.2, omega (arith, w.1)))
+out_kept plan i a = ways_kept plan (way_out plan) (λ k. recover_stage plan k == i) (λ k within. let w = siding_within plan k a within in
+    (w.2, omega (arith, w.1)))
 
 port_kept : (plan : Plan) → IsAccepted plan → IsKept (way_out plan (port plan))
 unfolding port
@@ -78,11 +81,13 @@ port_kept plan a =
     rw e (w.2, omega (arith, w.1))
 
 -- one kind of move at each stage
-stages_kept : (plan : Plan) (kind : ℕ → Move) → IsAccepted plan → ((i : ℕ) → i < 33 → AreKept plan (kind i)) → AllByRecursion (AreKept plan) (at_stages plan kind)
+stages_kept : (plan : Plan) (kind : ℕ → Move) → IsAccepted plan → ((i : ℕ) → i < 33 → AreKept plan (kind i)) →
+    AllByRecursion (AreKept plan) (at_stages plan kind)
 stages_kept plan kind a each = let s = a.stages.1 in all_counted (AreKept plan) kind 1 plan.stages (λ i low high. each i (omega (arith, s)))
 
 -- the moves within the sidings
-slides_kept : (plan : Plan) (k : ℕ) (sidings : List SidingPlan) → k + length sidings ≤ 8 → All (IsSiding plan) sidings → AllByRecursion (AreKept plan) (slides_from k sidings)
+slides_kept : (plan : Plan) (k : ℕ) (sidings : List SidingPlan) → k + length sidings ≤ 8 → All (IsSiding plan) sidings →
+    AllByRecursion (AreKept plan) (slides_from k sidings)
 slides_kept plan k [] few each = tt
 slides_kept plan k (siding ∷ sidings) few each =
     let s : siding.cells ≤ 8 = (each 0 siding (omega arith)).cells.1 in
@@ -105,7 +110,8 @@ all_moves_kept plan a =
     let launches = stages_kept plan Launch a (λ i low. (omega arith, in_kept plan i a)) in
     let slides = slides_kept plan 0 plan.sidings (let f = a.few_sidings in omega (arith, f)) a.sidings in
     let recovers = stages_kept plan Recover a (λ i low. (omega arith, out_kept plan i a)) in
-    let entering : AllByRecursion (AreKept plan) (Issue guess.Next ∷ Issue guess.Taken ∷ Issue guess.Wait ∷ Emit ∷ at_stages plan Climb) = (issue, (issue, (issue, ((top, (tt, tt)), climbs)))) in
+    let entering : AllByRecursion (AreKept plan) (Issue guess.Next ∷ Issue guess.Taken ∷ Issue guess.Wait ∷ Emit ∷ at_stages plan Climb) =
+    (issue, (issue, (issue, ((top, (tt, tt)), climbs)))) in
     let access : AllByRecursion (AreKept plan) (Access ∷ at_stages plan Recover) = ((port_kept plan a, (tt, tt)), recovers) in
     let leaving : AllByRecursion (AreKept plan) (Leave ∷ Exit ∷ Serve ∷ []) = ((top, tt), ((one, (tt, tt)), ((top, (tt, (tt, tt))), tt))) in
     let K = AreKept plan in

@@ -60,24 +60,32 @@ pub record Ahead (n : ℕ) (plan : Plan) (delays : List ℕ) (p : PendingMove) (
   pub early : greatest_time picked + 1000 * n < 2 ^ 64
 
 -- the time of a move by the clock
-capped_is : (n : ℕ) (plan : Plan) (delays : List ℕ) (p : PendingMove) (picked : List Done) (mv : Move) → AreDelays delays → Ahead (suc n) plan delays p picked → AreKept plan mv → capped (told p) mv ≡ time_after plan delays picked mv
+capped_is : (n : ℕ) (plan : Plan) (delays : List ℕ) (p : PendingMove) (picked : List Done) (mv : Move) → AreDelays delays → Ahead (suc n) plan delays p picked →
+    AreKept plan mv → capped (told p) mv ≡ time_after plan delays picked mv
 capped_is n plan delays p picked mv few h kept =
     let f = finish_follows plan delays picked (told p) mv h.follows kept in
     let t = time_few plan delays picked mv few in
     let e = h.early in
     omega (arith, f, t, e)
 
-each_capped : (n : ℕ) (plan : Plan) (delays : List ℕ) (p : PendingMove) (picked : List Done) (moves : List Move) → AreDelays delays → Ahead (suc n) plan delays p picked → AllByRecursion (AreKept plan) moves → AllByRecursion (λ mv. capped (told p) mv ≡ time_after plan delays picked mv) moves
+each_capped : (n : ℕ) (plan : Plan) (delays : List ℕ) (p : PendingMove) (picked : List Done) (moves : List Move) → AreDelays delays →
+    Ahead (suc n) plan delays p picked → AllByRecursion (AreKept plan) moves → AllByRecursion (λ mv. capped (told p) mv
+    ≡ time_after plan delays picked mv) moves
 each_capped n plan delays p picked [] few h kept = tt
-each_capped n plan delays p picked (mv ∷ moves) few h kept = (capped_is n plan delays p picked mv few h kept.0, each_capped n plan delays p picked moves few h kept.1)
+each_capped n plan delays p picked (mv ∷ moves) few h kept =
+    (capped_is n plan delays p picked mv few h kept.0, each_capped n plan delays p picked moves few h kept.1)
 
 -- so both pick one move
-pub picks-same : (n : ℕ) (plan : Plan) (delays : List ℕ) (p : PendingMove) (picked : List Done) (moves : List Move) → AreDelays delays → Ahead (suc n) plan delays p picked → AllByRecursion (AreKept plan) moves → pending_pick p moves ≡ earliest plan delays picked moves
+pub picks-same : (n : ℕ) (plan : Plan) (delays : List ℕ) (p : PendingMove) (picked : List Done) (moves : List Move) → AreDelays delays →
+    Ahead (suc n) plan delays p picked → AllByRecursion (AreKept plan) moves → pending_pick p moves ≡ earliest plan delays picked moves
 unfolding pending_pick
-picks-same n plan delays p picked moves few h kept = least-same (capped (told p)) (time_after plan delays picked) moves (each_capped n plan delays p picked moves few h kept)
+picks-same n plan delays p picked moves few h kept = least-same (capped (told p)) (time_after plan delays picked) moves
+    (each_capped n plan delays p picked moves few h kept)
 
 -- and after that the clock is told of it
-pub ahead-more : (n : ℕ) (plan : Plan) (delays : List ℕ) (p : PendingMove) (picked : List Done) (moves : List Move) (mv : Move) → AreDelays delays → Ahead (suc n) plan delays p picked → AllByRecursion (AreKept plan) moves → slice_get moves (pending_pick p moves) ≡ Some mv → Ahead n plan delays (after_pick p moves) (done_after plan delays picked mv ∷ picked)
+pub ahead-more : (n : ℕ) (plan : Plan) (delays : List ℕ) (p : PendingMove) (picked : List Done) (moves : List Move) (mv : Move) → AreDelays delays →
+    Ahead (suc n) plan delays p picked → AllByRecursion (AreKept plan) moves → slice_get moves (pending_pick p moves) ≡ Some mv →
+    Ahead n plan delays (after_pick p moves) (done_after plan delays picked mv ∷ picked)
 unfolding told after_pick marked
 ahead-more n plan delays p picked moves mv few h kept e =
     let one = one_of_all (AreKept plan) moves (pending_pick p moves) mv kept e in
@@ -90,18 +98,22 @@ ahead-more n plan delays p picked moves mv few h kept e =
     }
 
 -- the policy by times after the move that it picks
-pub after-earliest : (plan : Plan) (delays : List ℕ) (picked : List Done) (moves : List Move) (mv : Move) → slice_get moves (earliest plan delays picked moves) ≡ Some mv → after_earliest plan delays picked moves ≡ done_after plan delays picked mv ∷ picked
+pub after-earliest : (plan : Plan) (delays : List ℕ) (picked : List Done) (moves : List Move) (mv : Move) →
+    slice_get moves (earliest plan delays picked moves) ≡ Some mv → after_earliest plan delays picked moves ≡ done_after plan delays picked mv ∷ picked
 after-earliest plan delays picked moves mv e = rw e refl
 
 -- the picks of one are the picks of the other
-pub record Simulated (n : ℕ) (plan : Plan) (delays : List ℕ) (to : Chooser (List Done)) (s : State) (trace : List Made) (last : Chooser PendingMove) : Type 0 where
+pub record Simulated (n : ℕ) (plan : Plan) (delays : List ℕ) (to : Chooser (List Done)) (s : State) (trace : List Made)
+    (last : Chooser PendingMove) : Type 0 where
   pub later : Chooser (List Done)
   pub picks : Picks (earliest plan delays) (after_earliest plan delays) plan to s trace later
   pub count_is : last.count ≡ later.count
   pub ahead : Ahead n plan delays last.policy later.policy
   pub times_are : later.policy ≡ times_after plan delays to.policy (moves_of trace)
 
-pub simulated : (n : ℕ) (plan : Plan) (delays : List ℕ) (at : Chooser PendingMove) (to : Chooser (List Done)) (s : State) (trace : List Made) (last : Chooser PendingMove) → IsAccepted plan → AreDelays delays → at.count ≡ to.count → Ahead (length trace + n) plan delays at.policy to.policy → Picks pending_pick after_pick plan at s trace last → Simulated n plan delays to s trace last
+pub simulated : (n : ℕ) (plan : Plan) (delays : List ℕ) (at : Chooser PendingMove) (to : Chooser (List Done)) (s : State) (trace : List Made)
+    (last : Chooser PendingMove) → IsAccepted plan → AreDelays delays → at.count ≡ to.count → Ahead (length trace + n) plan delays at.policy to.policy →
+    Picks pending_pick after_pick plan at s trace last → Simulated n plan delays to s trace last
 unfolding Picks
 simulated n plan delays at to s [] last acc few count ahead picks =
     subst (λ (c : Chooser PendingMove). Simulated n plan delays to s [] c) (sym picks) (record {
@@ -112,16 +124,21 @@ simulated n plan delays at to s [] last acc few count ahead picks =
       times_are = refl;
     })
 simulated n plan delays at to s (made ∷ trace) last acc few count ahead (pick, picks) =
-    let more : Ahead (suc (length trace + n)) plan delays at.policy to.policy = subst (λ (k : ℕ). Ahead k plan delays at.policy to.policy) (omega arith) ahead in
+    let more : Ahead (suc (length trace + n)) plan delays at.policy to.policy = subst (λ (k : ℕ). Ahead k plan delays at.policy to.policy)
+    (omega arith) ahead in
     let kept = offered_kept plan at.count s acc in
     let same = picks-same (length trace + n) plan delays at.policy to.policy (offered plan at.count s) few more kept in
     let chosen : choice (earliest plan delays) plan to s ≡ Some made.move =
-    subst (λ (k : ℕ). slice_get (offered plan k s) (earliest plan delays to.policy (offered plan k s)) ≡ Some made.move) count (sym (ap (slice_get (offered plan at.count s)) same) ∙ pick) in
+    subst (λ (k : ℕ). slice_get (offered plan k s) (earliest plan delays to.policy (offered plan k s)) ≡ Some made.move) count
+    (sym (ap (slice_get (offered plan at.count s)) same) ∙ pick) in
     let next = ahead-more (length trace + n) plan delays at.policy to.policy (offered plan at.count s) made.move few more kept pick in
-    let on_is : (after_choice (after_earliest plan delays) plan to s made).policy ≡ done_after plan delays to.policy made.move ∷ to.policy = after-earliest plan delays to.policy (offered plan to.count s) made.move chosen in
-    let there : Ahead (length trace + n) plan delays (after_choice after_pick plan at s made).policy (after_choice (after_earliest plan delays) plan to s made).policy =
+    let on_is : (after_choice (after_earliest plan delays) plan to s made).policy ≡ done_after plan delays to.policy made.move ∷ to.policy =
+    after-earliest plan delays to.policy (offered plan to.count s) made.move chosen in
+    let there : Ahead (length trace + n) plan delays (after_choice after_pick plan at s made).policy
+    (after_choice (after_earliest plan delays) plan to s made).policy =
     subst (λ (q : List Done). Ahead (length trace + n) plan delays (after_pick at.policy (offered plan at.count s)) q) (sym on_is) next in
-    let r = simulated n plan delays (after_choice after_pick plan at s made) (after_choice (after_earliest plan delays) plan to s made) made.state trace last acc few (ap (λ (k : ℕ). paced k made.move made.event (is_drained made.state)) count) there picks in
+    let r = simulated n plan delays (after_choice after_pick plan at s made) (after_choice (after_earliest plan delays) plan to s made) made.state trace last
+    acc few (ap (λ (k : ℕ). paced k made.move made.event (is_drained made.state)) count) there picks in
     record {
       later = r.later;
       picks = (chosen, r.picks);

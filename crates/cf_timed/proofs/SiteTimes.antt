@@ -30,10 +30,12 @@ greatest-append (x ∷ xs) ys = let r = greatest-append xs ys in omega (arith, r
 
 -- one more number that passes the test, or not
 pub numbers_more : (test : ℕ → Bool) (k : ℕ) → filter test (counted_from 0 (k + 1)) ≡ filter test (counted_from 0 k) ++ cond (test k) (k ∷ []) []
-numbers_more test k = ap (filter test) (counted_split 0 k 1) ∙ filter-append test (counted_from 0 k) (counted_from (0 + k) 1) ∙ ap (λ (i : ℕ). filter test (counted_from 0 k) ++ filter test (counted_from i 1)) (omega arith)
+numbers_more test k = ap (filter test) (counted_split 0 k 1) ∙ filter-append test (counted_from 0 k) (counted_from (0 + k) 1)
+    ∙ ap (λ (i : ℕ). filter test (counted_from 0 k) ++ filter test (counted_from i 1)) (omega arith)
 
 -- the greatest time, with one more place or without
-pub greatest_more : (c : SiteTimes) (place : ℕ → Site) (test : ℕ → Bool) (k : ℕ) → greatest (map (time_at c) (map place (filter test (counted_from 0 (k + 1))))) ≡ max (greatest (map (time_at c) (map place (filter test (counted_from 0 k))))) (cond (test k) (time_at c (place k)) 0)
+pub greatest_more : (c : SiteTimes) (place : ℕ → Site) (test : ℕ → Bool) (k : ℕ) → greatest (map (time_at c) (map place (filter test (counted_from 0 (k + 1)))))
+    ≡ max (greatest (map (time_at c) (map place (filter test (counted_from 0 k))))) (cond (test k) (time_at c (place k)) 0)
 greatest_more c place test k =
     ap (λ (l : List ℕ). greatest (map (time_at c) (map place l))) (numbers_more test k)
     ∙ ap (λ (l : List Site). greatest (map (time_at c) l)) (map-append place (filter test (counted_from 0 k)) (cond (test k) (k ∷ []) []))
@@ -41,7 +43,9 @@ greatest_more c place test k =
     ∙ greatest-append (map (time_at c) (map place (filter test (counted_from 0 k)))) (map (time_at c) (map place (cond (test k) (k ∷ []) [])))
     ∙ by (test k)
   where
-    by : (b : Bool) → max (greatest (map (time_at c) (map place (filter test (counted_from 0 k))))) (greatest (map (time_at c) (map place (cond b (k ∷ []) [])))) ≡ max (greatest (map (time_at c) (map place (filter test (counted_from 0 k))))) (cond b (time_at c (place k)) 0)
+    by : (b : Bool) → max (greatest (map (time_at c) (map place (filter test (counted_from 0 k)))))
+        (greatest (map (time_at c) (map place (cond b (k ∷ []) [])))) ≡ max (greatest (map (time_at c) (map place (filter test (counted_from 0 k)))))
+        (cond b (time_at c (place k)) 0)
     by true = omega arith
     by false = refl
 
@@ -50,14 +54,18 @@ pub put_times-append : (c : SiteTimes) (t : ℕ) (xs ys : List Site) → put_tim
 put_times-append c t [] ys = refl
 put_times-append c t (x ∷ xs) ys = put_times-append (put_time c t x) t xs ys
 
-pub put_more : (c : SiteTimes) (t : ℕ) (place : ℕ → Site) (test : ℕ → Bool) (k : ℕ) → put_times c t (map place (filter test (counted_from 0 (k + 1)))) ≡ cond (test k) (put_time (put_times c t (map place (filter test (counted_from 0 k)))) t (place k)) (put_times c t (map place (filter test (counted_from 0 k))))
+pub put_more : (c : SiteTimes) (t : ℕ) (place : ℕ → Site) (test : ℕ → Bool) (k : ℕ) → put_times c t (map place (filter test (counted_from 0 (k + 1))))
+    ≡ cond (test k) (put_time (put_times c t (map place (filter test (counted_from 0 k)))) t (place k))
+    (put_times c t (map place (filter test (counted_from 0 k))))
 put_more c t place test k =
     ap (λ (l : List ℕ). put_times c t (map place l)) (numbers_more test k)
     ∙ ap (put_times c t) (map-append place (filter test (counted_from 0 k)) (cond (test k) (k ∷ []) []))
     ∙ put_times-append c t (map place (filter test (counted_from 0 k))) (map place (cond (test k) (k ∷ []) []))
     ∙ by (test k)
   where
-    by : (b : Bool) → put_times (put_times c t (map place (filter test (counted_from 0 k)))) t (map place (cond b (k ∷ []) [])) ≡ cond b (put_time (put_times c t (map place (filter test (counted_from 0 k)))) t (place k)) (put_times c t (map place (filter test (counted_from 0 k))))
+    by : (b : Bool) → put_times (put_times c t (map place (filter test (counted_from 0 k)))) t (map place (cond b (k ∷ []) []))
+        ≡ cond b (put_time (put_times c t (map place (filter test (counted_from 0 k)))) t (place k))
+        (put_times c t (map place (filter test (counted_from 0 k))))
     by true = refl
     by false = refl
 
@@ -109,7 +117,8 @@ number_within (x ∷ xs) zero (suc j) t most h g = h
 number_within (x ∷ xs) (suc i) zero t most h g = h
 number_within (x ∷ xs) (suc i) (suc j) t most h g = number_within xs i j t most h g
 
-cell_within : (rows : List (List ℕ)) (k m : ℕ) (row : List ℕ) (j most : ℕ) → number_at (row_at rows m) j ≤ most → number_at row j ≤ most → number_at (row_at (slice_set rows k row) m) j ≤ most
+cell_within : (rows : List (List ℕ)) (k m : ℕ) (row : List ℕ) (j most : ℕ) → number_at (row_at rows m) j ≤ most → number_at row j ≤ most →
+    number_at (row_at (slice_set rows k row) m) j ≤ most
 cell_within [] k m row j most h g = h
 cell_within (r ∷ rows) zero zero row j most h g = g
 cell_within (r ∷ rows) zero (suc m) row j most h g = h
@@ -127,7 +136,8 @@ stage_put c i t h g _ = omega arith
 
 cell_put : (c : SiteTimes) (k i t : ℕ) → NoneLater c → t ≤ c.latest → (x : Site) → time_at (put_time c t (SidingCell k i)) x ≤ c.latest
 cell_put c k i t h g (Stage j) = h.each (Stage j)
-cell_put c k i t h g (SidingCell m j) = cell_within c.cells k m (slice_set (row_at c.cells k) i t) j c.latest (h.each (SidingCell m j)) (number_within (row_at c.cells k) i j t c.latest (h.each (SidingCell k j)) g)
+cell_put c k i t h g (SidingCell m j) = cell_within c.cells k m (slice_set (row_at c.cells k) i t) j c.latest (h.each (SidingCell m j))
+    (number_within (row_at c.cells k) i j t c.latest (h.each (SidingCell k j)) g)
 cell_put c k i t h g Lane = h.each Lane
 cell_put c k i t h g Fetching = h.each Fetching
 cell_put c k i t h g Memory = h.each Memory
@@ -142,7 +152,8 @@ pub put_cell_within : (c : SiteTimes) (k i t : ℕ) → NoneLater c → t ≤ c.
 put_cell_within c k i t h g = record { each = cell_put c k i t h g }
 
 -- and so at the other places
-other_put : (c : SiteTimes) (lane fetch memory code : ℕ) → NoneLater c → lane ≤ c.latest → fetch ≤ c.latest → memory ≤ c.latest → code ≤ c.latest → (x : Site) → time_at (record c { lane = lane; fetch = fetch; memory = memory; code = code }) x ≤ c.latest
+other_put : (c : SiteTimes) (lane fetch memory code : ℕ) → NoneLater c → lane ≤ c.latest → fetch ≤ c.latest → memory ≤ c.latest → code ≤ c.latest → (x : Site) →
+    time_at (record c { lane = lane; fetch = fetch; memory = memory; code = code }) x ≤ c.latest
 other_put c lane fetch memory code h l f m d (Stage j) = h.each (Stage j)
 other_put c lane fetch memory code h l f m d (SidingCell k j) = h.each (SidingCell k j)
 other_put c lane fetch memory code h l f m d Lane = l

@@ -43,11 +43,13 @@ pub none_held : (c : SiteTimes) (plan : Plan) (s : State) (held : Bool) (by : �
 none_held c plan s true by e = λ k d below. absurd (omega arith)
 none_held c plan s false by e = absurd (cc)
 
-pub none_sooner : (c : SiteTimes) (plan : Plan) (s : State) (held : Bool) (by time : ℕ) → time ≡ capped c (Issue Next) → by < time → AreLater c (unheld_issues held plan s) by
+pub none_sooner : (c : SiteTimes) (plan : Plan) (s : State) (held : Bool) (by time : ℕ) → time ≡ capped c (Issue Next) → by < time →
+    AreLater c (unheld_issues held plan s) by
 none_sooner c plan s true by time e less = λ k d below. absurd (omega arith)
 none_sooner c plan s false by time e less = λ k d below. let same = each_issue c plan s k d below in omega (arith, same, e, less)
 
-pub none_there : (c : SiteTimes) (plan : Plan) (s : State) (held : Bool) (by : ℕ) → None ≡ slice_get (allowed_issues plan s) 0 → AreLater c (unheld_issues held plan s) by
+pub none_there : (c : SiteTimes) (plan : Plan) (s : State) (held : Bool) (by : ℕ) → None ≡ slice_get (allowed_issues plan s) 0 →
+    AreLater c (unheld_issues held plan s) by
 none_there c plan s true by e = λ k d below. absurd (omega arith)
 none_there c plan s false by e = none (allowed_issues plan s) e
   where
@@ -56,7 +58,8 @@ none_there c plan s false by e = none (allowed_issues plan s) e
     none (x ∷ xs) e = absurd (cc)
 
 -- one of them is
-pub issue_there : (c : SiteTimes) (plan : Plan) (s : State) (held : Bool) (by time : ℕ) (mv : Move) → time ≡ capped c (Issue Next) → held ≡ false → time ≤ by → Some mv ≡ slice_get (allowed_issues plan s) 0 → IsIssueBy c (unheld_issues held plan s) by (record { mv = mv; time = time })
+pub issue_there : (c : SiteTimes) (plan : Plan) (s : State) (held : Bool) (by time : ℕ) (mv : Move) → time ≡ capped c (Issue Next) → held ≡ false → time ≤ by →
+    Some mv ≡ slice_get (allowed_issues plan s) 0 → IsIssueBy c (unheld_issues held plan s) by (record { mv = mv; time = time })
 issue_there c plan s true by time mv e free soon at = absurd (cc)
 issue_there c plan s false by time mv e free soon at =
     let within = slice_get_within (allowed_issues plan s) 0 mv (sym at) in
@@ -68,13 +71,15 @@ issue_there c plan s false by time mv e free soon at =
     }
 
 -- an Issue is first where none of the others is done before it
-front : (c : SiteTimes) (xs ys : List Move) (mv : Move) → Some mv ≡ slice_get xs 0 → All (λ x. capped c x ≡ capped c mv) xs → ((k : ℕ) (d : Move) → k < length ys → capped c mv ≤ capped c (get_or ys k d)) → Some mv ≡ slice_get (xs ++ ys) (first_least (capped c) (xs ++ ys))
+front : (c : SiteTimes) (xs ys : List Move) (mv : Move) → Some mv ≡ slice_get xs 0 → All (λ x. capped c x ≡ capped c mv) xs →
+    ((k : ℕ) (d : Move) → k < length ys → capped c mv ≤ capped c (get_or ys k d)) → Some mv ≡ slice_get (xs ++ ys) (first_least (capped c) (xs ++ ys))
 front c [] ys mv at same later = absurd (cc)
 front c (x ∷ xs) ys mv at same later =
     let e = least-of_all (capped c) (x ∷ xs ++ ys) 0 (capped c mv) mv (least-front (capped c) (x ∷ xs) ys (capped c mv) (omega arith) same later) in
     rw (← e) at
 
-pub issue_soonest : (c : SiteTimes) (plan : Plan) (s : State) (held : Bool) (seek : Seeking) (due : Due) → length (allowed_others plan s) ≤ 517 → seek ≡ fold shown (nothing c) (allowed_others plan s) →
+pub issue_soonest : (c : SiteTimes) (plan : Plan) (s : State) (held : Bool) (seek : Seeking) (due : Due) → length (allowed_others plan s) ≤ 517 →
+    seek ≡ fold shown (nothing c) (allowed_others plan s) →
     IsIssueBy c (unheld_issues held plan s) seek.time due → IsSoonest c (withheld held (candidates plan s)) due
 issue_soonest c plan s true seek due few e h = let at = h.mv in absurd (cc)
 issue_soonest c plan s false seek due few e h =
@@ -90,7 +95,8 @@ issue_soonest c plan s false seek due few e h =
     record { mv = rw (candidates_parts plan s) first; time = time }
 
 -- and else the first of the others is
-pub other_soonest : (c : SiteTimes) (plan : Plan) (s : State) (held : Bool) (seek : Seeking) → length (allowed_others plan s) ≤ 517 → seek ≡ fold shown (nothing c) (allowed_others plan s) →
+pub other_soonest : (c : SiteTimes) (plan : Plan) (s : State) (held : Bool) (seek : Seeking) → length (allowed_others plan s) ≤ 517 →
+    seek ≡ fold shown (nothing c) (allowed_others plan s) →
     AreLater c (unheld_issues held plan s) seek.time → IfSome (due_of seek) (λ due. IsSoonest c (withheld held (candidates plan s)) due)
 other_soonest c plan s held seek few e later = by (nat_lt seek.time (2 ^ 64 - 1)) refl
   where
@@ -101,8 +107,10 @@ other_soonest c plan s held seek few e later = by (nat_lt seek.time (2 ^ 64 - 1)
         let r = found-least c others seek (omega (arith, few)) e below in
         let w = r.least.within in
         let parts = withheld_others plan s held (omega (arith, w)) in
-        let place = least-of_all (capped c) (issues ++ others) (length issues + seek.place) seek.time seek.move (least-after (capped c) issues others seek.place seek.time later r.least) in
-        let at = beyond issues others (length issues) (length issues + seek.place) seek.move refl (omega arith) (rw (past (length issues) seek.place) (sym r.move)) in
+        let place = least-of_all (capped c) (issues ++ others) (length issues + seek.place) seek.time seek.move
+        (least-after (capped c) issues others seek.place seek.time later r.least) in
+        let at = beyond issues others (length issues) (length issues + seek.place) seek.move refl (omega arith)
+        (rw (past (length issues) seek.place) (sym r.move)) in
         record { mv = rw (parts, ← place) at; time = sym r.time }
       where
         past : (n k : ℕ) → n + k - n ≡ k
@@ -113,7 +121,8 @@ other_soonest c plan s held seek few e later = by (nat_lt seek.time (2 ^ 64 - 1)
     by false t = rw t tt
 
 -- what is offered, with Issue held back or not
-pub soonest_offered : (c : SiteTimes) (count : PaceCount) (plan : Plan) (s : State) (held : Bool) (due : Due) → held ≡ holds count → IsSoonest c (withheld held (candidates plan s)) due → IsSoonest c (offers count plan s) due
+pub soonest_offered : (c : SiteTimes) (count : PaceCount) (plan : Plan) (s : State) (held : Bool) (due : Due) → held ≡ holds count →
+    IsSoonest c (withheld held (candidates plan s)) due → IsSoonest c (offers count plan s) due
 unfolding offers
 soonest_offered c count plan s held due is h = rw is at h
 

@@ -19,7 +19,8 @@ record Found (clock : SiteTimes) (moves : List Move) (s : Seeking) : Type 0 wher
   within : s.time ≤ 2 ^ 64 - 1
 
 -- one more move
-found-next : (clock : SiteTimes) (moves : List Move) (s : Seeking) (mv : Move) → s.shown < 2 ^ 64 - 1 → slice_get moves s.shown ≡ Some mv → Found clock moves s → Found clock moves (shown s mv)
+found-next : (clock : SiteTimes) (moves : List Move) (s : Seeking) (mv : Move) → s.shown < 2 ^ 64 - 1 → slice_get moves s.shown ≡ Some mv →
+    Found clock moves s → Found clock moves (shown s mv)
 found-next clock moves s mv few at h = by (nat_lt (capped s.clock mv) s.time) refl
   where
     one : min (s.shown + 1) (2 ^ 64 - 1) ≡ s.shown + 1
@@ -28,7 +29,8 @@ found-next clock moves s mv few at h = by (nat_lt (capped s.clock mv) s.time) re
     here : (d : Move) → get_or moves s.shown d ≡ mv
     here d = get_or_from_slice_get moves s.shown mv d at
 
-    by : (sooner : Bool) → nat_lt (capped s.clock mv) s.time ≡ sooner → Found clock moves (counted (cond sooner (record s { place = s.shown; time = capped s.clock mv; move = mv }) s))
+    by : (sooner : Bool) → nat_lt (capped s.clock mv) s.time ≡ sooner → Found clock moves (counted
+        (cond sooner (record s { place = s.shown; time = capped s.clock mv; move = mv }) s))
     by true t =
         let e = h.same in
         let less : capped s.clock mv < s.time = grind (arith, nat_tests) in
@@ -41,7 +43,8 @@ found-next clock moves s mv few at h = by (nat_lt (capped s.clock mv) s.time) re
           within = let w = h.within in omega (arith, less, w);
         }
       where
-        more : (k : ℕ) (d : Move) → k < s.shown + 1 → capped s.clock mv < s.time → (last : Bool) → nat_eq k s.shown ≡ last → capped s.clock mv ≤ capped clock (get_or moves k d)
+        more : (k : ℕ) (d : Move) → k < s.shown + 1 → capped s.clock mv < s.time → (last : Bool) → nat_eq k s.shown ≡ last →
+            capped s.clock mv ≤ capped clock (get_or moves k d)
         more k d below less true q = let z : k ≡ s.shown = grind (arith, nat_tests) in let e = h.same in rw (z, here d, e) (omega arith)
         more k d below less false q = let under : k < s.shown = grind (arith, nat_tests) in let g = h.least k d under in omega (arith, g, less)
     by false t =
@@ -56,7 +59,8 @@ found-next clock moves s mv few at h = by (nat_lt (capped s.clock mv) s.time) re
           within = h.within;
         }
       where
-        more : (k : ℕ) (d : Move) → k < s.shown + 1 → s.time ≤ capped s.clock mv → (last : Bool) → nat_eq k s.shown ≡ last → s.time ≤ capped clock (get_or moves k d)
+        more : (k : ℕ) (d : Move) → k < s.shown + 1 → s.time ≤ capped s.clock mv → (last : Bool) → nat_eq k s.shown ≡ last →
+            s.time ≤ capped clock (get_or moves k d)
         more k d below less true q = let z : k ≡ s.shown = grind (arith, nat_tests) in let e = h.same in rw (z, here d, ← e) less
         more k d below less false q = let under : k < s.shown = grind (arith, nat_tests) in h.least k d under
 
@@ -68,7 +72,8 @@ next_at (suc n) [] rest mv e = absurd (cc)
 next_at (suc n) (x ∷ moves) rest mv e = next_at n moves rest mv e
 
 -- all that are left
-found-rest : (clock : SiteTimes) (moves : List Move) (s : Seeking) (rest : List Move) → length moves ≤ 2 ^ 64 - 1 → s.shown + length rest ≡ length moves → drop s.shown moves ≡ rest → Found clock moves s → Found clock moves (fold shown s rest) × ((fold shown s rest).shown ≡ length moves)
+found-rest : (clock : SiteTimes) (moves : List Move) (s : Seeking) (rest : List Move) → length moves ≤ 2 ^ 64 - 1 → s.shown + length rest ≡ length moves →
+    drop s.shown moves ≡ rest → Found clock moves s → Found clock moves (fold shown s rest) × ((fold shown s rest).shown ≡ length moves)
 found-rest clock moves s [] few count left h = (h, omega (arith, count))
 found-rest clock moves s (mv ∷ rest) few count left h =
     let n = next_at s.shown moves rest mv left in
@@ -77,7 +82,8 @@ found-rest clock moves s (mv ∷ rest) few count left h =
     let e : s.shown + 1 ≡ suc s.shown = omega arith in
     found-rest clock moves (shown s mv) rest few (omega (arith, one, count)) (rw (one, e) (n.1)) (found-next clock moves s mv below (n.0) h)
   where
-    counts : (sooner : Bool) → s.shown < 2 ^ 64 - 1 → (counted (cond sooner (record s { place = s.shown; time = capped s.clock mv; move = mv }) s)).shown ≡ s.shown + 1
+    counts : (sooner : Bool) → s.shown < 2 ^ 64 - 1 → (counted (cond sooner (record s { place = s.shown; time = capped s.clock mv; move = mv }) s)).shown
+        ≡ s.shown + 1
     counts true below = grind arith
     counts false below = grind arith
 
@@ -93,13 +99,15 @@ found-nothing clock moves = record {
 }
 
 -- what was found once all were shown
-found-all : (clock : SiteTimes) (moves : List Move) (s : Seeking) → length moves ≤ 2 ^ 64 - 1 → s ≡ fold shown (nothing clock) moves → Found clock moves s × (s.shown ≡ length moves)
+found-all : (clock : SiteTimes) (moves : List Move) (s : Seeking) → length moves ≤ 2 ^ 64 - 1 → s ≡ fold shown (nothing clock) moves →
+    Found clock moves s × (s.shown ≡ length moves)
 found-all clock moves s few e =
     let f = found-rest clock moves (nothing clock) moves few (omega arith) refl (found-nothing clock moves) in
     (rw e (f.0), rw e (f.1))
 
 -- no move has a lesser time
-pub found-bound : (clock : SiteTimes) (moves : List Move) (s : Seeking) → length moves ≤ 2 ^ 64 - 1 → s ≡ fold shown (nothing clock) moves → (k : ℕ) (d : Move) → k < length moves → s.time ≤ capped clock (get_or moves k d)
+pub found-bound : (clock : SiteTimes) (moves : List Move) (s : Seeking) → length moves ≤ 2 ^ 64 - 1 → s ≡ fold shown (nothing clock) moves →
+    (k : ℕ) (d : Move) → k < length moves → s.time ≤ capped clock (get_or moves k d)
 found-bound clock moves s few e k d below =
     let f = found-all clock moves s few e in
     let all = f.1 in
@@ -111,7 +119,8 @@ pub record Reached (clock : SiteTimes) (moves : List Move) (s : Seeking) : Type 
   pub move : slice_get moves s.place ≡ Some s.move
   pub time : capped clock s.move ≡ s.time
 
-pub found-least : (clock : SiteTimes) (moves : List Move) (s : Seeking) → length moves ≤ 2 ^ 64 - 1 → s ≡ fold shown (nothing clock) moves → s.time < 2 ^ 64 - 1 → Reached clock moves s
+pub found-least : (clock : SiteTimes) (moves : List Move) (s : Seeking) → length moves ≤ 2 ^ 64 - 1 → s ≡ fold shown (nothing clock) moves →
+    s.time < 2 ^ 64 - 1 → Reached clock moves s
 found-least clock moves s few e below =
     let f = found-all clock moves s few e in
     let h = f.0 in
@@ -128,14 +137,16 @@ found-least clock moves s few e below =
       time = g.2;
     }
 
-pub found-first : (clock : SiteTimes) (moves : List Move) (s : Seeking) → length moves ≤ 2 ^ 64 - 1 → s ≡ fold shown (nothing clock) moves → s.time < 2 ^ 64 - 1 →
+pub found-first : (clock : SiteTimes) (moves : List Move) (s : Seeking) → length moves ≤ 2 ^ 64 - 1 → s ≡ fold shown (nothing clock) moves →
+    s.time < 2 ^ 64 - 1 →
     (s.place ≡ first_least (capped clock) moves) × (s.place < length moves) × (Some s.move ≡ slice_get moves s.place)
 found-first clock moves s few e below =
     let r = found-least clock moves s few e below in
     (least-of_all (capped clock) moves s.place s.time s.move r.least, r.least.within, sym r.move)
 
 -- and where no move has, it is the first of all
-pub first-found : (clock : SiteTimes) (moves : List Move) (s : Seeking) → length moves ≤ 2 ^ 64 - 1 → 0 < length moves → s ≡ fold shown (nothing clock) moves → 2 ^ 64 - 1 ≤ s.time →
+pub first-found : (clock : SiteTimes) (moves : List Move) (s : Seeking) → length moves ≤ 2 ^ 64 - 1 → 0 < length moves → s ≡ fold shown (nothing clock) moves →
+    2 ^ 64 - 1 ≤ s.time →
     0 ≡ first_least (capped clock) moves
 first-found clock moves s few some e above =
     let bound = found-bound clock moves s few e in

@@ -25,7 +25,8 @@ unfolding time_after
 time_alike plan delays xs ys mv h = ap (λ (n : ℕ). n + delay delays mv) (h mv)
 
 -- and moves after them keep their times: they come before both
-rest_alike : (plan : Plan) (delays : List ℕ) (xs ys : List Done) (rest : List Move) → AreAlike plan xs ys → (late : List Done) × (times_after plan delays xs rest ≡ late ++ xs) × (times_after plan delays ys rest ≡ late ++ ys)
+rest_alike : (plan : Plan) (delays : List ℕ) (xs ys : List Done) (rest : List Move) → AreAlike plan xs ys →
+    (late : List Done) × (times_after plan delays xs rest ≡ late ++ xs) × (times_after plan delays ys rest ≡ late ++ ys)
 rest_alike plan delays xs ys [] h = ([], refl, refl)
 rest_alike plan delays xs ys (mv ∷ rest) h =
     let e = time_alike plan delays xs ys mv h in
@@ -52,11 +53,15 @@ alike_turned plan a b xs = λ mv.
     omega (arith, p, q, r, s)
 
 -- a move keeps its time after one with which it shares no place
-time_apart : (plan : Plan) (delays : List ℕ) (done : Done) (xs : List Done) (mv : Move) → shares plan mv done.move ≡ false → time_after plan delays (done ∷ xs) mv ≡ time_after plan delays xs mv
+time_apart : (plan : Plan) (delays : List ℕ) (done : Done) (xs : List Done) (mv : Move) → shares plan mv done.move ≡ false →
+    time_after plan delays (done ∷ xs) mv ≡ time_after plan delays xs mv
 unfolding time_after
-time_apart plan delays done xs mv e = ap (λ (n : ℕ). n + delay delays mv) (where_more (λ d. shares plan mv d.move) done xs ∙ (let z : cond (shares plan mv done.move) done.time 0 ≡ 0 = rw e refl in omega (arith, z)))
+time_apart plan delays done xs mv e = ap (λ (n : ℕ). n + delay delays mv) (where_more (λ d. shares plan mv d.move) done xs
+    ∙ (let z : cond (shares plan mv done.move) done.time 0 ≡ 0 = rw e refl in omega (arith, z)))
 
-swapped : (plan : Plan) (delays : List ℕ) (earlier : List Done) (a b : Move) (rest : List Move) → shares plan a b ≡ false → (late : List Done) × (times_after plan delays earlier (a ∷ b ∷ rest) ≡ late ++ (done_after plan delays earlier b ∷ done_after plan delays earlier a ∷ earlier)) × (times_after plan delays earlier (b ∷ a ∷ rest) ≡ late ++ (done_after plan delays earlier a ∷ done_after plan delays earlier b ∷ earlier))
+swapped : (plan : Plan) (delays : List ℕ) (earlier : List Done) (a b : Move) (rest : List Move) → shares plan a b ≡ false →
+    (late : List Done) × (times_after plan delays earlier (a ∷ b ∷ rest) ≡ late ++ (done_after plan delays earlier b ∷ done_after plan delays earlier a
+    ∷ earlier)) × (times_after plan delays earlier (b ∷ a ∷ rest) ≡ late ++ (done_after plan delays earlier a ∷ done_after plan delays earlier b ∷ earlier))
 swapped plan delays earlier a b rest e =
     let x = done_after plan delays earlier a in
     let y = done_after plan delays earlier b in
@@ -69,11 +74,13 @@ swapped plan delays earlier a b rest e =
     )
 
 -- the moves before them come first
-times_front : (plan : Plan) (delays : List ℕ) (earlier : List Done) (front rest : List Move) → times_after plan delays earlier (front ++ rest) ≡ times_after plan delays (times_after plan delays earlier front) rest
+times_front : (plan : Plan) (delays : List ℕ) (earlier : List Done) (front rest : List Move) →
+    times_after plan delays earlier (front ++ rest) ≡ times_after plan delays (times_after plan delays earlier front) rest
 times_front plan delays earlier [] rest = refl
 times_front plan delays earlier (mv ∷ front) rest = times_front plan delays (done_after plan delays earlier mv ∷ earlier) front rest
 
-pub keeps_times : (plan : Plan) (delays : List ℕ) (front : List Move) (a b : Move) (rest : List Move) → shares plan a b ≡ false → KeepsTimes plan delays front a b rest
+pub keeps_times : (plan : Plan) (delays : List ℕ) (front : List Move) (a b : Move) (rest : List Move) → shares plan a b ≡ false →
+    KeepsTimes plan delays front a b rest
 unfolding times
 keeps_times plan delays front a b rest e =
     let earlier = times_after plan delays [] front in

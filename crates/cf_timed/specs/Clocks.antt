@@ -7,7 +7,8 @@ use Rattle.cf_index.specs.Sites.{HasSites, used}
 use Rattle.cf_timed.specs.Delays.{delay}
 use Rattle.cf_timed.specs.Times.{Done, greatest, greatest_time, time_after}
 
--- the layout and the delays; the time of each stage by its number, and of each cell by those of its siding and of itself; that of the lane, of fetch, of the memory and of the code; and the greatest of all
+-- the layout and the delays; the time of each stage by its number, and of each cell by those of its siding and of
+-- itself; that of the lane, of fetch, of the memory and of the code; and the greatest of all
 pub record SiteTimes : Type 0 where
   pub plan : Plan
   pub delays : List ℕ

@@ -43,19 +43,23 @@ abbrev pub begins : Processor → Streams → RunPlace
 begins core streams = place_of core streams None no_tally
 
 -- from there it is a run of a policy, which reports nothing and whose report does not fail; this many moves were made
-pub record RunsUnreported {P : Type 0} (picked : P → List Move → ℕ) (onward : P → List Move → P) (limit : ℕ) (begin : RunPlace) (core : Processor) (streams : Streams) (policy later : P) (moves : ℕ) (answer : Answer) : Type 0 where
+pub record RunsUnreported {P : Type 0} (picked : P → List Move → ℕ) (onward : P → List Move →
+    P) (limit : ℕ) (begin : RunPlace) (core : Processor) (streams : Streams) (policy later : P) (moves : ℕ) (answer : Answer) : Type 0 where
   pub tally : Tally
   pub counted : tally.moves ≡ moves
   pub right : RunsRight picked onward limit show.Report begin (place_of core streams None tally) policy later answer
   pub ends : EndsSequentially limit begin (place_of core streams None tally) (Ran answer)
   pub reports : answer ≢ ran.ReportFault
 
--- from there it is a run of the policy that picks what is done first, right by the sequential machine; this many moves were made, and the clock was told exactly these
-pub record RunsTimed (delays : List ℕ) (limit : ℕ) (begin : RunPlace) (core : Processor) (streams : Streams) (clock : SiteTimes) (moves : ℕ) (answer : Timed) : Type 0 where
+-- from there it is a run of the policy that picks what is done first, right by the sequential machine; this many moves
+-- were made, and the clock was told exactly these
+pub record RunsTimed (delays : List ℕ) (limit : ℕ) (begin : RunPlace) (core : Processor) (streams : Streams) (clock : SiteTimes) (moves : ℕ)
+    (answer : Timed) : Type 0 where
   pub tally : Tally
   pub counted : tally.moves ≡ moves
   pub picked : List Done
-  pub right : RunsRight (earliest begin.core.plan delays) (after_earliest begin.core.plan delays) limit show.Report begin (place_of core streams None tally) [] picked (answer_of answer)
+  pub right : RunsRight (earliest begin.core.plan delays) (after_earliest begin.core.plan delays) limit show.Report begin (place_of core streams None tally)
+      [] picked (answer_of answer)
   pub told : ClockKnows begin.core.plan delays (times begin.core.plan delays right.moves) clock
   -- it ends as the sequential machine does under the same limit
   pub ends : EndsSequentially limit begin (place_of core streams None tally) (Ran (answer_of answer))

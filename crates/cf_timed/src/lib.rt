@@ -14,10 +14,10 @@ mod soonest;
 mod timing;
 
 pub use answer::Timed;
-pub use run_scripts::{DelayErr, DelayKind};
 pub use clock::Clock;
 pub use delays::{Delays, kind_place};
 pub use reaching::port;
 pub use reading::{MOST_DELAYS, read_delays};
 pub use run::{clock_after, run_timed, run_unreported, timed};
+pub use run_scripts::{DelayErr, DelayKind};
 pub use timing::Timing;

@@ -7,8 +7,8 @@ ghost use Rattle.cf_timed.specs.Limits.{most_delays};
 
 use crate::delays::Delays;
 use run_scripts::{DelayErr, DelayKind, Words, is_skipped, place_named};
-use texts::is_ascii;
 use rv_text::{cut_line, numeral};
+use texts::is_ascii;
 
 /// The delay that a word spells, if it spells one.
 #[tactic(auto, unfolding(crate::specs::DelayLines::delay_word))]

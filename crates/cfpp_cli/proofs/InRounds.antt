@@ -103,7 +103,8 @@ rounds-come limit core last plan hart before after blank full reported is fresh 
         last,
         record {
           runs = run;
-          agrees = agrees limit plan hart before after None None last run.run.tally (Ran (ran_of run.run.clocked)) reported.status fresh run.run.ends run.status_is;
+          agrees = agrees limit plan hart before after None None last run.run.tally (Ran (ran_of run.run.clocked)) reported.status fresh run.run.ends
+              run.status_is;
         },
       ),
       puts,

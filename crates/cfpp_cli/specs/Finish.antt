@@ -20,7 +20,8 @@ use Rattle.cfpp_cli.specs.Lines.{ReachesBy}
 abbrev pub opening : Hart → Option (List ℕ) → Machine
 opening hart left = record { hart = hart; rest = unwrap_or left []; output = [] }
 
--- these lines are those of n instructions: fewer than the limit, and the next one ends the program or traps; or fewer, and a stream fails the next one, as `Closes` says; or n is the limit, and no further instruction is looked at
+-- these lines are those of n instructions: fewer than the limit, and the next one ends the program or traps; or fewer,
+-- and a stream fails the next one, as `Closes` says; or n is the limit, and no further instruction is looked at
 abbrev pub Finishes : Chosen → Option (List ℕ) → Machine → Ran → ℕ → Machine → List ℕ → Type 0
 Finishes chosen left start (ran.Exit status) n m lines =
     (n < chosen.limit) × ReachesBy chosen.isa left start n m lines

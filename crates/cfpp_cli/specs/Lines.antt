@@ -32,7 +32,8 @@ LeadsBy isa start (suc n) m lines =
     × LeadsBy isa start n before earlier × (step isa before ≡ Next next line)
     × SameButInput next m × (lines ≡ earlier ++ text_of (Next next line))
 
--- the machine is the one after n instructions, and these are their lines, where the input tells what it has left; else n instructions with these lines lead to it
+-- the machine is the one after n instructions, and these are their lines, where the input tells what it has left; else
+-- n instructions with these lines lead to it
 abbrev pub ReachesBy : Isa → Option (List ℕ) → Machine → ℕ → Machine → List ℕ → Type 0
 ReachesBy isa (Some left) start n m lines =
     (after isa start n ≡ Some m) × (lines ≡ retired_lines isa start n)

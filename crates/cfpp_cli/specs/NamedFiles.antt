@@ -3,7 +3,8 @@ use Rattle.std.specs.Prelude.{ℕ, List, [], ◌∷◌, ◌++◌, Result, Ok, Er
 use Rattle.cli_arguments.specs.Words.{Asked, machine, run, moves, rounds, debug, time, audit, check, asm, listing, gen, help, version}
 use Rattle.cli_files.specs.Reads.{layout_files, files_of_layouts, script_files}
 
--- the layout, unless it is built in, the program, and the script or the trace where there is one; the delays, the layouts and the program; the one file of a command that names no other
+-- the layout, unless it is built in, the program, and the script or the trace where there is one; the delays, the
+-- layouts and the program; the one file of a command that names no other
 abbrev pub files_of : Asked → List (List ℕ)
 files_of (machine program limit retired mul) = program ∷ []
 files_of (run layout program schedule limit lines) = (layout_files layout ++ program ∷ []) ++ script_files schedule

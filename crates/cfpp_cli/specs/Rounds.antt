@@ -30,7 +30,9 @@ pub record RoundsAsked : Type 0 where
 abbrev pub rounds_asked : NamedLayout → List ℕ → ℕ → RoundsAsked
 rounds_asked layout program limit = record { layout = layout; program = program; limit = limit }
 
--- a run in rounds from one processor to another: this many rounds, each the round of the candidates that are offered where it is made, and what was counted of their moves. It is a run of the sequential machine on which the processor was opened, ends as that machine does, and has a bounded number of moves
+-- a run in rounds from one processor to another: this many rounds, each the round of the candidates that are offered
+-- where it is made, and what was counted of their moves. It is a run of the sequential machine on which the processor
+-- was opened, ends as that machine does, and has a bounded number of moves
 pub record RunInRounds (limit : ℕ) (core last : Processor) (before after : Streams) : Type 0 where
   pub tally : Tally
   pub rounds : ℕ
@@ -56,7 +58,8 @@ pub record RunsCoreInRounds (limit : ℕ) (core last : Processor) (before after 
   pub status_is : answer ≡ status_of_run limit (ran_of run.clocked)
   pub reports : report ≡ closing_of limit last run
 
--- the processor of the layout, opened on the hart, was run in rounds. Where the run ends with Exit, Trap or Limit, its status, its output, its first line, its `retired` line and its registers are those of `machine`
+-- the processor of the layout, opened on the hart, was run in rounds. Where the run ends with Exit, Trap or Limit, its
+-- status, its output, its first line, its `retired` line and its registers are those of `machine`
 pub record RunsInRounds (limit : ℕ) (plan : Plan) (hart : Hart) (last : Processor) (before after : Streams)
     (answer : Status) (report : List ℕ) : Type 0 where
   pub runs : RunsCoreInRounds limit (opened plan hart) last before after answer report

@@ -68,7 +68,9 @@ chosen_by limit show (in_script text) = ByScript limit show text
 chosen_by limit show (drawn_from seed) = ByPolicy drawn_pick (λ g moves. drawn_on g) limit show (drawn seed)
 chosen_by limit show in_turn = ByPolicy round_pick round_on limit show None
 
--- a run from one processor to another: what was counted, how it finished, and what the report tells before and after it; by its moves it is a run of the sequential machine on which the processor was opened, and ends as that machine does
+-- a run from one processor to another: what was counted, how it finished, and what the report tells before and after
+-- it; by its moves it is a run of the sequential machine on which the processor was opened, and ends as that machine
+-- does
 pub record ProcessorRun (limit : ℕ) (show : Show) (core last : Processor) (by : RunRelation)
     (before after : Streams) (blank : Option (List ℕ)) : Type 0 where
   pub tally : Tally
@@ -96,7 +98,8 @@ pub record RunsWithTail (limit : ℕ) (show : Show) (tail : Tail) (core last : P
   pub runs : RunsCore limit show core last by before after blank answer shown text
   pub closes : closing ≡ text ++ lines_after tail answer last
 
--- the answer is that of `machine` on the hart, under the same limit and with multiplication where the layout has it; it takes the same from the input and writes the same to the output, and this text closes its report
+-- the answer is that of `machine` on the hart, under the same limit and with multiplication where the layout has it; it
+-- takes the same from the input and writes the same to the output, and this text closes its report
 pub record IsMachines (limit : ℕ) (plan : Plan) (hart : Hart) (before after : Streams) (answer : Status)
     (text : List ℕ) : Type 0 where
   pub runs : RunsHart (chosen_of limit false (has_mul plan)) hart before after answer [] text

@@ -48,7 +48,8 @@ pub record PutsAlone (text : List ℕ) (before after : Outside) (answer : Status
   pub files : after.files ≡ before.files
   pub input : after.streams.input ≡ before.streams.input
 
--- by what the words ask for: the answer, what is shown of a run, and the lines that close the report, after what the report told before; what is shown and these lines together are the whole report
+-- by what the words ask for: the answer, what is shown of a run, and the lines that close the report, after what the
+-- report told before; what is shown and these lines together are the whole report
 abbrev pub Answers : Result Asked ℕ → Outside → Outside → Option (List ℕ) → Status → (shown closing : List ℕ) → Type 0
 Answers (Ok (machine program limit retired mul)) before after blank answer shown closing =
     AnswersMachine program (chosen_of limit retired mul) before after answer shown closing
@@ -129,7 +130,8 @@ pub record ReportFailsFirst (reading : Result Asked ℕ) (before after : Outside
   pub input : before.input_faults ≤ after.input_faults
   pub output : before.output_faults ≤ after.output_faults
 
--- the top call: its words, the outside and the report before and after it, and its status; of the files that the words name it read the first ones, in their order and each once
+-- the top call: its words, the outside and the report before and after it, and its status; of the files that the words
+-- name it read the first ones, in their order and each once
 pub record IsTop (words : List (List ℕ)) (before after : Outside) (blank full : Report)
     (result : Status) : Type 0 where
   pub reading : Result Asked ℕ

@@ -5,9 +5,9 @@ ghost use Rattle.rv_asm.specs.declared.refusal.AsmKind.{AsmKind as Kind};
 ghost use Rattle.cli_files.specs.Causes.{files_answered, input_answered, output_answered};
 ghost use Rattle.cfpp_cli.specs.Sources.{IsAssembly, IsUnassembled, Refused};
 
-use report_refusals::bad_source;
 use cli_files::{Answer, Status, no_memory};
 use elf_make::write_elf;
+use report_refusals::bad_source;
 use rv_asm::{AsmErr, AsmKind, assemble};
 use std::alloc::Global;
 

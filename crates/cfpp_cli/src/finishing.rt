@@ -8,12 +8,12 @@ ghost use Rattle.cfpp_cli.specs.Finishing.{ClosesCore, ClosesMachine, ClosesRoun
 ghost use Rattle.cfpp_cli.specs.Statuses.{status_of as status_for, status_of_run as status_for_run};
 
 use crate::reporting::Reported;
-use report_closing::{put_closing, put_closing_in_rounds, put_machine_closing};
 use cf_core::Core;
 use cf_io::{Failed, Sink};
 use cf_report::Tally;
 use cf_run::{Ran, Scripted};
 use cli_files::{ScriptFault, Status, Which};
+use report_closing::{put_closing, put_closing_in_rounds, put_machine_closing};
 use rv_machine::Machine;
 
 /// Whether the report failed during the run.

@@ -8,8 +8,8 @@ ghost use Rattle.cfpp_cli.specs.Causes.{output_listed};
 ghost use Rattle.cfpp_cli.specs.FileCommands.{file_side};
 ghost use Rattle.cfpp_cli.specs.Listings.{listing_of, IsListable, IsNotListed, ListsImage, AnswersList};
 
-use cf_io::{Files, FilesErr, Sink};
 use asm_listing::{ListingErr, put_elf_listing, put_flat_listing};
+use cf_io::{Files, FilesErr, Sink};
 use cli_files::{
     Answer, MOST_BYTES, ProgramErr, Which, done, is_elf, no_memory, no_program, unread, write_fault,
 };

@@ -7,10 +7,10 @@ ghost use Rattle.cfpp_cli.specs.Reporting.{Adds};
 ghost use Rattle.cfpp_cli.specs.Tail.{lines_after};
 
 use crate::reporting::Reported;
-use report_closing::put_moves;
 use cf_core::Core;
 use cf_io::{Failed, Sink};
 use cli_files::Status;
+use report_closing::put_moves;
 
 /// What is to follow the report of a run.
 #[derive(Clone, Copy)]

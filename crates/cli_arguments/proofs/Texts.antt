@@ -20,7 +20,8 @@ some_same : {T : Type 0} {one other : T} → Some one ≡ Some other → one ≡
 some_same h = cc
 
 -- a word is that of what it names: by the first text that it is, and if it is none, by those after it
-first-named : {T : Type 0} (word text : List ℕ) (written : T → List ℕ) (here : T) (others : Option T) → written here ≡ text → ((name : T) → others ≡ Some name → word ≡ written name)
+first-named : {T : Type 0} (word text : List ℕ) (written : T → List ℕ) (here : T) (others : Option T) → written here ≡ text →
+    ((name : T) → others ≡ Some name → word ≡ written name)
     → (name : T) → (if is_text word text then Some here else others) ≡ Some name → word ≡ written name
 first-named {T} word text written here others same later name = by (is_text word text) refl
   where

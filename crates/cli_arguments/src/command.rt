@@ -143,8 +143,17 @@ fn bare<'a>(name: CommandName) -> Option<Command<'a>>
     match name {
         CommandName::Help | CommandName::HelpOption => Some(Command::Help),
         CommandName::Version => Some(Command::Version),
-        CommandName::Machine | CommandName::Run | CommandName::Moves | CommandName::Rounds | CommandName::Debug => None,
-        CommandName::Time | CommandName::Audit | CommandName::Check | CommandName::Asm | CommandName::List | CommandName::Gen => None,
+        CommandName::Machine
+        | CommandName::Run
+        | CommandName::Moves
+        | CommandName::Rounds
+        | CommandName::Debug => None,
+        CommandName::Time
+        | CommandName::Audit
+        | CommandName::Check
+        | CommandName::Asm
+        | CommandName::List
+        | CommandName::Gen => None,
     }
 }
 
@@ -173,7 +182,12 @@ fn with_one<'a>(name: CommandName, word: &'a str, options: Options<'a>) -> Optio
                 run: options.run,
             })
         }
-        CommandName::Run | CommandName::Moves | CommandName::Rounds | CommandName::Debug | CommandName::Time | CommandName::Audit => None,
+        CommandName::Run
+        | CommandName::Moves
+        | CommandName::Rounds
+        | CommandName::Debug
+        | CommandName::Time
+        | CommandName::Audit => None,
         CommandName::Help | CommandName::HelpOption | CommandName::Version => None,
     }
 }
@@ -215,8 +229,14 @@ fn with_two<'a>(
             limit,
         }),
         CommandName::Debug => Some(Command::Debug { layout, program }),
-        CommandName::Machine | CommandName::Time | CommandName::Audit | CommandName::Check | CommandName::Asm | CommandName::List => None,
-        CommandName::Gen | CommandName::Help | CommandName::HelpOption | CommandName::Version => None,
+        CommandName::Machine
+        | CommandName::Time
+        | CommandName::Audit
+        | CommandName::Check
+        | CommandName::Asm
+        | CommandName::List => None,
+        CommandName::Gen | CommandName::Help | CommandName::HelpOption | CommandName::Version =>
+            None,
     }
 }
 
@@ -252,7 +272,11 @@ fn with_more<'a>(
 }
 
 /// A command with these positional words and options, or None where a word is missing.
-fn with_words<'a>(name: CommandName, positional: &'a [String], options: Options<'a>) -> Option<Command<'a>>
+fn with_words<'a>(
+    name: CommandName,
+    positional: &'a [String],
+    options: Options<'a>,
+) -> Option<Command<'a>>
     ensures { option_map asked_of result
         ≡ asked_by name (map string_bytes positional.entry.now) (given_of options.entry) }
 {

@@ -7,8 +7,8 @@ mod numbers;
 mod options;
 mod reading;
 
-pub use run_options::Show;
 pub use command::{
     Command, DEFAULT_LIMIT, LayoutWord, MachineOptions, RunOptions, TimeOptions, read_words,
 };
 pub use options::Schedule;
+pub use run_options::Show;

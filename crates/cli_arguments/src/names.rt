@@ -57,7 +57,11 @@ impl CommandName {
     {
         match self {
             CommandName::Help | CommandName::HelpOption | CommandName::Version => 0,
-            CommandName::Machine | CommandName::Check | CommandName::Asm | CommandName::List | CommandName::Gen => 1,
+            CommandName::Machine
+            | CommandName::Check
+            | CommandName::Asm
+            | CommandName::List
+            | CommandName::Gen => 1,
             CommandName::Run | CommandName::Moves | CommandName::Rounds | CommandName::Debug => 2,
             CommandName::Time | CommandName::Audit => 3,
         }

@@ -55,7 +55,8 @@ text_of (found.Agrees n) = trace_of n
 text_of (found.Wrong number kind) = bad_trace (fault.Line number kind)
 text_of found.ReadFault = line (codes "read fault input")
 
--- over an input that tells what it has left, the lines of retirement in the trace are those of the sequential machine that starts on the hart with that input: a line for each of its first instructions, in their order
+-- over an input that tells what it has left, the lines of retirement in the trace are those of the sequential machine
+-- that starts on the hart with that input: a line for each of its first instructions, in their order
 abbrev pub RetiresAsMachine : Plan → Hart → Option (List ℕ) → List ℕ → ℕ → Type 0
 RetiresAsMachine plan hart None text n = Unit {0}
 RetiresAsMachine plan hart (Some rest) text n = RetiresAs (opened plan hart) hart rest text n
@@ -80,7 +81,8 @@ abbrev pub FailsAtCall : Plan → Hart → List ℕ → (before after : Option (
 FailsAtCall plan hart text before after =
     (last : Processor) × StopsAtCall (opened plan hart) last before after text
 
--- what is answered of a text, by the status: it is the trace of a run; or it is not, which is seen in this line; or the input failed the call that it names; or memory for the processor was refused
+-- what is answered of a text, by the status: it is the trace of a run; or it is not, which is seen in this line; or the
+-- input failed the call that it names; or memory for the processor was refused
 abbrev pub AnswersText : Plan → Hart → List ℕ → (before after : Option (List ℕ)) → Status → List ℕ → Type 0
 AnswersText plan hart text before after status.Done report =
     (n : ℕ) × IsTraceOf plan hart text before after n × (report ≡ trace_of n)

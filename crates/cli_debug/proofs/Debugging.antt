@@ -22,7 +22,8 @@ use Rattle.cli_debug.proofs.Telling.{Tells, tells}
 -- the session as it is told
 has : (plan : Plan) (hart : Hart) (core last : Processor) (kept : List Kept) (before after : Streams) (blank full : Option (List ℕ))
     (ended : Debugged) → core ≡ opened plan hart →
-    Debugs (session_of (processor_state core [] before.output) before.input blank) (session_of (processor_state last kept after.output) after.input full) ended →
+    Debugs (session_of (processor_state core [] before.output) before.input blank) (session_of (processor_state last kept after.output) after.input full)
+    ended →
     StaysOnRun core last ended → HasSession plan hart before after blank full ended
 has plan hart core last kept before after blank full ended is session stays = record {
   last = last;
@@ -34,16 +35,20 @@ has plan hart core last kept before after blank full ended is session stays = re
 -- what it put, where the report did not fail
 pub decides-session : (plan : Plan) (hart : Hart) (core last : Processor) (ring kept : List Kept) (before after : Streams)
     (blank full : Option (List ℕ)) (ended : Debugged) (result : Result Answer Failed) → core ≡ opened plan hart → ring ≡ [] →
-    Debugs (session_of (processor_state core ring before.output) before.input blank) (session_of (processor_state last kept after.output) after.input full) ended →
+    Debugs (session_of (processor_state core ring before.output) before.input blank) (session_of (processor_state last kept after.output) after.input full)
+    ended →
     StaysOnRun core last ended → IfOk result (λ answer. ended ≢ ReportFault) → IfOk result (λ answer. answer.status ≡ status_of ended) →
     IfOk result (λ answer. answer.closing ≡ closing_of ended) → IfErr result (λ failed. ended ≡ ReportFault) →
     Decides (ComesOfCommands plan hart before after) (BreaksSession plan hart before after blank full) blank full result
 decides-session plan hart core last ring kept before after blank full ended (Ok answer) is empty session stays works status closing fails =
-    let had : Debugs (session_of (processor_state core [] before.output) before.input blank) (session_of (processor_state last kept after.output) after.input full) ended = rw empty at session in
-    let told : Tells (session_of (processor_state core [] before.output) before.input blank) (session_of (processor_state last kept after.output) after.input full)
+    let had : Debugs (session_of (processor_state core [] before.output) before.input blank)
+    (session_of (processor_state last kept after.output) after.input full) ended = rw empty at session in
+    let told : Tells (session_of (processor_state core [] before.output) before.input blank)
+    (session_of (processor_state last kept after.output) after.input full)
     (debugger_state (processor_state core [] before.output) None) (debugger_state (processor_state last kept after.output) had.stop) ended =
     tells _ _ _ _ ended works had.ends in
-    let again : Debugs (session_of (processor_state core [] before.output) before.input (Some [])) (session_of (processor_state last kept after.output) after.input (Some told.lines)) ended =
+    let again : Debugs (session_of (processor_state core [] before.output) before.input (Some []))
+    (session_of (processor_state last kept after.output) after.input (Some told.lines)) ended =
     record { stop = had.stop; ends = told.ends } in (
       told.lines,
       told.put,
@@ -57,7 +62,8 @@ decides-session plan hart core last ring kept before after blank full ended (Ok 
       }),
     )
 decides-session plan hart core last ring kept before after blank full ended (Err failed) is empty session stays works status closing fails =
-    let had : Debugs (session_of (processor_state core [] before.output) before.input blank) (session_of (processor_state last kept after.output) after.input full) ended = rw empty at session in
+    let had : Debugs (session_of (processor_state core [] before.output) before.input blank)
+    (session_of (processor_state last kept after.output) after.input full) ended = rw empty at session in
     subst (HasSession plan hart before after blank full) fails (has plan hart core last kept before after blank full ended is had stays)
 
 -- and where layout and program were read before it

@@ -1,4 +1,6 @@
--- What a program file is: the parts of memory that it describes, where it is entered, and why it is no program (Tool Interface Standard, Executable and Linking Format Specification, "Program Loading"; flat images are a convention of this project).
+-- What a program file is: the parts of memory that it describes, where it is entered, and why it is no program (Tool
+-- Interface Standard, Executable and Linking Format Specification, "Program Loading"; flat images are a convention of
+-- this project).
 use Rattle.std.specs.Prelude.{◌≡◌, ◌<◌, ◌≤◌, ℕ, List, [], ◌∷◌, ◌++◌, length, map, filter, nat_lt, Bool, true, false, Some, if◌then◌else◌}
 use Rattle.elf_view.specs.Executables.{IsElf}
 use Rattle.elf_view.specs.Headers.{file_header}
@@ -74,7 +76,8 @@ pub record IsProgramFile (image : List ℕ) : Type 0 where
   pub formed : starts_with_elf image ≡ true → IsElf image
   pub loads : AreAccepted (parts_of image)
 
--- why the file is no program: it is too long; or else it begins as an ELF file and fails the tests of its form; or else the parts of that ELF file cannot be loaded
+-- why the file is no program: it is too long; or else it begins as an ELF file and fails the tests of its form; or else
+-- the parts of that ELF file cannot be loaded
 abbrev pub IsRefused : List ℕ → ProgramErr → Type 0
 IsRefused image program.TooLong = most_bytes < length image
 IsRefused image (program.Elf error) =

@@ -11,7 +11,8 @@ use Rattle.cli_files.specs.Outside.{Outside}
 use Rattle.cli_files.specs.Schedules.{ReadySchedule, IsScheduled, LacksSchedule}
 use Rattle.cli_files.specs.declared.status.Status.{Status}
 
--- what the words ask of `run`: where the layout is, the file with the program, what chooses the moves, the number of retired instructions at which the run stops, and what it shows
+-- what the words ask of `run`: where the layout is, the file with the program, what chooses the moves, the number of
+-- retired instructions at which the run stops, and what it shows
 pub record RunAsked : Type 0 where
   pub layout : NamedLayout
   pub program : List ℕ

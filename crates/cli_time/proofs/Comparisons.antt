@@ -111,7 +111,8 @@ times-fewer words options delays plans hart blank full answer h is closed =
 -- what comes of the files is what the command answers
 pub answers-time : (asked : TimeAsked) (before after : Option FilesSeen) (delays : List ℕ) (plans : List Plan) (hart : Hart)
     (blank full : Option (List ℕ)) (result : Result Answer Failed) → TimeFilesRead asked.files before after delays plans hart →
-    Decides (TimesOf asked.files.layouts asked.options delays plans hart) (BreaksTimes asked.files.layouts asked.options delays plans hart blank full) blank full result →
+    Decides (TimesOf asked.files.layouts asked.options delays plans hart) (BreaksTimes asked.files.layouts asked.options delays plans hart blank full) blank
+    full result →
     Decides (AnswersTime asked before after) (BreaksTime asked before after blank full) blank full result
 answers-time asked before after delays plans hart blank full (Ok answer) ready (lines, put, comes) =
     (lines, put, inl (record { delays = delays; plans = plans; hart = hart; ready = ready; comes = comes }))

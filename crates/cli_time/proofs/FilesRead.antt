@@ -50,7 +50,8 @@ laid_files asked = (asked.delays ∷ []) ++ files_of_layouts asked.layouts
 abbrev pub time_files : TimeFiles → List (List ℕ)
 time_files asked = laid_files asked ++ asked.program ∷ []
 
-laid-read : (asked : TimeFiles) (a b : Option FilesSeen) (delays : List ℕ) (plans : List Plan) → DelaysAndLayoutsRead asked.delays asked.layouts a b delays plans → AllRead (laid_files asked) a b
+laid-read : (asked : TimeFiles) (a b : Option FilesSeen) (delays : List ℕ) (plans : List Plan) →
+    DelaysAndLayoutsRead asked.delays asked.layouts a b delays plans → AllRead (laid_files asked) a b
 laid-read asked a b delays plans l =
     more-read (asked.delays ∷ []) (files_of_layouts asked.layouts) a l.between b (delays-read asked.delays a l.between delays l.delays_at)
     (layouts-read asked.layouts l.between b plans l.layouts)

@@ -40,7 +40,8 @@ refused-next words plans i word a b c answer report e all h =
     subst (λ (ws : List NamedLayout). LacksLayouts ws a c answer report) (sym (split-at words i word e))
     (lacks-after (take i words) (word ∷ drop (i + 1) words) plans a b c answer report all (inl h))
 
-pub unheld-next : (words : List NamedLayout) (plans : List Plan) (i : ℕ) (word : NamedLayout) (plan : Plan) (a b c : Option FilesSeen) (answer : Status) (report : List ℕ) →
+pub unheld-next : (words : List NamedLayout) (plans : List Plan) (i : ℕ) (word : NamedLayout) (plan : Plan) (a b c : Option FilesSeen) (answer : Status)
+    (report : List ℕ) →
     slice_get words i ≡ Some word → AreLayoutsAt (take i words) a b plans → IsLayoutAt word b c plan →
     answer ≡ status.NoMemory → report ≡ line (codes "no memory") → LacksLayouts words a c answer report
 unheld-next words plans i word plan a b c answer report e all h is reports =

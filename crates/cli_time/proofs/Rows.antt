@@ -91,10 +91,12 @@ pub rows-next : {T E : Type 0} (words : List NamedLayout) (options : TimeOptions
     slice_get words place ≡ Some word → slice_get plans place ≡ Some plan → Measures delays options plan hart next →
     PutsText told full now later (layout_lines options.limit word next) r → failed ≡ is_err r → failed ≡ false → more ≡ times ++ next.time ∷ [] →
     RowsPut words options delays plans hart blank full before later (place + 1) more
-rows-next words options delays plans hart blank told full before now later place times more word plan next (Ok u) failed h at_word at_plan measures puts is none pushed =
+rows-next words options delays plans hart blank told full before now later place times more word plan next
+    (Ok u) failed h at_word at_plan measures puts is none pushed =
     put-next words options delays plans hart blank told full before now later place times more word plan next h at_word at_plan measures
     puts.all puts.cause.still pushed
-rows-next words options delays plans hart blank told full before now later place times more word plan next (Err e) failed h at_word at_plan measures puts is none pushed =
+rows-next words options delays plans hart blank told full before now later place times more word plan next
+    (Err e) failed h at_word at_plan measures puts is none pushed =
     absurd (cc)
 
 -- all were

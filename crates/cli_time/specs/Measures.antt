@@ -24,7 +24,9 @@ quiet = streams_of (Some []) None
 abbrev pub made_of : Bool → Plan → List ℕ → List Move → Option Breakdown
 made_of sites plan delays moves = if sites then Some (breakdown plan delays moves) else None
 
--- an opened processor of this layout makes the moves that are done first, and this was measured: how it ended, the greatest time of a move, how many moves there were, how many instructions retired, and what the time is made of, where that is shown
+-- an opened processor of this layout makes the moves that are done first, and this was measured: how it ended, the
+-- greatest time of a move, how many moves there were, how many instructions retired, and what the time is made of,
+-- where that is shown
 pub record MeasuresRun (delays : List ℕ) (options : TimeOptions) (plan : Plan) (core : Processor) (measured : Measured) : Type 0 where
   pub last : Processor
   pub clock : SiteTimes

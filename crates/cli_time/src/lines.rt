@@ -11,12 +11,12 @@ ghost use Rattle.texts.specs.Room.{page_room};
 
 use crate::measuring::Measured;
 use crate::site_lines::put_sites;
-use report_closing::run_line;
 use cf_io::{Failed, Sink, put_all};
 use cf_run::Ran;
-use texts::Page;
 use cf_timed::Timed;
 use cli_arguments::LayoutWord;
+use report_closing::run_line;
+use texts::Page;
 
 /// The answer of a timed run as that of any run.
 fn ran(answer: Timed) -> Ran

@@ -11,10 +11,10 @@ use cf_core::Core;
 use cf_index::Candidates;
 use cf_io::{Empty, Nowhere};
 use cf_layout::Layout;
-use run_ledger::{Breakdown, Ledger, run_noted};
 use cf_timed::{Clock, Delays, Timed, run_timed};
 use cli_arguments::TimeOptions;
 use cli_files::open_again;
+use run_ledger::{Breakdown, Ledger, run_noted};
 use std::alloc::{AllocError, Global};
 
 /// What is measured of the run of a program on a layout.

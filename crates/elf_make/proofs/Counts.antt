@@ -38,7 +38,8 @@ length-closed (x ∷ xs) =
     omega (arith, length-names x xs, length-append x.name (0 ∷ []), length-append x.name (joined_names xs), length-closed xs)
 
 split : (g : Bool) (x : LabelView) (ps qs : List LabelView)
-    → length (closed_names (cond (not g) (x ∷ ps) ps)) + length (closed_names (cond g (x ∷ qs) qs)) ≡ length (closed x.name) + (length (closed_names ps) + length (closed_names qs))
+    → length (closed_names (cond (not g) (x ∷ ps) ps)) + length (closed_names (cond g (x ∷ qs) qs))
+    ≡ length (closed x.name) + (length (closed_names ps) + length (closed_names qs))
 split true x ps qs = omega (arith, length-names x qs)
 split false x ps qs = omega (arith, length-names x ps)
 

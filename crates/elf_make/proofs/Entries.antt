@@ -12,7 +12,8 @@ names-by : (b : Bool) (x : LabelView) (xs : List LabelView) → closed_names (co
 names-by true x xs = ap (λ (n : List ℕ). n ++ closed_names xs) (sym (append-nil (closed x.name)))
 names-by false x xs = refl
 
-pub bound-names : (g : Bool) (x : LabelView) (xs : List LabelView) → closed_names (bound g (x ∷ xs)) ≡ closed_names (bound g (x ∷ [])) ++ closed_names (bound g xs)
+pub bound-names : (g : Bool) (x : LabelView) (xs : List LabelView) → closed_names (bound g (x ∷ xs)) ≡ closed_names (bound g (x ∷ []))
+    ++ closed_names (bound g xs)
 bound-names g x xs = names-by (is_bound g x) x (bound g xs)
 
 length-names-by : (b : Bool) (x : LabelView) → length (closed_names (cond b (x ∷ []) [])) ≤ length (closed x.name)
@@ -38,7 +39,8 @@ entries-append at (x ∷ xs) ys =
     let after : (at + length (closed x.name)) + length (closed_names xs) ≡ at + length (closed_names (x ∷ xs)) = omega (arith, length-names x xs) in
     let rest = entries-append (at + length (closed x.name)) xs ys in
     ap (λ (e : List ℕ). entry at x ++ e) rest
-    ∙ sym (append_assoc (entry at x) (entries_from (at + length (closed x.name)) xs) (entries_from ((at + length (closed x.name)) + length (closed_names xs)) ys))
+    ∙ sym (append_assoc (entry at x) (entries_from (at + length (closed x.name)) xs) (entries_from
+    ((at + length (closed x.name)) + length (closed_names xs)) ys))
     ∙ ap (λ (end : ℕ). (entry at x ++ entries_from (at + length (closed x.name)) xs) ++ entries_from end ys) after
 
 pub names-append : (xs ys : List LabelView) → closed_names (xs ++ ys) ≡ closed_names xs ++ closed_names ys

@@ -60,7 +60,12 @@ length-entry name label = refl
 pub length-entries_from : (name : ℕ) (labels : List LabelView) → length (entries_from name labels) ≡ 16 * length labels
 length-entries_from name [] = refl
 length-entries_from name (l ∷ ls) =
-    omega (arith, length-append (entry name l) (entries_from (name + length (closed l.name)) ls), length-entry name l, length-entries_from (name + length (closed l.name)) ls)
+    omega (
+      arith,
+      length-append (entry name l) (entries_from (name + length (closed l.name)) ls),
+      length-entry name l,
+      length-entries_from (name + length (closed l.name)) ls,
+    )
 
 pub length-symbols : (labels : List LabelView) → length (symbol_table labels) ≡ 16 * (length labels + 1)
 unfolding symbol_table

@@ -46,7 +46,8 @@ unfolding words word
 names-header s a l = same-section _ _ _ _ _ _ _ _ _ _ refl (word-is (names_at s) a) (word-is s.names_len l) refl refl
 
 -- the kinds of the sections up to the symbols
-kinds : (s : Sizes) → (word (section_headers s) 4 ≡ 0) × (word (section_headers s) 44 ≡ 1) × (word (section_headers s) 84 ≡ 1) × (word (section_headers s) 124 ≡ 2)
+kinds : (s : Sizes) → (word (section_headers s) 4 ≡ 0) × (word (section_headers s) 44 ≡ 1) × (word (section_headers s) 84 ≡ 1)
+    × (word (section_headers s) 124 ≡ 2)
 unfolding words word
 kinds s = (refl, refl, refl, refl)
 

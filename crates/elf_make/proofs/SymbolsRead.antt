@@ -60,7 +60,8 @@ entries-are (l ∷ ls) file rest at name e h n =
     let next = name + length (closed l.name) in
     let grouped = e ∙ append_assoc (entry name l) (entries_from next ls) rest in
     let names = length-append (closed l.name) (closed_names ls) in
-    let first = entry-in file (entry name l ++ (entries_from next ls ++ rest)) at grouped ∙ entry-is name l (entries_from next ls ++ rest) (omega arith) (All-head IsAddress l ls h) in
+    let first = entry-in file (entry name l ++ (entries_from next ls ++ rest)) at grouped ∙ entry-is name l (entries_from next ls ++ rest) (omega arith)
+    (All-head IsAddress l ls h) in
     let after = after-part file (entry name l) (entries_from next ls ++ rest) at (at + 16) grouped (ap (λ (k : ℕ). at + k) (sym (length-entry name l))) in
     let others = entries-are ls file rest (at + 16) next after (All-tail IsAddress l ls h) (omega arith) in
     ap (λ (x : SymbolEntry). x ∷ entries symbol_entry 16 file (at + 16) (length ls)) first
@@ -114,13 +115,15 @@ names-begin [] name size h = All-nil (IsNameBelow size)
 names-begin (l ∷ ls) name size h =
     let names = length-append (closed l.name) (closed_names ls) in
     let nul = length-append l.name (0 ∷ []) in
-    All-cons (IsNameBelow size) (entry_with name l.value 0) (entries_read (name + length (closed l.name)) ls) (omega arith) (names-begin ls (name + length (closed l.name)) size (omega arith))
+    All-cons (IsNameBelow size) (entry_with name l.value 0) (entries_read (name + length (closed l.name)) ls) (omega arith)
+    (names-begin ls (name + length (closed l.name)) size (omega arith))
 
 -- the last byte of the names is NUL
 pub names-end : (labels : List LabelView) → get_or (0 ∷ closed_names labels) (length (closed_names labels)) 0 ≡ 0
 names-end [] = refl
 names-end (l ∷ ls) =
-    let whole : (0 ∷ closed_names (l ∷ ls)) ≡ (0 ∷ l.name) ++ (0 ∷ closed_names ls) = ap (λ (n : List ℕ). 0 ∷ n) (append_assoc l.name (0 ∷ []) (closed_names ls)) in
+    let whole : (0 ∷ closed_names (l ∷ ls)) ≡ (0 ∷ l.name) ++ (0 ∷ closed_names ls) = ap (λ (n : List ℕ). 0 ∷ n)
+    (append_assoc l.name (0 ∷ []) (closed_names ls)) in
     let count : length (closed_names (l ∷ ls)) ≡ length (0 ∷ l.name) + length (closed_names ls) =
     omega (arith, length-append (closed l.name) (closed_names ls), length-append l.name (0 ∷ [])) in
     ap (λ (n : List ℕ). get_or n (length (closed_names (l ∷ ls))) 0) whole

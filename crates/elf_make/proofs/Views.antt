@@ -83,7 +83,8 @@ segments-are o r =
 
 -- the entries of the symbol table
 symbol-entries : (o : Object) → IsSmallObject o → All IsAddress (in_order o.labels)
-    → entries symbol_entry 16 (elf_file o) (symbols_begin (sizes_of o)) (symbols_len (sizes_of o) / 16) ≡ record { name = 0; value = 0; size = 0 } ∷ entries_read 1 (in_order o.labels)
+    → entries symbol_entry 16 (elf_file o) (symbols_begin (sizes_of o)) (symbols_len (sizes_of o) / 16) ≡ record { name = 0; value = 0; size = 0 }
+    ∷ entries_read 1 (in_order o.labels)
 unfolding symbol_table
 symbol-entries o h a =
     let f = elf_file o in
@@ -139,7 +140,8 @@ tables-are o file r =
 sound-text : (o : Object) (file : List ℕ) → IsRead o file → IsSoundSegment file (load_with 116 0x10000 (length o.text_bytes) (length o.text_bytes) 5)
 sound-text o file r = record { within = omega (arith, r.long, r.order); room = omega arith }
 
-sound-data : (o : Object) (file : List ℕ) → IsRead o file → IsSoundSegment file (load_with (data_at (sizes_of o)) 0x200000 (length o.data_bytes) (length o.data_bytes) 6)
+sound-data : (o : Object) (file : List ℕ) → IsRead o file → IsSoundSegment file (load_with (data_at (sizes_of o)) 0x200000 (length o.data_bytes)
+    (length o.data_bytes) 6)
 sound-data o file r = record { within = omega (arith, r.long, r.order); room = omega arith }
 
 abbrev IsNoInterpreter : ProgramHeader → Type 0

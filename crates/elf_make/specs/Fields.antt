@@ -1,4 +1,5 @@
--- The fields of an ELF file: numbers of two and of four bytes, the low byte first (Tool Interface Standard, Executable and Linking Format Specification, "Data Representation" and "Data Encoding").
+-- The fields of an ELF file: numbers of two and of four bytes, the low byte first (Tool Interface Standard, Executable
+-- and Linking Format Specification, "Data Representation" and "Data Encoding").
 use Rattle.std.specs.Prelude.{ℕ, List}
 use Rattle.std.specs.List.{flat_map}
 use Rattle.byteorder.specs.Endian.{little_bytes}

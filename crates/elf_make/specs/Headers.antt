@@ -1,4 +1,5 @@
--- The headers of the file (Tool Interface Standard, Executable and Linking Format Specification, "ELF Header", "Sections" and "Program Header"; RISC-V ELF psABI Specification, "File Header").
+-- The headers of the file (Tool Interface Standard, Executable and Linking Format Specification, "ELF Header",
+-- "Sections" and "Program Header"; RISC-V ELF psABI Specification, "File Header").
 use Rattle.std.specs.Prelude.{ℕ, ◌+◌, List, [], ◌∷◌, ◌++◌, replicate}
 use Rattle.elf_make.specs.declared.sizes.Sizes.{Sizes}
 use Rattle.elf_make.specs.Fields.{halves, words}
@@ -8,7 +9,8 @@ use Rattle.elf_make.specs.Sizes.{text_at, data_at, symbols_at, symbols_len, name
 unfoldable pub identity : List ℕ
 identity = 0x7F ∷ 0x45 ∷ 0x4C ∷ 0x46 ∷ 1 ∷ 1 ∷ 1 ∷ replicate 9 0
 
--- an executable for RISC-V: its entry, two program headers of 32 bytes after this header of 52, and six section headers of 40 bytes, the last for the names of the sections
+-- an executable for RISC-V: its entry, two program headers of 32 bytes after this header of 52, and six section headers
+-- of 40 bytes, the last for the names of the sections
 abbrev pub file_header : Sizes → ℕ → List ℕ
 file_header s entry =
     identity ++ halves (2 ∷ 243 ∷ []) ++ words (1 ∷ entry ∷ 52 ∷ sections_at s ∷ 0 ∷ [])
@@ -36,7 +38,8 @@ content_headers s =
     ++ section_header 1 1 6 0x10000 text_at s.text_len 0 0 4 0
     ++ section_header 7 1 3 0x200000 (data_at s) s.data_len 0 0 4 0
 
--- the symbols (SHT_SYMTAB), with the index of the section of their names and of the first symbol that is not local; their names, and those of the sections (SHT_STRTAB)
+-- the symbols (SHT_SYMTAB), with the index of the section of their names and of the first symbol that is not local;
+-- their names, and those of the sections (SHT_STRTAB)
 abbrev pub table_headers : Sizes → List ℕ
 table_headers s =
     section_header 13 2 0 0 (symbols_at s) (symbols_len s) 4 (1 + s.locals) 4 16

@@ -1,4 +1,5 @@
--- How long the parts of the file are, and where each begins: headers, text, data, symbols, names, names of the sections, headers of the sections, where each part but the names begins at a multiple of 4.
+-- How long the parts of the file are, and where each begins: headers, text, data, symbols, names, names of the
+-- sections, headers of the sections, where each part but the names begins at a multiple of 4.
 use Rattle.std.specs.Prelude.{ℕ, ◌+◌, ◌-◌, ◌*◌, ◌%◌, ◌≤◌, List, replicate}
 use Rattle.elf_make.specs.declared.sizes.Sizes.{Sizes}
 
@@ -44,7 +45,8 @@ section_names_end s = section_names_at s + section_names_len
 unfoldable pub sections_at : Sizes → ℕ
 sections_at s = padded (section_names_end s)
 
--- text and data have at most 1,048,576 bytes each, there are at most 524,288 labels, and their names have at most 1,048,576 bytes besides a NUL for each and one before them
+-- text and data have at most 1,048,576 bytes each, there are at most 524,288 labels, and their names have at most
+-- 1,048,576 bytes besides a NUL for each and one before them
 pub record AreSmall (s : Sizes) : Type 0 where
   pub text : s.text_len ≤ 1048576
   pub data_section : s.data_len ≤ 1048576

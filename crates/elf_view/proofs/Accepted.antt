@@ -82,7 +82,8 @@ sound_header file h load inside small =
 -- headers that pass both are sound
 sound_headers : (file : List ℕ) (hs : List ProgramHeader) → All (λ h. is_outside file h ≡ false) hs → All (λ h. is_larger h ≡ false) hs → AreSound file hs
 sound_headers file hs inside small =
-    let both : All (λ h. is_load h ≡ true → IsSoundSegment file h) hs = λ k d within. λ load. sound_header file (get_or hs k d) load (inside k d within) (small k d within) in
+    let both : All (λ h. is_load h ≡ true → IsSoundSegment file h) hs = λ k d within. λ load. sound_header file (get_or hs k d) load (inside k d within)
+    (small k d within) in
     λ k d within. All-filter is_load (λ h. is_load h ≡ true → IsSoundSegment file h) hs both k d within (filter_passes is_load hs k d within)
 
 -- the segments of a file that passes all tests are sound

@@ -64,7 +64,8 @@ apart : (a b : ℕ) → not (a == b) ≡ true → a ≢ b
 apart a b e = λ same. let test : (a == b) ≡ true = grind (arith, nat_tests) in fails (a == b) e test
 
 -- bytes that are not all 1
-other_bytes : (file : List ℕ) → not (slice_index file 4 == 1 && slice_index file 5 == 1 && slice_index file 6 == 1) ≡ true → ¬ ((slice_index file 4 ≡ 1) × (slice_index file 5 ≡ 1) × (slice_index file 6 ≡ 1))
+other_bytes : (file : List ℕ) → not (slice_index file 4 == 1 && slice_index file 5 == 1 && slice_index file 6 == 1) ≡ true →
+    ¬ ((slice_index file 4 ≡ 1) × (slice_index file 5 ≡ 1) × (slice_index file 6 ≡ 1))
 other_bytes file e ones =
     let first = ones.0 in let second = ones.1 in let third = ones.2 in
     fails (slice_index file 4 == 1 && slice_index file 5 == 1 && slice_index file 6 == 1) e (rw (first, second, third) refl)
@@ -75,7 +76,8 @@ unfolding identity_refusal no_file_header not_elf not_32_little AllSay
 says-identity file = says-first_of file (identity_tests file) (
   says-where_so file (nat_lt (length file) 52) (TooShort 0) (λ e. inl (grind (arith, nat_tests), refl)),
   (
-    says-where_so file (not (starts_with_elf file)) NotElf (λ e same. fails (starts_with_elf file) e ((bytes_eq-Decides (0x7F ∷ 0x45 ∷ 0x4C ∷ 0x46 ∷ []) (take 4 file)).1 (sym same))),
+    says-where_so file (not (starts_with_elf file)) NotElf (λ e same. fails (starts_with_elf file) e
+        ((bytes_eq-Decides (0x7F ∷ 0x45 ∷ 0x4C ∷ 0x46 ∷ []) (take 4 file)).1 (sym same))),
     (says-where_so file (not (slice_index file 4 == 1 && slice_index file 5 == 1 && slice_index file 6 == 1)) Not32Little (other_bytes file), tt),
   ),
 )
@@ -107,12 +109,15 @@ wrong_size count size right e =
     (omega arith, apart size right both.1)
 
 -- entries before an index lie in the file where the first does and the others do
-earlier : (file : List ℕ) (at size k : ℕ) (index : ℕ) → at + size ≤ length file → k < index → ((j : ℕ) → j + 1 < index → ((at + size) + size * j) + size ≤ length file) → (at + size * k) + size ≤ length file
+earlier : (file : List ℕ) (at size k : ℕ) (index : ℕ) → at + size ≤ length file → k < index →
+    ((j : ℕ) → j + 1 < index → ((at + size) + size * j) + size ≤ length file) → (at + size * k) + size ≤ length file
 earlier file at size zero index fits below others = omega arith
-earlier file at size (suc k) index fits below others = let there : ((at + size) + size * k) + size ≤ length file = others k (omega arith) in let step : size * suc k ≡ size * k + size = grind arith in omega (arith, there, step)
+earlier file at size (suc k) index fits below others = let there : ((at + size) + size * k) + size ≤ length file = others k (omega arith) in
+    let step : size * suc k ≡ size * k + size = grind arith in omega (arith, there, step)
 
 -- one place of a list of places
-cut_at : (file : List ℕ) (at size count place : ℕ) (t : Bool) (o : Option ℕ) → nat_lt (length file) (at + size) ≡ t → cond t (Some at) o ≡ Some place → (at + size ≤ length file → o ≡ Some place → IsFirstCut file (at + size) size count place) → IsFirstCut file at size (suc count) place
+cut_at : (file : List ℕ) (at size count place : ℕ) (t : Bool) (o : Option ℕ) → nat_lt (length file) (at + size) ≡ t → cond t (Some at) o ≡ Some place →
+    (at + size ≤ length file → o ≡ Some place → IsFirstCut file (at + size) size count place) → IsFirstCut file at size (suc count) place
 cut_at file at size count place true o e told after =
     let here : at ≡ place = cc in
     record { index = 0; within = omega arith; begins = omega arith; beyond = grind (arith, nat_tests); first = λ k below. absurd (omega arith) }
@@ -130,14 +135,16 @@ cut_at file at size count place false o e told after =
     }
 
 -- the place that is found is that of the first entry that ends beyond the file
-cut-first : (file : List ℕ) (at size count place : ℕ) → find (λ p. ends_beyond file p size) (places at size count) ≡ Some place → IsFirstCut file at size count place
+cut-first : (file : List ℕ) (at size count place : ℕ) → find (λ p. ends_beyond file p size) (places at size count) ≡ Some place →
+    IsFirstCut file at size count place
 cut-first file at size zero place e = cc
 cut-first file at size (suc count) place e =
     cut_at file at size count place (nat_lt (length file) (at + size)) (find (λ p. ends_beyond file p size) (places (at + size) size count)) refl e
     (λ fits told. cut-first file (at + size) size count place told)
 
 -- the sections are tested where the program headers lie in the file
-says-sections : (file : List ℕ) (programs : Option ℕ) → find (λ p. ends_beyond file p 32) (places (file_header file).program_offset 32 (file_header file).program_count) ≡ programs →
+says-sections : (file : List ℕ) (programs : Option ℕ) → find (λ p. ends_beyond file p 32) (places (file_header file).program_offset 32
+    (file_header file).program_count) ≡ programs →
     Says file (option_or (option_map (λ n. TooShort n) programs) (option_or (cut_section_header file) None))
 unfolding Says cut_section_header
 says-sections file (Some place) e = inr (inl (cut-first file (file_header file).program_offset 32 (file_header file).program_count place e))
@@ -155,13 +162,16 @@ says-tables file =
     let h = file_header file in
     let cuts = option_or (cut_program_header file) (option_or (cut_section_header file) None) in
     says-option_or file (bad_program_size h) (option_or (bad_section_size h) cuts)
-    (says-where_so file (not (h.program_count == 0) && not (h.program_size == 32)) (BadHeaderSize h.program_size) (λ e. let w = wrong_size h.program_count h.program_size 32 e in inl (w.0, refl, w.1)))
+    (says-where_so file (not (h.program_count == 0) && not (h.program_size == 32)) (BadHeaderSize h.program_size) (λ e. let w =
+    wrong_size h.program_count h.program_size 32 e in inl (w.0, refl, w.1)))
     (says-option_or file (bad_section_size h) cuts
-    (says-where_so file (not (number_of_sections h == 0) && not (h.section_size == 40)) (BadHeaderSize h.section_size) (λ e. let w = wrong_size (number_of_sections h) h.section_size 40 e in inr (w.0, refl, w.1)))
+    (says-where_so file (not (number_of_sections h == 0) && not (h.section_size == 40)) (BadHeaderSize h.section_size) (λ e. let w =
+    wrong_size (number_of_sections h) h.section_size 40 e in inr (w.0, refl, w.1)))
     (says-sections file _ refl))
 
 -- the first header that a test finds
-first-header : (test : ProgramHeader → Bool) (So : ProgramHeader → Type 0) → ((h : ProgramHeader) → test h ≡ true → So h) → ((h : ProgramHeader) → test h ≡ false → ¬ So h) → (hs : List ProgramHeader) (i : ℕ) → position test hs ≡ Some i → IsFirstHeader So hs i
+first-header : (test : ProgramHeader → Bool) (So : ProgramHeader → Type 0) → ((h : ProgramHeader) → test h ≡ true → So h) →
+    ((h : ProgramHeader) → test h ≡ false → ¬ So h) → (hs : List ProgramHeader) (i : ℕ) → position test hs ≡ Some i → IsFirstHeader So hs i
 first-header test So passing failing hs i e = record {
   within = (position-Some test hs i no_header e).0;
   so = λ d. passing (get_or hs i d) (position-Some test hs i d e).1;
@@ -170,19 +180,23 @@ first-header test So passing failing hs i e = record {
 
 -- a segment outside the file
 outside-yes : (file : List ℕ) (h : ProgramHeader) → is_outside file h ≡ true → EndsBeyond file h
-outside-yes file h e = let both = both_hold (is_load h) (ends_beyond file h.offset h.filesz) e in let beyond : nat_lt (length file) (h.offset + h.filesz) ≡ true = both.1 in (both.0, grind (arith, nat_tests))
+outside-yes file h e = let both = both_hold (is_load h) (ends_beyond file h.offset h.filesz) e in
+    let beyond : nat_lt (length file) (h.offset + h.filesz) ≡ true = both.1 in (both.0, grind (arith, nat_tests))
 
 -- and one that is not
 outside-no : (file : List ℕ) (h : ProgramHeader) → is_outside file h ≡ false → ¬ EndsBeyond file h
-outside-no file h e so = let load = so.0 in let beyond = so.1 in let test : ends_beyond file h.offset h.filesz ≡ true = grind (arith, nat_tests) in never (is_outside file h) (both_true (is_load h) (ends_beyond file h.offset h.filesz) load test) e
+outside-no file h e so = let load = so.0 in let beyond = so.1 in let test : ends_beyond file h.offset h.filesz ≡ true = grind (arith, nat_tests) in
+    never (is_outside file h) (both_true (is_load h) (ends_beyond file h.offset h.filesz) load test) e
 
 -- a segment that is larger in the file
 larger-yes : (h : ProgramHeader) → is_larger h ≡ true → IsLarger h
-larger-yes h e = let both = both_hold (is_load h) (nat_lt h.memsz h.filesz) e in let beyond : nat_lt h.memsz h.filesz ≡ true = both.1 in (both.0, grind (arith, nat_tests))
+larger-yes h e = let both = both_hold (is_load h) (nat_lt h.memsz h.filesz) e in let beyond : nat_lt h.memsz h.filesz ≡ true = both.1 in
+    (both.0, grind (arith, nat_tests))
 
 -- and one that is not
 larger-no : (h : ProgramHeader) → is_larger h ≡ false → ¬ IsLarger h
-larger-no h e so = let load = so.0 in let beyond = so.1 in let test : nat_lt h.memsz h.filesz ≡ true = grind (arith, nat_tests) in never (is_larger h) (both_true (is_load h) (nat_lt h.memsz h.filesz) load test) e
+larger-no h e so = let load = so.0 in let beyond = so.1 in let test : nat_lt h.memsz h.filesz ≡ true = grind (arith, nat_tests) in
+    never (is_larger h) (both_true (is_load h) (nat_lt h.memsz h.filesz) load test) e
 
 -- a kind, by the test
 same_kind : (h : ProgramHeader) → is_interpreter h ≡ true → h.kind ≡ 3
@@ -199,8 +213,13 @@ says-segments file =
     says-first_of file (segment_tests file) (
       says-where_so file (list_any is_interpreter (program_headers file)) NeedsInterpreter (λ e. interpreter-any (program_headers file) e),
       (
-        says-option_map file (λ i. OutsideFile i) (position (is_outside file) (program_headers file)) (λ i e. first-header (is_outside file) (EndsBeyond file) (outside-yes file) (outside-no file) (program_headers file) i e),
-        (says-option_map file (λ i. FileLargerThanMemory i) (position is_larger (program_headers file)) (λ i e. first-header is_larger IsLarger larger-yes larger-no (program_headers file) i e), tt),
+        says-option_map file (λ i. OutsideFile i) (position (is_outside file) (program_headers file))
+            (λ i e. first-header (is_outside file) (EndsBeyond file) (outside-yes file) (outside-no file) (program_headers file) i e),
+        (
+          says-option_map file (λ i. FileLargerThanMemory i) (position is_larger (program_headers file))
+              (λ i e. first-header is_larger IsLarger larger-yes larger-no (program_headers file) i e),
+          tt,
+        ),
       ),
     )
 
@@ -208,7 +227,8 @@ says-segments file =
 says-table : (file : List ℕ) (o : Option ℕ) → first_symbol_table file ≡ o → Says file (bad_table file o)
 unfolding Says
 says-table file None e = tt
-says-table file (Some i) e = says-where_so file (not (is_sound_table file (section_at file i))) (BadSymbols i) (λ bad. (e, λ r. fails (is_sound_table file (section_at file i)) bad (readable-sound file (section_at file i) r)))
+says-table file (Some i) e = says-where_so file (not (is_sound_table file (section_at file i))) (BadSymbols i)
+    (λ bad. (e, λ r. fails (is_sound_table file (section_at file i)) bad (readable-sound file (section_at file i) r)))
 
 -- the test of the symbols
 says-symbols : (file : List ℕ) → Says file (bad_symbols file)

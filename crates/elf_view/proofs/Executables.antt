@@ -52,7 +52,8 @@ passed-identity file e =
     let pass = all_pass (identity_tests file) e in
     let short : nat_lt (length file) 52 ≡ false = no_fault (nat_lt (length file) 52) (TooShort 0) pass.0 in
     let magic = unturned (starts_with_elf file) (no_fault (not (starts_with_elf file)) NotElf pass.1.0) in
-    let ones = three_ones (slice_index file 4) (slice_index file 5) (slice_index file 6) (unturned (slice_index file 4 == 1 && slice_index file 5 == 1 && slice_index file 6 == 1) (no_fault _ Not32Little pass.1.1.0)) in
+    let ones = three_ones (slice_index file 4) (slice_index file 5) (slice_index file 6) (unturned (slice_index file 4 == 1 && slice_index file 5 == 1
+    && slice_index file 6 == 1) (no_fault _ Not32Little pass.1.1.0)) in
     record {
       whole = grind (arith, nat_tests);
       magic = sym ((bytes_eq-Decides (0x7F ∷ 0x45 ∷ 0x4C ∷ 0x46 ∷ []) (take 4 file)).0 magic);
@@ -75,7 +76,8 @@ passed-target h e =
     }
 
 -- a size that is tested is right
-right_size : (count size right : ℕ) (some wrong : Bool) → (count == 0) ≡ some → (size == right) ≡ wrong → (not some && not wrong) ≡ false → 0 < count → size ≡ right
+right_size : (count size right : ℕ) (some wrong : Bool) → (count == 0) ≡ some → (size == right) ≡ wrong → (not some && not wrong) ≡ false → 0 < count →
+    size ≡ right
 right_size count size right true wrong e f h above = grind (arith, nat_tests)
 right_size count size right false true e f h above = grind (arith, nat_tests)
 right_size count size right false false e f h above = cc
@@ -87,8 +89,10 @@ passed-tables file e =
     let pass = tables_pass file e in
     let h = file_header file in
     record {
-      program_size = right_size h.program_count h.program_size 32 _ _ refl refl (no_fault (not (h.program_count == 0) && not (h.program_size == 32)) (BadHeaderSize h.program_size) pass.0);
-      section_size = right_size (number_of_sections h) h.section_size 40 _ _ refl refl (no_fault (not (number_of_sections h == 0) && not (h.section_size == 40)) (BadHeaderSize h.section_size) pass.1.0);
+      program_size = right_size h.program_count h.program_size 32 _ _ refl refl (no_fault (not (h.program_count == 0) && not (h.program_size == 32))
+          (BadHeaderSize h.program_size) pass.0);
+      section_size = right_size (number_of_sections h) h.section_size 40 _ _ refl refl (no_fault (not (number_of_sections h == 0) && not (h.section_size == 40))
+          (BadHeaderSize h.section_size) pass.1.0);
       programs = programs_fit file e;
       sections = sections_fit file e;
     }
@@ -185,7 +189,8 @@ target-passes h t =
     )
 
 -- a right size passes its test
-size-passes : (count size right : ℕ) (e : ElfErr) (some wrong : Bool) → (count == 0) ≡ some → (size == right) ≡ wrong → (0 < count → size ≡ right) → where_so (not some && not wrong) e ≡ None
+size-passes : (count size right : ℕ) (e : ElfErr) (some wrong : Bool) → (count == 0) ≡ some → (size == right) ≡ wrong → (0 < count → size ≡ right) →
+    where_so (not some && not wrong) e ≡ None
 size-passes count size right e true wrong f g h = refl
 size-passes count size right e false true f g h = refl
 size-passes count size right e false false f g h = absurd (grind (arith, nat_tests))
@@ -215,7 +220,8 @@ tables-pass file t =
     )
 
 -- what holds of all that pass a test holds of the later ones, and of the first element where it passes
-all-filtered : {X : Type 0} (p : X → Bool) (P : X → Type 0) (x : X) (xs : List X) (b : Bool) → p x ≡ b → All P (cond b (x ∷ filter p xs) (filter p xs)) → All P (filter p xs) × (p x ≡ true → P x)
+all-filtered : {X : Type 0} (p : X → Bool) (P : X → Type 0) (x : X) (xs : List X) (b : Bool) → p x ≡ b → All P (cond b (x ∷ filter p xs) (filter p xs)) →
+    All P (filter p xs) × (p x ≡ true → P x)
 all-filtered p P x xs true e all = (λ k d within. all (suc k) d (omega arith), λ _. all 0 x (omega arith))
 all-filtered p P x xs false e all = (all, λ h. absurd (never (p x) h e))
 
@@ -251,13 +257,16 @@ unfolding segment_refusal needs_interpreter outside_file larger_than_memory
 segments-pass file other sound =
     let hs = program_headers file in
     let each : All (λ h. is_load h ≡ true → IsSoundSegment file h) hs = filtered-all is_load (IsSoundSegment file) hs sound in
-    let interpreter : list_any is_interpreter hs ≡ false = list_any_none is_interpreter hs (λ k d within. let kind = other k d within in grind (arith, nat_tests)) in
-    let outside : position (is_outside file) hs ≡ None = no_index (is_outside file) hs _ refl (λ k d within. sound-inside file (get_or hs k d) (each k d within)) in
+    let interpreter : list_any is_interpreter hs ≡ false = list_any_none is_interpreter hs (λ k d within. let kind = other k d within in
+    grind (arith, nat_tests)) in
+    let outside : position (is_outside file) hs ≡ None = no_index (is_outside file) hs _ refl
+    (λ k d within. sound-inside file (get_or hs k d) (each k d within)) in
     let larger : position is_larger hs ≡ None = no_index is_larger hs _ refl (λ k d within. sound-small file (get_or hs k d) (each k d within)) in
     none_tells (segment_tests file) (rw interpreter refl, (rw outside refl, (rw larger refl, tt)))
 
 -- the test of a table
-table-passes : (file : List ℕ) (o : Option ℕ) → first_symbol_table file ≡ o → ((i : ℕ) → first_symbol_table file ≡ Some i → IsReadable file (section_at file i)) → bad_table file o ≡ None
+table-passes : (file : List ℕ) (o : Option ℕ) → first_symbol_table file ≡ o → ((i : ℕ) → first_symbol_table file ≡ Some i →
+    IsReadable file (section_at file i)) → bad_table file o ≡ None
 table-passes file None e readable = refl
 table-passes file (Some i) e readable = let sound = readable-sound file (section_at file i) (readable i e) in rw sound refl
 

@@ -7,6 +7,7 @@ all_after : {X : Type 0} (P : X → Type 0) (x : X) (xs : List X) → All P (x �
 all_after P x xs all k d within = all (suc k) d (omega arith)
 
 -- what holds of each element that is left holds of those that are left after the next
-pub all_left : {X : Type 0} (P : X → Type 0) (r : Option X) (old new : List X) → MatchOption r ((old ≡ []) × (new ≡ [])) (λ x. old ≡ x ∷ new) → All P old → All P new
+pub all_left : {X : Type 0} (P : X → Type 0) (r : Option X) (old new : List X) → MatchOption r ((old ≡ []) × (new ≡ [])) (λ x. old ≡ x ∷ new) → All P old →
+    All P new
 all_left {X = X} P None old new e all = subst (λ (xs : List X). All P xs) (sym e.1) (λ k d within. absurd (omega arith))
 all_left {X = X} P (Some x) old new e all = all_after P x new (subst (λ (xs : List X). All P xs) e all)

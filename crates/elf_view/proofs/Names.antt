@@ -18,11 +18,13 @@ told_index false n i e = cc
 
 -- the bytes up to the first NUL are those that stand before it
 pub stops_at_nul : (text : List ℕ) (end : ℕ) → Some end ≡ position (λ byte. byte == 0) text → take end text ≡ before_first (λ byte. byte == 0) text
-stops_at_nul text end e = let at : position_or_len is_nul text ≡ end = told_index (nat_lt (position_or_len is_nul text) (length text)) (position_or_len is_nul text) end e in rw at refl
+stops_at_nul text end e = let at : position_or_len is_nul text ≡ end = told_index (nat_lt (position_or_len is_nul text) (length text))
+    (position_or_len is_nul text) end e in rw at refl
 
 -- where there is no NUL they are all the bytes
 pub goes_to_end : (text : List ℕ) → None ≡ position (λ byte. byte == 0) text → text ≡ before_first (λ byte. byte == 0) text
-goes_to_end text e = sym (take_all _ text (none_told (nat_lt (position_or_len is_nul text) (length text)) (position_or_len is_nul text) (length text) refl (sym e)))
+goes_to_end text e = sym (take_all _ text (none_told (nat_lt (position_or_len is_nul text) (length text)) (position_or_len is_nul text) (length text) refl
+    (sym e)))
 
 -- a text that begins with NUL ends there
 ended : (byte : ℕ) (after : List ℕ) → is_nul byte ≡ true → length (first_text (byte ∷ after)) ≡ 0

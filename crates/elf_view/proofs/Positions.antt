@@ -12,4 +12,5 @@ none_told false n size e h = grind (arith, nat_tests)
 
 -- where no element passes each fails
 pub position-none : {X : Type 0} (p : X → Bool) (xs : List X) → position p xs ≡ None → All (λ x. p x ≡ false) xs
-position-none p xs e = λ k d within. fails_before_first p xs k d (let far = none_told (nat_lt (position_or_len p xs) (length xs)) (position_or_len p xs) (length xs) refl e in omega (arith, far))
+position-none p xs e = λ k d within. fails_before_first p xs k d (let far = none_told (nat_lt (position_or_len p xs) (length xs)) (position_or_len p xs)
+    (length xs) refl e in omega (arith, far))

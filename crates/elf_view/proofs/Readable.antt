@@ -50,7 +50,8 @@ within-lies file at size within = let inside : nat_lt (length file) (at + size) 
 
 -- the bytes of a part of the file are as many as asked for
 pub length-bytes_at : (file : List ℕ) (at size : ℕ) → at + size ≤ length file → length (bytes_at file at size) ≡ size
-length-bytes_at file at size within = let rest : length (drop at file) ≡ length file - at = length-drop at file in length-take-le size (drop at file) (omega arith)
+length-bytes_at file at size within = let rest : length (drop at file) ≡ length file - at = length-drop at file in
+    length-take-le size (drop at file) (omega arith)
 
 -- what the test of the last byte says
 nul-closed : (bytes : List ℕ) (size : ℕ) → length bytes ≡ size → ends_in_nul bytes ≡ true → (0 < size) × (slice_index bytes (size - 1) ≡ 0)
@@ -86,7 +87,8 @@ sound-names file table names e =
       within = within;
       filled = closed.0;
       closed = closed.1;
-      begin = λ k d below. true-below (get_or (entries_of file table) k d).name names.size (all_hold (λ e. nat_lt e.name names.size) (entries_of file table) rest.1 k d below);
+      begin = λ k d below. true-below (get_or (entries_of file table) k d).name names.size
+          (all_hold (λ e. nat_lt e.name names.size) (entries_of file table) rest.1 k d below);
     }
 
 -- and such names pass the test
@@ -96,7 +98,8 @@ names-sound file table names h =
     (within-lies file names.offset names.size h.within)
     (both_true (ends_in_nul (content_of file names)) (names_begin_in names (entries_of file table))
     (closed-nul (content_of file names) names.size (length-bytes_at file names.offset names.size h.within) h.filled h.closed)
-    (all_true (λ e. nat_lt e.name names.size) (entries_of file table) (λ k d below. below-true (get_or (entries_of file table) k d).name names.size (h.begin k d below))))
+    (all_true (λ e. nat_lt e.name names.size) (entries_of file table) (λ k d below. below-true (get_or (entries_of file table) k d).name names.size
+    (h.begin k d below))))
 
 -- whole entries, by the test
 whole-true : (table : SectionHeader) → table.entry_size ≡ 16 → table.size % 16 ≡ 0 → has_whole_entries table ≡ true
@@ -111,8 +114,10 @@ true-whole table e = let tests = both_hold (table.entry_size == 16) (table.size 
 -- a symbol table that passes the test can be read
 pub sound-readable : (file : List ℕ) (table : SectionHeader) → is_sound_table file table ≡ true → IsReadable file table
 sound-readable file table e =
-    let whole = both_hold (has_whole_entries table) (lies_in file table && (nat_lt table.link (number_of_sections (file_header file)) && has_sound_names file table (section_at file table.link))) e in
-    let lies = both_hold (lies_in file table) (nat_lt table.link (number_of_sections (file_header file)) && has_sound_names file table (section_at file table.link)) whole.1 in
+    let whole = both_hold (has_whole_entries table) (lies_in file table && (nat_lt table.link (number_of_sections (file_header file))
+    && has_sound_names file table (section_at file table.link))) e in
+    let lies = both_hold (lies_in file table) (nat_lt table.link (number_of_sections (file_header file))
+    && has_sound_names file table (section_at file table.link)) whole.1 in
     let linked = both_hold (nat_lt table.link (number_of_sections (file_header file))) (has_sound_names file table (section_at file table.link)) lies.1 in
     let entries = true-whole table whole.0 in
     record {
@@ -126,7 +131,8 @@ sound-readable file table e =
 -- and one that can be read passes it
 pub readable-sound : (file : List ℕ) (table : SectionHeader) → IsReadable file table → is_sound_table file table ≡ true
 readable-sound file table r =
-    both_true (has_whole_entries table) (lies_in file table && (nat_lt table.link (number_of_sections (file_header file)) && has_sound_names file table (section_at file table.link)))
+    both_true (has_whole_entries table) (lies_in file table && (nat_lt table.link (number_of_sections (file_header file))
+    && has_sound_names file table (section_at file table.link)))
     (whole-true table r.entry_size r.whole)
     (both_true (lies_in file table) (nat_lt table.link (number_of_sections (file_header file)) && has_sound_names file table (section_at file table.link))
     (within-lies file table.offset table.size r.within)

@@ -6,7 +6,8 @@ use Rattle.std.proofs.lemmas.Bool.Decides.{nat_tests}
 use Rattle.elf_view.specs.Fields.{places, ends_beyond, entries}
 
 -- the places that are left begin with the next
-pub next_place : (place size count counter : ℕ) → counter < count → places place size (count - counter) ≡ place ∷ places (place + size) size (count - (counter + 1))
+pub next_place : (place size count counter : ℕ) → counter < count → places place size (count - counter) ≡ place
+    ∷ places (place + size) size (count - (counter + 1))
 next_place place size count counter below = let e : count - counter ≡ suc (count - (counter + 1)) = omega arith in rw e refl
 
 -- an entry that lies in the file is not the first that does not
@@ -23,15 +24,18 @@ told_none true place o e = cc
 told_none false place o e = (refl, e)
 
 -- a table lies in the file where its first entry does and the others do
-one_more_fits : (file : List ℕ) (at size count : ℕ) → at + size ≤ length file → (0 < count → (at + size) + size * count ≤ length file) → at + size * suc count ≤ length file
+one_more_fits : (file : List ℕ) (at size count : ℕ) → at + size ≤ length file → (0 < count → (at + size) + size * count ≤ length file) →
+    at + size * suc count ≤ length file
 one_more_fits file at size zero first others = omega arith
 one_more_fits file at size (suc count) first others = let more = others (omega arith) in grind arith
 
 -- a table lies in the file where none of its entries ends beyond it
-pub none_cut : (file : List ℕ) (at size count : ℕ) → find (λ place. ends_beyond file place size) (places at size count) ≡ None → 0 < count → at + size * count ≤ length file
+pub none_cut : (file : List ℕ) (at size count : ℕ) → find (λ place. ends_beyond file place size) (places at size count) ≡ None → 0 < count →
+    at + size * count ≤ length file
 none_cut file at size zero e some = absurd (omega arith)
 none_cut file at size (suc count) e some =
-    let told : (nat_lt (length file) (at + size) ≡ false) × (find (λ place. ends_beyond file place size) (places (at + size) size count) ≡ None) = told_none (nat_lt (length file) (at + size)) at _ e in
+    let told : (nat_lt (length file) (at + size) ≡ false) × (find (λ place. ends_beyond file place size) (places (at + size) size count) ≡ None) =
+    told_none (nat_lt (length file) (at + size)) at _ e in
     let test : nat_lt (length file) (at + size) ≡ false = told.0 in
     let first : at + size ≤ length file = grind (arith, nat_tests) in
     one_more_fits file at size count first (none_cut file (at + size) size count told.1)

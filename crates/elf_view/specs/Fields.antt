@@ -1,4 +1,5 @@
--- The fields of an ELF file: little-endian numbers at offsets (Tool Interface Standard, Executable and Linking Format Specification, "Data Representation" and "Data Encoding").
+-- The fields of an ELF file: little-endian numbers at offsets (Tool Interface Standard, Executable and Linking Format
+-- Specification, "Data Representation" and "Data Encoding").
 use Rattle.std.specs.Prelude.{ℕ, zero, suc, ◌+◌, ◌*◌, ◌<◌, ◌≤◌, List, [], ◌∷◌, length, map, take, drop, Bool, nat_lt}
 use Rattle.byteorder.specs.Endian.{little_number}
 

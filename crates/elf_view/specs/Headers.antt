@@ -1,4 +1,5 @@
--- The headers of an ELF file, each field at its offset (Tool Interface Standard, Executable and Linking Format Specification, "ELF Header", "Program Header", "Sections" and "Symbol Table").
+-- The headers of an ELF file, each field at its offset (Tool Interface Standard, Executable and Linking Format
+-- Specification, "ELF Header", "Program Header", "Sections" and "Symbol Table").
 use Rattle.std.specs.Prelude.{ℕ, ◌+◌, List, ◌==◌, if◌then◌else◌}
 use Rattle.elf_view.specs.Fields.{half, word, places, entries}
 use Rattle.elf_view.specs.declared.headers.FileHeader.{FileHeader}

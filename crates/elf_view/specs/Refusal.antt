@@ -1,4 +1,6 @@
--- Why a file is refused: the first of the tests that it fails. The headers are those of the Tool Interface Standard, Executable and Linking Format Specification; machine and flags are those of the RISC-V ELF psABI Specification, "File Header".
+-- Why a file is refused: the first of the tests that it fails. The headers are those of the Tool Interface Standard,
+-- Executable and Linking Format Specification; machine and flags are those of the RISC-V ELF psABI Specification, "File
+-- Header".
 use Rattle.std.specs.Prelude.{ℕ, List, [], ◌∷◌, length, position, find, slice_index, Bool, ◌==◌, ◌&&◌, not, nat_eq, nat_lt, bit_and, if◌then◌else◌, Option, Some, None, Result, Ok, Err}
 use Rattle.std.specs.List.{list_any, starts_with}
 use Rattle.std.specs.Option.{option_or, option_map}

@@ -1,4 +1,5 @@
--- The sections of a file, and which of them the symbols are read from (Tool Interface Standard, Executable and Linking Format Specification, "Sections", "String Table" and "Symbol Table").
+-- The sections of a file, and which of them the symbols are read from (Tool Interface Standard, Executable and Linking
+-- Format Specification, "Sections", "String Table" and "Symbol Table").
 use Rattle.std.specs.Prelude.{ℕ, ◌+◌, ◌-◌, ◌*◌, ◌/◌, ◌%◌, ◌<◌, ◌≤◌, ◌≡◌, List, length, All, position, slice_index, Bool, ◌==◌, ◌&&◌, not, nat_lt, Option}
 use Rattle.std.specs.List.{list_all}
 use Rattle.elf_view.specs.Fields.{bytes_at, ends_beyond, entries}
@@ -49,7 +50,8 @@ has_sound_names file table names = lies_in file names && (ends_in_nul (content_o
 -- the symbol table can be read: whole entries that lie in the file, and a section of names, which exists and is sound
 abbrev pub is_sound_table : List ℕ → SectionHeader → Bool
 is_sound_table file table =
-    has_whole_entries table && (lies_in file table && (nat_lt table.link (number_of_sections (file_header file)) && has_sound_names file table (section_at file table.link)))
+    has_whole_entries table && (lies_in file table && (nat_lt table.link (number_of_sections (file_header file))
+    && has_sound_names file table (section_at file table.link)))
 
 -- the section has names for the entries: its bytes lie in the file and end in NUL, and the name of each entry begins in them
 pub record HasNames (file : List ℕ) (names : SectionHeader) (entries : List SymbolEntry) : Type 0 where

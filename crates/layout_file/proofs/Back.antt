@@ -42,7 +42,8 @@ abbrev pub AreWords : Bool → List Class → Type 0
 AreWords second [] = Unit {0}
 AreWords second (c ∷ cs) = IsWord second c × AreWords second cs
 
-names-back : (second : Bool) (cs : List Class) → AreWords second cs → (classes_of second (names cs) ≡ cs) × (first_nameless second (names cs) ≡ None) × (all_have Text (names cs) ≡ true) × (item_count (names cs) ≡ length cs)
+names-back : (second : Bool) (cs : List Class) → AreWords second cs → (classes_of second (names cs) ≡ cs) × (first_nameless second (names cs) ≡ None)
+    × (all_have Text (names cs) ≡ true) × (item_count (names cs) ≡ length cs)
 names-back second [] words = (refl, refl, refl, refl)
 names-back second (c ∷ cs) words = let (a, b, t, n) = names-back second cs words.1 in (rw (words.0, a), rw words.0 b, t, rw n)
 
@@ -63,7 +64,8 @@ abbrev pub AreRight : Bool → List Siding → Type 0
 AreRight second [] = Unit {0}
 AreRight second (s ∷ ss) = ((length s.classes ≤ 1000) × AreWords second s.classes) × AreRight second ss
 
-sidings-back : (second : Bool) (ss : List Siding) → AreRight second ss → (sidings_in second (siding_items ss) ≡ ss) × (sidings_fault second (siding_items ss) ≡ None) × (all_have Table (siding_items ss) ≡ true) × (item_count (siding_items ss) ≡ length ss)
+sidings-back : (second : Bool) (ss : List Siding) → AreRight second ss → (sidings_in second (siding_items ss) ≡ ss)
+    × (sidings_fault second (siding_items ss) ≡ None) × (all_have Table (siding_items ss) ≡ true) × (item_count (siding_items ss) ≡ length ss)
 sidings-back second [] right = (refl, refl, refl, refl)
 sidings-back second (s ∷ ss) right =
     let (a, b, t, n) = sidings-back second ss right.1 in
@@ -94,7 +96,8 @@ abbrev pub NoneIn : List Class → Members → Type 0
 NoneIn [] ms = Unit {0}
 NoneIn (c ∷ cs) ms = (get_member (class_name c) ms ≡ None) × NoneIn cs ms
 
-none-place : (cs : List Class) (c : Class) (d : Data) (ms : Members) → ClassesDiffer c cs → get_member (class_name c) ms ≡ None → NoneIn cs ms → NoneIn cs (place (class_name c) d ms)
+none-place : (cs : List Class) (c : Class) (d : Data) (ms : Members) → ClassesDiffer c cs → get_member (class_name c) ms ≡ None → NoneIn cs ms →
+    NoneIn cs (place (class_name c) d ms)
 none-place [] c d ms differ gone h = tt
 none-place (e ∷ cs) c d ms differ gone h = (get-place-other (class_name e) (class_name c) d ms differ.0 gone ∙ h.0, none-place cs c d ms differ.1 gone h.1)
 
@@ -114,7 +117,8 @@ same_key-sym k l = ap is_eq (nat_list_cmp_total.antisymm k l) ∙ symmetric (sli
 abbrev Keeps : (Class → List ℕ) → List Class → Class → Type 0
 Keeps f cs c = (ms : Members) → NoneIn cs ms → get_member (class_name c) (unit_table (units_for f cs) ms) ≡ get_member (class_name c) ms
 
-kept-one : (f : Class → List ℕ) (cs : List Class) (c e : Class) (stages : List ℕ) (ms : Members) → Keeps f cs c → ClassesDiffer c (e ∷ cs) → AllDiffer (e ∷ cs) → NoneIn (e ∷ cs) ms
+kept-one : (f : Class → List ℕ) (cs : List Class) (c e : Class) (stages : List ℕ) (ms : Members) → Keeps f cs c → ClassesDiffer c (e ∷ cs) →
+    AllDiffer (e ∷ cs) → NoneIn (e ∷ cs) ms
     → get_member (class_name c) (unit_table (unit_for e stages ++ units_for f cs) ms) ≡ get_member (class_name c) ms
 kept-one f cs c e [] ms ih differ all gone = ih ms gone.1
 kept-one f cs c e (i ∷ is) ms ih differ all gone =
@@ -122,12 +126,14 @@ kept-one f cs c e (i ∷ is) ms ih differ all gone =
     ih (place (class_name e) d ms) (none-place cs e d ms all.0 gone.0 gone.1)
     ∙ get-place-other (class_name c) (class_name e) d ms (same_key-sym (class_name c) (class_name e) ∙ differ.0) gone.0
 
-kept : (f : Class → List ℕ) (cs : List Class) (c : Class) (ms : Members) → ClassesDiffer c cs → AllDiffer cs → NoneIn cs ms → get_member (class_name c) (unit_table (units_for f cs) ms) ≡ get_member (class_name c) ms
+kept : (f : Class → List ℕ) (cs : List Class) (c : Class) (ms : Members) → ClassesDiffer c cs → AllDiffer cs → NoneIn cs ms →
+    get_member (class_name c) (unit_table (units_for f cs) ms) ≡ get_member (class_name c) ms
 kept f [] c ms differ all gone = refl
 kept f (e ∷ cs) c ms differ all gone = kept-one f cs c e (f e) ms (λ n none. kept f cs c n differ.1 all.1 none) differ all gone
 
 -- the units that the table gives are those that it was made from
-units-one : (f : Class → List ℕ) (cs : List Class) (c : Class) (stages : List ℕ) (ms : Members) → ((n : Members) → NoneIn cs n → units_among cs (unit_table (units_for f cs) n) ≡ units_for f cs)
+units-one : (f : Class → List ℕ) (cs : List Class) (c : Class) (stages : List ℕ) (ms : Members) →
+    ((n : Members) → NoneIn cs n → units_among cs (unit_table (units_for f cs) n) ≡ units_for f cs)
     → AllDiffer (c ∷ cs) → NoneIn (c ∷ cs) ms → units_among (c ∷ cs) (unit_table (unit_for c stages ++ units_for f cs) ms) ≡ unit_for c stages ++ units_for f cs
 units-one f cs c [] ms ih all gone = rw (kept f cs c ms all.0 all.1 gone.1, gone.0) (ih ms gone.1)
 units-one f cs c (i ∷ is) ms ih all gone =
@@ -137,7 +143,8 @@ units-one f cs c (i ∷ is) ms ih all gone =
     let gone_now = none-place cs c d ms all.0 gone.0 gone.1 in
     rw (kept f cs c now all.0 all.1 gone_now, get-place-same (class_name c) d ms, integers-back zs, ih now gone_now)
 
-units-back : (f : Class → List ℕ) (cs : List Class) (ms : Members) → AllDiffer cs → NoneIn cs ms → units_among cs (unit_table (units_for f cs) ms) ≡ units_for f cs
+units-back : (f : Class → List ℕ) (cs : List Class) (ms : Members) → AllDiffer cs → NoneIn cs ms →
+    units_among cs (unit_table (units_for f cs) ms) ≡ units_for f cs
 units-back f [] ms all gone = refl
 units-back f (c ∷ cs) ms all gone = units-one f cs c (f c) ms (λ n none. units-back f cs n all.1 none) all gone
 
@@ -150,7 +157,8 @@ rest-none : (b : Bool) (l : List ℕ) (x : Option (List ℕ)) → cond b x (Some
 rest-none true l x h = h
 rest-none false l x h = absurd (none-some l (sym h))
 
-known-step : (o : Ordering) (f : Form) (k l : List ℕ) (d e : Data) (ms : Members) → knows f k ≡ true → first_unknown f (member l e ms) ≡ None → first_unknown f (place k d ms) ≡ None
+known-step : (o : Ordering) (f : Form) (k l : List ℕ) (d e : Data) (ms : Members) → knows f k ≡ true → first_unknown f (member l e ms) ≡ None →
+    first_unknown f (place k d ms) ≡ None
     → first_unknown f (match_ordering o (member k d (member l e ms)) (member l d ms) (member l e (place k d ms))) ≡ None
 known-step Less f k l d e ms known h ih = rw known h
 known-step Equal f k l d e ms known h ih = h
@@ -158,16 +166,19 @@ known-step Greater f k l d e ms known h ih = known-more (knows f l) l (first_unk
 
 known-place : (f : Form) (k : List ℕ) (d : Data) (ms : Members) → knows f k ≡ true → first_unknown f ms ≡ None → first_unknown f (place k d ms) ≡ None
 known-place f k d no_members known h = rw known
-known-place f k d (member l e ms) known h = known-step (slice_cmp nat_cmp k l) f k l d e ms known h (known-place f k d ms known (rest-none (knows f l) l (first_unknown f ms) h))
+known-place f k d (member l e ms) known h = known-step (slice_cmp nat_cmp k l) f k l d e ms known h
+    (known-place f k d ms known (rest-none (knows f l) l (first_unknown f ms) h))
 
-fit-step : (o : Ordering) (f : Form) (k l : List ℕ) (d e : Data) (ms : Members) → fits f k d ≡ true → match_ordering o (get_member k ms) (Some e) (get_member k ms) ≡ None → first_misfit f (member l e ms) ≡ None
+fit-step : (o : Ordering) (f : Form) (k l : List ℕ) (d e : Data) (ms : Members) → fits f k d ≡ true →
+    match_ordering o (get_member k ms) (Some e) (get_member k ms) ≡ None → first_misfit f (member l e ms) ≡ None
     → (get_member k ms ≡ None → first_misfit f (place k d ms) ≡ None)
     → first_misfit f (match_ordering o (member k d (member l e ms)) (member l d ms) (member l e (place k d ms))) ≡ None
 fit-step Less f k l d e ms fit gone h ih = rw fit h
 fit-step Equal f k l d e ms fit gone h ih = absurd (none-some e (sym gone))
 fit-step Greater f k l d e ms fit gone h ih = known-more (fits f l e) l (first_misfit f ms) (first_misfit f (place k d ms)) h (ih gone)
 
-fit-place : (f : Form) (k : List ℕ) (d : Data) (ms : Members) → fits f k d ≡ true → get_member k ms ≡ None → first_misfit f ms ≡ None → first_misfit f (place k d ms) ≡ None
+fit-place : (f : Form) (k : List ℕ) (d : Data) (ms : Members) → fits f k d ≡ true → get_member k ms ≡ None → first_misfit f ms ≡ None →
+    first_misfit f (place k d ms) ≡ None
 fit-place f k d no_members fit gone h = rw fit
 fit-place f k d (member l e ms) fit gone h =
     fit-step (slice_cmp nat_cmp k l) f k l d e ms fit gone h (λ none. fit-place f k d ms fit none (rest-none (fits f l e) l (first_misfit f ms) h))
@@ -194,8 +205,10 @@ AreRightUnits second f (c ∷ cs) = IsRightUnit second c (f c) × AreRightUnits 
 few_integers : (is : List ℕ) → length is ≤ 1000 → length (map (λ n. pos n) is) ≤ 1000
 few_integers is few = rw length-map few
 
-right-one : (second : Bool) (f : Class → List ℕ) (cs : List Class) (c : Class) (stages : List ℕ) (ms : Members) → ((n : Members) → NoneIn cs n → RightUnits second n → RightUnits second (unit_table (units_for f cs) n))
-    → IsRightUnit second c stages → AllDiffer (c ∷ cs) → NoneIn (c ∷ cs) ms → RightUnits second ms → RightUnits second (unit_table (unit_for c stages ++ units_for f cs) ms)
+right-one : (second : Bool) (f : Class → List ℕ) (cs : List Class) (c : Class) (stages : List ℕ) (ms : Members) →
+    ((n : Members) → NoneIn cs n → RightUnits second n → RightUnits second (unit_table (units_for f cs) n))
+    → IsRightUnit second c stages → AllDiffer (c ∷ cs) → NoneIn (c ∷ cs) ms → RightUnits second ms →
+    RightUnits second (unit_table (unit_for c stages ++ units_for f cs) ms)
 right-one second f cs c [] ms ih unit all gone right = ih ms gone.1 right
 right-one second f cs c (i ∷ is) ms ih unit all gone right =
     let d = array (integers (map (λ n. pos n) (i ∷ is))) in
@@ -204,12 +217,26 @@ right-one second f cs c (i ∷ is) ms ih unit all gone right =
       fit-place (form.Units second) (class_name c) d ms (fits-class second c (map (λ n. pos n) (i ∷ is)) (few_integers (i ∷ is) unit.0)) gone.0 right.1,
     )
 
-units-right : (second : Bool) (f : Class → List ℕ) (cs : List Class) (ms : Members) → AreRightUnits second f cs → AllDiffer cs → NoneIn cs ms → RightUnits second ms → RightUnits second (unit_table (units_for f cs) ms)
+units-right : (second : Bool) (f : Class → List ℕ) (cs : List Class) (ms : Members) → AreRightUnits second f cs → AllDiffer cs → NoneIn cs ms →
+    RightUnits second ms → RightUnits second (unit_table (units_for f cs) ms)
 units-right second f [] ms units all gone right = right
-units-right second f (c ∷ cs) ms units all gone right = right-one second f cs c (f c) ms (λ n none r. units-right second f cs n units.1 all.1 none r) units.0 all gone right
+units-right second f (c ∷ cs) ms units all gone right = right-one second f cs c (f c) ms (λ n none r. units-right second f cs n units.1 all.1 none r) units.0
+    all gone right
 
 pub classes-differ : AllDiffer computed_classes
-classes-differ = ((refl, (refl, (refl, (refl, (refl, (refl, (refl, (refl, tt)))))))), ((refl, (refl, (refl, (refl, (refl, (refl, (refl, tt))))))), ((refl, (refl, (refl, (refl, (refl, (refl, tt)))))), ((refl, (refl, (refl, (refl, (refl, tt))))), ((refl, (refl, (refl, (refl, tt)))), ((refl, (refl, (refl, tt))), ((refl, (refl, tt)), ((refl, tt), (tt, tt)))))))))
+classes-differ = (
+  (refl, (refl, (refl, (refl, (refl, (refl, (refl, (refl, tt)))))))),
+  (
+    (refl, (refl, (refl, (refl, (refl, (refl, (refl, tt))))))),
+    (
+      (refl, (refl, (refl, (refl, (refl, (refl, tt)))))),
+      (
+        (refl, (refl, (refl, (refl, (refl, tt))))),
+        ((refl, (refl, (refl, (refl, tt)))), ((refl, (refl, (refl, tt))), ((refl, (refl, tt)), ((refl, tt), (tt, tt))))),
+      ),
+    ),
+  ),
+)
 
 -- what makes parts readable in a format
 pub record AreReadable (second : Bool) (f : Class → List ℕ) (p : Parts) : Type 0 where
@@ -219,14 +246,17 @@ pub record AreReadable (second : Bool) (f : Class → List ℕ) (p : Parts) : Ty
   pub few : length p.sidings ≤ 1000
   pub cache : second ≡ false → p.cache ≡ false
 
-units-form : (second : Bool) (f : Class → List ℕ) → AreRightUnits second f computed_classes → form_fault (form.Units second) (unit_table (units_for f computed_classes) no_members) ≡ None
+units-form : (second : Bool) (f : Class → List ℕ) → AreRightUnits second f computed_classes →
+    form_fault (form.Units second) (unit_table (units_for f computed_classes) no_members) ≡ None
 unfolding form_fault
-units-form second f right = let (a, b) = units-right second f computed_classes no_members right classes-differ (none-empty computed_classes) (refl, refl) in rw (a, b)
+units-form second f right = let (a, b) = units-right second f computed_classes no_members right classes-differ (none-empty computed_classes) (refl, refl) in
+    rw (a, b)
 
 sidings-fit : (second : Bool) (ss : List Siding) → AreRight second ss → length ss ≤ 1000 → is_list_of Table (array (siding_items ss)) ≡ true
 sidings-fit second ss right few = let (a, b, t, n) = sidings-back second ss right in rw (n, le-leb (length ss) 1000 few, t)
 
-top-form : (ss : List Siding) (second : Bool) (p : Parts) (units : Members) → p.sidings ≡ ss → is_list_of Table (array (siding_items ss)) ≡ true → form_fault (form.Top second) (top_table second p units) ≡ None
+top-form : (ss : List Siding) (second : Bool) (p : Parts) (units : Members) → p.sidings ≡ ss → is_list_of Table (array (siding_items ss)) ≡ true →
+    form_fault (form.Top second) (top_table second p units) ≡ None
 unfolding form_fault knows fits
 top-form [] false p units e fit = rw e
 top-form [] true p units e fit = rw e
@@ -234,14 +264,16 @@ top-form (s ∷ ss) false p units e fit = rw (e, fit)
 top-form (s ∷ ss) true p units e fit = rw (e, fit)
 
 -- what stands at the keys
-top-siding : (ss : List Siding) (second : Bool) (p : Parts) (units : Members) → p.sidings ≡ ss → items_at (codes "siding") (top_table second p units) ≡ siding_items ss
+top-siding : (ss : List Siding) (second : Bool) (p : Parts) (units : Members) → p.sidings ≡ ss →
+    items_at (codes "siding") (top_table second p units) ≡ siding_items ss
 top-siding [] false p units e = rw e
 top-siding [] true p units e = rw e
 top-siding (s ∷ ss) false p units e = rw e
 top-siding (s ∷ ss) true p units e = rw e
 
 top-rest : (ss : List Siding) (second : Bool) (p : Parts) (units : Members) → p.sidings ≡ ss
-    → (integer_at (codes "lane") (top_table second p units) ≡ p.lane) × (integer_at (codes "stages") (top_table second p units) ≡ p.stages) × (members_at (codes "units") (top_table second p units) ≡ units)
+    → (integer_at (codes "lane") (top_table second p units) ≡ p.lane) × (integer_at (codes "stages") (top_table second p units) ≡ p.stages)
+    × (members_at (codes "units") (top_table second p units) ≡ units)
 top-rest [] false p units e = rw e (refl, refl, refl)
 top-rest [] true p units e = rw e (refl, refl, refl)
 top-rest (s ∷ ss) false p units e = rw e (refl, refl, refl)
@@ -256,7 +288,8 @@ unfolding is_second
 table_second false p = refl
 table_second true p = refl
 
-top-cache : (second : Bool) (p : Parts) (units : Members) → (second ≡ false → p.cache ≡ false) → (second && truth_at (codes "cache") (top_table second p units)) ≡ p.cache
+top-cache : (second : Bool) (p : Parts) (units : Members) → (second ≡ false → p.cache ≡ false) →
+    (second && truth_at (codes "cache") (top_table second p units)) ≡ p.cache
 top-cache false p units none = sym (none refl)
 top-cache true p units none = refl
 
@@ -266,7 +299,15 @@ table_right second f p r =
     let units = unit_table p.units no_members in
     let (la, st, un) = top-rest p.sidings second p units refl in
     let (a, b, t, n) = sidings-back second p.sidings r.sidings in
-    rw (top-form p.sidings second p units refl (sidings-fit second p.sidings r.sidings r.few), top-format second p units, top-siding p.sidings second p units refl, b, un, r.units, units-form second f r.stages)
+    rw (
+      top-form p.sidings second p units refl (sidings-fit second p.sidings r.sidings r.few),
+      top-format second p units,
+      top-siding p.sidings second p units refl,
+      b,
+      un,
+      r.units,
+      units-form second f r.stages,
+    )
 
 pub table_back : (second : Bool) (f : Class → List ℕ) (p : Parts) → AreReadable second f p → parts_in second (table_of second p) ≡ p
 unfolding parts_in
@@ -274,5 +315,6 @@ table_back second f p r =
     let units = unit_table p.units no_members in
     let (la, st, un) = top-rest p.sidings second p units refl in
     let (a, b, t, n) = sidings-back second p.sidings r.sidings in
-    let units_same : units_among computed_classes (unit_table p.units no_members) ≡ p.units = rw r.units (units-back f computed_classes no_members classes-differ (none-empty computed_classes)) in
+    let units_same : units_among computed_classes (unit_table p.units no_members) ≡ p.units =
+    rw r.units (units-back f computed_classes no_members classes-differ (none-empty computed_classes)) in
     rw (la, st, un, units_same, top-siding p.sidings second p units refl, a, top-cache second p units r.cache)

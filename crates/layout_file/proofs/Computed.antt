@@ -15,10 +15,12 @@ use Rattle.layout_file.proofs.Words.{AllSmall, all_small, word_computed}
 -- so does each text of an array
 classes_computed : (second : Bool) (ds : Items) → All IsComputed (classes_of second ds)
 classes_computed second no_items = All-nil IsComputed
-classes_computed second (item d ds) = All-cons IsComputed (unwrap_or (class_of second (text_in d)) Add) (classes_of second ds) (word_computed second (text_in d)) (classes_computed second ds)
+classes_computed second (item d ds) = All-cons IsComputed (unwrap_or (class_of second (text_in d)) Add) (classes_of second ds)
+    (word_computed second (text_in d)) (classes_computed second ds)
 
 -- the entries of computed classes
-entry_computed : (c : Class) (o : Option Data) (rest : List (Class × List ℤ)) → IsComputed c → All (λ (unit : Class × List ℤ). IsComputed unit.0) rest → All (λ (unit : Class × List ℤ). IsComputed unit.0) (unit_in c o ++ rest)
+entry_computed : (c : Class) (o : Option Data) (rest : List (Class × List ℤ)) → IsComputed c → All (λ (unit : Class × List ℤ). IsComputed unit.0) rest →
+    All (λ (unit : Class × List ℤ). IsComputed unit.0) (unit_in c o ++ rest)
 entry_computed c None rest here all = all
 entry_computed c (Some d) rest here all = All-cons (λ (unit : Class × List ℤ). IsComputed unit.0) (c, integers_of (items_in d)) rest here all
 

@@ -35,7 +35,8 @@ unit_members (u ∷ us) = member (class_name u.0) (array (integers u.1)) (unit_m
 
 -- a siding
 abbrev pub siding_members : Siding → Members
-siding_members s = member (codes "classes") (array (names s.classes)) (member (codes "launch") (integer s.launch) (member (codes "recover") (integer s.recover) (member (codes "cells") (integer s.cells) no_members)))
+siding_members s = member (codes "classes") (array (names s.classes)) (member (codes "launch") (integer s.launch)
+    (member (codes "recover") (integer s.recover) (member (codes "cells") (integer s.cells) no_members)))
 
 abbrev pub siding_tables : List Siding → Items
 siding_tables [] = no_items
@@ -48,7 +49,8 @@ sidings_last (s ∷ ss) = member (codes "siding") (array (item (table (siding_me
 
 -- the whole file
 abbrev pub file_members : Bool → Parts → Members
-file_members second p = member (codes "format") (integer (format_number second)) (member (codes "stages") (integer p.stages) (member (codes "lane") (integer p.lane) (cache_member second p.cache (member (codes "units") (table (unit_members p.units)) (sidings_last p.sidings)))))
+file_members second p = member (codes "format") (integer (format_number second)) (member (codes "stages") (integer p.stages)
+    (member (codes "lane") (integer p.lane) (cache_member second p.cache (member (codes "units") (table (unit_members p.units)) (sidings_last p.sidings)))))
 
 -- in byte order: the members with one more, at its place
 abbrev pub place : List ℕ → Data → Members → Members
@@ -62,7 +64,8 @@ unit_table (u ∷ us) found = unit_table us (place (class_name u.0) (array (inte
 
 -- a siding
 abbrev pub siding_table : Siding → Members
-siding_table s = member (codes "cells") (integer s.cells) (member (codes "classes") (array (names s.classes)) (member (codes "launch") (integer s.launch) (member (codes "recover") (integer s.recover) no_members)))
+siding_table s = member (codes "cells") (integer s.cells) (member (codes "classes") (array (names s.classes))
+    (member (codes "launch") (integer s.launch) (member (codes "recover") (integer s.recover) no_members)))
 
 abbrev pub siding_items : List Siding → Items
 siding_items [] = no_items
@@ -79,7 +82,8 @@ top_end p units = member (codes "stages") (integer p.stages) (member (codes "uni
 
 -- the whole table, with this table of units
 abbrev pub top_table : Bool → Parts → Members → Members
-top_table second p units = cache_member second p.cache (member (codes "format") (integer (format_number second)) (member (codes "lane") (integer p.lane) (siding_member p.sidings (top_end p units))))
+top_table second p units = cache_member second p.cache (member (codes "format") (integer (format_number second))
+    (member (codes "lane") (integer p.lane) (siding_member p.sidings (top_end p units))))
 
 -- the whole table of a layout
 abbrev pub table_of : Bool → Parts → Members

@@ -13,12 +13,14 @@ some_line c [] some = absurd (omega arith)
 some_line c (stage ∷ stages) some = refl
 
 -- the lines of the sidings from a given siding on
-next_at : (sidings : List SidingPlan) (i : ℕ) → i < length sidings → siding_lines (drop i sidings) ≡ siding_text (unwrap_or (slice_get sidings i) no_siding) ++ siding_lines (drop (suc i) sidings)
+next_at : (sidings : List SidingPlan) (i : ℕ) → i < length sidings → siding_lines (drop i sidings) ≡ siding_text (unwrap_or (slice_get sidings i) no_siding)
+    ++ siding_lines (drop (suc i) sidings)
 next_at [] i within = absurd (omega arith)
 next_at (s ∷ ss) zero within = refl
 next_at (s ∷ ss) (suc i) within = next_at ss i (omega arith)
 
-pub next_siding : (plan : Plan) (i : ℕ) → i < length plan.sidings → siding_lines (drop i plan.sidings) ≡ siding_text (siding_at plan i) ++ siding_lines (drop (i + 1) plan.sidings)
+pub next_siding : (plan : Plan) (i : ℕ) → i < length plan.sidings → siding_lines (drop i plan.sidings) ≡ siding_text (siding_at plan i)
+    ++ siding_lines (drop (i + 1) plan.sidings)
 next_siding plan i within = rw (add-one) (next_at plan.sidings i within)
 
 -- after the last siding there are none

@@ -31,7 +31,8 @@ use Rattle.layout_file.proofs.Texts.{text_read}
 use Rattle.layout_file.proofs.Sizes.{accepted_small, text_short}
 
 -- the entries of different classes are different
-others_one : (f : Class → List ℕ) (c d : Class) (ds : List Class) (stages : List ℕ) → same_key (class_name d) (class_name c) ≡ false → AreOthers c (units_for f ds) → AreOthers c (unit_for d stages ++ units_for f ds)
+others_one : (f : Class → List ℕ) (c d : Class) (ds : List Class) (stages : List ℕ) → same_key (class_name d) (class_name c) ≡ false →
+    AreOthers c (units_for f ds) → AreOthers c (unit_for d stages ++ units_for f ds)
 others_one f c d ds [] differ more = more
 others_one f c d ds (i ∷ is) differ more = (differ, more)
 
@@ -39,7 +40,8 @@ others_from : (f : Class → List ℕ) (c : Class) (cs : List Class) → Classes
 others_from f c [] differ = tt
 others_from f c (d ∷ ds) differ = others_one f c d ds (f d) differ.0 (others_from f c ds differ.1)
 
-distinct_one : (f : Class → List ℕ) (c : Class) (cs : List Class) (stages : List ℕ) → AreOthers c (units_for f cs) → AreDistinct (units_for f cs) → AreDistinct (unit_for c stages ++ units_for f cs)
+distinct_one : (f : Class → List ℕ) (c : Class) (cs : List Class) (stages : List ℕ) → AreOthers c (units_for f cs) → AreDistinct (units_for f cs) →
+    AreDistinct (unit_for c stages ++ units_for f cs)
 distinct_one f c cs [] others more = more
 distinct_one f c cs (i ∷ is) others more = (others, more)
 
@@ -86,7 +88,8 @@ div_homed : (plan : Plan) → IsAccepted plan → 1 ≤ homes plan Div → needs
 div_homed plan a some = let same = a.pair in mul_homed plan a (omega arith)
 
 homed_needs : (plan : Plan) → IsAccepted plan → (c : Class) → 1 ≤ homes plan c → NeedsSecond (needs_second plan) c
-homed_needs plan a c some = ((λ e. mul_homed plan a (subst (λ (k : Class). 1 ≤ homes plan k) e some)), (λ e. div_homed plan a (subst (λ (k : Class). 1 ≤ homes plan k) e some)))
+homed_needs plan a c some =
+    ((λ e. mul_homed plan a (subst (λ (k : Class). 1 ≤ homes plan k) e some)), (λ e. div_homed plan a (subst (λ (k : Class). 1 ≤ homes plan k) e some)))
 
 -- a class with a stage has a home
 stage_home : (stages : List ℕ) (n : ℕ) → 1 ≤ length stages → 1 ≤ unit_homes stages + n
@@ -110,14 +113,17 @@ right_units plan a [] small = tt
 right_units plan a (c ∷ cs) small = (right_unit plan a c small.0, right_units plan a cs small.1)
 
 -- a class that goes through a siding has a home
-siding_needs : (plan : Plan) → IsAccepted plan → (k : ℕ) (d : SidingPlan) → k < length plan.sidings → (c : Class) → serves (get_or plan.sidings k d) c ≡ true → NeedsSecond (needs_second plan) c
+siding_needs : (plan : Plan) → IsAccepted plan → (k : ℕ) (d : SidingPlan) → k < length plan.sidings → (c : Class) → serves (get_or plan.sidings k d) c ≡ true →
+    NeedsSecond (needs_second plan) c
 unfolding homes
 siding_needs plan a k d within c served =
-    let some : 0 < length (filter (λ siding. serves siding c) plan.sidings) = lt_true 0 _ (sym (any_kept (λ siding. serves siding c) plan.sidings) ∙ list_any_at (λ siding. serves siding c) plan.sidings k d within served) in
+    let some : 0 < length (filter (λ siding. serves siding c) plan.sidings) = lt_true 0 _ (sym (any_kept (λ siding. serves siding c) plan.sidings)
+    ∙ list_any_at (λ siding. serves siding c) plan.sidings k d within served) in
     homed_needs plan a c (omega arith)
 
 -- the words of classes that are named
-named_words : (second : Bool) (classes : List Class) → All IsComputed classes → ((c : Class) → names classes c ≡ true → NeedsSecond second c) → AreWords second classes
+named_words : (second : Bool) (classes : List Class) → All IsComputed classes → ((c : Class) → names classes c ≡ true → NeedsSecond second c) →
+    AreWords second classes
 named_words second [] small needs = tt
 named_words second (c ∷ cs) small needs = (
   word_of second c (small 0 c (omega arith)) (needs c (rw (same_self c) refl)),
@@ -126,15 +132,20 @@ named_words second (c ∷ cs) small needs = (
 
 siding_words : (plan : Plan) → IsAccepted plan → All (λ s. AreWords (needs_second plan) s.classes) plan.sidings
 unfolding serves
-siding_words plan a = λ k d within. named_words (needs_second plan) (get_or plan.sidings k d).classes (a.sidings k d within).computed (λ c named. siding_needs plan a k d within c named)
+siding_words plan a = λ k d within. named_words (needs_second plan) (get_or plan.sidings k d).classes (a.sidings k d within).computed
+    (λ c named. siding_needs plan a k d within c named)
 
 -- the sidings are readable
-right_sidings : (second : Bool) (plan : Plan) (ss : List SidingPlan) → All (IsSiding plan) ss → All (λ s. AreWords second s.classes) ss → AreRight second (map asking_siding ss)
+right_sidings : (second : Bool) (plan : Plan) (ss : List SidingPlan) → All (IsSiding plan) ss → All (λ s. AreWords second s.classes) ss →
+    AreRight second (map asking_siding ss)
 right_sidings second plan [] all words = tt
 right_sidings second plan (s ∷ ss) all words =
     let here = all 0 s (omega arith) in
-    let few = few_classes s.classes here.ordered here.computed in
-    ((omega arith, words 0 s (omega arith)), right_sidings second plan ss (All-tail (IsSiding plan) s ss all) (All-tail (λ (t : SidingPlan). AreWords second t.classes) s ss words))
+    let few = few_classes s.classes here.ordered here.computed in (
+      (omega arith, words 0 s (omega arith)),
+      right_sidings second plan ss (All-tail (IsSiding plan) s ss all)
+          (All-tail (λ (t : SidingPlan). AreWords second t.classes) s ss words),
+    )
 
 -- format 1 has no cache
 no_cache : (cache mul : Bool) → (cache || mul) ≡ false → cache ≡ false
@@ -145,7 +156,8 @@ no_cache false mul e = refl
 readable : (plan : Plan) → IsAccepted plan → AreReadable (needs_second plan) (stages_of plan) (asking plan)
 readable plan a = record {
   units = refl;
-  stages = right_units plan a computed_classes (omega arith, (omega arith, (omega arith, (omega arith, (omega arith, (omega arith, (omega arith, (omega arith, (omega arith, tt)))))))));
+  stages = right_units plan a computed_classes
+      (omega arith, (omega arith, (omega arith, (omega arith, (omega arith, (omega arith, (omega arith, (omega arith, (omega arith, tt)))))))));
   sidings = right_sidings (needs_second plan) plan plan.sidings a.sidings (siding_words plan a);
   few = let few = a.few_sidings in omega (arith, length-map plan.sidings asking_siding);
   cache = no_cache plan.cache (has_mul plan);
@@ -157,7 +169,13 @@ table_asks plan a = rw (table_second (needs_second plan) (asking plan)) (table_b
 
 table_faultless : (plan : Plan) → IsAccepted plan → fault_of (table_of (needs_second plan) (asking plan)) ≡ None
 unfolding fault_of
-table_faultless plan a = rw (table_second (needs_second plan) (asking plan), table_right (needs_second plan) (stages_of plan) (asking plan) (readable plan a), table_back (needs_second plan) (stages_of plan) (asking plan) (readable plan a), asking_passes plan a) refl
+table_faultless plan a =
+    rw (
+      table_second (needs_second plan) (asking plan),
+      table_right (needs_second plan) (stages_of plan) (asking plan) (readable plan a),
+      table_back (needs_second plan) (stages_of plan) (asking plan) (readable plan a),
+      asking_passes plan a,
+    ) refl
 
 -- its text describes it, where it is UTF-8
 pub text_describes : (plan : Plan) → IsAccepted plan → IsUtf8 (text_of plan) → Describes (text_of plan) plan
@@ -211,6 +229,7 @@ text_reads plan file a is utf8 =
     }
 
 -- where such a file is not read, the answer is that memory ran out
-pub read_fails : {T : Type 0} (file : List ℕ) (plan : Plan) (r : Result T FileErr) → ReadsAs file plan → IfErr r (λ e. LayoutFails file e) → IfErr r (λ e. e ≡ NoMemory)
+pub read_fails : {T : Type 0} (file : List ℕ) (plan : Plan) (r : Result T FileErr) → ReadsAs file plan → IfErr r (λ e. LayoutFails file e) →
+    IfErr r (λ e. e ≡ NoMemory)
 read_fails file plan (Ok x) reads h = tt
 read_fails file plan (Err e) reads h = reads.readable e h

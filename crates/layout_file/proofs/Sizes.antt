@@ -73,7 +73,8 @@ unit_length c (i ∷ is) few small =
     let value = array_length (map decimal (i ∷ is)) (numbers_up (i ∷ is) small) in
     omega (arith, pair_length (class_name c) (array_text (map decimal (i ∷ is))), length-map (i ∷ is) decimal)
 
-units_length : (plan : Plan) (cs : List Class) → ((c : Class) → length (stages_of plan c) ≤ 32) → UnitsAreSmall plan cs → length (unit_lines plan cs) ≤ 400 * length cs
+units_length : (plan : Plan) (cs : List Class) → ((c : Class) → length (stages_of plan c) ≤ 32) → UnitsAreSmall plan cs →
+    length (unit_lines plan cs) ≤ 400 * length cs
 units_length plan [] few small = omega arith
 units_length plan (c ∷ cs) few small =
     let here = unit_length c (stages_of plan c) (few c) small.0 in
@@ -81,7 +82,8 @@ units_length plan (c ∷ cs) few small =
     omega (arith, length-append (unit_line c (stages_of plan c)) (unit_lines plan cs))
 
 -- the lines of a siding
-siding_length : (s : SidingPlan) → length s.classes ≤ 9 → (s.launch < 4294967296) × (s.recover < 4294967296) × (s.cells < 4294967296) → length (siding_text s) ≤ 400
+siding_length : (s : SidingPlan) → length s.classes ≤ 9 → (s.launch < 4294967296) × (s.recover < 4294967296) × (s.cells < 4294967296) →
+    length (siding_text s) ≤ 400
 unfolding siding_text numbers_text
 siding_length s few small =
     let names = map quoted_name s.classes in
@@ -149,7 +151,8 @@ head_length second plan stages lane =
     )
 
 -- the whole text
-whole_length : (second : Bool) (plan : Plan) → ((c : Class) → length (stages_of plan c) ≤ 32) → length plan.sidings ≤ 8 → AreShort plan.sidings → IsSmall plan → length (head_text second plan ++ body_text plan) ≤ most_layout_bytes
+whole_length : (second : Bool) (plan : Plan) → ((c : Class) → length (stages_of plan c) ≤ 32) → length plan.sidings ≤ 8 → AreShort plan.sidings → IsSmall plan →
+    length (head_text second plan ++ body_text plan) ≤ most_layout_bytes
 unfolding body_text
 whole_length second plan few eight short small =
     let units = unit_lines plan computed_classes in
@@ -196,4 +199,5 @@ accepted_small plan a =
 
 -- so its text is short
 pub text_short : (second : Bool) (plan : Plan) → IsAccepted plan → length (head_text second plan ++ body_text plan) ≤ most_layout_bytes
-text_short second plan a = whole_length second plan (class_stages_few plan a) a.few_sidings (sidings_small plan plan.sidings a.stages.1 a.sidings).1 (accepted_small plan a)
+text_short second plan a = whole_length second plan (class_stages_few plan a) a.few_sidings (sidings_small plan plan.sidings a.stages.1 a.sidings).1
+    (accepted_small plan a)

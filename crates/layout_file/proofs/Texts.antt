@@ -56,8 +56,17 @@ rest_numbers [] small = refl
 rest_numbers (n ∷ ns) small = (decimal n, rest_text (map decimal ns), refl, (refl, number_fits n small.0), rest_numbers ns small.1)
 
 numbers_array : (n : ℕ) (ns : List ℕ) → AreSmall (n ∷ ns) → IsValueText false (array (integers (map (λ m. pos m) (n ∷ ns)))) (array_text (map decimal (n ∷ ns)))
-numbers_array n ns small =
-    (decimal n ++ rest_text (map decimal ns), refl, rw (one_line (integers (map (λ m. pos m) (n ∷ ns)))) (decimal n, rest_text (map decimal ns), refl, (refl, number_fits n small.0), rest_numbers ns small.1))
+numbers_array n ns small = (
+  decimal n ++ rest_text (map decimal ns),
+  refl,
+  rw (one_line (integers (map (λ m. pos m) (n ∷ ns)))) (
+    decimal n,
+    rest_text (map decimal ns),
+    refl,
+    (refl, number_fits n small.0),
+    rest_numbers ns small.1,
+  ),
+)
 
 -- the text of an array of words
 name_text : (c : Class) → quoted_name c ≡ string_text (class_name c)
@@ -80,8 +89,17 @@ rest_names (c ∷ cs) = (quoted_name c, rest_text (map quoted_name cs), refl, na
 
 names_text : (cs : List Class) → IsValueText false (array (names cs)) (array_text (map quoted_name cs))
 names_text [] = (codes "]", refl, refl)
-names_text (c ∷ cs) =
-    (quoted_name c ++ rest_text (map quoted_name cs), refl, rw (one_line (names (c ∷ cs))) (quoted_name c, rest_text (map quoted_name cs), refl, name_text c, rest_names cs))
+names_text (c ∷ cs) = (
+  quoted_name c ++ rest_text (map quoted_name cs),
+  refl,
+  rw (one_line (names (c ∷ cs))) (
+    quoted_name c,
+    rest_text (map quoted_name cs),
+    refl,
+    name_text c,
+    rest_names cs,
+  ),
+)
 
 class_key : (c : Class) → class_name c ≡ key_text (class_name c)
 unfolding key_text
@@ -98,20 +116,29 @@ class_key Mul = refl
 class_key Div = refl
 
 -- one line
-line_of : (started : Bool) (k value : List ℕ) (d : Data) → k ≡ key_text k → IsValueText false d value → IsLineText false started ([], k) (key_value d) (pair_line k value)
+line_of : (started : Bool) (k value : List ℕ) (d : Data) → k ≡ key_text k → IsValueText false d value →
+    IsLineText false started ([], k) (key_value d) (pair_line k value)
 unfolding pair_line
 line_of started k value d key text = (value, ap (λ t. t ++ (codes " = " ++ (value ++ codes "\n"))) key, text)
 
 -- the lines of the units, with one more
-unit_text : (c : Class) (stages : List ℕ) (us : List (Class × List ℤ)) (rest : List ℕ) → AreSmall stages → IsLinesText false true (pairs (unit_members us)) rest → IsLinesText false true (pairs (unit_members (unit_for c stages ++ us))) (unit_line c stages ++ rest)
+unit_text : (c : Class) (stages : List ℕ) (us : List (Class × List ℤ)) (rest : List ℕ) → AreSmall stages →
+    IsLinesText false true (pairs (unit_members us)) rest → IsLinesText false true (pairs (unit_members (unit_for c stages ++ us))) (unit_line c stages ++ rest)
 unit_text c [] us rest small more = more
 unit_text c (i ∷ is) us rest small more =
-    rw (integers_pair (map (λ n. pos n) (i ∷ is)))
-    (unit_line c (i ∷ is), rest, refl, line_of true (class_name c) _ (array (integers (map (λ n. pos n) (i ∷ is)))) (class_key c) (numbers_array i is small), more)
+    rw (integers_pair (map (λ n. pos n) (i ∷ is))) (
+      unit_line c (i ∷ is),
+      rest,
+      refl,
+      line_of true (class_name c) _ (array (integers (map (λ n. pos n) (i ∷ is)))) (class_key c) (numbers_array i is small),
+      more,
+    )
 
-unit_pairs_text : (plan : Plan) (cs : List Class) → UnitsAreSmall plan cs → IsLinesText false true (pairs (unit_members (units_for (stages_of plan) cs))) (unit_lines plan cs)
+unit_pairs_text : (plan : Plan) (cs : List Class) → UnitsAreSmall plan cs → IsLinesText false true (pairs (unit_members (units_for (stages_of plan) cs)))
+    (unit_lines plan cs)
 unit_pairs_text plan [] small = refl
-unit_pairs_text plan (c ∷ cs) small = unit_text c (stages_of plan c) (units_for (stages_of plan) cs) (unit_lines plan cs) small.0 (unit_pairs_text plan cs small.1)
+unit_pairs_text plan (c ∷ cs) small = unit_text c (stages_of plan c) (units_for (stages_of plan) cs) (unit_lines plan cs) small.0
+    (unit_pairs_text plan cs small.1)
 
 no_section : (zs : List ℤ) (path : List (List ℕ)) (k : List ℕ) → section (path, k) (array (integers zs)) ≡ []
 no_section [] path k = refl
@@ -126,7 +153,8 @@ no_unit_sections [] path = refl
 no_unit_sections (u ∷ us) path = rw (no_section u.1 path (class_name u.0)) (no_unit_sections us path)
 
 -- the header of the units, and their lines
-units_text : (us : List (Class × List ℤ)) (lines : List ℕ) → IsLinesText false true (pairs (unit_members us)) lines → IsLinesText false true (section ([], codes "units") (table (unit_members us))) (codes "\n[units]\n" ++ lines)
+units_text : (us : List (Class × List ℤ)) (lines : List ℕ) → IsLinesText false true (pairs (unit_members us)) lines →
+    IsLinesText false true (section ([], codes "units") (table (unit_members us))) (codes "\n[units]\n" ++ lines)
 unfolding key_text
 units_text us lines text =
     rw (units_header us, no_unit_sections us (codes "units" ∷ []), append-nil (pairs (unit_members us)))
@@ -170,7 +198,8 @@ one_siding s ss small more =
       ),
     )
 
-each_siding : (ss : List SidingPlan) → SidingsAreSmall ss → IsLinesText false true (elements ([], codes "siding") (siding_tables (map asking_siding ss))) (siding_lines ss)
+each_siding : (ss : List SidingPlan) → SidingsAreSmall ss → IsLinesText false true (elements ([], codes "siding") (siding_tables (map asking_siding ss)))
+    (siding_lines ss)
 each_siding [] small = refl
 each_siding (s ∷ ss) small = one_siding s ss small.0 (each_siding ss small.1)
 
@@ -197,23 +226,30 @@ started : (us : List (Class × List ℤ)) → after true (section ([], codes "un
 started us = refl
 
 -- the lines after the first ones
-body_written : (plan : Plan) → IsSmall plan → IsLinesText false true (section ([], codes "units") (table (unit_members (asking plan).units)) ++ sections [] (sidings_last (asking plan).sidings)) (body_text plan)
+body_written : (plan : Plan) → IsSmall plan → IsLinesText false true (section ([], codes "units") (table (unit_members (asking plan).units))
+    ++ sections [] (sidings_last (asking plan).sidings)) (body_text plan)
 unfolding body_text
 body_written plan small =
-    let same : codes "\n[units]\n" ++ (unit_lines plan computed_classes ++ siding_lines plan.sidings) ≡ (codes "\n[units]\n" ++ unit_lines plan computed_classes) ++ siding_lines plan.sidings = refl in
-    rw same (IsLinesText-append false true _ _ _ _ (units_text (asking plan).units _ (unit_pairs_text plan computed_classes small.units)) (rw (started (asking plan).units) (sidings_text plan.sidings small.sidings)))
+    let same : codes "\n[units]\n" ++ (unit_lines plan computed_classes ++ siding_lines plan.sidings)
+    ≡ (codes "\n[units]\n" ++ unit_lines plan computed_classes) ++ siding_lines plan.sidings = refl in
+    rw same (IsLinesText-append false true _ _ _ _ (units_text (asking plan).units _ (unit_pairs_text plan computed_classes small.units))
+    (rw (started (asking plan).units) (sidings_text plan.sidings small.sidings)))
 
 -- the first lines, one after the other, and what follows them
-head_first : (plan : Plan) (rest : List ℕ) → head_text false plan ++ rest ≡ pair_line (codes "format") (codes "1") ++ (pair_line (codes "stages") (decimal plan.stages) ++ (pair_line (codes "lane") (decimal plan.lane) ++ rest))
+head_first : (plan : Plan) (rest : List ℕ) → head_text false plan ++ rest ≡ pair_line (codes "format") (codes "1")
+    ++ (pair_line (codes "stages") (decimal plan.stages) ++ (pair_line (codes "lane") (decimal plan.lane) ++ rest))
 unfolding head_text
 head_first plan rest = simp append_assoc refl
 
-head_second : (plan : Plan) (rest : List ℕ) → head_text true plan ++ rest ≡ pair_line (codes "format") (codes "2") ++ (pair_line (codes "stages") (decimal plan.stages) ++ (pair_line (codes "lane") (decimal plan.lane) ++ (pair_line (codes "cache") (truth_text plan.cache) ++ rest)))
+head_second : (plan : Plan) (rest : List ℕ) → head_text true plan ++ rest ≡ pair_line (codes "format") (codes "2")
+    ++ (pair_line (codes "stages") (decimal plan.stages) ++ (pair_line (codes "lane") (decimal plan.lane)
+    ++ (pair_line (codes "cache") (truth_text plan.cache) ++ rest)))
 unfolding head_text
 head_second plan rest = simp append_assoc refl
 
 -- the whole text, in either format
-pub text_written : (second : Bool) (plan : Plan) → IsSmall plan → IsDocumentText false (file_members second (asking plan)) (head_text second plan ++ body_text plan)
+pub text_written : (second : Bool) (plan : Plan) → IsSmall plan → IsDocumentText false (file_members second (asking plan)) (head_text second plan
+    ++ body_text plan)
 unfolding key_text
 text_written false plan small =
     let l1 = pair_line (codes "format") (codes "1") in
@@ -299,8 +335,10 @@ file_flat true p =
     (grind (arith, nat_tests), rw (v, w))
 
 -- the text of a layout is read as its table
-pub text_read : (second : Bool) (plan : Plan) → AreDistinct (asking plan).units → IsSmall plan → parse_document (head_text second plan ++ body_text plan) ≡ Some (table_of second (asking plan))
+pub text_read : (second : Bool) (plan : Plan) → AreDistinct (asking plan).units → IsSmall plan →
+    parse_document (head_text second plan ++ body_text plan) ≡ Some (table_of second (asking plan))
 text_read second plan distinct small =
     let (n, filled, closed) = layout_filled second (asking plan) distinct in
     let (deep, valid) = file_flat second (asking plan) in
-    parse_document-filled (file_members second (asking plan)) n (head_text second plan ++ body_text plan) (text_written second plan small) deep valid filled ∙ ap Some closed
+    parse_document-filled (file_members second (asking plan)) n (head_text second plan ++ body_text plan) (text_written second plan small) deep valid filled
+    ∙ ap Some closed

@@ -23,16 +23,19 @@ item_count_view [] = refl
 item_count_view (v ∷ vs) = rw (item_count_view vs)
 
 -- the elements from one on
-pub items_from : (vs : List Value) (i : ℕ) (v : Value) → i < length vs → v ≡ get_or vs i v → items_view (drop i vs) ≡ item (view v) (items_view (drop (i + 1) vs))
+pub items_from : (vs : List Value) (i : ℕ) (v : Value) → i < length vs → v ≡ get_or vs i v →
+    items_view (drop i vs) ≡ item (view v) (items_view (drop (i + 1) vs))
 items_from vs i v within this = rw (drop-cons vs i v, ← this, add-one) refl
 
 -- one step of the search for a key
-chosen : {A : Type 0} (f : A → List ℕ) (b : Bool) (k : A) (rest : Option A) (d : Option (List ℕ)) → option_map f rest ≡ d → option_map f (cond (not b) (Some k) rest) ≡ cond b d (Some (f k))
+chosen : {A : Type 0} (f : A → List ℕ) (b : Bool) (k : A) (rest : Option A) (d : Option (List ℕ)) → option_map f rest ≡ d →
+    option_map f (cond (not b) (Some k) rest) ≡ cond b d (Some (f k))
 chosen f true k rest d e = e
 chosen f false k rest d e = refl
 
 -- the first key that is not known
-unknown_in : (form : Form) (es : List (String Global × Value)) → option_map string_bytes (find (λ k. not (knows form (string_bytes k))) (keys_of es)) ≡ first_unknown form (members_view es)
+unknown_in : (form : Form) (es : List (String Global × Value)) → option_map string_bytes (find (λ k. not (knows form (string_bytes k))) (keys_of es))
+    ≡ first_unknown form (members_view es)
 unknown_in form [] = refl
 unknown_in form (e ∷ es) = chosen string_bytes (knows form (string_bytes e.0)) e.0 _ _ (unknown_in form es)
 
@@ -42,5 +45,6 @@ seen None = refl
 seen (Some k) = refl
 
 -- the first unknown key of a table's entries is that of its members
-pub unknown_of : (form : Form) (r : Option (Bor (String Global))) (es : List (String Global × Value)) → option_copied r ≡ find (λ k. not (knows form (string_bytes k))) (keys_of es) → option_map (λ k. string_bytes k.now) r ≡ first_unknown form (members_view es)
+pub unknown_of : (form : Form) (r : Option (Bor (String Global))) (es : List (String Global × Value)) →
+    option_copied r ≡ find (λ k. not (knows form (string_bytes k))) (keys_of es) → option_map (λ k. string_bytes k.now) r ≡ first_unknown form (members_view es)
 unknown_of form r es e = seen r ∙ ap (option_map string_bytes) e ∙ unknown_in form es

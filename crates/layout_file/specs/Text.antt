@@ -34,7 +34,8 @@ unit_lines plan (c ∷ cs) = unit_line c (stages_of plan c) ++ unit_lines plan c
 
 -- the lines of a siding's numbers
 unfoldable pub numbers_text : SidingPlan → List ℕ
-numbers_text s = pair_line (codes "launch") (decimal s.launch) ++ (pair_line (codes "recover") (decimal s.recover) ++ pair_line (codes "cells") (decimal s.cells))
+numbers_text s = pair_line (codes "launch") (decimal s.launch) ++ (pair_line (codes "recover") (decimal s.recover)
+    ++ pair_line (codes "cells") (decimal s.cells))
 
 -- the lines of a siding
 unfoldable pub siding_text : SidingPlan → List ℕ

@@ -11,6 +11,6 @@ mod writing;
 
 pub use classes::class_name;
 pub use fault::FileErr;
-pub use texts::Name;
 pub use reading::{MOST_LAYOUT, read_layout};
+pub use texts::Name;
 pub use writing::write_layout;

@@ -59,24 +59,29 @@ at_part : (before : List Part) (p : Part) (ps : List Part) (n : ℕ) (d : Part) 
 at_part before p ps n d e = rw (e, get_or-append_seam) refl
 
 -- the part that overlaps one before it shares an address with that one
-share_here : (before : List Part) (p : Part) (ps : List Part) (k : ℕ) → position (λ b. overlaps b p) before ≡ Some k → ShareAt (before ++ p ∷ ps) k (length before)
+share_here : (before : List Part) (p : Part) (ps : List Part) (k : ℕ) → position (λ b. overlaps b p) before ≡ Some k →
+    ShareAt (before ++ p ∷ ps) k (length before)
 share_here before p ps k e d d' =
     let at = position-Some (λ b. overlaps b p) before k d' e in
     rw (get_or-append_seam before p ps d, get_or-append before (p ∷ ps) d' k at.0) (overlaps-share (get_or before k d') p at.1)
 
 -- and shares none with those before that one
-apart_first : (before : List Part) (p : Part) (ps : List Part) (i k : ℕ) → position (λ b. overlaps b p) before ≡ Some i → k < i → ApartAt (before ++ p ∷ ps) k (length before)
+apart_first : (before : List Part) (p : Part) (ps : List Part) (i k : ℕ) → position (λ b. overlaps b p) before ≡ Some i → k < i →
+    ApartAt (before ++ p ∷ ps) k (length before)
 apart_first before p ps i k e below d d' =
     let at = position-Some (λ b. overlaps b p) before i d' e in let within : i < length before = at.0 in
     rw (get_or-append_seam before p ps d, get_or-append before (p ∷ ps) d' k (omega arith)) (apart-share (get_or before k d') p (at.2 k below))
 
 -- a part that overlaps none before it shares an address with none of them
-apart_here : (before : List Part) (p : Part) (ps : List Part) (k : ℕ) → position (λ b. overlaps b p) before ≡ None → k < length before → ApartAt (before ++ p ∷ ps) k (length before)
+apart_here : (before : List Part) (p : Part) (ps : List Part) (k : ℕ) → position (λ b. overlaps b p) before ≡ None → k < length before →
+    ApartAt (before ++ p ∷ ps) k (length before)
 apart_here before p ps k e below d d' =
-    rw (get_or-append_seam before p ps d, get_or-append before (p ∷ ps) d' k below) (apart-share (get_or before k d') p (passes_none (λ b. overlaps b p) before e k d' below))
+    rw (get_or-append_seam before p ps d, get_or-append before (p ∷ ps) d' k below) (apart-share (get_or before k d') p
+    (passes_none (λ b. overlaps b p) before e k d' below))
 
 -- the overlap of a part is the first from that part on
-found_here : (before : List Part) (p : Part) (ps : List Part) (k : ℕ) → position (λ b. overlaps b p) before ≡ Some k → IsOverlapFrom (before ++ p ∷ ps) (length before) k (length before)
+found_here : (before : List Part) (p : Part) (ps : List Part) (k : ℕ) → position (λ b. overlaps b p) before ≡ Some k →
+    IsOverlapFrom (before ++ p ∷ ps) (length before) k (length before)
 found_here before p ps k e = record {
   before = (position-Some (λ b. overlaps b p) before k no_part e).0;
   within = rw length-append (omega arith);
@@ -86,12 +91,15 @@ found_here before p ps k e = record {
 }
 
 -- parts apart, by whether the second is the part itself or comes after it
-after_second : (before : List Part) (p : Part) (ps : List Part) (i j : ℕ) → position (λ b. overlaps b p) before ≡ None → IsOverlapFrom (before ++ p ∷ ps) (length before + 1) i j → (k n : ℕ) → k < n → length before ≤ n → n < j → (n ≡ length before) ⊎ (length before + 1 ≤ n) → ApartAt (before ++ p ∷ ps) k n
+after_second : (before : List Part) (p : Part) (ps : List Part) (i j : ℕ) → position (λ b. overlaps b p) before ≡ None →
+    IsOverlapFrom (before ++ p ∷ ps) (length before + 1) i j → (k n : ℕ) → k < n → length before ≤ n → n < j → (n ≡ length before) ⊎ (length before + 1 ≤ n) →
+    ApartAt (before ++ p ∷ ps) k n
 after_second before p ps i j e r k n below from to (inl here) = rw here (apart_here before p ps k e (omega arith))
 after_second before p ps i j e r k n below from to (inr after) = r.least_second k n below after to
 
 -- where a part overlaps none before it, the first overlap after it is the first from it on
-found_after : (before : List Part) (p : Part) (ps : List Part) (i j : ℕ) → position (λ b. overlaps b p) before ≡ None → IsOverlapFrom (before ++ p ∷ ps) (length before + 1) i j → IsOverlapFrom (before ++ p ∷ ps) (length before) i j
+found_after : (before : List Part) (p : Part) (ps : List Part) (i j : ℕ) → position (λ b. overlaps b p) before ≡ None →
+    IsOverlapFrom (before ++ p ∷ ps) (length before + 1) i j → IsOverlapFrom (before ++ p ∷ ps) (length before) i j
 found_after before p ps i j e r = record {
   before = r.before;
   within = r.within;
@@ -109,7 +117,9 @@ one_more : (before : List Part) (p : Part) → length (before ++ p ∷ []) ≡ l
 one_more before p = length-append before (p ∷ [])
 
 -- the first overlap from a part on, by whether the part overlaps one before it
-found_step : (before : List Part) (p : Part) (ps : List Part) (i j : ℕ) (o : Option ℕ) (after : Option LoadErr) → position (λ b. overlaps b p) before ≡ o → overlap_or o (length before) after ≡ Some (Overlap i j) → (after ≡ Some (Overlap i j) → IsOverlapFrom (before ++ p ∷ ps) (length before + 1) i j) → IsOverlapFrom (before ++ p ∷ ps) (length before) i j
+found_step : (before : List Part) (p : Part) (ps : List Part) (i j : ℕ) (o : Option ℕ) (after : Option LoadErr) → position (λ b. overlaps b p) before ≡ o →
+    overlap_or o (length before) after ≡ Some (Overlap i j) → (after ≡ Some (Overlap i j) → IsOverlapFrom (before ++ p ∷ ps) (length before + 1) i j) →
+    IsOverlapFrom (before ++ p ∷ ps) (length before) i j
 found_step before p ps i j None after e h later = found_after before p ps i j e (later h)
 found_step before p ps i j (Some k) after e h later =
     let first : k ≡ i = cc in let second : length before ≡ j = cc in
@@ -117,29 +127,40 @@ found_step before p ps i j (Some k) after e h later =
     (subst (λ (n : ℕ). IsOverlapFrom (before ++ p ∷ ps) (length before) n (length before)) first (found_here before p ps k e))
 
 -- the overlap that the test finds is the first from the index on where it begins
-found_from : (whole before ps : List Part) (i j : ℕ) → before ++ ps ≡ whole → overlap_from before ps ≡ Some (Overlap i j) → IsOverlapFrom whole (length before) i j
+found_from : (whole before ps : List Part) (i j : ℕ) → before ++ ps ≡ whole → overlap_from before ps ≡ Some (Overlap i j) →
+    IsOverlapFrom whole (length before) i j
 found_from whole before [] i j e h = cc
 found_from whole before (p ∷ ps) i j e h =
     subst (λ (w : List Part). IsOverlapFrom w (length before) i j) e
     (found_step before p ps i j (position (λ b. overlaps b p) before) (overlap_from (before ++ p ∷ []) ps) refl h
-    (λ g. subst (λ (n : ℕ). IsOverlapFrom (before ++ p ∷ ps) n i j) (one_more before p) (found_from (before ++ p ∷ ps) (before ++ p ∷ []) ps i j (more_before before p ps) g)))
+    (λ g. subst (λ (n : ℕ). IsOverlapFrom (before ++ p ∷ ps) n i j) (one_more before p) (found_from (before ++ p ∷ ps) (before ++ p ∷ []) ps i j
+    (more_before before p ps) g)))
 
 -- the overlap that the test finds is the first
 pub first_overlap-is_first : (parts : List Part) (i j : ℕ) → first_overlap parts ≡ Some (Overlap i j) → IsFirstOverlap parts i j
 unfolding first_overlap
-first_overlap-is_first parts i j e = let r = found_from parts [] parts i j refl e in record { before = r.before; within = r.within; share = r.share; least_second = λ k n below to. r.least_second k n below (omega arith) to; least_first = r.least_first }
+first_overlap-is_first parts i j e = let r = found_from parts [] parts i j refl e in record {
+  before = r.before;
+  within = r.within;
+  share = r.share;
+  least_second = λ k n below to. r.least_second k n below (omega arith) to;
+  least_first =
+      r.least_first;
+}
 
 -- the parts from an index on share no address with those before them
 abbrev ApartFrom : List Part → ℕ → Type 0
 ApartFrom whole from = (k n : ℕ) → k < n → from ≤ n → n < length whole → ApartAt whole k n
 
 -- the same by whether the second is the part itself or comes after it
-after_apart : (before : List Part) (p : Part) (ps : List Part) → position (λ b. overlaps b p) before ≡ None → ApartFrom (before ++ p ∷ ps) (length before + 1) → (k n : ℕ) → k < n → n < length (before ++ p ∷ ps) → (n ≡ length before) ⊎ (length before + 1 ≤ n) → ApartAt (before ++ p ∷ ps) k n
+after_apart : (before : List Part) (p : Part) (ps : List Part) → position (λ b. overlaps b p) before ≡ None → ApartFrom (before ++ p ∷ ps) (length before + 1) →
+    (k n : ℕ) → k < n → n < length (before ++ p ∷ ps) → (n ≡ length before) ⊎ (length before + 1 ≤ n) → ApartAt (before ++ p ∷ ps) k n
 after_apart before p ps e later k n below to (inl here) = rw here (apart_here before p ps k e (omega arith))
 after_apart before p ps e later k n below to (inr after) = later k n below after to
 
 -- a part and those after it are apart from all before them where the test finds no overlap
-apart_step : (before : List Part) (p : Part) (ps : List Part) (o : Option ℕ) (after : Option LoadErr) → position (λ b. overlaps b p) before ≡ o → overlap_or o (length before) after ≡ None → (after ≡ None → ApartFrom (before ++ p ∷ ps) (length before + 1)) → ApartFrom (before ++ p ∷ ps) (length before)
+apart_step : (before : List Part) (p : Part) (ps : List Part) (o : Option ℕ) (after : Option LoadErr) → position (λ b. overlaps b p) before ≡ o →
+    overlap_or o (length before) after ≡ None → (after ≡ None → ApartFrom (before ++ p ∷ ps) (length before + 1)) → ApartFrom (before ++ p ∷ ps) (length before)
 apart_step before p ps None after e h later = λ k n below from to. after_apart before p ps e (later h) k n below to (here_or_after (length before) n from)
 apart_step before p ps (Some k) after e h later = cc
 
@@ -149,7 +170,8 @@ apart_from whole before [] e h = λ k n below from to. let same : length before 
 apart_from whole before (p ∷ ps) e h =
     subst (λ (w : List Part). ApartFrom w (length before)) e
     (apart_step before p ps (position (λ b. overlaps b p) before) (overlap_from (before ++ p ∷ []) ps) refl h
-    (λ g. subst (λ (n : ℕ). ApartFrom (before ++ p ∷ ps) n) (one_more before p) (apart_from (before ++ p ∷ ps) (before ++ p ∷ []) ps (more_before before p ps) g)))
+    (λ g. subst (λ (n : ℕ). ApartFrom (before ++ p ∷ ps) n) (one_more before p) (apart_from (before ++ p ∷ ps) (before ++ p ∷ []) ps
+    (more_before before p ps) g)))
 
 -- where the test finds no overlap, no two parts share an address
 pub first_overlap-none : (parts : List Part) → first_overlap parts ≡ None → (k n : ℕ) → k < n → n < length parts → ApartAt parts k n
@@ -168,7 +190,8 @@ says-or_else parts None b s t = t
 says-or_else parts (Some e) b s t = s
 
 -- the test of the number says the truth
-says-too_many : (parts : List Part) (over : Bool) → nat_lt 16 (length parts) ≡ over → Says parts (cond over (Some (TooMany (min (length parts) (2 ^ 32 - 1)))) None)
+says-too_many : (parts : List Part) (over : Bool) → nat_lt 16 (length parts) ≡ over → Says parts
+    (cond over (Some (TooMany (min (length parts) (2 ^ 32 - 1)))) None)
 unfolding Says
 says-too_many parts true e = (grind (arith, nat_tests), refl)
 says-too_many parts false e = tt
@@ -180,7 +203,8 @@ says-wraps parts None e = tt
 says-wraps parts (Some i) e = first_to_wrap parts i e
 
 -- the test of the sum says the truth
-says-too_large : (parts : List Part) (over : Bool) → nat_lt 67108864 (total_size parts) ≡ over → Says parts (cond over (Some (TooLarge (total_size parts))) None)
+says-too_large : (parts : List Part) (over : Bool) → nat_lt 67108864 (total_size parts) ≡ over →
+    Says parts (cond over (Some (TooLarge (total_size parts))) None)
 unfolding Says
 says-too_large parts true e = (grind (arith, nat_tests), refl)
 says-too_large parts false e = tt
@@ -204,7 +228,8 @@ tells-overlap_or (Some i) j after t = tt
 tells-overlap_from : (before ps : List Part) → TellsOverlap (overlap_from before ps)
 unfolding TellsOverlap
 tells-overlap_from before [] = tt
-tells-overlap_from before (p ∷ ps) = tells-overlap_or (position (λ b. overlaps b p) before) (length before) (overlap_from (before ++ p ∷ []) ps) (tells-overlap_from (before ++ p ∷ []) ps)
+tells-overlap_from before (p ∷ ps) = tells-overlap_or (position (λ b. overlaps b p) before) (length before) (overlap_from (before ++ p ∷ []) ps)
+    (tells-overlap_from (before ++ p ∷ []) ps)
 
 -- what the test for overlaps gives is true
 says-overlap_told : (parts : List Part) (o : Option LoadErr) → TellsOverlap o → first_overlap parts ≡ o → Says parts o
@@ -224,7 +249,8 @@ says-overlap parts = says-overlap_told parts (overlap_from [] parts) (tells-over
 -- a refusal is a true cause
 says-refusal : (parts : List Part) → Says parts (refusal parts)
 unfolding refusal too_many first_wrapping too_large
-says-refusal parts = says-or_else parts _ _ (says-too_many parts _ refl) (says-or_else parts _ _ (says-wraps parts _ refl) (says-or_else parts _ _ (says-too_large parts _ refl) (says-overlap parts)))
+says-refusal parts = says-or_else parts _ _ (says-too_many parts _ refl) (says-or_else parts _ _ (says-wraps parts _ refl)
+    (says-or_else parts _ _ (says-too_large parts _ refl) (says-overlap parts)))
 
 -- the refusal in an answer is the one that was found
 says_where : (parts : List Part) (o : Option LoadErr) (e : LoadErr) → Says parts o → Err e ≡ load_answer o → IsLoadCause parts e

@@ -7,7 +7,8 @@ use Rattle.std.proofs.lemmas.List.Sums.{fails_before_first}
 use Rattle.std.proofs.lemmas.Bool.Decides.{nat_tests}
 
 -- one step of the search
-passes_step : {A : Type 0} (p : A → Bool) (y x : A) (rest : Option A) (b : Bool) → p y ≡ b → cond b (Some y) rest ≡ Some x → (rest ≡ Some x → p x ≡ true) → p x ≡ true
+passes_step : {A : Type 0} (p : A → Bool) (y x : A) (rest : Option A) (b : Bool) → p y ≡ b → cond b (Some y) rest ≡ Some x → (rest ≡ Some x → p x ≡ true) →
+    p x ≡ true
 passes_step p y x rest true here found k = let same : y ≡ x = cc in rw (← same) here
 passes_step p y x rest false here found k = k found
 
@@ -31,7 +32,8 @@ shifted t true n e = rw e (ap Some (omega arith))
 shifted t false n e = rw e refl
 
 -- the index of the first that passes, by whether the element before passes
-index_step : (b : Bool) (n m : ℕ) → cond (nat_lt (cond (not b) (1 + n) 0) (suc m)) (Some (cond (not b) (1 + n) 0)) None ≡ cond b (Some 0) (option_map (λ x. suc x) (cond (nat_lt n m) (Some n) None))
+index_step : (b : Bool) (n m : ℕ) → cond (nat_lt (cond (not b) (1 + n) 0) (suc m)) (Some (cond (not b) (1 + n) 0)) None
+    ≡ cond b (Some 0) (option_map (λ x. suc x) (cond (nat_lt n m) (Some n) None))
 index_step true n m = grind (arith, nat_tests)
 index_step false n m = shifted _ _ n (grind (arith, nat_tests))
 

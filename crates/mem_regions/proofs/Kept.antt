@@ -21,12 +21,14 @@ pub area_bounds-area_with : (addr : ℕ) (w : List ℕ) (a : Area) → area_boun
 area_bounds-area_with addr w a = rw (length-overwritten a.bytes (addr - a.base) w) refl
 
 -- a view of a list in which the first element was changed, or a later one
-changed_step : {A B : Type 0} (view : A → B) (change : A → A) (x : A) (xs changed : List A) (b : Bool) → ((y : A) → view (change y) ≡ view y) → map view changed ≡ map view xs → map view (cond b (change x ∷ xs) (x ∷ changed)) ≡ view x ∷ map view xs
+changed_step : {A B : Type 0} (view : A → B) (change : A → A) (x : A) (xs changed : List A) (b : Bool) → ((y : A) → view (change y) ≡ view y) →
+    map view changed ≡ map view xs → map view (cond b (change x ∷ xs) (x ∷ changed)) ≡ view x ∷ map view xs
 changed_step view change x xs changed true kept e = ap (λ y. y ∷ map view xs) (kept x)
 changed_step view change x xs changed false kept e = ap (λ ys. view x ∷ ys) e
 
 -- what a change keeps of each element it keeps of the list
-pub map-first_changed : {A B : Type 0} (view : A → B) (p : A → Bool) (change : A → A) → ((y : A) → view (change y) ≡ view y) → (xs : List A) → map view (first_changed p change xs) ≡ map view xs
+pub map-first_changed : {A B : Type 0} (view : A → B) (p : A → Bool) (change : A → A) → ((y : A) → view (change y) ≡ view y) → (xs : List A) →
+    map view (first_changed p change xs) ≡ map view xs
 map-first_changed view p change kept [] = refl
 map-first_changed view p change kept (x ∷ xs) = changed_step view change x xs (first_changed p change xs) (p x) kept (map-first_changed view p change kept xs)
 
@@ -43,7 +45,8 @@ aligned_keeps view m n false e = refl
 -- a store keeps the bounds
 pub bounds-stored : (m : Memory) (addr width n : ℕ) → bounds_of (stored m addr width n) ≡ bounds_of m
 unfolding stored
-bounds-stored m addr width n = aligned_keeps bounds_of m (memory_with m addr width (le_bytes width n)) (is_aligned addr width) (bounds-memory_with m addr width (le_bytes width n))
+bounds-stored m addr width n = aligned_keeps bounds_of m (memory_with m addr width (le_bytes width n)) (is_aligned addr width)
+    (bounds-memory_with m addr width (le_bytes width n))
 
 -- a view of a list in which each element was changed
 map_again : {A B : Type 0} (view : A → B) (change : A → A) → ((y : A) → view (change y) ≡ view y) → (xs : List A) → map view (map change xs) ≡ map view xs
@@ -61,24 +64,30 @@ unfolding bounds_of
 bounds-break m addr = refl
 
 -- what is made of a found region, by whether the first region passes the test
-found_alike : {R : Type 0} (out : Option Area → R) (x y : Area) (b c : Bool) (rest changed : Option Area) → c ≡ b → out (Some y) ≡ out (Some x) → out changed ≡ out rest → out (cond c (Some y) changed) ≡ out (cond b (Some x) rest)
+found_alike : {R : Type 0} (out : Option Area → R) (x y : Area) (b c : Bool) (rest changed : Option Area) → c ≡ b → out (Some y) ≡ out (Some x) →
+    out changed ≡ out rest → out (cond c (Some y) changed) ≡ out (cond b (Some x) rest)
 found_alike out x y true c rest changed e f g = rw e f
 found_alike out x y false c rest changed e f g = rw e g
 
 -- the same where the first region was changed, or a later one
-changed_find : {R : Type 0} (out : Option Area → R) (q : Area → Bool) (x y : Area) (xs changed : List Area) (d : Bool) → q y ≡ q x → out (Some y) ≡ out (Some x) → out (find q changed) ≡ out (find q xs) → out (find q (cond d (y ∷ xs) (x ∷ changed))) ≡ out (find q (x ∷ xs))
+changed_find : {R : Type 0} (out : Option Area → R) (q : Area → Bool) (x y : Area) (xs changed : List Area) (d : Bool) → q y ≡ q x →
+    out (Some y) ≡ out (Some x) → out (find q changed) ≡ out (find q xs) → out (find q (cond d (y ∷ xs) (x ∷ changed))) ≡ out (find q (x ∷ xs))
 changed_find out q x y xs changed true e f g = found_alike out x y (q x) (q y) (find q xs) (find q xs) e f refl
 changed_find out q x y xs changed false e f g = found_alike out x x (q x) (q x) (find q xs) (find q changed) refl refl g
 
 -- what is made of a found region stays where a change keeps the test of each region and what is made of it
-pub find-first_changed : {R : Type 0} (out : Option Area → R) (q p : Area → Bool) (change : Area → Area) → ((x : Area) → q (change x) ≡ q x) → ((x : Area) → out (Some (change x)) ≡ out (Some x)) → (xs : List Area) → out (find q (first_changed p change xs)) ≡ out (find q xs)
+pub find-first_changed : {R : Type 0} (out : Option Area → R) (q p : Area → Bool) (change : Area → Area) → ((x : Area) → q (change x) ≡ q x) →
+    ((x : Area) → out (Some (change x)) ≡ out (Some x)) → (xs : List Area) → out (find q (first_changed p change xs)) ≡ out (find q xs)
 find-first_changed out q p change e f [] = refl
-find-first_changed out q p change e f (x ∷ xs) = changed_find out q x (change x) xs (first_changed p change xs) (p x) (e x) (f x) (find-first_changed out q p change e f xs)
+find-first_changed out q p change e f (x ∷ xs) = changed_find out q x (change x) xs (first_changed p change xs) (p x) (e x) (f x)
+    (find-first_changed out q p change e f xs)
 
 -- the same where every region is changed
-pub find-changed : {R : Type 0} (out : Option Area → R) (q : Area → Bool) (change : Area → Area) → ((x : Area) → q (change x) ≡ q x) → ((x : Area) → out (Some (change x)) ≡ out (Some x)) → (xs : List Area) → out (find q (map change xs)) ≡ out (find q xs)
+pub find-changed : {R : Type 0} (out : Option Area → R) (q : Area → Bool) (change : Area → Area) → ((x : Area) → q (change x) ≡ q x) →
+    ((x : Area) → out (Some (change x)) ≡ out (Some x)) → (xs : List Area) → out (find q (map change xs)) ≡ out (find q xs)
 find-changed out q change e f [] = refl
-find-changed out q change e f (x ∷ xs) = found_alike out x (change x) (q x) (q (change x)) (find q xs) (find q (map change xs)) (e x) (f x) (find-changed out q change e f xs)
+find-changed out q change e f (x ∷ xs) = found_alike out x (change x) (q x) (q (change x)) (find q xs) (find q (map change xs)) (e x) (f x)
+    (find-changed out q change e f xs)
 
 -- a region that is written is fetched from as before
 fetches_in-area_with : (pc addr : ℕ) (w : List ℕ) (a : Area) → fetches_in pc (area_with addr w a) ≡ fetches_in pc a
@@ -87,12 +96,14 @@ fetches_in-area_with pc addr w a = rw (length-overwritten a.bytes (addr - a.base
 -- a write through a loan keeps the instruction words
 pub fetch_at-memory_with : (m : Memory) (addr len : ℕ) (w : List ℕ) (pc : ℕ) → fetch_at (memory_with m addr len w) pc ≡ fetch_at m pc
 unfolding fetch_at memory_with
-fetch_at-memory_with m addr len w pc = ap (λ (r : Result ℕ MemErr). cond (is_aligned pc 4) r (Err Misaligned)) (find-first_changed (word_of pc) (fetches_in pc) (writes_in addr len) (area_with addr w) (fetches_in-area_with pc addr w) (λ a. refl) m.areas)
+fetch_at-memory_with m addr len w pc = ap (λ (r : Result ℕ MemErr). cond (is_aligned pc 4) r (Err Misaligned))
+    (find-first_changed (word_of pc) (fetches_in pc) (writes_in addr len) (area_with addr w) (fetches_in-area_with pc addr w) (λ a. refl) m.areas)
 
 -- a store keeps the instruction words
 pub fetch_at-stored : (m : Memory) (addr width n pc : ℕ) → fetch_at (stored m addr width n) pc ≡ fetch_at m pc
 unfolding stored
-fetch_at-stored m addr width n pc = aligned_keeps (λ (v : Memory). fetch_at v pc) m (memory_with m addr width (le_bytes width n)) (is_aligned addr width) (fetch_at-memory_with m addr width (le_bytes width n) pc)
+fetch_at-stored m addr width n pc = aligned_keeps (λ (v : Memory). fetch_at v pc) m (memory_with m addr width (le_bytes width n)) (is_aligned addr width)
+    (fetch_at-memory_with m addr width (le_bytes width n) pc)
 
 -- a moved break keeps the instruction words
 pub fetch_at-break : (m : Memory) (addr pc : ℕ) → fetch_at (record m { program_break = addr }) pc ≡ fetch_at m pc
@@ -122,7 +133,8 @@ break-memory_with m addr len w = refl
 -- a store keeps the break
 pub break-stored : (m : Memory) (addr width n : ℕ) → (stored m addr width n).program_break ≡ m.program_break
 unfolding stored
-break-stored m addr width n = aligned_keeps (λ (v : Memory). v.program_break) m (memory_with m addr width (le_bytes width n)) (is_aligned addr width) (break-memory_with m addr width (le_bytes width n))
+break-stored m addr width n = aligned_keeps (λ (v : Memory). v.program_break) m (memory_with m addr width (le_bytes width n)) (is_aligned addr width)
+    (break-memory_with m addr width (le_bytes width n))
 
 -- synchronized code keeps the break
 pub break-synced : (m : Memory) → (synced m).program_break ≡ m.program_break

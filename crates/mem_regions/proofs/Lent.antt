@@ -37,7 +37,8 @@ pub can : (m : Memory) (at len : ℕ) (t : Bool) → t ≡ can_write m at len �
 can m at len t e h = can_of t (can_write m at len) e h
 
 -- where nothing can be written there is no place, and no bytes at it
-nothing_lent : (m : Memory) (at len : ℕ) (place : Option ℕ) → place ≡ position (writes_in at len) m.areas → can_write m at len ≡ false → writable_of m at len ≡ None
+nothing_lent : (m : Memory) (at len : ℕ) (place : Option ℕ) → place ≡ position (writes_in at len) m.areas → can_write m at len ≡ false →
+    writable_of m at len ≡ None
 unfolding can_write
 nothing_lent m at len None e h = writable_of-none m at len e
 nothing_lent m at len (Some i) e h = let on = place_permits m at len i e in cc
@@ -59,19 +60,23 @@ module _ {M : Type 1} {𝓤 : Ura M} (𝓛 : Logic 𝓤) (κ : Lft) (q : Share) 
 
   -- what the holder keeps while the regions are lent as `&` for α
   abbrev pub Kept : ℕ → Fml
-  Kept α = fsep (flent (α ∷ []) (part_at R full_share m b o)) (fsep (fobor κ q (Body (mem R) b o γ)) (fsep (fobs γ (R.coded.code m)) (fauth γ (R.coded.code m))))
+  Kept α = fsep (flent (α ∷ []) (part_at R full_share m b o)) (fsep (fobor κ q (Body (mem R) b o γ))
+      (fsep (fobs γ (R.coded.code m)) (fauth γ (R.coded.code m))))
 
   -- they are lent as `&` ..
-  pub shows_out : (α : ℕ) → ent 𝓤 (sep 𝓤 (sem 𝓛 Own) (sep 𝓤 (A.lft κ q) (A.lft (α ∷ []) full_share))) (H.⇛ (sep 𝓤 (sem 𝓛 (Shown α)) (sep 𝓤 (A.lft (α ∷ []) full_share) (sem 𝓛 (Kept α)))))
+  pub shows_out : (α : ℕ) → ent 𝓤 (sep 𝓤 (sem 𝓛 Own) (sep 𝓤 (A.lft κ q) (A.lft (α ∷ []) full_share)))
+      (H.⇛ (sep 𝓤 (sem 𝓛 (Shown α)) (sep 𝓤 (A.lft (α ∷ []) full_share) (sem 𝓛 (Kept α)))))
   shows_out α = qed 𝓛 (‵ Own ∷ ‵ (flft κ q) ∷ ‵ (flft (α ∷ []) full_share) ∷ []) ∵ updating ! $ fsplit3 ! $ feq_l ! (λ _. open_ref ! tt (mem R) $
       -- [the regions; the open borrow; obs; auth; the token of α]
       move ! (0 ∷ 4 ∷ []) $
       use2 𝓛 (later ((‵ (Shown α) ⊛ ‵ (flent (α ∷ []) (part_at R full_share m b o))) ⊛ ‵ (flft (α ∷ []) full_share)))
-      (lends_shr 𝓛 R (named 0) (α ∷ []) full_share m b o R.lives (the_row_laws.shares 𝓛 m) ((α ∷ [], full_share) ∷ []) (⊑_static (α ∷ [])) (Incl-refl (α ∷ []))) $ await ! tt $ split ! $ split ! $
+      (lends_shr 𝓛 R (named 0) (α ∷ []) full_share m b o R.lives (the_row_laws.shares 𝓛 m) ((α ∷ [], full_share) ∷ []) (⊑_static (α ∷ [])) (Incl-refl (α ∷ [])))
+      $ await ! tt $ split ! $ split ! $
       -- [the `&`; the lender's right; the token of α; the open borrow; obs; auth]
       move ! (4 ∷ 5 ∷ []) $ fjoin ! $ move ! (4 ∷ 0 ∷ []) $ fjoin ! $ move ! (2 ∷ 0 ∷ []) $ fjoin ! $ move ! (1 ∷ 2 ∷ []) $ now ! $ done !)
 
   -- .. and come back
   pub comes_home : (α : ℕ) → ent 𝓤 (sep 𝓤 (A.dead (α ∷ [])) (sem 𝓛 (Kept α))) (H.⇛ (sep 𝓤 (sem 𝓛 Own) (A.lft κ q)))
-  comes_home α = qed 𝓛 (‵ (fdead (α ∷ [])) ∷ ‵ (Kept α) ∷ []) ∵ updating ! $ move ! (1 ∷ []) $ fsplit ! $ move ! (2 ∷ 0 ∷ []) $ lent_back ! tt $ move ! (1 ∷ []) $ fsplit3 ! $ move ! (3 ∷ []) $
+  comes_home α = qed 𝓛 (‵ (fdead (α ∷ [])) ∷ ‵ (Kept α) ∷ []) ∵ updating ! $ move ! (1 ∷ []) $ fsplit ! $ move ! (2 ∷ 0 ∷ []) $ lent_back ! tt $ move ! (1
+      ∷ []) $ fsplit3 ! $ move ! (3 ∷ []) $
       close_ref ! tt (mem R) m $ now ! $ feq_i ! (List Val) (vptr b o ∷ []) (vptr b o ∷ []) refl $ fjoin3 ! $ done !

@@ -35,16 +35,20 @@ unfolding refusal first_wrapping
 ends_within parts e = none_wraps parts (no_index _ (first_passes _ _ (next_passes _ _ e)))
 
 -- the overlaps from a part on are those of the part itself, or else those of the later parts
-pub overlap_step : (parts : List Part) (j : ℕ) (p : Part) → j < length parts → overlap_from (take j parts) (drop j parts) ≡ overlap_or (position (λ b. overlaps b (get_or parts j p)) (take j parts)) j (overlap_from (take (j + 1) parts) (drop (j + 1) parts))
-overlap_step parts j p within = let short : length (take j parts) ≡ j = rw length-take (omega arith) in rw (drop-cons parts j p, add-one, take-suc parts j p, short)
+pub overlap_step : (parts : List Part) (j : ℕ) (p : Part) → j < length parts → overlap_from (take j parts) (drop j parts)
+    ≡ overlap_or (position (λ b. overlaps b (get_or parts j p)) (take j parts)) j (overlap_from (take (j + 1) parts) (drop (j + 1) parts))
+overlap_step parts j p within = let short : length (take j parts) ≡ j = rw length-take (omega arith) in
+    rw (drop-cons parts j p, add-one, take-suc parts j p, short)
 
 -- where the first overlap of parts up to one is an overlap of that one, it is the first overlap of all
-pub overlap_here : (parts : List Part) (j : ℕ) (p : Part) (i : ℕ) → j < length parts → overlap_from (take j parts) (drop j parts) ≡ overlap_from [] parts → Some i ≡ position (λ b. overlaps b (get_or parts j p)) (take j parts) → Err (Overlap i j) ≡ load_answer (first_overlap parts)
+pub overlap_here : (parts : List Part) (j : ℕ) (p : Part) (i : ℕ) → j < length parts → overlap_from (take j parts) (drop j parts) ≡ overlap_from [] parts →
+    Some i ≡ position (λ b. overlaps b (get_or parts j p)) (take j parts) → Err (Overlap i j) ≡ load_answer (first_overlap parts)
 unfolding first_overlap
 overlap_here parts j p i within so_far here = rw (← so_far, overlap_step parts j p within, ← here) refl
 
 -- where the part overlaps none before it, the first overlap comes after it
-pub overlap_after : (parts : List Part) (j : ℕ) (p : Part) → j < length parts → overlap_from (take j parts) (drop j parts) ≡ overlap_from [] parts → position (λ b. overlaps b (get_or parts j p)) (take j parts) ≡ None → overlap_from (take (j + 1) parts) (drop (j + 1) parts) ≡ overlap_from [] parts
+pub overlap_after : (parts : List Part) (j : ℕ) (p : Part) → j < length parts → overlap_from (take j parts) (drop j parts) ≡ overlap_from [] parts →
+    position (λ b. overlaps b (get_or parts j p)) (take j parts) ≡ None → overlap_from (take (j + 1) parts) (drop (j + 1) parts) ≡ overlap_from [] parts
 overlap_after parts j p within so_far none = rw (← so_far, overlap_step parts j p within, none) refl
 
 -- a refusal as an answer gives it
@@ -86,7 +90,8 @@ told-overlap_or (Some i) j after e = refl
 told-overlap : (before parts : List Part) → told_again (overlap_from before parts) ≡ overlap_from before parts
 unfolding told_again
 told-overlap before [] = refl
-told-overlap before (p ∷ ps) = told-overlap_or (position (λ b. overlaps b p) before) (length before) (overlap_from (before ++ p ∷ []) ps) (told-overlap (before ++ p ∷ []) ps)
+told-overlap before (p ∷ ps) = told-overlap_or (position (λ b. overlaps b p) before) (length before) (overlap_from (before ++ p ∷ []) ps)
+    (told-overlap (before ++ p ∷ []) ps)
 
 -- the refusal is given as it is: it is never lack of memory
 told-refusal : (parts : List Part) → told_again (refusal parts) ≡ refusal parts

@@ -26,10 +26,19 @@ place_here p x xs d e = record { below = omega arith; passes = e; found = rw e r
 
 -- the first element fails, and the place comes after it
 place_after : {A : Type 0} (p : A → Bool) (x : A) (xs : List A) (i : ℕ) (d : A) → p x ≡ false → IsPlace p xs i d → IsPlace p (x ∷ xs) (suc i) d
-place_after p x xs i d e r = record { below = let b = r.below in omega arith; passes = r.passes; found = rw e r.found; any = rw e r.any; changed = λ f. rw e (ap (λ ys. x ∷ ys) (r.changed f)) }
+place_after p x xs i d e r =
+    record {
+      below = let b = r.below in omega arith;
+      passes = r.passes;
+      found = rw e r.found;
+      any = rw e r.any;
+      changed =
+          λ f. rw e (ap (λ ys. x ∷ ys) (r.changed f));
+    }
 
 -- by whether the first element passes
-place_step : {A : Type 0} (p : A → Bool) (x : A) (xs : List A) (i : ℕ) (d : A) (b : Bool) (rest : Option ℕ) → p x ≡ b → Some i ≡ cond b (Some 0) (option_map (λ n. suc n) rest) → ((j : ℕ) → Some j ≡ rest → IsPlace p xs j d) → IsPlace p (x ∷ xs) i d
+place_step : {A : Type 0} (p : A → Bool) (x : A) (xs : List A) (i : ℕ) (d : A) (b : Bool) (rest : Option ℕ) → p x ≡ b →
+    Some i ≡ cond b (Some 0) (option_map (λ n. suc n) rest) → ((j : ℕ) → Some j ≡ rest → IsPlace p xs j d) → IsPlace p (x ∷ xs) i d
 place_step p x xs i d true rest e h k = let same : 0 ≡ i = cc in subst (λ (n : ℕ). IsPlace p (x ∷ xs) n d) same (place_here p x xs d e)
 place_step p x xs i d false None e h k = cc
 place_step p x xs i d false (Some j) e h k = let same : suc j ≡ i = cc in subst (λ (n : ℕ). IsPlace p (x ∷ xs) n d) same (place_after p x xs j d e (k j refl))
@@ -40,7 +49,8 @@ place_of p [] i d h = cc
 place_of p (x ∷ xs) i d h = place_step p x xs i d (p x) (position p xs) refl (h ∙ position-cons p x xs) (λ j. place_of p xs j d)
 
 -- no element passes, so neither does the first
-none_step : {A : Type 0} (p : A → Bool) (x : A) (xs : List A) (b : Bool) (rest : Option ℕ) → p x ≡ b → None ≡ cond b (Some 0) (option_map (λ n. suc n) rest) → (None ≡ rest → HasNone p xs) → HasNone p (x ∷ xs)
+none_step : {A : Type 0} (p : A → Bool) (x : A) (xs : List A) (b : Bool) (rest : Option ℕ) → p x ≡ b → None ≡ cond b (Some 0) (option_map (λ n. suc n) rest) →
+    (None ≡ rest → HasNone p xs) → HasNone p (x ∷ xs)
 none_step p x xs true rest e h k = cc
 none_step p x xs false None e h k = let r = k refl in record { found = rw e r.found; any = rw e r.any; changed = λ f. rw e (ap (λ ys. x ∷ ys) (r.changed f)) }
 none_step p x xs false (Some j) e h k = cc

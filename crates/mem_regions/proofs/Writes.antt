@@ -42,17 +42,21 @@ pub no_place_permits : (m : Memory) (addr len : ℕ) → None ≡ position (writ
 no_place_permits m addr len e = permitted-areas m addr len true ∙ (none_of (writes_in addr len) m.areas e).any
 
 -- a write changes the region at its place
-pub memory_with-place : (m : Memory) (addr len : ℕ) (w : List ℕ) (i : ℕ) → Some i ≡ position (writes_in addr len) m.areas → memory_with m addr len w ≡ memory_at m i addr w
+pub memory_with-place : (m : Memory) (addr len : ℕ) (w : List ℕ) (i : ℕ) → Some i ≡ position (writes_in addr len) m.areas →
+    memory_with m addr len w ≡ memory_at m i addr w
 unfolding memory_with
-memory_with-place m addr len w i e = ap (λ (areas : List Area). let n : Memory = record m { areas = areas } in n) ((place_of (writes_in addr len) m.areas i no_area e).changed (area_with addr w))
+memory_with-place m addr len w i e = ap (λ (areas : List Area). let n : Memory = record m { areas = areas } in
+    n) ((place_of (writes_in addr len) m.areas i no_area e).changed (area_with addr w))
 
 -- a write that has no place changes nothing
 pub memory_with-none : (m : Memory) (addr len : ℕ) (w : List ℕ) → None ≡ position (writes_in addr len) m.areas → memory_with m addr len w ≡ m
 unfolding memory_with
-memory_with-none m addr len w e = ap (λ (areas : List Area). let n : Memory = record m { areas = areas } in n) ((none_of (writes_in addr len) m.areas e).changed (area_with addr w))
+memory_with-none m addr len w e = ap (λ (areas : List Area). let n : Memory = record m { areas = areas } in
+    n) ((none_of (writes_in addr len) m.areas e).changed (area_with addr w))
 
 -- the bytes that a write replaces are those of the region at its place
-pub writable_of-place : (m : Memory) (addr len i : ℕ) → Some i ≡ position (writes_in addr len) m.areas → writable_of m addr len ≡ Some (bytes_in addr len (area_at m i))
+pub writable_of-place : (m : Memory) (addr len i : ℕ) → Some i ≡ position (writes_in addr len) m.areas →
+    writable_of m addr len ≡ Some (bytes_in addr len (area_at m i))
 unfolding writable_of
 writable_of-place m addr len i e = ap (option_map (bytes_in addr len)) (place_of (writes_in addr len) m.areas i no_area e).found
 
@@ -66,7 +70,8 @@ pub ruleset missing = (writable_of-none)
 pub ruleset storing = (place_below, place_holds, place_permits, no_place_permits, memory_with-place, memory_with-none, writable_of-place)
 
 -- by whether there is a place
-can_step : (m : Memory) (addr len : ℕ) (place : Option ℕ) → place ≡ position (writes_in addr len) m.areas → is_some place ≡ is_permitted (bounds_of m) addr len true
+can_step : (m : Memory) (addr len : ℕ) (place : Option ℕ) → place ≡ position (writes_in addr len) m.areas →
+    is_some place ≡ is_permitted (bounds_of m) addr len true
 can_step m addr len None e = sym (no_place_permits m addr len e)
 can_step m addr len (Some i) e = sym (place_permits m addr len i e)
 

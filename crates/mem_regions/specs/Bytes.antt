@@ -1,4 +1,5 @@
--- Numbers as bytes, the low byte first: the little-endian order of RISC-V (RISC-V Unprivileged ISA Manual, "RV32I Base Integer Instruction Set", load and store instructions).
+-- Numbers as bytes, the low byte first: the little-endian order of RISC-V (RISC-V Unprivileged ISA Manual, "RV32I Base
+-- Integer Instruction Set", load and store instructions).
 use Rattle.std.specs.Prelude.{ℕ, ◌+◌, ◌*◌, ◌/◌, ◌%◌, zero, suc, List, [], ◌∷◌}
 
 -- the number that the bytes are

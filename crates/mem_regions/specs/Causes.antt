@@ -32,7 +32,8 @@ ShareAt parts i j = HoldsAt (λ q. HoldsAt (λ p. Share p q) parts i) parts j
 abbrev pub ApartAt : List Part → ℕ → ℕ → Type 0
 ApartAt parts i j = HoldsAt (λ q. HoldsAt (λ p. ¬ Share p q) parts i) parts j
 
--- the first pair of parts that share an address: no part before the second shares one with a part before itself, and none before the first shares one with the second
+-- the first pair of parts that share an address: no part before the second shares one with a part before itself, and
+-- none before the first shares one with the second
 pub record IsFirstOverlap (parts : List Part) (i j : ℕ) : Type 0 where
   pub before : i < j
   pub within : j < length parts

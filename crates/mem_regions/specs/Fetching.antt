@@ -1,4 +1,5 @@
--- The instruction word at an address: it comes from the code of one executable region, which stores do not change (RISC-V Unprivileged ISA Manual, "Zifencei" Extension for Instruction-Fetch Fence).
+-- The instruction word at an address: it comes from the code of one executable region, which stores do not change
+-- (RISC-V Unprivileged ISA Manual, "Zifencei" Extension for Instruction-Fetch Fence).
 use Rattle.std.specs.Prelude.{ℕ, ◌-◌, ◌&&◌, take, drop, find, map, Bool, if◌then◌else◌, Option, Some, None, Result, Ok, Err}
 use Rattle.mem_regions.specs.Area.{Area}
 use Rattle.mem_regions.specs.Memory.{Memory}

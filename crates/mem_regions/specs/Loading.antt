@@ -1,4 +1,5 @@
--- The memory that the parts of a program make: a region for each part that takes room (Tool Interface Standard, "Executable and Linking Format", program loading).
+-- The memory that the parts of a program make: a region for each part that takes room (Tool Interface Standard,
+-- "Executable and Linking Format", program loading).
 use Rattle.std.specs.Prelude.{ℕ, ◌+◌, ◌-◌, ◌≤◌, List, [], ◌++◌, length, take, drop, replicate, filter, map, Bool, if◌then◌else◌, nat_lt}
 use Rattle.mem_regions.specs.Area.{Area}
 use Rattle.mem_regions.specs.Memory.{Memory}

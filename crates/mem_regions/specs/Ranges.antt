@@ -1,4 +1,5 @@
--- The bytes of a range of memory, which must lie in one region, and the numbers that loads give (RISC-V Unprivileged ISA Manual, "RV32I Base Integer Instruction Set", load and store instructions).
+-- The bytes of a range of memory, which must lie in one region, and the numbers that loads give (RISC-V Unprivileged
+-- ISA Manual, "RV32I Base Integer Instruction Set", load and store instructions).
 use Rattle.std.specs.Prelude.{ℕ, ◌-◌, List, take, drop, find, Bool, true, if◌then◌else◌, Option, Some, None, Result, Ok, Err}
 use Rattle.std.specs.Option.{option_map}
 use Rattle.mem_regions.specs.Area.{Area}

@@ -1,4 +1,5 @@
--- What a write leaves: other bytes in one range of one region, and all else as it was (RISC-V Unprivileged ISA Manual, "RV32I Base Integer Instruction Set", load and store instructions).
+-- What a write leaves: other bytes in one range of one region, and all else as it was (RISC-V Unprivileged ISA Manual,
+-- "RV32I Base Integer Instruction Set", load and store instructions).
 use Rattle.std.specs.Prelude.{ℕ, ◌+◌, ◌-◌, List, [], ◌∷◌, ◌++◌, length, take, drop, Bool, if◌then◌else◌}
 use Rattle.mem_regions.specs.Area.{Area}
 use Rattle.mem_regions.specs.Memory.{Memory}

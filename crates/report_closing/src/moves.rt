@@ -9,7 +9,7 @@ ghost use Rattle.report_refusals.specs.Bars.{bar_text};
 ghost use Rattle.report_closing.specs.Moves.{between, cell_moves, siding_moves, line_in, moves_text};
 ghost use Rattle.report_closing.specs.Parts.{move_at, part_moves, lines_in};
 
-use crate::parts::{PARTS, ClosingPart, StageMove};
+use crate::parts::{ClosingPart, PARTS, StageMove};
 use cf_bind::{Bar, Move, MoveLine, move_text};
 use cf_core::Core;
 use cf_io::{Failed, Sink, put_all};

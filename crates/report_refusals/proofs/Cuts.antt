@@ -31,7 +31,8 @@ continues : (b : ℕ) → is_char_start b ≡ false → ¬ (128 ≤ b → 192 �
 continues b e h = let high : 128 ≤ b = grind (arith, nat_tests) in let top = h high in absurd (grind (arith, nat_tests))
 
 -- the last place, by whether a character begins at the next byte
-floor_by : (text : List ℕ) (i place : ℕ) (start : Bool) → is_char_start (slice_index text (suc i)) ≡ start → suc i < length text → IsLast text (suc i) place → (IsLast text i place → floor_char_boundary text i ≡ place) → cond start (suc i) (floor_char_boundary text i) ≡ place
+floor_by : (text : List ℕ) (i place : ℕ) (start : Bool) → is_char_start (slice_index text (suc i)) ≡ start → suc i < length text → IsLast text (suc i) place →
+    (IsLast text i place → floor_char_boundary text i ≡ place) → cond start (suc i) (floor_char_boundary text i) ≡ place
 floor_by text i place true e within last below =
     elim (order place (suc i)) [
       | inl less ↦ absurd (last.2 (suc i) less (omega arith) (omega arith, λ _. starts _ e))
@@ -46,10 +47,12 @@ floor_by text i place false e within last below =
 floor_is : (text : List ℕ) (i place : ℕ) → i < length text → IsLast text i place → floor_char_boundary text i ≡ place
 unfolding floor_char_boundary
 floor_is text zero place within last = let low = last.0 in omega arith
-floor_is text (suc i) place within last = floor_by text i place (is_char_start (slice_index text (suc i))) refl within last (λ down. floor_is text i place (omega arith) down)
+floor_is text (suc i) place within last = floor_by text i place (is_char_start (slice_index text (suc i))) refl within last
+    (λ down. floor_is text i place (omega arith) down)
 
 -- the text up to that place is the text as it is cut, by whether it is short
-cut_by : (text : List ℕ) (place : ℕ) (short : Bool) → nat_le (length text) 40 ≡ short → IsLast text 40 place → take place text ≡ cond short text (take (floor_char_boundary text 40) text)
+cut_by : (text : List ℕ) (place : ℕ) (short : Bool) → nat_le (length text) 40 ≡ short → IsLast text 40 place →
+    take place text ≡ cond short text (take (floor_char_boundary text 40) text)
 cut_by text place true e last =
     let few : length text ≤ 40 = grind (arith, nat_tests) in
     let within = last.1.0 in
@@ -59,7 +62,8 @@ cut_by text place true e last =
     ]
 cut_by text place false e last = let long : 40 < length text = grind (arith, nat_tests) in rw (floor_is text 40 place long last) refl
 
-pub cut_here : (text : List ℕ) (place : ℕ) → place ≤ 40 → IsCharBoundary text place → ((j : ℕ) → place < j → j ≤ 40 → ¬ (IsCharBoundary text j)) → take place text ≡ cut text
+pub cut_here : (text : List ℕ) (place : ℕ) → place ≤ 40 → IsCharBoundary text place → ((j : ℕ) → place < j → j ≤ 40 → ¬ (IsCharBoundary text j)) →
+    take place text ≡ cut text
 unfolding cut
 cut_here text place low at none = cut_by text place (nat_le (length text) 40) refl (low, at, none)
 

@@ -8,8 +8,8 @@ ghost use Rattle.texts.specs.Room.{page_room};
 use crate::kept::Kept::{Class, Integer, Number};
 use crate::kept::{push_text, push_variant};
 use cf_layout::LayoutErr;
-use texts::Page;
 use layout_file::FileErr;
+use texts::Page;
 
 fn push_layout(page: &mut Page, error: LayoutErr)
     requires { length page.old + 100 ≤ page_room }
@@ -53,7 +53,11 @@ fn push_layout(page: &mut Page, error: LayoutErr)
             b"TooManySidings",
             &[Number(sidings.into())],
         ),
-        LayoutErr::EmptySiding(index) => push_variant(page, b"EmptySiding", &[Number(index.into())]),
+        LayoutErr::EmptySiding(index) => push_variant(
+            page,
+            b"EmptySiding",
+            &[Number(index.into())],
+        ),
     }
 }
 

@@ -22,19 +22,11 @@ fn push_elf(page: &mut Page, error: ElfErr)
         ElfErr::NotElf => push_variant(page, b"NotElf", &[]),
         ElfErr::Not32Little => push_variant(page, b"Not32Little", &[]),
         ElfErr::NotRiscv(machine) => push_variant(page, b"NotRiscv", &[Number(machine.into())]),
-        ElfErr::NotExecutable(kind) => push_variant(
-            page,
-            b"NotExecutable",
-            &[Number(kind.into())],
-        ),
+        ElfErr::NotExecutable(kind) => push_variant(page, b"NotExecutable", &[Number(kind.into())]),
         ElfErr::NeedsCompressed => push_variant(page, b"NeedsCompressed", &[]),
         ElfErr::NeedsFloat => push_variant(page, b"NeedsFloat", &[]),
         ElfErr::NeedsRve => push_variant(page, b"NeedsRve", &[]),
-        ElfErr::BadHeaderSize(size) => push_variant(
-            page,
-            b"BadHeaderSize",
-            &[Number(size.into())],
-        ),
+        ElfErr::BadHeaderSize(size) => push_variant(page, b"BadHeaderSize", &[Number(size.into())]),
         ElfErr::OutsideFile(index) => push_variant(page, b"OutsideFile", &[Number(index.into())]),
         ElfErr::FileLargerThanMemory(index) => push_variant(
             page,

@@ -17,11 +17,14 @@ use Rattle.run_ledger.specs.Ledgers.{one_more, plus, plus_if}
 use Rattle.run_ledger.proofs.Numbered.{numbered_at, numbered_set}
 
 -- the times of moves and one more
-after_more : (plan : Plan) (delays : List ℕ) (earlier : List Done) (moves : List Move) (mv : Move) → times_after plan delays earlier (moves ++ mv ∷ []) ≡ done_after plan delays (times_after plan delays earlier moves) mv ∷ times_after plan delays earlier moves
+after_more : (plan : Plan) (delays : List ℕ) (earlier : List Done) (moves : List Move) (mv : Move) →
+    times_after plan delays earlier (moves ++ mv ∷ []) ≡ done_after plan delays (times_after plan delays earlier moves) mv
+    ∷ times_after plan delays earlier moves
 after_more plan delays earlier [] mv = refl
 after_more plan delays earlier (m ∷ moves) mv = after_more plan delays (done_after plan delays earlier m ∷ earlier) moves mv
 
-pub times_more : (plan : Plan) (delays : List ℕ) (moves : List Move) (mv : Move) → times plan delays (moves ++ mv ∷ []) ≡ done_after plan delays (times plan delays moves) mv ∷ times plan delays moves
+pub times_more : (plan : Plan) (delays : List ℕ) (moves : List Move) (mv : Move) → times plan delays (moves ++ mv ∷ [])
+    ≡ done_after plan delays (times plan delays moves) mv ∷ times plan delays moves
 unfolding times
 times_more plan delays moves mv = after_more plan delays [] moves mv
 
@@ -30,7 +33,8 @@ unfolding times
 times_none plan delays = refl
 
 -- there is one for each move
-after_length : (plan : Plan) (delays : List ℕ) (earlier : List Done) (moves : List Move) → length (times_after plan delays earlier moves) ≡ length earlier + length moves
+after_length : (plan : Plan) (delays : List ℕ) (earlier : List Done) (moves : List Move) →
+    length (times_after plan delays earlier moves) ≡ length earlier + length moves
 after_length plan delays earlier [] = omega arith
 after_length plan delays earlier (mv ∷ moves) = let r = after_length plan delays (done_after plan delays earlier mv ∷ earlier) moves in omega (arith, r)
 
@@ -39,7 +43,8 @@ unfolding times
 times_length plan delays moves = let r = after_length plan delays [] moves in omega (arith, r)
 
 -- they are small
-after_few : (plan : Plan) (delays : List ℕ) (earlier : List Done) (moves : List Move) → AreDelays delays → greatest_time (times_after plan delays earlier moves) ≤ greatest_time earlier + 1000 * length moves
+after_few : (plan : Plan) (delays : List ℕ) (earlier : List Done) (moves : List Move) → AreDelays delays →
+    greatest_time (times_after plan delays earlier moves) ≤ greatest_time earlier + 1000 * length moves
 after_few plan delays earlier [] h = omega arith
 after_few plan delays earlier (mv ∷ moves) h =
     let r = after_few plan delays (done_after plan delays earlier mv ∷ earlier) moves h in
@@ -62,7 +67,8 @@ unfolding sum_of_delays
 sum_if delays true mv = omega arith
 sum_if delays false mv = refl
 
-pub busy_more : (delays : List ℕ) (test : Move → Bool) (moves : List Move) (mv : Move) → busy delays test (moves ++ mv ∷ []) ≡ busy delays test moves + cond (test mv) (delay delays mv) 0
+pub busy_more : (delays : List ℕ) (test : Move → Bool) (moves : List Move) (mv : Move) → busy delays test (moves ++ mv ∷ [])
+    ≡ busy delays test moves + cond (test mv) (delay delays mv) 0
 unfolding busy
 busy_more delays test moves mv =
     ap (sum_of_delays delays) (filter-append test moves (mv ∷ []))
@@ -78,7 +84,8 @@ sum_few delays test (mv ∷ moves) h =
     let d = delay_few delays mv h in
     by (test mv) r d
   where
-    by : (b : Bool) → sum_of_delays delays (filter test moves) ≤ 1000 * length moves → delay delays mv ≤ 1000 → sum_of_delays delays (cond b (mv ∷ filter test moves) (filter test moves)) ≤ 1000 * suc (length moves)
+    by : (b : Bool) → sum_of_delays delays (filter test moves) ≤ 1000 * length moves → delay delays mv ≤ 1000 →
+        sum_of_delays delays (cond b (mv ∷ filter test moves) (filter test moves)) ≤ 1000 * suc (length moves)
     by true r d = omega (arith, r, d)
     by false r d = omega (arith, r)
 
@@ -108,7 +115,8 @@ unfolding of_kind
 of_kind_few [] kind = omega arith
 of_kind_few (mv ∷ moves) kind = by (nat_eq (kind_place mv) kind) (of_kind_few moves kind)
   where
-    by : (b : Bool) → length (filter (λ m. kind_place m == kind) moves) ≤ length moves → length (cond b (mv ∷ filter (λ m. kind_place m == kind) moves) (filter (λ m. kind_place m == kind) moves)) ≤ suc (length moves)
+    by : (b : Bool) → length (filter (λ m. kind_place m == kind) moves) ≤ length moves → length
+        (cond b (mv ∷ filter (λ m. kind_place m == kind) moves) (filter (λ m. kind_place m == kind) moves)) ≤ suc (length moves)
     by true r = omega (arith, r)
     by false r = omega (arith, r)
 
@@ -155,6 +163,8 @@ pub chain_few : (plan : Plan) (delays : List ℕ) (test : Done → Bool) (moves 
 chain_few plan delays test [] = omega arith
 chain_few plan delays test (done ∷ earlier) = by (test done) (chain_few plan delays (leads_to plan delays done) earlier) (chain_few plan delays test earlier)
   where
-    by : (b : Bool) → length (chain_to plan delays (leads_to plan delays done) earlier) ≤ length earlier → length (chain_to plan delays test earlier) ≤ length earlier → length (cond b (chain_to plan delays (leads_to plan delays done) earlier ++ done.move ∷ []) (chain_to plan delays test earlier)) ≤ suc (length earlier)
+    by : (b : Bool) → length (chain_to plan delays (leads_to plan delays done) earlier) ≤ length earlier →
+        length (chain_to plan delays test earlier) ≤ length earlier → length (cond b (chain_to plan delays (leads_to plan delays done) earlier ++ done.move
+        ∷ []) (chain_to plan delays test earlier)) ≤ suc (length earlier)
     by true h g = let n = length-append (chain_to plan delays (leads_to plan delays done) earlier) (done.move ∷ []) in omega (arith, n, h)
     by false h g = omega (arith, g)

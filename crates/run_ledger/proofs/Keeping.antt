@@ -58,29 +58,36 @@ map_twice marks [] = refl
 map_twice marks (x ∷ xs) = ap (λ (l : List ChainMark). mark_at marks (place_number x) ∷ l) (map_twice marks xs)
 
 -- the mark that a move follows is that of the latest that uses a place which it uses
-follows_latest : (plan : Plan) (delays : List ℕ) (moves : List Move) (l : Ledger) (mv : Move) → Keeps plan delays moves l → AreKept plan mv → followed l mv ≡ latest_where plan delays (λ d. shares plan mv d.move) (times plan delays moves)
+follows_latest : (plan : Plan) (delays : List ℕ) (moves : List Move) (l : Ledger) (mv : Move) → Keeps plan delays moves l → AreKept plan mv →
+    followed l mv ≡ latest_where plan delays (λ d. shares plan mv d.move) (times plan delays moves)
 unfolding followed shares
 follows_latest plan delays moves l mv h kept =
     ap (λ (p : Plan). latest_of no_mark (map (mark_at l.marks) (map place_number (used p mv)))) h.layout_is
     ∙ ap (latest_of no_mark) (map_twice l.marks (used plan mv))
-    ∙ ap (latest_of no_mark) (marks_same (λ x. mark_at l.marks (place_number x)) (λ x. latest_where plan delays (at_place plan x) (times plan delays moves)) (used plan mv) kept h.marks_are)
-    ∙ ap (λ (m : ChainMark). latest_of m (map (λ x. latest_where plan delays (at_place plan x) (times plan delays moves)) (used plan mv))) (sym (latest_never plan delays (times plan delays moves)))
+    ∙ ap (latest_of no_mark) (marks_same (λ x. mark_at l.marks (place_number x)) (λ x. latest_where plan delays (at_place plan x) (times plan delays moves))
+    (used plan mv) kept h.marks_are)
+    ∙ ap (λ (m : ChainMark). latest_of m (map (λ x. latest_where plan delays (at_place plan x) (times plan delays moves)) (used plan mv)))
+    (sym (latest_never plan delays (times plan delays moves)))
     ∙ latest_any plan delays (λ d. false) (at_place plan) (used plan mv) (times plan delays moves)
 
 -- the time that a move waits for
-waits : (plan : Plan) (delays : List ℕ) (done : List Done) (mv : Move) → time_after plan delays done mv ≡ (latest_where plan delays (λ d. shares plan mv d.move) done).time + delay delays mv
+waits : (plan : Plan) (delays : List ℕ) (done : List Done) (mv : Move) → time_after plan delays done mv
+    ≡ (latest_where plan delays (λ d. shares plan mv d.move) done).time + delay delays mv
 unfolding time_after
 waits plan delays done mv = let t = latest_time plan delays (λ d. shares plan mv d.move) done in omega (arith, t)
 
 -- its chain is that of the mark that it follows
-leads_latest : (plan : Plan) (delays : List ℕ) (done : List Done) (mv : Move) → (latest_where plan delays (λ d. shares plan mv d.move) done).kinds ≡ kinds (chain_to plan delays (leads_to plan delays (done_after plan delays done mv)) done)
+leads_latest : (plan : Plan) (delays : List ℕ) (done : List Done) (mv : Move) → (latest_where plan delays (λ d. shares plan mv d.move) done).kinds
+    ≡ kinds (chain_to plan delays (leads_to plan delays (done_after plan delays done mv)) done)
 leads_latest plan delays done mv =
     let w = waits plan delays done mv in
     let e : time_after plan delays done mv - delay delays mv ≡ (latest_where plan delays (λ d. shares plan mv d.move) done).time = omega (arith, w) in
-    latest_kinds plan delays (λ d. shares plan mv d.move) (leads_to plan delays (done_after plan delays done mv)) done (λ d. ap (λ (n : ℕ). shares plan mv d.move && nat_eq d.time n) e)
+    latest_kinds plan delays (λ d. shares plan mv d.move) (leads_to plan delays (done_after plan delays done mv)) done
+    (λ d. ap (λ (n : ℕ). shares plan mv d.move && nat_eq d.time n) e)
 
 -- the mark of a move that is made now
-mark_now : (plan : Plan) (delays : List ℕ) (moves : List Move) (l : Ledger) (mv : Move) → Keeps plan delays moves l → AreKept plan mv → AreDelays delays → 1000 * (length moves + 1) < 2 ^ 64 → mark_of l mv ≡ mark_after plan delays (done_after plan delays (times plan delays moves) mv) (times plan delays moves)
+mark_now : (plan : Plan) (delays : List ℕ) (moves : List Move) (l : Ledger) (mv : Move) → Keeps plan delays moves l → AreKept plan mv → AreDelays delays →
+    1000 * (length moves + 1) < 2 ^ 64 → mark_of l mv ≡ mark_after plan delays (done_after plan delays (times plan delays moves) mv) (times plan delays moves)
 unfolding mark_of
 mark_now plan delays moves l mv h kept few small =
     let done : List Done = times plan delays moves in
@@ -96,36 +103,47 @@ mark_now plan delays moves l mv h kept few small =
     let number_is : plus (length moves) 1 ≡ length done + 1 = omega (arith, n, small) in
     let c = chain_few plan delays (leads_to plan delays (done_after plan delays done mv)) done in
     let kinds_is : one_more old.kinds mv ≡ kinds (chain_to plan delays (leads_to plan delays (done_after plan delays done mv)) done ++ mv ∷ []) =
-    ap (λ (ks : List ℕ). one_more ks mv) (leads_latest plan delays done mv) ∙ kinds_more (chain_to plan delays (leads_to plan delays (done_after plan delays done mv)) done) mv (omega (arith, c, n, small)) in
+    ap (λ (ks : List ℕ). one_more ks mv) (leads_latest plan delays done mv) ∙ kinds_more (chain_to plan delays
+    (leads_to plan delays (done_after plan delays done mv)) done) mv (omega (arith, c, n, small)) in
     all l.delays l.count (followed l mv) old h.delays_are h.count_is f time_is number_is kinds_is
   where
     all : (ds : List ℕ) (count : ℕ) (first old : ChainMark) → ds ≡ delays → count ≡ length moves → first ≡ old
         → plus old.time (delay delays mv) ≡ time_after plan delays (times plan delays moves) mv → plus (length moves) 1 ≡ length (times plan delays moves) + 1
-        → one_more old.kinds mv ≡ kinds (chain_to plan delays (leads_to plan delays (done_after plan delays (times plan delays moves) mv)) (times plan delays moves) ++ mv ∷ [])
-        → record { time = plus first.time (delay ds mv); number = plus count 1; kinds = one_more first.kinds mv } ≡ mark_after plan delays (done_after plan delays (times plan delays moves) mv) (times plan delays moves)
+        → one_more old.kinds mv ≡ kinds (chain_to plan delays (leads_to plan delays (done_after plan delays (times plan delays moves) mv))
+        (times plan delays moves) ++ mv ∷ [])
+        → record { time = plus first.time (delay ds mv); number = plus count 1; kinds = one_more first.kinds mv }
+        ≡ mark_after plan delays (done_after plan delays (times plan delays moves) mv) (times plan delays moves)
     all ds count first old a b c t n k = rw (a, b, c, t, n, k) refl
 
 -- the mark of a place after it
-marks_more : (plan : Plan) (delays : List ℕ) (moves : List Move) (l : Ledger) (mv : Move) (x : Site) → Keeps plan delays moves l → AreKept plan mv → IsKept x → mark_of l mv ≡ mark_after plan delays (done_after plan delays (times plan delays moves) mv) (times plan delays moves)
-    → mark_at (put_marks (mark_of l mv) l.marks (place_numbers plan mv)) (place_number x) ≡ latest_where plan delays (at_place plan x) (done_after plan delays (times plan delays moves) mv ∷ times plan delays moves)
+marks_more : (plan : Plan) (delays : List ℕ) (moves : List Move) (l : Ledger) (mv : Move) (x : Site) → Keeps plan delays moves l → AreKept plan mv → IsKept x →
+    mark_of l mv ≡ mark_after plan delays (done_after plan delays (times plan delays moves) mv) (times plan delays moves)
+    → mark_at (put_marks (mark_of l mv) l.marks (place_numbers plan mv)) (place_number x) ≡ latest_where plan delays (at_place plan x)
+    (done_after plan delays (times plan delays moves) mv ∷ times plan delays moves)
 unfolding uses_place
 marks_more plan delays moves l mv x h kept here mark_is =
     marks_put (mark_of l mv) l.marks (used plan mv) x h.room kept here
     ∙ ap (λ (m : ChainMark). cond (among x (used plan mv)) m (mark_at l.marks (place_number x))) mark_is
-    ∙ ap (λ (m : ChainMark). cond (among x (used plan mv)) (mark_after plan delays (done_after plan delays (times plan delays moves) mv) (times plan delays moves)) m) (h.marks_are x here)
+    ∙ ap (λ (m : ChainMark). cond (among x (used plan mv)) (mark_after plan delays (done_after plan delays (times plan delays moves) mv)
+    (times plan delays moves)) m) (h.marks_are x here)
     ∙ by (among x (used plan mv)) refl
   where
-    by : (b : Bool) → among x (used plan mv) ≡ b → cond b (mark_after plan delays (done_after plan delays (times plan delays moves) mv) (times plan delays moves)) (latest_where plan delays (at_place plan x) (times plan delays moves))
-        ≡ later (latest_where plan delays (at_place plan x) (times plan delays moves)) (mark_if plan delays b (done_after plan delays (times plan delays moves) mv) (times plan delays moves))
+    by : (b : Bool) → among x (used plan mv) ≡ b → cond b (mark_after plan delays (done_after plan delays (times plan delays moves) mv)
+        (times plan delays moves)) (latest_where plan delays (at_place plan x) (times plan delays moves))
+        ≡ later (latest_where plan delays (at_place plan x) (times plan delays moves)) (mark_if plan delays b
+        (done_after plan delays (times plan delays moves) mv) (times plan delays moves))
     by true e =
         let t = latest_time plan delays (at_place plan x) (times plan delays moves) in
         let late = no_later plan delays (times plan delays moves) mv x e in
         let n = latest_number plan delays (at_place plan x) (times plan delays moves) in
-        sym (later_new (latest_where plan delays (at_place plan x) (times plan delays moves)) (mark_after plan delays (done_after plan delays (times plan delays moves) mv) (times plan delays moves)) (omega (arith, t, late)) (omega (arith, n)))
+        sym (later_new (latest_where plan delays (at_place plan x) (times plan delays moves))
+        (mark_after plan delays (done_after plan delays (times plan delays moves) mv) (times plan delays moves)) (omega (arith, t, late))
+        (omega (arith, n)))
     by false e = sym (later_none (latest_where plan delays (at_place plan x) (times plan delays moves)))
 
 -- one more move
-pub keeps-more : (plan : Plan) (delays : List ℕ) (moves : List Move) (l : Ledger) (mv : Move) → Keeps plan delays moves l → AreKept plan mv → AreDelays delays → 1000 * (length moves + 1) < 2 ^ 64 → Keeps plan delays (moves ++ mv ∷ []) (noted l mv)
+pub keeps-more : (plan : Plan) (delays : List ℕ) (moves : List Move) (l : Ledger) (mv : Move) → Keeps plan delays moves l → AreKept plan mv → AreDelays delays →
+    1000 * (length moves + 1) < 2 ^ 64 → Keeps plan delays (moves ++ mv ∷ []) (noted l mv)
 unfolding noted
 keeps-more plan delays moves l mv h kept few small =
     let m = mark_now plan delays moves l mv h kept few small in
@@ -154,9 +172,11 @@ keeps-more plan delays moves l mv h kept few small =
     count : plus l.count 1 ≡ length (moves ++ mv ∷ [])
     count = let n = length-append moves (mv ∷ []) in let k = h.count_is in omega (arith, n, k, small)
 
-    busy_now : (uses : ℕ → Move → Bool) (n : ℕ) (numbers : List ℕ) → numbers ≡ map (λ i. busy delays (uses i) moves) (counted_from 0 n) → charged (λ i. uses i mv) (delay delays mv) numbers ≡ map (λ i. busy delays (uses i) (moves ++ mv ∷ [])) (counted_from 0 n)
+    busy_now : (uses : ℕ → Move → Bool) (n : ℕ) (numbers : List ℕ) → numbers ≡ map (λ i. busy delays (uses i) moves) (counted_from 0 n) →
+        charged (λ i. uses i mv) (delay delays mv) numbers ≡ map (λ i. busy delays (uses i) (moves ++ mv ∷ [])) (counted_from 0 n)
     busy_now uses n numbers is =
-        charged_numbered (λ i. uses i mv) (delay delays mv) (λ i. busy delays (uses i) moves) (λ i. busy delays (uses i) (moves ++ mv ∷ [])) n numbers is (λ i within. each i)
+        charged_numbered (λ i. uses i mv) (delay delays mv) (λ i. busy delays (uses i) moves) (λ i. busy delays (uses i) (moves ++ mv ∷ [])) n numbers is
+        (λ i within. each i)
       where
         each : (i : ℕ) → plus_if (uses i mv) (busy delays (uses i) moves) (delay delays mv) ≡ busy delays (uses i) (moves ++ mv ∷ [])
         each i =
@@ -187,12 +207,14 @@ keeps-start plan delays =
     }
 
 -- and after all moves of a run
-pub keeps-all : (plan : Plan) (delays : List ℕ) (front moves : List Move) (l : Ledger) → AreDelays delays → AllByRecursion (AreKept plan) moves → 1000 * (length front + length moves) < 2 ^ 64 → Keeps plan delays front l → Keeps plan delays (front ++ moves) (noted_all l moves)
+pub keeps-all : (plan : Plan) (delays : List ℕ) (front moves : List Move) (l : Ledger) → AreDelays delays → AllByRecursion (AreKept plan) moves →
+    1000 * (length front + length moves) < 2 ^ 64 → Keeps plan delays front l → Keeps plan delays (front ++ moves) (noted_all l moves)
 keeps-all plan delays front [] l few kept small h = subst (λ (ms : List Move). Keeps plan delays ms l) (sym (append-nil front)) h
 keeps-all plan delays front (mv ∷ moves) l few kept small h =
     let n = length-append front (mv ∷ []) in
     subst (λ (ms : List Move). Keeps plan delays ms (noted_all (noted l mv) moves)) (append_assoc front (mv ∷ []) moves)
-    (keeps-all plan delays (front ++ mv ∷ []) moves (noted l mv) few kept.1 (omega (arith, n, small)) (keeps-more plan delays front l mv h kept.0 few (omega (arith, small))))
+    (keeps-all plan delays (front ++ mv ∷ []) moves (noted l mv) few kept.1 (omega (arith, n, small))
+    (keeps-more plan delays front l mv h kept.0 few (omega (arith, small))))
 
 -- what it tells is what the time is made of
 keeps-tells : (plan : Plan) (delays : List ℕ) (moves : List Move) (l : Ledger) → Keeps plan delays moves l → told_by l ≡ breakdown plan delays moves
@@ -210,6 +232,8 @@ keeps-tells plan delays moves l h =
     let d = h.kinds_are in
     rw (a, b, c, d, chain) refl
 
-pub told-all : (plan : Plan) (delays : List ℕ) (moves : List Move) → AreDelays delays → AllByRecursion (AreKept plan) moves → 1000 * length moves < 2 ^ 64 → told_by (noted_all (opened plan delays) moves) ≡ breakdown plan delays moves
+pub told-all : (plan : Plan) (delays : List ℕ) (moves : List Move) → AreDelays delays → AllByRecursion (AreKept plan) moves → 1000 * length moves < 2 ^ 64 →
+    told_by (noted_all (opened plan delays) moves) ≡ breakdown plan delays moves
 told-all plan delays moves few kept small =
-    keeps-tells plan delays moves (noted_all (opened plan delays) moves) (keeps-all plan delays [] moves (opened plan delays) few kept (omega (arith, small)) (keeps-start plan delays))
+    keeps-tells plan delays moves (noted_all (opened plan delays) moves) (keeps-all plan delays [] moves (opened plan delays) few kept (omega (arith, small))
+    (keeps-start plan delays))

@@ -68,12 +68,14 @@ number_within Code kept = omega arith
 number_within _ kept = absurd (search kept)
 
 -- a mark that was put, and the others
-at_put : (marks : List ChainMark) (i j : ℕ) (mark : ChainMark) → i < length marks → mark_at (slice_set marks i mark) j ≡ cond (nat_eq j i) mark (mark_at marks j)
+at_put : (marks : List ChainMark) (i j : ℕ) (mark : ChainMark) → i < length marks → mark_at (slice_set marks i mark) j
+    ≡ cond (nat_eq j i) mark (mark_at marks j)
 at_put [] i j mark within = absurd (omega arith)
 at_put (m ∷ marks) zero zero mark within = refl
 at_put (m ∷ marks) zero (suc j) mark within = let e : nat_eq (suc j) 0 ≡ false = grind (arith, nat_tests) in rw e refl
 at_put (m ∷ marks) (suc i) zero mark within = let e : nat_eq 0 (suc i) ≡ false = grind (arith, nat_tests) in rw e refl
-at_put (m ∷ marks) (suc i) (suc j) mark within = let e : nat_eq (suc j) (suc i) ≡ nat_eq j i = grind (arith, nat_tests) in rw e (at_put marks i j mark (omega arith))
+at_put (m ∷ marks) (suc i) (suc j) mark within = let e : nat_eq (suc j) (suc i) ≡ nat_eq j i = grind (arith, nat_tests) in
+    rw e (at_put marks i j mark (omega arith))
 
 -- their number stays
 set_size : (marks : List ChainMark) (i : ℕ) (mark : ChainMark) → length (slice_set marks i mark) ≡ length marks
@@ -86,12 +88,14 @@ put_size mark marks [] = refl
 put_size mark marks (place ∷ places) = put_size mark (slice_set marks place mark) places ∙ set_size marks place mark
 
 -- the mark at a place, after one was put at some places
-pub marks_put : (mark : ChainMark) (marks : List ChainMark) (ys : List Site) (x : Site) → length marks ≡ 102 → AllByRecursion IsKept ys → IsKept x → mark_at (put_marks mark marks (map place_number ys)) (place_number x) ≡ cond (among x ys) mark (mark_at marks (place_number x))
+pub marks_put : (mark : ChainMark) (marks : List ChainMark) (ys : List Site) (x : Site) → length marks ≡ 102 → AllByRecursion IsKept ys → IsKept x →
+    mark_at (put_marks mark marks (map place_number ys)) (place_number x) ≡ cond (among x ys) mark (mark_at marks (place_number x))
 marks_put mark marks [] x room kept here = refl
 marks_put mark marks (y ∷ ys) x room kept here =
     let w = number_within y kept.0 in
     marks_put mark (slice_set marks (place_number y) mark) ys x (set_size marks (place_number y) mark ∙ room) kept.1 here
-    ∙ ap (λ (m : ChainMark). cond (among x ys) mark m) (at_put marks (place_number y) (place_number x) mark (omega (arith, w, room)) ∙ ap (λ (b : Bool). cond b mark (mark_at marks (place_number x))) (same_number x y here kept.0))
+    ∙ ap (λ (m : ChainMark). cond (among x ys) mark m) (at_put marks (place_number y) (place_number x) mark (omega (arith, w, room))
+    ∙ ap (λ (b : Bool). cond b mark (mark_at marks (place_number x))) (same_number x y here kept.0))
     ∙ both (same_site x y) (among x ys)
   where
     both : (a b : Bool) → cond b mark (cond a mark (mark_at marks (place_number x))) ≡ cond (a || b) mark (mark_at marks (place_number x))
@@ -101,7 +105,8 @@ marks_put mark marks (y ∷ ys) x room kept here =
     both false false = refl
 
 -- what is put at the next of some places
-pub put_next : (mark : ChainMark) (marks : List ChainMark) (places : List ℕ) (i : ℕ) → i < length places → put_marks mark (slice_set marks (get_or places i 0) mark) (drop (i + 1) places) ≡ put_marks mark marks (drop i places)
+pub put_next : (mark : ChainMark) (marks : List ChainMark) (places : List ℕ) (i : ℕ) → i < length places →
+    put_marks mark (slice_set marks (get_or places i 0) mark) (drop (i + 1) places) ≡ put_marks mark marks (drop i places)
 put_next mark marks [] i within = absurd (omega arith)
 put_next mark marks (p ∷ places) zero within = refl
 put_next mark marks (p ∷ places) (suc i) within = let e : suc i + 1 ≡ suc (i + 1) = omega arith in rw e (put_next mark marks places i (omega arith))

@@ -38,12 +38,15 @@ use Rattle.run_ledger.proofs.Keeping.{told-all}
 abbrev timing : Chooser Watched → Chooser PendingMove
 timing at = chooser at.policy.pending at.count
 
-picks-timed : (plan : Plan) (at : Chooser Watched) (s : State) (trace : List Made) (last : Chooser Watched) → Picks watched_pick after_watched plan at s trace last → Picks pending_pick after_pick plan (timing at) s trace (timing last)
+picks-timed : (plan : Plan) (at : Chooser Watched) (s : State) (trace : List Made) (last : Chooser Watched) →
+    Picks watched_pick after_watched plan at s trace last → Picks pending_pick after_pick plan (timing at) s trace (timing last)
 unfolding Picks
 picks-timed plan at s [] last same = ap timing same
 picks-timed plan at s (made ∷ trace) last (pick, picks) = (pick, picks-timed plan (after_choice after_watched plan at s made) made.state trace last picks)
 
-chooses-timed : (limit : ℕ) (now new : RunPlace) (at : Chooser Watched) (later : Watched) (answer : Answer) → StopsAtPick watched_pick after_watched limit show.Report at now new later answer → StopsAtPick pending_pick after_pick limit show.Report (timing at) now new later.pending answer
+chooses-timed : (limit : ℕ) (now new : RunPlace) (at : Chooser Watched) (later : Watched) (answer : Answer) →
+    StopsAtPick watched_pick after_watched limit show.Report at now new later answer → StopsAtPick pending_pick after_pick limit show.Report
+    (timing at) now new later.pending answer
 chooses-timed limit now new at later answer h = record {
   goes = h.goes;
   move = h.move;
@@ -52,7 +55,9 @@ chooses-timed limit now new at later answer h = record {
   does = h.does;
 }
 
-stops-timed : (limit : ℕ) (now new : RunPlace) (at : Chooser Watched) (later : Watched) (answer : Answer) → StopsPolicy watched_pick after_watched limit show.Report at now new later answer → StopsPolicy pending_pick after_pick limit show.Report (timing at) now new later.pending answer
+stops-timed : (limit : ℕ) (now new : RunPlace) (at : Chooser Watched) (later : Watched) (answer : Answer) →
+    StopsPolicy watched_pick after_watched limit show.Report at now new later answer → StopsPolicy pending_pick after_pick limit show.Report
+    (timing at) now new later.pending answer
 stops-timed limit now new at later (ran.Exit status) h = (h.0, h.1, ap (λ (w : Watched). w.pending) h.2)
 stops-timed limit now new at later (ran.Trap cause pc detail) h = (h.0, h.1, ap (λ (w : Watched). w.pending) h.2)
 stops-timed limit now new at later ran.Limit h = (h.0, h.1, ap (λ (w : Watched). w.pending) h.2)
@@ -61,7 +66,9 @@ stops-timed limit now new at later ran.WriteFault h = chooses-timed limit now ne
 stops-timed limit now new at later ran.ReportFault h = chooses-timed limit now new at later ran.ReportFault h
 
 -- where the report does not fail, no move comes after those that lead to the end
-none-last : {P : Type 0} (picked : P → List Move → ℕ) (onward : P → List Move → P) (limit : ℕ) (at : Chooser P) (now new : RunPlace) (later : P) (answer : Answer) (stops : StopsPolicy picked onward limit show.Report at now new later answer) → answer ≢ ran.ReportFault → made_last picked onward limit show.Report at now new later answer stops ≡ []
+none-last : {P : Type 0} (picked : P → List Move → ℕ) (onward : P → List Move → P) (limit : ℕ) (at : Chooser P) (now new : RunPlace) (later : P)
+    (answer : Answer) (stops : StopsPolicy picked onward limit show.Report at now new later answer) → answer ≢ ran.ReportFault →
+    made_last picked onward limit show.Report at now new later answer stops ≡ []
 none-last picked onward limit at now new later (ran.Exit status) stops none = refl
 none-last picked onward limit at now new later (ran.Trap cause pc detail) stops none = refl
 none-last picked onward limit at now new later ran.Limit stops none = refl
@@ -70,11 +77,13 @@ none-last picked onward limit at now new later ran.WriteFault stops none = refl
 none-last picked onward limit at now new later ran.ReportFault stops none = absurd (none refl)
 
 -- the ledger is told the moves that are made
-told-next : (w : Watched) (moves : List Move) (mv : Move) → slice_get moves (pending_pick w.pending moves) ≡ Some mv → ledger_told (after_watched w moves) ≡ noted (ledger_told w) mv
+told-next : (w : Watched) (moves : List Move) (mv : Move) → slice_get moves (pending_pick w.pending moves) ≡ Some mv →
+    ledger_told (after_watched w moves) ≡ noted (ledger_told w) mv
 unfolding ledger_told after_pick
 told-next w moves mv e = rw e refl
 
-told-trace : (plan : Plan) (at : Chooser Watched) (s : State) (trace : List Made) (last : Chooser Watched) → Picks watched_pick after_watched plan at s trace last → ledger_told last.policy ≡ noted_all (ledger_told at.policy) (moves_of trace)
+told-trace : (plan : Plan) (at : Chooser Watched) (s : State) (trace : List Made) (last : Chooser Watched) →
+    Picks watched_pick after_watched plan at s trace last → ledger_told last.policy ≡ noted_all (ledger_told at.policy) (moves_of trace)
 unfolding Picks
 told-trace plan at s [] last same = ap (λ (c : Chooser Watched). ledger_told c.policy) same
 told-trace plan at s (made ∷ trace) last (pick, picks) =
@@ -82,7 +91,8 @@ told-trace plan at s (made ∷ trace) last (pick, picks) =
     ∙ ap (λ (l : Ledger). noted_all l (moves_of trace)) (told-next at.policy (offered_to plan at s) made.move pick)
 
 -- it has room for their places
-kept-trace : (plan : Plan) (at : Chooser Watched) (s : State) (trace : List Made) (last : Chooser Watched) → IsAccepted plan → Picks watched_pick after_watched plan at s trace last → AllByRecursion (AreKept plan) (moves_of trace)
+kept-trace : (plan : Plan) (at : Chooser Watched) (s : State) (trace : List Made) (last : Chooser Watched) → IsAccepted plan →
+    Picks watched_pick after_watched plan at s trace last → AllByRecursion (AreKept plan) (moves_of trace)
 unfolding Picks
 kept-trace plan at s [] last acc same = tt
 kept-trace plan at s (made ∷ trace) last acc (pick, picks) = (
@@ -91,7 +101,8 @@ kept-trace plan at s (made ∷ trace) last acc (pick, picks) = (
 )
 
 -- and it is told of none besides
-stopped-told : (limit : ℕ) (now new : RunPlace) (at : Chooser Watched) (later : Watched) (answer : Answer) → StopsPolicy watched_pick after_watched limit show.Report at now new later answer → ledger_after later answer ≡ ledger_told at.policy
+stopped-told : (limit : ℕ) (now new : RunPlace) (at : Chooser Watched) (later : Watched) (answer : Answer) →
+    StopsPolicy watched_pick after_watched limit show.Report at now new later answer → ledger_after later answer ≡ ledger_told at.policy
 unfolding ledger_after
 stopped-told limit now new at later (ran.Exit status) h = ap ledger_told h.2
 stopped-told limit now new at later (ran.Trap cause pc detail) h = ap ledger_told h.2
@@ -104,7 +115,9 @@ stopped-told limit now new at later ran.ReportFault h = ap (λ (w : Watched). w.
 abbrev first_watched : Plan → List ℕ → Watched
 first_watched plan delays = record { pending = record { clock = started plan delays; last = None }; ledger = opened plan delays }
 
-pub first-is : (plan : Plan) (delays : List ℕ) (clock : SiteTimes) (ledger : Ledger) (first : Watched) → first ≡ record { pending = record { clock = clock; last = None }; ledger = ledger } → clock ≡ started plan delays → ledger ≡ opened plan delays → first ≡ first_watched plan delays
+pub first-is : (plan : Plan) (delays : List ℕ) (clock : SiteTimes) (ledger : Ledger) (first : Watched) →
+    first ≡ record { pending = record { clock = clock; last = None }; ledger = ledger } → clock ≡ started plan delays → ledger ≡ opened plan delays →
+    first ≡ first_watched plan delays
 first-is plan delays clock ledger first same a b = rw (a, b) at same
 
 told-first : (plan : Plan) (delays : List ℕ) → ledger_told (first_watched plan delays) ≡ opened plan delays
@@ -116,19 +129,25 @@ trace-length [] = refl
 trace-length (made ∷ trace) = ap suc (trace-length trace)
 
 -- the moves of the run are those that lead to its end
-moves-are : (plan : Plan) (delays : List ℕ) (limit : ℕ) (begin new : RunPlace) (later : Watched) (answer : Answer) → answer ≢ ran.ReportFault → (r : RunsRight watched_pick after_watched limit show.Report begin new (first_watched plan delays) later answer) → r.moves ≡ moves_of r.runs.reaches.trace
+moves-are : (plan : Plan) (delays : List ℕ) (limit : ℕ) (begin new : RunPlace) (later : Watched) (answer : Answer) → answer ≢ ran.ReportFault →
+    (r : RunsRight watched_pick after_watched limit show.Report begin new (first_watched plan delays) later answer) → r.moves ≡ moves_of r.runs.reaches.trace
 moves-are plan delays limit begin new later answer none r =
-    r.runs.made ∙ ap (λ (l : List Move). moves_of r.runs.reaches.trace ++ l) (none-last watched_pick after_watched limit r.runs.at r.runs.now new later answer r.runs.stops none) ∙ append-nil (moves_of r.runs.reaches.trace)
+    r.runs.made ∙ ap (λ (l : List Move). moves_of r.runs.reaches.trace ++ l) (none-last watched_pick after_watched limit r.runs.at r.runs.now new later answer
+    r.runs.stops none) ∙ append-nil (moves_of r.runs.reaches.trace)
 
 -- so the ledger tells what their time is made of
-run-told : (delays : List ℕ) (limit : ℕ) (begin new : RunPlace) (later : Watched) (answer : Answer) → IsAccepted begin.core.plan → length begin.core.state.regs ≡ 32 → IsOpened begin.core → AreDelays delays → limit ≤ most_limit → begin.core.state.retired ≤ limit → answer ≢ ran.ReportFault
-    → (r : RunsRight watched_pick after_watched limit show.Report begin new (first_watched begin.core.plan delays) later answer) → told_by (ledger_after later answer) ≡ breakdown begin.core.plan delays r.moves
+run-told : (delays : List ℕ) (limit : ℕ) (begin new : RunPlace) (later : Watched) (answer : Answer) → IsAccepted begin.core.plan →
+    length begin.core.state.regs ≡ 32 → IsOpened begin.core → AreDelays delays → limit ≤ most_limit → begin.core.state.retired ≤ limit →
+    answer ≢ ran.ReportFault
+    → (r : RunsRight watched_pick after_watched limit show.Report begin new (first_watched begin.core.plan delays) later answer) →
+    told_by (ledger_after later answer) ≡ breakdown begin.core.plan delays r.moves
 run-told delays limit begin new later answer acc wide o few small within none r =
     let plan : Plan = begin.core.plan in
     let runs = r.runs in
     let trace : List Made = runs.reaches.trace in
     let first : Chooser Watched = fresh (first_watched plan delays) in
-    let count = moves-few limit begin runs.now (first_watched plan delays).pending (timing runs.at) acc wide o small within runs.reaches (picks-timed plan first begin.core.state trace runs.at runs.picks) in
+    let count = moves-few limit begin runs.now (first_watched plan delays).pending (timing runs.at) acc wide o small within runs.reaches
+    (picks-timed plan first begin.core.state trace runs.at runs.picks) in
     let n = trace-length trace in
     let told : ledger_after later answer ≡ noted_all (opened plan delays) (moves_of trace) =
     stopped-told limit runs.now new runs.at later answer runs.stops
@@ -139,7 +158,8 @@ run-told delays limit begin new later answer acc wide o few small within none r 
     ∙ ap (breakdown plan delays) (sym (moves-are plan delays limit begin new later answer none r))
 
 -- and the run is a run by the clock
-right-timed : (plan : Plan) (delays : List ℕ) (limit : ℕ) (begin new : RunPlace) (later : Watched) (answer : Answer) → answer ≢ ran.ReportFault → (r : RunsRight watched_pick after_watched limit show.Report begin new (first_watched plan delays) later answer)
+right-timed : (plan : Plan) (delays : List ℕ) (limit : ℕ) (begin new : RunPlace) (later : Watched) (answer : Answer) → answer ≢ ran.ReportFault →
+    (r : RunsRight watched_pick after_watched limit show.Report begin new (first_watched plan delays) later answer)
     → RunsPolicy pending_pick after_pick limit show.Report begin new (record { clock = started plan delays; last = None }) later.pending r.moves answer
 right-timed plan delays limit begin new later answer none r =
     let stops = stops-timed limit r.runs.now new r.runs.at later answer r.runs.stops in
@@ -150,17 +170,24 @@ right-timed plan delays limit begin new later answer none r =
       picks = picks-timed begin.core.plan (fresh (first_watched plan delays)) begin.core.state r.runs.reaches.trace r.runs.at r.runs.picks;
       stops = stops;
       made = moves-are plan delays limit begin new later answer none r
-          ∙ sym (ap (λ (l : List Move). moves_of r.runs.reaches.trace ++ l) (none-last pending_pick after_pick limit (timing r.runs.at) r.runs.now new later.pending answer stops none) ∙ append-nil (moves_of r.runs.reaches.trace));
+          ∙ sym (ap (λ (l : List Move). moves_of r.runs.reaches.trace ++ l) (none-last pending_pick after_pick limit
+          (timing r.runs.at) r.runs.now new later.pending answer stops none) ∙ append-nil (moves_of r.runs.reaches.trace));
     }
 
-pub runs-noted : (delays : List ℕ) (limit : ℕ) (core new : Processor) (before after : Streams) (tally : Tally) (first later : Watched) (answer : Answer) (timed : Timed) (clock : SiteTimes) (ledger : Ledger) → IsAccepted core.plan → length core.state.regs ≡ 32 → IsOpened core → AreDelays delays → limit ≤ most_limit → core.state.retired ≤ limit → answer ≢ ran.ReportFault
-    → first ≡ first_watched core.plan delays → RunsRight watched_pick after_watched limit show.Report (begins core before) (place_of new after None tally) first later answer → EndsSequentially limit (begins core before) (place_of new after None tally) (Ran answer)
-    → answer_of timed ≡ answer → clock ≡ clock_after later.pending answer → ledger ≡ ledger_after later answer → RunsNoted delays limit (begins core before) new after clock ledger tally.moves timed
-runs-noted delays limit core new before after tally first later answer timed clock ledger acc wide o few small within none fresh_is right ends e clock_is ledger_is =
+pub runs-noted : (delays : List ℕ) (limit : ℕ) (core new : Processor) (before after : Streams) (tally : Tally) (first later : Watched) (answer : Answer)
+    (timed : Timed) (clock : SiteTimes) (ledger : Ledger) → IsAccepted core.plan → length core.state.regs ≡ 32 → IsOpened core → AreDelays delays →
+    limit ≤ most_limit → core.state.retired ≤ limit → answer ≢ ran.ReportFault
+    → first ≡ first_watched core.plan delays → RunsRight watched_pick after_watched limit show.Report (begins core before)
+    (place_of new after None tally) first later answer → EndsSequentially limit (begins core before) (place_of new after None tally) (Ran answer)
+    → answer_of timed ≡ answer → clock ≡ clock_after later.pending answer → ledger ≡ ledger_after later answer →
+    RunsNoted delays limit (begins core before) new after clock ledger tally.moves timed
+runs-noted delays limit core new before after tally first later answer timed clock ledger acc wide o few small within none fresh_is right ends e clock_is
+    ledger_is =
     let begin : RunPlace = begins core before in
     let there : RunPlace = place_of new after None tally in
     let r = subst (λ (w : Watched). RunsRight watched_pick after_watched limit show.Report begin there w later answer) fresh_is right in
     let told = run-told delays limit begin there later answer acc wide o few small within none r in
-    let so = runs-timed-so (λ moves. told_by (ledger_after later answer) ≡ breakdown core.plan delays moves) delays limit core new before after tally later.pending answer timed clock acc wide o few small within none
+    let so = runs-timed-so (λ moves. told_by (ledger_after later answer) ≡ breakdown core.plan delays moves) delays limit core new before after tally
+    later.pending answer timed clock acc wide o few small within none
     (record { moves = r.moves; runs = right-timed core.plan delays limit begin there later answer none r; sequential = r.sequential }) told ends e clock_is in
     record { timed = so.timed; tells = ap told_by ledger_is ∙ so.holds }

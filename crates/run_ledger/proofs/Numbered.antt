@@ -33,7 +33,8 @@ pub numbered_same : {X : Type 0} (f g : ℕ → X) (n : ℕ) → ((i : ℕ) → 
 numbered_same f g n same = same_from f g 0 n (λ i low high. same i (omega arith))
 
 -- one of them is replaced
-set_from : (f g : ℕ → ℕ) (m n i v : ℕ) → i < n → v ≡ g (m + i) → ((j : ℕ) → j ≢ m + i → f j ≡ g j) → slice_set (map f (counted_from m n)) i v ≡ map g (counted_from m n)
+set_from : (f g : ℕ → ℕ) (m n i v : ℕ) → i < n → v ≡ g (m + i) → ((j : ℕ) → j ≢ m + i → f j ≡ g j) →
+    slice_set (map f (counted_from m n)) i v ≡ map g (counted_from m n)
 set_from f g m zero i v within is same = absurd (omega arith)
 set_from f g m (suc n) zero v within is same =
     let h : v ≡ g m = is ∙ ap g (omega arith) in
@@ -44,16 +45,19 @@ set_from f g m (suc n) (suc i) v within is same =
     let r = set_from f g (suc m) n i v (omega arith) (is ∙ ap g (omega arith)) (λ j other. same j (omega (arith, other))) in
     rw (h, r) refl
 
-pub numbered_set : (f g : ℕ → ℕ) (n i v : ℕ) → i < n → v ≡ g i → ((j : ℕ) → j ≢ i → f j ≡ g j) → slice_set (map f (counted_from 0 n)) i v ≡ map g (counted_from 0 n)
+pub numbered_set : (f g : ℕ → ℕ) (n i v : ℕ) → i < n → v ≡ g i → ((j : ℕ) → j ≢ i → f j ≡ g j) →
+    slice_set (map f (counted_from 0 n)) i v ≡ map g (counted_from 0 n)
 numbered_set f g n i v within is same = set_from f g 0 n i v within (is ∙ ap g (omega arith)) (λ j other. same j (omega (arith, other)))
 
 -- those that count grow
-pub charged_numbered : (counts : ℕ → Bool) (more : ℕ) (f g : ℕ → ℕ) (n : ℕ) (numbers : List ℕ) → numbers ≡ map f (counted_from 0 n) → ((i : ℕ) → i < n → plus_if (counts i) (f i) more ≡ g i) → charged counts more numbers ≡ map g (counted_from 0 n)
+pub charged_numbered : (counts : ℕ → Bool) (more : ℕ) (f g : ℕ → ℕ) (n : ℕ) (numbers : List ℕ) → numbers ≡ map f (counted_from 0 n) →
+    ((i : ℕ) → i < n → plus_if (counts i) (f i) more ≡ g i) → charged counts more numbers ≡ map g (counted_from 0 n)
 charged_numbered counts more f g n numbers is grows =
     let size : length numbers ≡ n = ap length is ∙ numbered_length f 0 n in
     ap (λ (k : ℕ). map (λ i. plus_if (counts i) (number_at numbers i) more) (counted_from 0 k)) size
     ∙ numbered_same (λ i. plus_if (counts i) (number_at numbers i) more) g n
-    (λ i within. ap (λ (xs : List ℕ). plus_if (counts i) (number_at xs i) more) is ∙ ap (λ (k : ℕ). plus_if (counts i) k more) (numbered_at f n i within) ∙ grows i within)
+    (λ i within. ap (λ (xs : List ℕ). plus_if (counts i) (number_at xs i) more) is ∙ ap (λ (k : ℕ). plus_if (counts i) k more) (numbered_at f n i within)
+    ∙ grows i within)
 
 -- their number stays
 pub set_length : (xs : List ℕ) (i v : ℕ) → length (slice_set xs i v) ≡ length xs
@@ -67,7 +71,8 @@ take_set [] i v within = absurd (omega arith)
 take_set (x ∷ xs) zero v within = refl
 take_set (x ∷ xs) (suc i) v within = let e : suc i + 1 ≡ suc (i + 1) = omega arith in rw e (ap (λ (l : List ℕ). x ∷ l) (take_set xs i v (omega arith)))
 
-pub filled_next : (f : ℕ → ℕ) (xs : List ℕ) (i v : ℕ) → take i xs ≡ map f (counted_from 0 i) → i < length xs → v ≡ f i → take (i + 1) (slice_set xs i v) ≡ map f (counted_from 0 (i + 1))
+pub filled_next : (f : ℕ → ℕ) (xs : List ℕ) (i v : ℕ) → take i xs ≡ map f (counted_from 0 i) → i < length xs → v ≡ f i →
+    take (i + 1) (slice_set xs i v) ≡ map f (counted_from 0 (i + 1))
 filled_next f xs i v filled within is =
     take_set xs i v within
     ∙ ap (λ (l : List ℕ). l ++ v ∷ []) filled

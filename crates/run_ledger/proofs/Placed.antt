@@ -8,7 +8,8 @@ use Rattle.cf_timed.proofs.SiteTimes.{numbers_more}
 use Rattle.run_ledger.specs.Ledgers.{place_number}
 
 -- the number of one more place, or none
-pub places_more : (place : ℕ → Site) (test : ℕ → Bool) (k : ℕ) → map place_number (map place (filter test (counted_from 0 (k + 1)))) ≡ map place_number (map place (filter test (counted_from 0 k))) ++ cond (test k) (place_number (place k) ∷ []) []
+pub places_more : (place : ℕ → Site) (test : ℕ → Bool) (k : ℕ) → map place_number (map place (filter test (counted_from 0 (k + 1))))
+    ≡ map place_number (map place (filter test (counted_from 0 k))) ++ cond (test k) (place_number (place k) ∷ []) []
 places_more place test k =
     ap (λ (ks : List ℕ). map place_number (map place ks)) (numbers_more test k)
     ∙ ap (map place_number) (map-append place (filter test (counted_from 0 k)) (cond (test k) (k ∷ []) []))
@@ -20,7 +21,9 @@ places_more place test k =
     by false = refl
 
 -- so some places, and those of the sidings that were gone over, with one more siding
-pub places_next : (place : ℕ → Site) (test : ℕ → Bool) (k : ℕ) (first now next : List ℕ) (taken : Bool) (number : ℕ) → now ≡ first ++ map place_number (map place (filter test (counted_from 0 k))) → next ≡ now ++ cond taken (number ∷ []) [] → taken ≡ test k → number ≡ place_number (place k) → next ≡ first ++ map place_number (map place (filter test (counted_from 0 (k + 1))))
+pub places_next : (place : ℕ → Site) (test : ℕ → Bool) (k : ℕ) (first now next : List ℕ) (taken : Bool) (number : ℕ) →
+    now ≡ first ++ map place_number (map place (filter test (counted_from 0 k))) → next ≡ now ++ cond taken (number ∷ []) [] → taken ≡ test k →
+    number ≡ place_number (place k) → next ≡ first ++ map place_number (map place (filter test (counted_from 0 (k + 1))))
 places_next place test k first now next taken number before pushed taken_is number_is =
     pushed
     ∙ ap (λ (ns : List ℕ). ns ++ cond taken (number ∷ []) []) before

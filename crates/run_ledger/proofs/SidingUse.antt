@@ -14,7 +14,8 @@ use Rattle.cf_index.specs.Sites.{ways_in, ways_out}
 use Rattle.run_ledger.specs.Breakdowns.{is_cell_of, uses_siding}
 
 -- the first of a list that may begin with one more cell
-chosen : (a k c : ℕ) (set : Bool) (xs : List Site) → list_any (is_cell_of a) (cond set (SidingCell k c ∷ xs) xs) ≡ ((nat_eq a k && set) || list_any (is_cell_of a) xs)
+chosen : (a k c : ℕ) (set : Bool) (xs : List Site) → list_any (is_cell_of a) (cond set (SidingCell k c ∷ xs) xs)
+    ≡ ((nat_eq a k && set) || list_any (is_cell_of a) xs)
 chosen a k c true xs = by (nat_eq a k)
   where
     by : (b : Bool) → (b || list_any (is_cell_of a) xs) ≡ ((b && true) || list_any (is_cell_of a) xs)
@@ -27,7 +28,8 @@ chosen a k c false xs = by (nat_eq a k)
     by false = refl
 
 -- one of the cells with the numbers f of the sidings from m on, n of them, that pass the test is one of the siding
-any_numbered : (test : ℕ → Bool) (f : ℕ → ℕ) (a m n : ℕ) → list_any (is_cell_of a) (map (λ k. SidingCell k (f k)) (filter test (counted_from m n))) ≡ ((nat_le m a && nat_lt a (m + n)) && test a)
+any_numbered : (test : ℕ → Bool) (f : ℕ → ℕ) (a m n : ℕ) → list_any (is_cell_of a) (map (λ k. SidingCell k (f k)) (filter test (counted_from m n)))
+    ≡ ((nat_le m a && nat_lt a (m + n)) && test a)
 any_numbered test f a m zero = let e : (nat_le m a && nat_lt a (m + 0)) ≡ false = grind (arith, nat_tests) in rw e refl
 any_numbered test f a m (suc n) =
     let r = any_numbered test f a (suc m) n in
@@ -40,7 +42,8 @@ any_numbered test f a m (suc n) =
     here true = refl
     here false = refl
 
-    by : (same : Bool) → nat_eq a m ≡ same → ((nat_eq a m && test m) || ((nat_le (suc m) a && nat_lt a (suc m + n)) && test a)) ≡ ((nat_le m a && nat_lt a (m + suc n)) && test a)
+    by : (same : Bool) → nat_eq a m ≡ same → ((nat_eq a m && test m) || ((nat_le (suc m) a && nat_lt a (suc m + n)) && test a))
+        ≡ ((nat_le m a && nat_lt a (m + suc n)) && test a)
     by true e =
         let q : a ≡ m = grind (arith, nat_tests) in
         let t : nat_eq m m ≡ true = grind (arith, nat_tests) in

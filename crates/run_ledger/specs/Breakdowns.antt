@@ -42,7 +42,8 @@ abbrev pub leads_to : Plan → List ℕ → Done → Done → Bool
 leads_to plan delays later earlier =
     shares plan later.move earlier.move && (earlier.time == (later.time - delay delays later.move))
 
--- of moves with their times, the last first: the chain that ends with the last one that passes a test; each time the last earlier move that leads to the one after it is followed
+-- of moves with their times, the last first: the chain that ends with the last one that passes a test; each time the
+-- last earlier move that leads to the one after it is followed
 abbrev pub chain_to : Plan → List ℕ → (Done → Bool) → List Done → List Move
 chain_to plan delays test [] = []
 chain_to plan delays test (done ∷ earlier) =

@@ -15,14 +15,16 @@ told-one : (line n : ℕ) (answer : Result Move ScriptKind) (after : ScriptLines
 told-one line n (Ok mv) after h = omega arith
 told-one line n (Err kind) after h = omega arith
 
-told-next : (skipped : Bool) (line n : ℕ) (answer : Result Move ScriptKind) (after : ScriptLines) → length after.moves ≤ n → length (if skipped then after else told_by line answer after).moves ≤ n + 1
+told-next : (skipped : Bool) (line n : ℕ) (answer : Result Move ScriptKind) (after : ScriptLines) → length after.moves ≤ n →
+    length (if skipped then after else told_by line answer after).moves ≤ n + 1
 told-next true line n answer after h = omega arith
 told-next false line n answer after h = told-one line n answer after h
 
 told-lines : (above : ℕ) (lines : List (List ℕ)) → length (told_from above lines).moves ≤ length lines
 told-lines above [] = omega arith
 told-lines above (line ∷ lines) =
-    let one : length (told_from above (line ∷ lines)).moves ≤ length lines + 1 = told-next (is_skipped line) (above + 1) (length lines) (move_in line) (told_from (above + 1) lines) (told-lines (above + 1) lines) in
+    let one : length (told_from above (line ∷ lines)).moves ≤ length lines + 1 = told-next (is_skipped line) (above + 1) (length lines) (move_in line)
+    (told_from (above + 1) lines) (told-lines (above + 1) lines) in
     omega (arith, one)
 
 lines-pieces : (piece : List ℕ) (pieces : List (List ℕ)) → length (lines_from piece pieces) ≤ length pieces + 1
@@ -38,7 +40,8 @@ lines-few : (text : List ℕ) → length (text_lines text) ≤ length text + 1
 unfolding text_lines
 lines-few text = omega (arith, lines-of (slice_split is_line_feed text), length-slice_split is_line_feed text, count_by-le-length is_line_feed text)
 
-pub told-few : (above : ℕ) (text : List ℕ) (told : ScriptLines) → told_from above (text_lines text) ≡ told → above + length text ≤ most_script → length told.moves < 2 ^ 25
+pub told-few : (above : ℕ) (text : List ℕ) (told : ScriptLines) → told_from above (text_lines text) ≡ told → above + length text ≤ most_script →
+    length told.moves < 2 ^ 25
 told-few above text told same few =
     subst (λ (t : ScriptLines). length t.moves < 2 ^ 25) same (omega (arith, told-lines above (text_lines text), lines-few text))
 

@@ -65,9 +65,12 @@ aimed t h =
 
 pub read-back : (mv : Move) → NumbersBelow (10 ^ 9) mv → move_in (move_line mv) ≡ Ok mv
 unfolding move_line words_read move_read kind_named guess_read
-read-back (Issue guess.Next) h = paired (codes "issue") (codes "next") _ (record { some = lit< tt; bytes = refl }) (record { some = lit< tt; bytes = refl }) refl
-read-back (Issue guess.Taken) h = paired (codes "issue") (codes "taken") _ (record { some = lit< tt; bytes = refl }) (record { some = lit< tt; bytes = refl }) refl
-read-back (Issue guess.Wait) h = paired (codes "issue") (codes "wait") _ (record { some = lit< tt; bytes = refl }) (record { some = lit< tt; bytes = refl }) refl
+read-back (Issue guess.Next) h = paired (codes "issue") (codes "next") _ (record { some = lit< tt; bytes = refl })
+    (record { some = lit< tt; bytes = refl }) refl
+read-back (Issue guess.Taken) h = paired (codes "issue") (codes "taken") _ (record { some = lit< tt; bytes = refl })
+    (record { some = lit< tt; bytes = refl }) refl
+read-back (Issue guess.Wait) h = paired (codes "issue") (codes "wait") _ (record { some = lit< tt; bytes = refl })
+    (record { some = lit< tt; bytes = refl }) refl
 read-back (Issue (guess.To t)) h = aimed t h
 read-back Emit h = alone (codes "emit") Emit (record { some = lit< tt; bytes = refl }) refl
 read-back (Climb i) h = staged (codes "climb") Climb i (record { some = lit< tt; bytes = refl }) (λ words. refl) h

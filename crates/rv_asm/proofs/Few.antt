@@ -136,7 +136,8 @@ one-more labels label m n one within clean f =
     record {
       count = omega (arith, count, f.count, one, within);
       names = omega (arith, count, names, last, f.names, within);
-      clean = subst HasNoNul (sym joined) (All-append IsNoNul (joined_names labels) (joined_names (label ∷ [])) f.clean (All-append IsNoNul label.name [] clean (All-nil IsNoNul)));
+      clean = subst HasNoNul (sym joined) (All-append IsNoNul (joined_names labels) (joined_names (label ∷ [])) f.clean
+          (All-append IsNoNul label.name [] clean (All-nil IsNoNul)));
     }
 
 labelled-by : (twice : Bool) (more next : List LabelView) (answer : Result (List LabelView) AsmKind)
@@ -151,23 +152,28 @@ few-by true labels next place text m h e f =
     let name = take (name_length text) text in
     let sizes = label-length text h in
     let long : length name ≡ name_length text = length-prefix_len is_name_byte text in
-    let same = labelled-by (is_some (value_of labels name)) (labels ++ record { name = name; value = address_of place; in_text = place.in_text; global = false } ∷ []) next (with_label labels place (Some name)) refl e in
+    let same = labelled-by (is_some (value_of labels name)) (labels ++ record { name = name; value = address_of place; in_text = place.in_text; global = false }
+    ∷ []) next (with_label labels place (Some name)) refl e in
     rw (← same) (one-more labels (record { name = name; value = address_of place; in_text = place.in_text; global = false }) m (length text)
     (omega (arith, long, sizes.0)) (omega (arith, long, sizes.1)) (name-no-nul text) f)
 
-labels-few : (labels next : List LabelView) (place : SectionPlace) (text : List ℕ) (m : ℕ) → with_label labels place (label_in text) ≡ Ok next → AreFew labels m → AreFew next (m + length text)
+labels-few : (labels next : List LabelView) (place : SectionPlace) (text : List ℕ) (m : ℕ) → with_label labels place (label_in text) ≡ Ok next →
+    AreFew labels m → AreFew next (m + length text)
 unfolding label_in
 labels-few labels next place text m e f = few-by (has_label text) labels next place text m refl e f
 
 drafted-few : (draft next : Draft) (text : List ℕ) (m : ℕ) → drafted draft text ≡ Ok next → AreFew draft.labels m → AreFew next.labels (m + length text)
 unfolding drafted
 drafted-few draft next text m e f =
-    let l = passes (with_label draft.labels draft.place (label_in text)) (λ (labels : List LabelView). and_then (item_at draft.place (statement_in text)) (λ item. Ok (record { place = place_after draft.place item; labels = labels }))) next e in
-    let i = passes (item_at draft.place (statement_in text)) (λ (item : SourceItem). Ok (record { place = place_after draft.place item; labels = l.first })) next l.goes in
+    let l = passes (with_label draft.labels draft.place (label_in text)) (λ (labels : List LabelView). and_then (item_at draft.place (statement_in text))
+    (λ item. Ok (record { place = place_after draft.place item; labels = labels }))) next e in
+    let i = passes (item_at draft.place (statement_in text)) (λ (item : SourceItem). Ok (record { place = place_after draft.place item; labels = l.first }))
+    next l.goes in
     let same : (record { place = place_after draft.place i.first; labels = l.first }) ≡ next = cc i.goes in
     rw (← same) (labels-few draft.labels l.first draft.place text m l.is f)
 
-draft-few : (above : ℕ) (draft last : Draft) (lines : List (List ℕ)) (m : ℕ) → draft_from above draft lines ≡ Ok last → AreFew draft.labels m → AreFew last.labels (m + bytes_of lines)
+draft-few : (above : ℕ) (draft last : Draft) (lines : List (List ℕ)) (m : ℕ) → draft_from above draft lines ≡ Ok last → AreFew draft.labels m →
+    AreFew last.labels (m + bytes_of lines)
 draft-few above draft last [] m e f = let same : draft ≡ last = cc in rw (← same) (more-bytes draft.labels m (m + 0) (omega arith) f)
 draft-few above draft last (line ∷ lines) m e f =
     let r = passes (at_line (above + 1) (drafted draft (said line))) (λ (next : Draft). draft_from (above + 1) next lines) last e in
@@ -184,7 +190,8 @@ names-kept : (labels : List LabelView) (name : List ℕ) → joined_names (expor
 unfolding exported
 names-kept [] name = refl
 names-kept (l ∷ ls) name =
-    ap (λ (n : List ℕ). n ++ joined_names (map (exported_as name) ls)) (name-kept-by (bytes_eq l.name name) l) ∙ ap (λ (ns : List ℕ). l.name ++ ns) (names-kept ls name)
+    ap (λ (n : List ℕ). n ++ joined_names (map (exported_as name) ls)) (name-kept-by (bytes_eq l.name name) l)
+    ∙ ap (λ (ns : List ℕ). l.name ++ ns) (names-kept ls name)
 
 count-kept : (labels : List LabelView) (name : List ℕ) → length (exported labels name) ≡ length labels
 unfolding exported
@@ -215,7 +222,8 @@ marked-few labels (Zeros count) m f = f
 filled-few : (s t : Sections) (text : List ℕ) (m : ℕ) → filled s text ≡ Ok t → AreFew s.labels m → AreFew t.labels m
 unfolding filled
 filled-few s t text m e f =
-    let r = passes (item_at s.place (statement_in text)) (λ (item : SourceItem). and_then (pieces_of s.labels (address_of s.place) item) (λ ps. Ok (placed s item ps))) t e in
+    let r = passes (item_at s.place (statement_in text)) (λ (item : SourceItem). and_then (pieces_of s.labels (address_of s.place) item)
+    (λ ps. Ok (placed s item ps))) t e in
     let p = passes (pieces_of s.labels (address_of s.place) r.first) (λ (ps : List Piece). Ok (placed s r.first ps)) t r.goes in
     let same : placed s r.first p.first ≡ t = cc p.goes in
     rw (← same) (marked-few s.labels r.first m f)
@@ -237,7 +245,8 @@ looked-few lines sections e =
     sections-few 0 (empty l.labels) sections lines (bytes_of lines) l.filled (more-bytes l.labels (0 + bytes_of lines) (bytes_of lines) (omega arith) few)
 
 -- an object with few and short labels and with sized sections is small
-small-object : (sections : Sections) (object : Object) (n : ℕ) → AreSized sections → AreFew sections.labels n → n ≤ 1048576 → IsObject sections object → IsSmallObject object
+small-object : (sections : Sections) (object : Object) (n : ℕ) → AreSized sections → AreFew sections.labels n → n ≤ 1048576 → IsObject sections object →
+    IsSmallObject object
 small-object sections object n sized few within is = record {
   text = omega (arith, spelt-length sections.text object.text_bytes is.text_bytes, sized.text, sized.place.text);
   data_section = omega (arith, spelt-length sections.data_pieces object.data_bytes is.data_bytes, sized.data_section, sized.place.data_section);
@@ -246,7 +255,8 @@ small-object sections object n sized few within is = record {
   name_bytes = omega (arith, ap (λ (l : List LabelView). length (joined_names l)) is.labels, few.names, within);
 }
 
-small-by : (source : List ℕ) (object : Object) (answer : Result Sections AsmErr) → length source ≤ 1048576 → sections_of (text_lines source) ≡ answer → Objects object answer → IsSmallObject object
+small-by : (source : List ℕ) (object : Object) (answer : Result Sections AsmErr) → length source ≤ 1048576 → sections_of (text_lines source) ≡ answer →
+    Objects object answer → IsSmallObject object
 small-by source object (Ok sections) h e is =
     let lines = text_lines source in
     small-object sections object (bytes_of lines) (sections-sized lines sections e) (looked-few lines sections e) (omega (arith, source-shorter source, h)) is

@@ -56,8 +56,10 @@ unfolding filled
 goes_on s out new text h f =
     let p = has_pieces f.bytes (pieces_of out.labels (address_of out.place) f.item) f.gives in
     let read : item_at s.place (statement_in text) ≡ Ok f.item = subst (λ place. item_at place (statement_in text) ≡ Ok f.item) h.place f.read in
-    let at_place : pieces_of out.labels (address_of s.place) f.item ≡ Ok p.pieces = subst (λ place. pieces_of out.labels (address_of place) f.item ≡ Ok p.pieces) h.place p.is in
-    let pieces : pieces_of s.labels (address_of s.place) f.item ≡ Ok p.pieces = subst (λ labels. pieces_of labels (address_of s.place) f.item ≡ Ok p.pieces) h.labels at_place in
+    let at_place : pieces_of out.labels (address_of s.place) f.item ≡ Ok p.pieces = subst (λ place. pieces_of out.labels (address_of place) f.item
+    ≡ Ok p.pieces) h.place p.is in
+    let pieces : pieces_of s.labels (address_of s.place) f.item ≡ Ok p.pieces = subst (λ labels. pieces_of labels (address_of s.place) f.item
+    ≡ Ok p.pieces) h.labels at_place in
     let text_is : new.text.items ≡ (if s.place.in_text then out.text.items ++ f.bytes else out.text.items)
     = f.text_bytes ∙ ap (λ (place : SectionPlace). if place.in_text then out.text.items ++ f.bytes else out.text.items) h.place in
     let data_is : new.data.items ≡ (if s.place.in_text then out.data.items else out.data.items ++ f.bytes)
@@ -95,9 +97,11 @@ filled-refused : (s : Sections) (out : Output) (text : List ℕ) (kind : AsmKind
 unfolding filled line_pieces
 filled-refused s out text kind h e =
     let at_place : and_then (item_at s.place (statement_in text)) (λ item. pieces_of out.labels (address_of s.place) item) ≡ Err kind
-    = subst (λ (place : SectionPlace). and_then (item_at place (statement_in text)) (λ item. pieces_of out.labels (address_of place) item) ≡ Err kind) h.place e in
+    = subst (λ (place : SectionPlace). and_then (item_at place (statement_in text)) (λ item. pieces_of out.labels (address_of place) item)
+    ≡ Err kind) h.place e in
     let refused : and_then (item_at s.place (statement_in text)) (λ item. pieces_of s.labels (address_of s.place) item) ≡ Err kind
-    = subst (λ (labels : List LabelView). and_then (item_at s.place (statement_in text)) (λ item. pieces_of labels (address_of s.place) item) ≡ Err kind) h.labels at_place in
+    = subst (λ (labels : List LabelView). and_then (item_at s.place (statement_in text)) (λ item. pieces_of labels (address_of s.place) item)
+    ≡ Err kind) h.labels at_place in
     step-refused (item_at s.place (statement_in text)) (λ item. pieces_of s.labels (address_of s.place) item) (λ item pieces. placed s item pieces) kind refused
 
 pub refused : (above : ℕ) (out : Output) (line : List ℕ) (lines : List (List ℕ)) (answer : Result Sections AsmErr) (kind : AsmKind)

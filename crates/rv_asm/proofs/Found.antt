@@ -21,7 +21,8 @@ use Rattle.rv_asm.specs.declared.label.Label.{Label}
 apart : (name other key : List ℕ) → bytes_eq name other ≡ false → bytes_eq name key ≡ true → bytes_eq other key ≡ false
 apart name other key n y = nat_list_eq_equiv.symm other key ∙ sym (nat_list_eq_equiv.congr name key other y) ∙ n
 
-apart_in_order : (name other key : List ℕ) → bytes_eq name other ≡ false → is_eq (slice_cmp nat_cmp name key) ≡ true → is_eq (slice_cmp nat_cmp other key) ≡ false
+apart_in_order : (name other key : List ℕ) → bytes_eq name other ≡ false → is_eq (slice_cmp nat_cmp name key) ≡ true →
+    is_eq (slice_cmp nat_cmp other key) ≡ false
 apart_in_order name other key n y = is_eq-slice_cmp other key ∙ apart name other key n (sym (is_eq-slice_cmp name key) ∙ y)
 
 others_stay : {K X : Type 0} (eq : K → K → Bool) (test : K → Bool) (old new : List (K × X)) → KeepsOthers eq test old new
@@ -142,20 +143,23 @@ each_label labels found finds place d within =
     rw (← name_at labels place d within) (finds.each place d.name (omega (arith, length-map labels (λ (label : LabelView). label.name))))
 
 -- only the label at the place that is found has the name
-other_label : (labels : List LabelView) (found : List ℕ → Option ℕ) (name : List ℕ) → FindsNames (names_of labels) found → (place : ℕ) (d : LabelView) → place < length labels
+other_label : (labels : List LabelView) (found : List ℕ → Option ℕ) (name : List ℕ) → FindsNames (names_of labels) found → (place : ℕ) (d : LabelView) →
+    place < length labels
     → found name ≢ Some place → bytes_eq (slice_index_or labels place d).name name ≡ false
 other_label labels found name finds place d within not_there =
     false_from_ne_true (bytes_eq (slice_index_or labels place d).name name) (λ y.
     let same : (slice_index_or labels place d).name ≡ name = (bytes_decides (slice_index_or labels place d).name name).0 y in
     not_there (ap found (sym same) ∙ each_label labels found finds place d within))
 
-found_within : (labels : List LabelView) (found : List ℕ → Option ℕ) (name : List ℕ) (place : ℕ) → FindsNames (names_of labels) found → found name ≡ Some place → place < length labels
+found_within : (labels : List LabelView) (found : List ℕ → Option ℕ) (name : List ℕ) (place : ℕ) → FindsNames (names_of labels) found →
+    found name ≡ Some place → place < length labels
 found_within labels found name place finds told =
     let within = finds.within name place told in
     omega (arith, length-map labels (λ (label : LabelView). label.name))
 
 -- and that label has it
-that_label : (labels : List LabelView) (found : List ℕ → Option ℕ) (name : List ℕ) (place : ℕ) (d : LabelView) → FindsNames (names_of labels) found → found name ≡ Some place
+that_label : (labels : List LabelView) (found : List ℕ → Option ℕ) (name : List ℕ) (place : ℕ) (d : LabelView) → FindsNames (names_of labels) found →
+    found name ≡ Some place
     → bytes_eq (slice_index_or labels place d).name name ≡ true
 that_label labels found name place d finds told =
     let within = found_within labels found name place finds told in
@@ -163,24 +167,28 @@ that_label labels found name place d finds told =
     (bytes_decides (slice_index_or labels place d).name name).1 same
 
 -- the value of the label that is found is that of the name
-pub value_found : (labels : List LabelView) (found : List ℕ → Option ℕ) (name : List ℕ) (place : ℕ) (d : LabelView) → FindsNames (names_of labels) found → found name ≡ Some place
+pub value_found : (labels : List LabelView) (found : List ℕ → Option ℕ) (name : List ℕ) (place : ℕ) (d : LabelView) → FindsNames (names_of labels) found →
+    found name ≡ Some place
     → value_of labels name ≡ Some (slice_index_or labels place d).value
 unfolding value_of
 value_found labels found name place d finds told =
     let within = found_within labels found name place finds told in
     let first = find_at (λ label. bytes_eq label.name name) labels place d within (that_label labels found name place d finds told)
-    (λ i below. other_label labels found name finds i d (omega arith) (λ e. let same : Some i ≡ Some place = sym e ∙ told in let at : i ≡ place = cc in absurd (omega arith))) in
+    (λ i below. other_label labels found name finds i d (omega arith) (λ e. let same : Some i ≡ Some place = sym e ∙ told in let at : i ≡ place = cc in
+    absurd (omega arith))) in
     ap (option_map (λ (label : LabelView). label.value)) first
 
 -- a name that is not found has no value
-pub value_missing : (labels : List LabelView) (found : List ℕ → Option ℕ) (name : List ℕ) → FindsNames (names_of labels) found → found name ≡ None → value_of labels name ≡ None
+pub value_missing : (labels : List LabelView) (found : List ℕ → Option ℕ) (name : List ℕ) → FindsNames (names_of labels) found → found name ≡ None →
+    value_of labels name ≡ None
 unfolding value_of
 value_missing labels found name finds told =
     ap (option_map (λ (label : LabelView). label.value))
     (find_none (λ label. bytes_eq label.name name) labels blank (λ i within. other_label labels found name finds i blank within (λ e. absurd (cc))))
 
 -- and the other way round
-pub unknown_missing : (labels : List LabelView) (found : List ℕ → Option ℕ) (name : List ℕ) (answer : Option ℕ) → found name ≡ answer → FindsNames (names_of labels) found → value_of labels name ≡ None
+pub unknown_missing : (labels : List LabelView) (found : List ℕ → Option ℕ) (name : List ℕ) (answer : Option ℕ) → found name ≡ answer →
+    FindsNames (names_of labels) found → value_of labels name ≡ None
     → answer ≡ None
 unknown_missing labels found name None e finds unknown = refl
 unknown_missing labels found name (Some place) e finds unknown =
@@ -189,31 +197,36 @@ unknown_missing labels found name (Some place) e finds unknown =
 
 -- ---- a label is exported
 
-mapped_none : (f : LabelView → LabelView) (xs : List LabelView) (d : LabelView) → ((i : ℕ) → i < length xs → f (slice_index_or xs i d) ≡ slice_index_or xs i d) → map f xs ≡ xs
+mapped_none : (f : LabelView → LabelView) (xs : List LabelView) (d : LabelView) → ((i : ℕ) → i < length xs →
+    f (slice_index_or xs i d) ≡ slice_index_or xs i d) → map f xs ≡ xs
 mapped_none f [] d same = refl
 mapped_none f (x ∷ xs) d same = rw (same 0 (omega arith), mapped_none f xs d (λ i within. same (suc i) (omega arith))) refl
 
 mapped_at : (f : LabelView → LabelView) (xs : List LabelView) (k : ℕ) (d : LabelView) → k < length xs
     → ((i : ℕ) → i < length xs → i ≢ k → f (slice_index_or xs i d) ≡ slice_index_or xs i d) → map f xs ≡ slice_set xs k (f (slice_index_or xs k d))
 mapped_at f [] k d within same = absurd (omega arith)
-mapped_at f (x ∷ xs) zero d within same = ap (λ (l : List LabelView). f x ∷ l) (mapped_none f xs d (λ i below. same (suc i) (omega arith) (λ e. absurd (omega arith))))
+mapped_at f (x ∷ xs) zero d within same = ap (λ (l : List LabelView). f x ∷ l) (mapped_none f xs d
+    (λ i below. same (suc i) (omega arith) (λ e. absurd (omega arith))))
 mapped_at f (x ∷ xs) (suc k) d within same =
     let first : f x ≡ x = same 0 (omega arith) (λ e. absurd (omega arith)) in
     rw (first, mapped_at f xs k d (omega arith) (λ i below other. same (suc i) (omega arith) (λ e. other (omega arith)))) refl
 
 -- the label that is found is the only one that is marked
-pub exported_found : (labels : List LabelView) (found : List ℕ → Option ℕ) (name : List ℕ) (place : ℕ) (d : LabelView) → FindsNames (names_of labels) found → found name ≡ Some place
+pub exported_found : (labels : List LabelView) (found : List ℕ → Option ℕ) (name : List ℕ) (place : ℕ) (d : LabelView) → FindsNames (names_of labels) found →
+    found name ≡ Some place
     → exported labels name ≡ slice_set labels place (record (slice_index_or labels place d) { global = true })
 unfolding exported
 exported_found labels found name place d finds told =
     let within = found_within labels found name place finds told in
-    let marked : exported_as name (slice_index_or labels place d) ≡ record (slice_index_or labels place d) { global = true } = rw (that_label labels found name place d finds told) refl in
+    let marked : exported_as name (slice_index_or labels place d) ≡ record (slice_index_or labels place d) { global = true } =
+    rw (that_label labels found name place d finds told) refl in
     mapped_at (exported_as name) labels place d within
     (λ i below other. rw (other_label labels found name finds i d below (λ e. let same : Some i ≡ Some place = sym e ∙ told in other (cc))) refl)
     ∙ ap (slice_set labels place) marked
 
 -- no label is marked where the name is not found
-pub exported_missing : (labels : List LabelView) (found : List ℕ → Option ℕ) (name : List ℕ) → FindsNames (names_of labels) found → found name ≡ None → exported labels name ≡ labels
+pub exported_missing : (labels : List LabelView) (found : List ℕ → Option ℕ) (name : List ℕ) → FindsNames (names_of labels) found → found name ≡ None →
+    exported labels name ≡ labels
 unfolding exported
 exported_missing labels found name finds told =
     mapped_none (exported_as name) labels blank
@@ -243,7 +256,8 @@ pub kept_exported : (items : List Label) (found : List ℕ → Option ℕ) (name
     → exported (map named items) name ≡ map named (slice_set items place (record label { global = true }))
 kept_exported items found name place label finds told e =
     exported_found (map named items) found name place (named label) finds told
-    ∙ ap (λ (l : LabelView). slice_set (map named items) place (record l { global = true })) (named_at items place label (place_within items found name place finds told) e)
+    ∙ ap (λ (l : LabelView). slice_set (map named items) place (record l { global = true }))
+    (named_at items place label (place_within items found name place finds told) e)
     ∙ sym (map-set named items place (record label { global = true }))
 
 -- which leaves the names
@@ -254,7 +268,8 @@ kept_names items found name place label finds told e =
     let at = named_at items place label (place_within items found name place finds told) e in
     let same : names_of (map named (slice_set items place (record label { global = true }))) ≡ names_of (map named items) =
     ap names_of (map-set named items place (record label { global = true }))
-    ∙ map-set_same (λ (l : LabelView). l.name) (map named items) place (named (record label { global = true })) (named label) (ap (λ (l : LabelView). l.name) (sym at)) in
+    ∙ map-set_same (λ (l : LabelView). l.name) (map named items) place (named (record label { global = true })) (named label)
+    (ap (λ (l : LabelView). l.name) (sym at)) in
     subst (λ (names : List (List ℕ)). FindsNames names found) (sym same) finds
 
 -- a map with the same entries finds the same

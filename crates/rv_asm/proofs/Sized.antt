@@ -58,7 +58,8 @@ numbers-length : (labels : List LabelView) (width : Width) (bytes : List ℕ) (o
     → bytes_from labels width bytes operands ≡ Ok all → length all ≡ length bytes + bytes_of_width width * length operands
 numbers-length labels width bytes [] all e = let same : bytes ≡ all = cc in omega (arith, ap (λ (l : List ℕ). length l) same)
 numbers-length labels width bytes (o ∷ os) all e =
-    let p = passes (operand_value labels width o) (λ (z : ℤ). bytes_from labels width (bytes ++ bytes_low_first 0 (bytes_of_width width) (word_modulo z)) os) all e in
+    let p = passes (operand_value labels width o) (λ (z : ℤ). bytes_from labels width (bytes ++ bytes_low_first 0 (bytes_of_width width) (word_modulo z)) os)
+    all e in
     let low = bytes_low_first 0 (bytes_of_width width) (word_modulo p.first) in
     let rest = numbers-length labels width (bytes ++ low) os all p.goes in
     let more : bytes_of_width width * length (o ∷ os) ≡ bytes_of_width width + bytes_of_width width * length os = by-width width (length os) in
@@ -98,11 +99,13 @@ item-sized labels pc (Zeros count) ps e =
     let same : (Bytes (replicate count 0) ∷ []) ≡ ps = cc in rw (← same) (omega (arith, length-replicate {A = ℕ} count 0))
 
 -- how long the sections are after an item
-grown-text : (b : Bool) (p : SectionPlace) (n : ℕ) → (cond b (record p { text_len = p.text_len + n }) (record p { data_len = p.data_len + n })).text_len ≡ p.text_len + cond b n 0
+grown-text : (b : Bool) (p : SectionPlace) (n : ℕ) → (cond b (record p { text_len = p.text_len + n }) (record p { data_len = p.data_len + n })).text_len
+    ≡ p.text_len + cond b n 0
 grown-text true p n = refl
 grown-text false p n = omega arith
 
-grown-data : (b : Bool) (p : SectionPlace) (n : ℕ) → (cond b (record p { text_len = p.text_len + n }) (record p { data_len = p.data_len + n })).data_len ≡ p.data_len + cond b 0 n
+grown-data : (b : Bool) (p : SectionPlace) (n : ℕ) → (cond b (record p { text_len = p.text_len + n }) (record p { data_len = p.data_len + n })).data_len
+    ≡ p.data_len + cond b 0 n
 grown-data true p n = omega arith
 grown-data false p n = refl
 
@@ -146,7 +149,8 @@ fits-by false false kind other answer e h = refl
 pub fits-within : (p : SectionPlace) (item : SourceItem) → fits_at p item ≡ Ok tt → length_at p + size_of item ≤ 1048576
 unfolding fits_at
 fits-within p item e =
-    let test : nat_lt 1048576 (length_at p + size_of item) ≡ false = fits-by (is_code item && (not p.in_text || not (address_of p % 4 == 0))) (nat_lt 1048576 (length_at p + size_of item)) Misplaced (TooLarge (length_at p + size_of item)) (fits_at p item) refl e in
+    let test : nat_lt 1048576 (length_at p + size_of item) ≡ false = fits-by (is_code item && (not p.in_text || not (address_of p % 4 == 0)))
+    (nat_lt 1048576 (length_at p + size_of item)) Misplaced (TooLarge (length_at p + size_of item)) (fits_at p item) refl e in
     grind (arith, nat_tests)
 
 within-by : (b : Bool) (t d n : ℕ) → cond b t d + n ≤ 1048576 → t ≤ 1048576 → d ≤ 1048576 → (t + cond b n 0 ≤ 1048576) × (d + cond b 0 n ≤ 1048576)
@@ -166,7 +170,8 @@ size-else : (b : Bool) (ps qs : List Piece) → pieces_size (cond b ps (ps ++ qs
 size-else true ps qs = omega arith
 size-else false ps qs = size-append ps qs
 
-pub placed-sized : (s : Sections) (item : SourceItem) (ps : List Piece) → AreSized s → fits_at s.place item ≡ Ok tt → pieces_size ps ≡ size_of item → AreSized (placed s item ps)
+pub placed-sized : (s : Sections) (item : SourceItem) (ps : List Piece) → AreSized s → fits_at s.place item ≡ Ok tt → pieces_size ps ≡ size_of item →
+    AreSized (placed s item ps)
 placed-sized s item ps h e n = record {
   text = size-then s.place.in_text s.text ps ∙ rw (h.text, n) (sym (text-after s.place item));
   data_section = size-else s.place.in_text s.data_pieces ps ∙ rw (h.data_section, n) (sym (data-after s.place item));
@@ -185,10 +190,12 @@ item-fits p text item e =
 filled-sized : (s t : Sections) (text : List ℕ) → AreSized s → filled s text ≡ Ok t → AreSized t
 unfolding filled
 filled-sized s t text h e =
-    let r = passes (item_at s.place (statement_in text)) (λ (item : SourceItem). and_then (pieces_of s.labels (address_of s.place) item) (λ ps. Ok (placed s item ps))) t e in
+    let r = passes (item_at s.place (statement_in text)) (λ (item : SourceItem). and_then (pieces_of s.labels (address_of s.place) item)
+    (λ ps. Ok (placed s item ps))) t e in
     let p = passes (pieces_of s.labels (address_of s.place) r.first) (λ (ps : List Piece). Ok (placed s r.first ps)) t r.goes in
     let same : placed s r.first p.first ≡ t = cc p.goes in
-    rw (← same) (placed-sized s r.first p.first h (item-fits s.place (statement_in text) r.first r.is) (item-sized s.labels (address_of s.place) r.first p.first p.is))
+    rw (← same) (placed-sized s r.first p.first h (item-fits s.place (statement_in text) r.first r.is)
+    (item-sized s.labels (address_of s.place) r.first p.first p.is))
 
 lines-sized : (above : ℕ) (s t : Sections) (lines : List (List ℕ)) → AreSized s → sections_from above s lines ≡ Ok t → AreSized t
 lines-sized above s t [] h e = let same : s ≡ t = cc in rw (← same) h
@@ -204,7 +211,8 @@ pub record Looks (lines : List (List ℕ)) (sections : Sections) : Type 0 where
 
 pub looks : (lines : List (List ℕ)) (sections : Sections) → sections_of lines ≡ Ok sections → Looks lines sections
 looks lines sections e =
-    let a = passes (are_ascii 0 lines) (λ (u : Unit {0}). and_then (draft_from 0 (record { place = start; labels = [] }) lines) (λ draft. sections_from 0 (empty draft.labels) lines)) sections e in
+    let a = passes (are_ascii 0 lines) (λ (u : Unit {0}). and_then (draft_from 0 (record { place = start; labels = [] }) lines)
+    (λ draft. sections_from 0 (empty draft.labels) lines)) sections e in
     let d = passes (draft_from 0 (record { place = start; labels = [] }) lines) (λ draft. sections_from 0 (empty draft.labels) lines) sections a.goes in
     record { labels = d.first.labels; drafted = (d.first.place, d.is); filled = d.goes }
 
@@ -227,6 +235,7 @@ either-sized false e answer h = h
 -- the sizes and the bytes of a source agree
 pub assembled-sized : (source : List ℕ) → IsSized (assembled source)
 unfolding assembled
-assembled-sized source = either-sized (nat_lt 1048576 (length source)) _ (sections_of (text_lines source)) (sized-by (sections_of (text_lines source)) (sections-sized (text_lines source)))
+assembled-sized source = either-sized (nat_lt 1048576 (length source)) _ (sections_of (text_lines source))
+    (sized-by (sections_of (text_lines source)) (sections-sized (text_lines source)))
 
 pub ruleset sized = (assembled-sized)

@@ -85,14 +85,16 @@ within-fits least greatest z =
 number_in-fits : (least greatest : ℤ) (text : List ℕ) → IfOk (number_in least greatest text) (λ z. Between least greatest z)
 unfolding number_in
 number_in-fits least greatest text =
-    ok_then (λ z. Unit {0}) (λ z. Between least greatest z) (needed BadNumber (number_of text)) (within least greatest) (any (needed BadNumber (number_of text))) (λ z u. within-fits least greatest z)
+    ok_then (λ z. Unit {0}) (λ z. Between least greatest z) (needed BadNumber (number_of text)) (within least greatest)
+    (any (needed BadNumber (number_of text))) (λ z u. within-fits least greatest z)
 
 weaker : {A : Type 0} (P Q : A → Type 0) (x : Result A TextErr) → IfOk x P → ((a : A) → P a → Q a) → IfOk x Q
 weaker P Q (Ok a) h k = k a h
 weaker P Q (Err e) h k = tt
 
 immediate_in-fits : (text : List ℕ) → IfOk (immediate_in text) (λ z. IsWithin (2 ^ 11) z)
-immediate_in-fits text = weaker (λ z. Between (negsuc 2047) (pos 2047) z) (λ z. IsWithin (2 ^ 11) z) (number_in (negsuc 2047) (pos 2047) text) (number_in-fits (negsuc 2047) (pos 2047) text) (λ z h. (h.0, omega (arith, ints, h.1)))
+immediate_in-fits text = weaker (λ z. Between (negsuc 2047) (pos 2047) z) (λ z. IsWithin (2 ^ 11) z) (number_in (negsuc 2047) (pos 2047) text)
+    (number_in-fits (negsuc 2047) (pos 2047) text) (λ z h. (h.0, omega (arith, ints, h.1)))
 
 field_below-fits : (limit : ℕ) (text : List ℕ) → 0 < limit → IfOk (field_below limit text) (λ n. n < limit)
 field_below-fits limit text some =
@@ -100,7 +102,8 @@ field_below-fits limit text some =
     (number_in-fits (pos 0) (pos (limit - 1)) text) (λ z h. grind (arith, ints))
 
 amount-fits : (text : List ℕ) → IfOk (number_in (pos 0) (pos 31) text) (λ z. IsAmount z)
-amount-fits text = weaker (λ z. Between (pos 0) (pos 31) z) (λ z. IsAmount z) (number_in (pos 0) (pos 31) text) (number_in-fits (pos 0) (pos 31) text) (λ z h. (h.0, omega (arith, ints, h.1)))
+amount-fits text = weaker (λ z. Between (pos 0) (pos 31) z) (λ z. IsAmount z) (number_in (pos 0) (pos 31) text) (number_in-fits (pos 0) (pos 31) text)
+    (λ z h. (h.0, omega (arith, ints, h.1)))
 
 immediate_of-fits : (op : ImmOp) (text : List ℕ) → IfOk (immediate_of op text) (λ z. IsImmediate op z)
 unfolding immediate_of
@@ -121,7 +124,8 @@ offset_in-fits text = immediate_in-fits (trimmed (before_first is_open text))
 base_in-fits : (text : List ℕ) → IfOk (base_in text) (λ r. IsRegister r)
 unfolding base_in
 base_in-fits text =
-    ok_then (λ u. Unit {0}) (λ r. IsRegister r) (needed BadRegister (enclosed (drop (position_or_len is_open text) text))) (λ inner. register_in (trimmed inner))
+    ok_then (λ u. Unit {0}) (λ r. IsRegister r) (needed BadRegister (enclosed (drop (position_or_len is_open text) text)))
+    (λ inner. register_in (trimmed inner))
     (any (needed BadRegister (enclosed (drop (position_or_len is_open text) text)))) (λ inner u. register_in-fits (trimmed inner))
 
 -- the fields of what is read are in range
@@ -139,8 +143,10 @@ UpperFits (rd, imm) = IsRegister rd × (imm < 2 ^ 20)
 upper-fits : (text : List ℕ) → IfOk (upper_form text) (λ p. UpperFits p)
 unfolding upper_form
 upper-fits text =
-    ok_then (λ r. IsRegister r) (λ p. UpperFits p) (register_in (operand_at text 0)) (λ rd. and_then (field_below (2 ^ 20) (operand_at text 1)) (λ imm. Ok (rd, imm))) (register_in-fits (operand_at text 0)) (λ rd h.
-    ok_then (λ n. n < 2 ^ 20) (λ p. UpperFits p) (field_below (2 ^ 20) (operand_at text 1)) (λ imm. Ok (rd, imm)) (field_below-fits (2 ^ 20) (operand_at text 1) (lit< tt)) (λ imm k. (h, k)))
+    ok_then (λ r. IsRegister r) (λ p. UpperFits p) (register_in (operand_at text 0)) (λ rd. and_then (field_below (2 ^ 20) (operand_at text 1))
+    (λ imm. Ok (rd, imm))) (register_in-fits (operand_at text 0)) (λ rd h.
+    ok_then (λ n. n < 2 ^ 20) (λ p. UpperFits p) (field_below (2 ^ 20) (operand_at text 1)) (λ imm. Ok (rd, imm))
+    (field_below-fits (2 ^ 20) (operand_at text 1) (lit< tt)) (λ imm k. (h, k)))
 
 abbrev AddressFits : (ℕ × ℤ × ℕ) → Type 0
 AddressFits (first, imm, base) = IsRegister first × IsRegister base × IsWithin (2 ^ 11) imm
@@ -209,10 +215,13 @@ operands-fit Jal text = jump-fits text
 operands-fit Jalr text = whole-fits (λ p. AddressFits p) (λ (rd, imm, rs1). instr.Jalr rd rs1 imm) (address_form text) (address-fits text) (λ p h. h)
 operands-fit (Branch c) text = branch-fits c text
 operands-fit (Load k) text = whole-fits (λ p. AddressFits p) (λ (rd, imm, rs1). instr.Load k rd rs1 imm) (address_form text) (address-fits text) (λ p h. h)
-operands-fit (Store k) text = whole-fits (λ p. AddressFits p) (λ (rs2, imm, rs1). instr.Store k rs1 rs2 imm) (address_form text) (address-fits text) (λ p h. (h.1, h.0, h.2))
-operands-fit (OpImm op) text = whole-fits (λ p. ImmediateFits op p) (λ (rd, rs1, imm). instr.OpImm op rd rs1 imm) (immediate_form op text) (immediate-fits op text) (λ p h. h)
+operands-fit (Store k) text = whole-fits (λ p. AddressFits p) (λ (rs2, imm, rs1). instr.Store k rs1 rs2 imm) (address_form text) (address-fits text)
+    (λ p h. (h.1, h.0, h.2))
+operands-fit (OpImm op) text = whole-fits (λ p. ImmediateFits op p) (λ (rd, rs1, imm). instr.OpImm op rd rs1 imm) (immediate_form op text)
+    (immediate-fits op text) (λ p h. h)
 operands-fit (Op op) text = whole-fits (λ p. RegistersFit p) (λ (rd, rs1, rs2). instr.Op op rd rs1 rs2) (register_form text) (registers-fit text) (λ p h. h)
-operands-fit Fence text = whole-fits (λ p. SetFits p) (λ (rd, rs1, set). instr.Fence rd rs1 set) (fence_form 255 text) (fence-fits 255 text (lit< tt)) (λ p h. h)
+operands-fit Fence text = whole-fits (λ p. SetFits p) (λ (rd, rs1, set). instr.Fence rd rs1 set) (fence_form 255 text) (fence-fits 255 text (lit< tt))
+    (λ p h. h)
 operands-fit Ecall text = tt
 operands-fit Ebreak text = tt
 operands-fit FenceI text = whole-fits (λ p. SetFits p) (λ (rd, rs1, set). instr.FenceI rd rs1 set) (fence_form 0 text) (fence-fits 0 text (lit< tt)) (λ p h. h)
@@ -224,7 +233,8 @@ either-reading false x e h = tt
 
 pub statement-fits : (m : Mnemonic) (text : List ℕ) → IfOk (statement_by m text) (λ r. ReadingFits r)
 unfolding statement_by
-statement-fits m text = either-reading (takes m (operand_count text)) (operands_read m text) (WrongCount (counted (operand_count text)) (wanted m)) (operands-fit m text)
+statement-fits m text = either-reading (takes m (operand_count text)) (operands_read m text) (WrongCount (counted (operand_count text)) (wanted m))
+    (operands-fit m text)
 
 pub whole_statement-fits : (m : Mnemonic) (text : List ℕ) (i : Instr) → statement_by m text ≡ Ok (WholeOf i) → Fits i
 whole_statement-fits m text i e = subst (λ r. IfOk r (λ x. ReadingFits x)) e (statement-fits m text)

@@ -46,7 +46,10 @@ pub fn is_code(item: SourceItem<'_>) -> bool
     ensures { result ≡ is_code (seen item.entry) }
 {
     match item {
-        SourceItem::Single(_) | SourceItem::Double(..) | SourceItem::Near(..) | SourceItem::Distant(..) => true,
+        SourceItem::Single(_)
+        | SourceItem::Double(..)
+        | SourceItem::Near(..)
+        | SourceItem::Distant(..) => true,
         _ => false,
     }
 }

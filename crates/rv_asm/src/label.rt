@@ -5,10 +5,10 @@ ghost use Rattle.std.specs.Prelude.{◌≡◌, map, IfOk};
 ghost use Rattle.std.specs.Str.{IsUtf8};
 ghost use Rattle.rv_asm.specs.Labels.{named};
 
-use texts::Name;
 use std::alloc::{AllocError, Global};
 use std::marker::Model;
 use std::str;
+use texts::Name;
 
 /// The name made of these bytes.
 pub(crate) fn name_of(alloc: Global, bytes: &[u8]) -> Result<Name, AllocError>

@@ -21,6 +21,6 @@ mod strings;
 
 pub use assembling::assemble;
 pub use label::{Label, Labels};
-pub use texts::Name;
 pub use object::{Bytes, Object};
 pub use refusal::{AsmErr, AsmKind};
+pub use texts::Name;

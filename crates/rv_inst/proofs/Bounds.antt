@@ -65,7 +65,20 @@ imm_j-even : (w : ℕ) → IsEven (imm_j w)
 unfolding imm_j
 imm_j-even w = signed_below-even (2 ^ 20) (bits_j w) (omega arith) (omega arith) refl
 
-ruleset bounds = (rd_of-register, rs1_of-register, rs2_of-register, rs2_of-amount, imm_u-lt, high12-lt, imm_i-within, imm_s-within, imm_b-within, imm_j-within, imm_b-even, imm_j-even)
+ruleset bounds = (
+  rd_of-register,
+  rs1_of-register,
+  rs2_of-register,
+  rs2_of-amount,
+  imm_u-lt,
+  high12-lt,
+  imm_i-within,
+  imm_s-within,
+  imm_b-within,
+  imm_j-within,
+  imm_b-even,
+  imm_j-even,
+)
 
 -- what is read off a word fits
 pub decoded_fits : (w : ℕ) → IfSome (decoded w) (λ i. Fits i)

@@ -16,7 +16,8 @@ use Rattle.rv_inst.specs.Formats.{IsRType, IsIType, IsShiftType, IsFenceType, Is
 use Rattle.rv_inst.specs.Encoding.{Encodes}
 
 -- a word is its fields
-fields-inj : (v w : ℕ) → v < 2 ^ 32 → w < 2 ^ 32 → opcode v ≡ opcode w → rd_of v ≡ rd_of w → funct3 v ≡ funct3 w → rs1_of v ≡ rs1_of w → rs2_of v ≡ rs2_of w → funct7 v ≡ funct7 w → v ≡ w
+fields-inj : (v w : ℕ) → v < 2 ^ 32 → w < 2 ^ 32 → opcode v ≡ opcode w → rd_of v ≡ rd_of w → funct3 v ≡ funct3 w → rs1_of v ≡ rs1_of w → rs2_of v ≡ rs2_of w →
+    funct7 v ≡ funct7 w → v ≡ w
 unfolding opcode rd_of funct3 rs1_of rs2_of funct7
 fields-inj v w a b c d e f g h = omega arith
 
@@ -31,12 +32,14 @@ pos-inj m n e = cc
 r_type-inj : {opc f3 f7 rd rs1 rs2 : ℕ} (v w : ℕ) → v < 2 ^ 32 → w < 2 ^ 32 → IsRType v opc f3 f7 rd rs1 rs2 → IsRType w opc f3 f7 rd rs1 rs2 → v ≡ w
 r_type-inj v w a b g h = fields-inj v w a b (cc) (cc) (cc) (cc) (cc) (cc)
 
-shift_type-inj : {opc f3 f7 rd rs1 : ℕ} {amount : ℤ} (v w : ℕ) → v < 2 ^ 32 → w < 2 ^ 32 → IsShiftType v opc f3 f7 rd rs1 amount → IsShiftType w opc f3 f7 rd rs1 amount → v ≡ w
+shift_type-inj : {opc f3 f7 rd rs1 : ℕ} {amount : ℤ} (v w : ℕ) → v < 2 ^ 32 → w < 2 ^ 32 → IsShiftType v opc f3 f7 rd rs1 amount →
+    IsShiftType w opc f3 f7 rd rs1 amount → v ≡ w
 shift_type-inj v w a b g h = fields-inj v w a b (cc) (cc) (cc) (cc) (pos-inj _ _ (sym g.amount_is ∙ h.amount_is)) (cc)
 
 i_type-inj : {opc f3 rd rs1 : ℕ} {imm : ℤ} (v w : ℕ) → v < 2 ^ 32 → w < 2 ^ 32 → IsIType v opc f3 rd rs1 imm → IsIType w opc f3 rd rs1 imm → v ≡ w
 unfolding opcode funct3 rd_of rs1_of imm_i
-i_type-inj v w a b g h = let k : bits 31 20 v ≡ bits 31 20 w = signed_below-inj (2 ^ 11) (bits 31 20 v) (bits 31 20 w) (omega arith) (omega arith) (sym g.imm_is ∙ h.imm_is) in omega arith
+i_type-inj v w a b g h = let k : bits 31 20 v ≡ bits 31 20 w = signed_below-inj (2 ^ 11) (bits 31 20 v) (bits 31 20 w) (omega arith) (omega arith) (sym g.imm_is
+    ∙ h.imm_is) in omega arith
 
 fence_type-inj : {opc f3 rd rs1 imm : ℕ} (v w : ℕ) → v < 2 ^ 32 → w < 2 ^ 32 → IsFenceType v opc f3 rd rs1 imm → IsFenceType w opc f3 rd rs1 imm → v ≡ w
 unfolding opcode funct3 rd_of rs1_of high12
@@ -44,7 +47,8 @@ fence_type-inj v w a b g h = omega arith
 
 s_type-inj : {opc f3 rs1 rs2 : ℕ} {imm : ℤ} (v w : ℕ) → v < 2 ^ 32 → w < 2 ^ 32 → IsSType v opc f3 rs1 rs2 imm → IsSType w opc f3 rs1 rs2 imm → v ≡ w
 unfolding opcode funct3 rs1_of rs2_of imm_s
-s_type-inj v w a b g h = let k : bits_s v ≡ bits_s w = signed_below-inj (2 ^ 11) (bits_s v) (bits_s w) (omega arith) (omega arith) (sym g.imm_is ∙ h.imm_is) in omega arith
+s_type-inj v w a b g h = let k : bits_s v ≡ bits_s w = signed_below-inj (2 ^ 11) (bits_s v) (bits_s w) (omega arith) (omega arith) (sym g.imm_is ∙ h.imm_is) in
+    omega arith
 
 b_type-inj : {opc f3 rs1 rs2 : ℕ} {imm : ℤ} (v w : ℕ) → v < 2 ^ 32 → w < 2 ^ 32 → IsBType v opc f3 rs1 rs2 imm → IsBType w opc f3 rs1 rs2 imm → v ≡ w
 unfolding opcode funct3 rs1_of rs2_of imm_b
@@ -62,7 +66,8 @@ u_type-inj v w a b g h = omega arith
 
 j_type-inj : {opc rd : ℕ} {imm : ℤ} (v w : ℕ) → v < 2 ^ 32 → w < 2 ^ 32 → IsJType v opc rd imm → IsJType w opc rd imm → v ≡ w
 unfolding opcode rd_of imm_j
-j_type-inj v w a b g h = let k : bits_j v ≡ bits_j w = signed_below-inj (2 ^ 20) (bits_j v) (bits_j w) (omega arith) (omega arith) (sym g.imm_is ∙ h.imm_is) in omega arith
+j_type-inj v w a b g h = let k : bits_j v ≡ bits_j w = signed_below-inj (2 ^ 20) (bits_j v) (bits_j w) (omega arith) (omega arith) (sym g.imm_is ∙ h.imm_is) in
+    omega arith
 
 -- two words that stand for one instruction are one word
 pub Encodes-inj : (v w : ℕ) (i : Instr) → v < 2 ^ 32 → w < 2 ^ 32 → Encodes v i → Encodes w i → v ≡ w

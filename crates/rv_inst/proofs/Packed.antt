@@ -35,13 +35,16 @@ or-fields : (opc rd f3 rs1 rs2 f7 : ℕ) → opc < 2 ^ 7 → rd < 2 ^ 5 → f3 <
 or-fields opc rd f3 rs1 rs2 f7 a b c d e =
     let p : bit_or opc (rd * 2 ^ 7) ≡ opc + rd * 2 ^ 7 = or_low opc rd 7 (omega arith) in
     let q : bit_or (opc + rd * 2 ^ 7) (f3 * 2 ^ 12) ≡ opc + rd * 2 ^ 7 + f3 * 2 ^ 12 = or_low (opc + rd * 2 ^ 7) f3 12 (omega arith) in
-    let r : bit_or (opc + rd * 2 ^ 7 + f3 * 2 ^ 12) (rs1 * 2 ^ 15) ≡ opc + rd * 2 ^ 7 + f3 * 2 ^ 12 + rs1 * 2 ^ 15 = or_low (opc + rd * 2 ^ 7 + f3 * 2 ^ 12) rs1 15 (omega arith) in
-    let s : bit_or (opc + rd * 2 ^ 7 + f3 * 2 ^ 12 + rs1 * 2 ^ 15) (rs2 * 2 ^ 20) ≡ opc + rd * 2 ^ 7 + f3 * 2 ^ 12 + rs1 * 2 ^ 15 + rs2 * 2 ^ 20 = or_low (opc + rd * 2 ^ 7 + f3 * 2 ^ 12 + rs1 * 2 ^ 15) rs2 20 (omega arith) in
+    let r : bit_or (opc + rd * 2 ^ 7 + f3 * 2 ^ 12) (rs1 * 2 ^ 15) ≡ opc + rd * 2 ^ 7 + f3 * 2 ^ 12 + rs1 * 2 ^ 15 =
+    or_low (opc + rd * 2 ^ 7 + f3 * 2 ^ 12) rs1 15 (omega arith) in
+    let s : bit_or (opc + rd * 2 ^ 7 + f3 * 2 ^ 12 + rs1 * 2 ^ 15) (rs2 * 2 ^ 20) ≡ opc + rd * 2 ^ 7 + f3 * 2 ^ 12 + rs1 * 2 ^ 15 + rs2 * 2 ^ 20 =
+    or_low (opc + rd * 2 ^ 7 + f3 * 2 ^ 12 + rs1 * 2 ^ 15) rs2 20 (omega arith) in
     rw (p, q, r, s) (or_low (opc + rd * 2 ^ 7 + f3 * 2 ^ 12 + rs1 * 2 ^ 15 + rs2 * 2 ^ 20) f7 25 (omega arith))
 
 -- fields shifted to their places lose no bit, and joined by `or` they are the word's fields
 pub shifted-fields : (opc rd f3 rs1 rs2 f7 : ℕ) → opc < 2 ^ 7 → rd < 2 ^ 5 → f3 < 2 ^ 3 → rs1 < 2 ^ 5 → rs2 < 2 ^ 5 → f7 < 2 ^ 7 →
-    HasFields (bit_or (bit_or (bit_or (bit_or (bit_or opc (rd * 2 ^ 7 % 2 ^ 32)) (f3 * 2 ^ 12 % 2 ^ 32)) (rs1 * 2 ^ 15 % 2 ^ 32)) (rs2 * 2 ^ 20 % 2 ^ 32)) (f7 * 2 ^ 25 % 2 ^ 32)) opc rd f3 rs1 rs2 f7
+    HasFields (bit_or (bit_or (bit_or (bit_or (bit_or opc (rd * 2 ^ 7 % 2 ^ 32)) (f3 * 2 ^ 12 % 2 ^ 32)) (rs1 * 2 ^ 15 % 2 ^ 32)) (rs2 * 2 ^ 20 % 2 ^ 32))
+    (f7 * 2 ^ 25 % 2 ^ 32)) opc rd f3 rs1 rs2 f7
 shifted-fields opc rd f3 rs1 rs2 f7 a b c d e f =
     let p : rd * 2 ^ 7 % 2 ^ 32 ≡ rd * 2 ^ 7 = omega arith in
     let q : f3 * 2 ^ 12 % 2 ^ 32 ≡ f3 * 2 ^ 12 = omega arith in
@@ -74,11 +77,14 @@ imm_s-fields w = signed_below-ap (2 ^ 11) (bits_s w) (bits 11 7 w + bits 31 25 w
 
 imm_b-fields : (w : ℕ) → imm_b w ≡ signed_below (2 ^ 12) (funct7 w / 2 ^ 6 * 2 ^ 12 + rd_of w % 2 * 2 ^ 11 + funct7 w % 2 ^ 6 * 2 ^ 5 + rd_of w / 2 * 2)
 unfolding imm_b rd_of funct7
-imm_b-fields w = signed_below-ap (2 ^ 12) (bits_b w) (bits 31 25 w / 2 ^ 6 * 2 ^ 12 + bits 11 7 w % 2 * 2 ^ 11 + bits 31 25 w % 2 ^ 6 * 2 ^ 5 + bits 11 7 w / 2 * 2) (omega arith)
+imm_b-fields w = signed_below-ap (2 ^ 12) (bits_b w) (bits 31 25 w / 2 ^ 6 * 2 ^ 12 + bits 11 7 w % 2 * 2 ^ 11 + bits 31 25 w % 2 ^ 6 * 2 ^ 5 + bits 11 7 w / 2
+    * 2) (omega arith)
 
-imm_j-fields : (w : ℕ) → imm_j w ≡ signed_below (2 ^ 20) (funct7 w / 2 ^ 6 * 2 ^ 20 + (funct3 w + rs1_of w * 2 ^ 3) * 2 ^ 12 + rs2_of w % 2 * 2 ^ 11 + funct7 w % 2 ^ 6 * 2 ^ 5 + rs2_of w / 2 * 2)
+imm_j-fields : (w : ℕ) → imm_j w ≡ signed_below (2 ^ 20) (funct7 w / 2 ^ 6 * 2 ^ 20 + (funct3 w + rs1_of w * 2 ^ 3) * 2 ^ 12 + rs2_of w % 2 * 2 ^ 11 + funct7 w
+    % 2 ^ 6 * 2 ^ 5 + rs2_of w / 2 * 2)
 unfolding imm_j funct7 funct3 rs1_of rs2_of
-imm_j-fields w = signed_below-ap (2 ^ 20) (bits_j w) (bits 31 25 w / 2 ^ 6 * 2 ^ 20 + (bits 14 12 w + bits 19 15 w * 2 ^ 3) * 2 ^ 12 + bits 24 20 w % 2 * 2 ^ 11 + bits 31 25 w % 2 ^ 6 * 2 ^ 5 + bits 24 20 w / 2 * 2) (omega arith)
+imm_j-fields w = signed_below-ap (2 ^ 20) (bits_j w) (bits 31 25 w / 2 ^ 6 * 2 ^ 20 + (bits 14 12 w + bits 19 15 w * 2 ^ 3) * 2 ^ 12 + bits 24 20 w % 2 * 2 ^ 11
+    + bits 31 25 w % 2 ^ 6 * 2 ^ 5 + bits 24 20 w / 2 * 2) (omega arith)
 
 -- the signed reading of the low bits of a number in range gives it back
 signed_12 : (z : ℤ) → IsWithin (2 ^ 11) z → signed_below (2 ^ 11) (cast_unsigned w32 z % 2 ^ 12) ≡ z
@@ -94,7 +100,8 @@ signed_21 (pos n) h = grind (arith, ints, nat_tests)
 signed_21 (negsuc n) h = grind (arith, ints, nat_tests)
 
 -- a number in range has the bits that its cast has
-recast : (half bs : ℕ) (imm : ℤ) → IsWithin half imm → half ≤ 2 ^ 20 → bs ≡ cast_unsigned w32 (cast_signed w32 (cast_unsigned w32 imm)) → bs ≡ cast_unsigned w32 imm
+recast : (half bs : ℕ) (imm : ℤ) → IsWithin half imm → half ≤ 2 ^ 20 → bs ≡ cast_unsigned w32 (cast_signed w32 (cast_unsigned w32 imm)) →
+    bs ≡ cast_unsigned w32 imm
 recast half bs imm h k e = let f : FitsSigned w32 imm = omega (arith, ints) in e ∙ ap (cast_unsigned w32) (to_z-of_z w32 imm f)
 
 -- an even number in range has a cast whose lowest bit is 0
@@ -132,7 +139,8 @@ pub imm_j-packed : (w bs : ℕ) (imm : ℤ) → IsWithin (2 ^ 20) imm → IsEven
 imm_j-packed w bs imm r v b p q x y =
     let n : bs ≡ cast_unsigned w32 imm = recast (2 ^ 20) bs imm r (omega arith) b in
     let z : cast_unsigned w32 imm % 2 ≡ 0 = even_cast imm r v in
-    let e : funct7 w / 2 ^ 6 * 2 ^ 20 + (funct3 w + rs1_of w * 2 ^ 3) * 2 ^ 12 + rs2_of w % 2 * 2 ^ 11 + funct7 w % 2 ^ 6 * 2 ^ 5 + rs2_of w / 2 * 2 ≡ cast_unsigned w32 imm % 2 ^ 21 =
+    let e : funct7 w / 2 ^ 6 * 2 ^ 20 + (funct3 w + rs1_of w * 2 ^ 3) * 2 ^ 12 + rs2_of w % 2 * 2 ^ 11 + funct7 w % 2 ^ 6 * 2 ^ 5 + rs2_of w / 2 * 2
+    ≡ cast_unsigned w32 imm % 2 ^ 21 =
     omega (arith, mask_3 (bs / 2 ^ 12), mask_5 (bs / 2 ^ 15), mask_4 (bs / 2), mask_1 (bs / 2 ^ 11), mask_1 (bs / 2 ^ 20), mask_6 (bs / 2 ^ 5)) in
     imm_j-fields w ∙ signed_below-ap (2 ^ 20) _ _ e ∙ signed_21 imm r
 

@@ -1,4 +1,5 @@
--- What a load or a store asks of the memory, and what a load makes of the answer (RISC-V Unprivileged ISA Manual, "RV32I Base Integer Instruction Set", Load and Store Instructions).
+-- What a load or a store asks of the memory, and what a load makes of the answer (RISC-V Unprivileged ISA Manual,
+-- "RV32I Base Integer Instruction Set", Load and Store Instructions).
 use Rattle.std.specs.Prelude.{ℕ, Bool, ◌%◌, ◌^◌, true, false}
 use Rattle.rv_inst.specs.declared.instruction.LoadKind.{LoadKind}
 use Rattle.rv_inst.specs.declared.instruction.LoadKind.TheVariants as load

@@ -1,4 +1,5 @@
--- What an instruction computes of its address and its sources (RISC-V Unprivileged ISA Manual, "RV32I Base Integer Instruction Set", Integer Computational Instructions and Control Transfer Instructions).
+-- What an instruction computes of its address and its sources (RISC-V Unprivileged ISA Manual, "RV32I Base Integer
+-- Instruction Set", Integer Computational Instructions and Control Transfer Instructions).
 use Rattle.std.specs.Prelude.{ℕ, ◌*◌, ◌/◌, ◌%◌, ◌^◌, Bool, true, false, nat_lt, int_lt, if◌then◌else◌, bit_and, bit_or, bit_xor, ◌==◌, not}
 use Rattle.std.specs.Int.{int_shr}
 use Rattle.rv_inst.specs.declared.instruction.Cond.{Cond}

@@ -1,4 +1,5 @@
--- The fields of an instruction word (RISC-V Unprivileged ISA Manual, "RV32I Base Integer Instruction Set", Base Instruction Formats and Immediate Encoding Variants).
+-- The fields of an instruction word (RISC-V Unprivileged ISA Manual, "RV32I Base Integer Instruction Set", Base
+-- Instruction Formats and Immediate Encoding Variants).
 use Rattle.std.specs.Prelude.{ℕ, ◌+◌, ◌-◌, ◌*◌, ◌/◌, ◌%◌, ◌^◌, ℤ, pos, nat_lt, if◌then◌else◌, ◌-ℤ◌}
 
 -- bits `high` down to `low` of a word

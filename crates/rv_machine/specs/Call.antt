@@ -1,4 +1,5 @@
--- The environment calls of Linux on RISC-V: the number in x17, the arguments from x10 on, the answer to x10 (Linux, the generic table of system calls and the table of error numbers).
+-- The environment calls of Linux on RISC-V: the number in x17, the arguments from x10 on, the answer to x10 (Linux, the
+-- generic table of system calls and the table of error numbers).
 use Rattle.std.specs.Prelude.{ℕ, ◌%◌, negsuc, List, [], take, drop, length, min, Bool, not, is_some, nat_le, ◌==◌, ◌&&◌, ◌||◌, if◌then◌else◌, Option, Some, None, slice_index}
 use Rattle.mem_regions.specs.Memory.{Memory}
 use Rattle.mem_regions.specs.Ranges.{range_of, can_write}

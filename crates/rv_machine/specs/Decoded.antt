@@ -1,4 +1,5 @@
--- What stands at an address of memory, and what a cache may keep of it (RISC-V Unprivileged ISA Manual, "Zifencei" Extension for Instruction-Fetch Fence: stores need not be seen by fetches).
+-- What stands at an address of memory, and what a cache may keep of it (RISC-V Unprivileged ISA Manual, "Zifencei"
+-- Extension for Instruction-Fetch Fence: stores need not be seen by fetches).
 use Rattle.std.specs.Prelude.{◌≡◌, ◌<◌, ◌≤◌, ◌^◌, ◌/◌, ◌%◌, ◌==◌, ℕ, List, slice_index_or, Bool, true, false, if◌then◌else◌, Option, Some, None, Result, Ok, Err}
 use Rattle.std.specs.List.{All}
 use Rattle.mem_regions.specs.Memory.{Memory}

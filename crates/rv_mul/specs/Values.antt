@@ -1,4 +1,5 @@
--- What an instruction of RV32IM computes of its address and its sources (RISC-V Unprivileged ISA Manual, "RV32I Base Integer Instruction Set" and "M" Extension for Integer Multiplication and Division).
+-- What an instruction of RV32IM computes of its address and its sources (RISC-V Unprivileged ISA Manual, "RV32I Base
+-- Integer Instruction Set" and "M" Extension for Integer Multiplication and Division).
 use Rattle.std.specs.Prelude.{ℕ, Bool, true}
 use Rattle.rv_inst.specs.declared.instruction.Instr.{Instr}
 use Rattle.rv_inst.specs.declared.instruction.Instr.TheVariants.{Mul}

@@ -26,7 +26,8 @@ first_line : (text : List ℕ) → position_or_len is_line_feed text < length te
 unfolding text_lines
 first_line text h =
     ap lines_of_pieces (slice_split_first is_line_feed text 0 h)
-    ∙ line_before (before_first is_line_feed text) (slice_split is_line_feed (after_first is_line_feed text)) (omega (arith, length-slice_split is_line_feed (after_first is_line_feed text)))
+    ∙ line_before (before_first is_line_feed text) (slice_split is_line_feed (after_first is_line_feed text))
+    (omega (arith, length-slice_split is_line_feed (after_first is_line_feed text)))
 
 last_by : (text : List ℕ) → 0 < length text → lines_from text [] ≡ text ∷ []
 last_by [] h = absurd (omega arith)

@@ -35,11 +35,13 @@ digits_value_below radix most ds all two short =
     omega arith
 
 -- and so below 2 ^ 40
-pub digits_value_small : (radix most : ℕ) (ds : List ℕ) → AllDigits radix ds → 2 ≤ radix → length ds ≤ most → radix ^ most ≤ 2 ^ 40 → digits_value radix ds < 2 ^ 40
+pub digits_value_small : (radix most : ℕ) (ds : List ℕ) → AllDigits radix ds → 2 ≤ radix → length ds ≤ most → radix ^ most ≤ 2 ^ 40 →
+    digits_value radix ds < 2 ^ 40
 digits_value_small radix most ds all two short fits = omega (arith, digits_value_below radix most ds all two short)
 
 -- nor does one more digit reach it
-pub next_small : (radix most i : ℕ) (ds : List ℕ) → i < length ds → AllDigits radix (take i ds) → digit_value (get_or ds i 0) < radix → 2 ≤ radix → length ds ≤ most → radix ^ most ≤ 2 ^ 40 → digits_value radix (take i ds) * radix + digit_value (get_or ds i 0) < 2 ^ 40
+pub next_small : (radix most i : ℕ) (ds : List ℕ) → i < length ds → AllDigits radix (take i ds) → digit_value (get_or ds i 0) < radix → 2 ≤ radix →
+    length ds ≤ most → radix ^ most ≤ 2 ^ 40 → digits_value radix (take i ds) * radix + digit_value (get_or ds i 0) < 2 ^ 40
 next_small radix most i ds inside all digit two short fits =
     let more : AllDigits radix (take (i + 1) ds) = digits_more radix ds i inside all digit in
     let upto : length (take (i + 1) ds) ≤ most = grind (arith, common_steps) in
@@ -47,7 +49,8 @@ next_small radix most i ds inside all digit two short fits =
     rw (digits_value_more radix ds i inside) at below
 
 -- a text of digits, all of them read
-pub numeral-read : (radix most n i : ℕ) (ds : List ℕ) → 0 < length ds → length ds ≤ most → length ds ≤ i → AllDigits radix (take i ds) → n ≡ digits_value radix (take i ds) → Some n ≡ numeral radix most ds
+pub numeral-read : (radix most n i : ℕ) (ds : List ℕ) → 0 < length ds → length ds ≤ most → length ds ≤ i → AllDigits radix (take i ds) →
+    n ≡ digits_value radix (take i ds) → Some n ≡ numeral radix most ds
 unfolding numeral is_numeral
 numeral-read radix most n i ds some short whole all value =
     let same : take i ds ≡ ds = grind (arith, common_steps) in

@@ -85,7 +85,8 @@ immediate_read : (op : ImmOp) (rd rs1 : ℕ) (imm : ℤ) → IsRegister rd → I
     → immediate_form op (three_text (register_text rd) (register_text rs1) (signed_decimal imm)) ≡ Ok (rd, rs1, imm)
 unfolding immediate_form
 immediate_read op rd rs1 imm r s h =
-    let three = three_operands (register_text rd) (register_text rs1) (signed_decimal imm) (register_solid rd r) (register_solid rs1 s) (immediate_solid op imm h) in
+    let three = three_operands (register_text rd) (register_text rs1) (signed_decimal imm) (register_solid rd r) (register_solid rs1 s)
+    (immediate_solid op imm h) in
     rw (three.first_is, register_in-text rd r, three.second_is, register_in-text rs1 s, three.third_is, immediate_of-signed op imm h) refl
 
 register_read : (rd rs1 rs2 : ℕ) → IsRegister rd → IsRegister rs1 → IsRegister rs2
@@ -102,7 +103,8 @@ set_read : (plain rd rs1 set : ℕ) → IsRegister rd → IsRegister rs1 → set
     → fence_form plain (three_text (register_text rd) (register_text rs1) (signed_decimal (pos set))) ≡ Ok (rd, rs1, set)
 unfolding fence_form set_form
 set_read plain rd rs1 set r s h =
-    let three = three_operands (register_text rd) (register_text rs1) (signed_decimal (pos set)) (register_solid rd r) (register_solid rs1 s) (set_solid set h) in
+    let three = three_operands (register_text rd) (register_text rs1) (signed_decimal (pos set)) (register_solid rd r) (register_solid rs1 s)
+    (set_solid set h) in
     rw (three.count, three.first_is, register_in-text rd r, three.second_is, register_in-text rs1 s, three.third_is, field_below-set set h) refl
 
 jump_read : (rd target : ℕ) → IsRegister rd
@@ -117,7 +119,8 @@ branch_read : (c : Cond) (rs1 rs2 target : ℕ) → IsRegister rs1 → IsRegiste
     ≡ Ok (AimedAt (jump.Branch c rs1 rs2) (codes "0x" ++ hex8 target))
 unfolding branch_form
 branch_read c rs1 rs2 target r s =
-    let three = three_operands (register_text rs1) (register_text rs2) (codes "0x" ++ hex8 target) (register_solid rs1 r) (register_solid rs2 s) (target_solid target) in
+    let three = three_operands (register_text rs1) (register_text rs2) (codes "0x" ++ hex8 target) (register_solid rs1 r) (register_solid rs2 s)
+    (target_solid target) in
     rw (three.first_is, register_in-text rs1 r, three.second_is, register_in-text rs2 s, three.third_is) refl
 
 -- the target minus the address is the distance

@@ -211,7 +211,8 @@ three_rest x y z hx hy hz =
     IsBare-of _ (Begins-append x (44 ∷ 32 ∷ (y ++ 44 ∷ 32 ∷ (z ++ []))) (Begins-solid x hx))
     (Ends-append x (44 ∷ 32 ∷ (y ++ 44 ∷ 32 ∷ (z ++ []))) (Ends-cons 44 (32 ∷ (y ++ 44 ∷ 32 ∷ (z ++ []))) (Ends-cons 32 (y ++ 44 ∷ 32 ∷ (z ++ [])) end)))
 
-at_piece : (text : List ℕ) (parts : List (List ℕ)) (k : ℕ) (x : List ℕ) → pieces text ≡ parts → slice_index_or parts k [] ≡ 32 ∷ x → IsSolid x → operand_at text k ≡ x
+at_piece : (text : List ℕ) (parts : List (List ℕ)) (k : ℕ) (x : List ℕ) → pieces text ≡ parts → slice_index_or parts k [] ≡ 32 ∷ x → IsSolid x →
+    operand_at text k ≡ x
 unfolding operand_at
 at_piece text parts k x e at h =
     ap (λ l. trimmed (slice_index_or l k [])) e ∙ ap trimmed at ∙ trimmed-blank x (IsBare-from_solid x h)

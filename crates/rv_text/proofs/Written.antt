@@ -33,7 +33,8 @@ digits_solid radix (d ∷ ds) low h =
     rw (digit_solid d (omega arith)) (digits_solid radix ds low h.1)
 
 -- at most this many digits are a numeral of their value
-pub numeral-digits : (radix most n : ℕ) (ds : List ℕ) → AllDigits radix ds → 0 < length ds → length ds ≤ most → digits_value radix ds ≡ n → numeral radix most ds ≡ Some n
+pub numeral-digits : (radix most n : ℕ) (ds : List ℕ) → AllDigits radix ds → 0 < length ds → length ds ≤ most → digits_value radix ds ≡ n →
+    numeral radix most ds ≡ Some n
 unfolding numeral is_numeral
 numeral-digits radix most n ds all some short value =
     let test = test-from_AllDigits radix ds all in

@@ -1,4 +1,5 @@
--- The operands that are read, each with its place and its range (RISC-V Assembly Programmer's Manual; RISC-V Unprivileged ISA Manual, "Immediate Encoding Variants").
+-- The operands that are read, each with its place and its range (RISC-V Assembly Programmer's Manual; RISC-V
+-- Unprivileged ISA Manual, "Immediate Encoding Variants").
 use Rattle.std.specs.Prelude.{ℕ, ◌-◌, ◌==◌, ◌&&◌, ℤ, pos, negsuc, int_le, Bool, true, false, Option, Some, None, Result, Ok, Err, List, length, take, drop, codes, nat_eq, if◌then◌else◌}
 use Rattle.std.specs.Int.RustNames.{unsigned_abs}
 use Rattle.std.specs.List.{starts_with, ends_with, before_first, position_or_len}

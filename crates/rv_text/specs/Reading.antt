@@ -1,4 +1,5 @@
--- The instruction that a text spells, and why a text spells none (RISC-V Assembly Programmer's Manual; RISC-V Unprivileged ISA Manual, "RV32/64G Instruction Set Listings").
+-- The instruction that a text spells, and why a text spells none (RISC-V Assembly Programmer's Manual; RISC-V
+-- Unprivileged ISA Manual, "RV32/64G Instruction Set Listings").
 use Rattle.std.specs.Prelude.{ℕ, ◌-◌, ◌%◌, ◌^◌, ◌==◌, ◌&&◌, ◌||◌, ℤ, pos, negsuc, int_le, int_lt, Bool, true, false, Result, Ok, Err, List, min, if◌then◌else◌}
 use Rattle.std.specs.Int.{int_rem_euclid}
 use Rattle.std.specs.Int.RustNames.{unsigned_abs}

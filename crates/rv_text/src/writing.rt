@@ -11,9 +11,9 @@ ghost use Rattle.rv_text.specs.LineReading.{read_text};
 use crate::mnemonic::Mnemonic;
 use crate::operands::Operand::{self, Address, Number, Register, Target, Upper};
 use crate::text_line::TextLine;
-use texts::hex8;
 use itoa::Buffer;
 use rv_inst::Instr;
+use texts::hex8;
 
 fn put_register(line: &mut TextLine, register: u8)
     requires { length line.old + 4 ≤ 80 }

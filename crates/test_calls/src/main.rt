@@ -9,9 +9,9 @@ mod tally;
 use crate::report::judge;
 use crate::tally::RowTally;
 use cf_io::{DirFiles, Files};
-use test_rows::Sheet;
 use std::process::ExitCode;
 use std::{env, io, rt, str};
+use test_rows::Sheet;
 
 /// The most bytes of a file of rows.
 const MOST_BYTES: u64 = 1_000_000;

@@ -2,8 +2,8 @@
 
 use cf_io::{MemFiles, MemSink, MemSource};
 use cfpp_cli::cfpp;
-use test_rows::{Call, NamedBytes, CallOutcome};
 use std::alloc::{AllocError, Global};
+use test_rows::{Call, CallOutcome, NamedBytes};
 
 /// The room of the report in bytes.
 const REPORT_ROOM: usize = 100_000;

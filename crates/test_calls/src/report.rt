@@ -2,9 +2,9 @@
 
 use crate::making::make;
 use crate::tally::RowTally;
-use test_rows::{Matching, CallOutcome, Sheet, Wanted};
 use std::alloc::{AllocError, Global};
 use std::{io, str};
+use test_rows::{CallOutcome, Matching, Sheet, Wanted};
 
 /// Prints what differs, with the wanted bytes and those that came.
 fn print_difference(rt: &impl Print, what: &str, wanted: &[u8], came: &[u8]) -> io::Result<()> {

@@ -3,7 +3,7 @@
 ghost use Rattle.std.specs.Prelude.{◌↔◌, IsTrue};
 ghost use Rattle.test_rows.specs.Heads.{IsHead};
 
-use crate::call::{Call, FailingCallNumbers, NamedBytes, CallOutcome, keep};
+use crate::call::{Call, CallOutcome, FailingCallNumbers, NamedBytes, keep};
 use crate::content::{change, number, split};
 use crate::line_err::LineErr;
 use crate::matching::Matching;

@@ -1,11 +1,11 @@
 //! How a run finished, what bars a move and why a line is no move, as the tables of reports have it.
 use cf_bind::Bar;
+use cf_run::Ran;
 use report_closing::run_line;
 use report_refusals::{push_bar, push_script};
-use cf_run::Ran;
 use run_scripts::ScriptKind;
-use texts::Page;
 use std::process::Abort;
+use texts::Page;
 
 /// Each way in which a run finishes of itself.
 const ENDS: [Ran; 7] = [

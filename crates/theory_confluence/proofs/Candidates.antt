@@ -1,4 +1,5 @@
--- The candidates: every allowed move but an Issue to an address is one of them; there is a candidate where the program goes on; and under the hold rule an Issue is a candidate only where no other move is allowed.
+-- The candidates: every allowed move but an Issue to an address is one of them; there is a candidate where the program
+-- goes on; and under the hold rule an Issue is a candidate only where no other move is allowed.
 use Rattle.std.proofs.Common.{◌≡◌, ℕ, zero, suc, ◌+◌, ◌-◌, ◌≤◌, ◌<◌, List, [], ◌∷◌, ◌++◌, length, map, filter, Option, Some, None, Bool, true, false, not, refl, sym, ap, subst, ◌∙◌, arith, cond}
 use Rattle.std.specs.Prelude.{slice_get, nat_lt, unwrap_or, if◌then◌else◌}
 use Rattle.cf_layout.specs.Layout.{Plan, SidingPlan, cells_of, no_siding}
@@ -72,28 +73,35 @@ counted_has first (suc n) zero e = record { place = 0; there = ap Some (zero_plu
   where
     zero_plus : (a : ℕ) → a ≡ a + 0
     zero_plus a = omega arith
-counted_has first (suc n) (suc k) e = subst (λ (j : ℕ). Has (first ∷ counted_from (suc first) n) j) (one_on first k) (has_tail first (counted_from (suc first) n) (suc first + k) (counted_has (suc first) n k (omega arith)))
+counted_has first (suc n) (suc k) e = subst (λ (j : ℕ). Has (first ∷ counted_from (suc first) n) j) (one_on first k)
+    (has_tail first (counted_from (suc first) n) (suc first + k) (counted_has (suc first) n k (omega arith)))
   where
     one_on : (a b : ℕ) → suc a + b ≡ a + suc b
     one_on a b = omega arith
 
 stage_has : (l : Plan) (kind : ℕ → Move) (i : ℕ) → 1 ≤ i → i ≤ l.stages → Has (at_stages l kind) (kind i)
 stage_has l kind zero e f = absurd (omega arith)
-stage_has l kind (suc k) e f = has_map kind (counted_from 1 l.stages) (suc k) (subst (λ (j : ℕ). Has (counted_from 1 l.stages) j) (one_plus k) (counted_has 1 l.stages k (omega arith)))
+stage_has l kind (suc k) e f = has_map kind (counted_from 1 l.stages) (suc k) (subst (λ (j : ℕ). Has (counted_from 1 l.stages) j) (one_plus k)
+    (counted_has 1 l.stages k (omega arith)))
   where
     one_plus : (a : ℕ) → 1 + a ≡ suc a
     one_plus a = omega arith
 
-slide_has : (first : ℕ) (ss : List SidingPlan) (k c : ℕ) → c + 1 < (unwrap_or (slice_get ss k) no_siding).cells → Has (slides_from first ss) (Slide (first + k) c)
+slide_has : (first : ℕ) (ss : List SidingPlan) (k c : ℕ) → c + 1 < (unwrap_or (slice_get ss k) no_siding).cells →
+    Has (slides_from first ss) (Slide (first + k) c)
 slide_has first [] k c e = absurd (omega arith)
-slide_has first (s ∷ ss) zero c e = subst (λ (j : ℕ). Has (slides_from first (s ∷ ss)) (Slide j c)) (zero_plus first) (has_left (map (Slide first) (counted_from 0 (s.cells - 1))) (slides_from (suc first) ss) (Slide first c) (has_map (Slide first) (counted_from 0 (s.cells - 1)) c (subst (λ (j : ℕ). Has (counted_from 0 (s.cells - 1)) j) (plus_zero c) (counted_has 0 (s.cells - 1) c (omega (arith, e))))))
+slide_has first (s ∷ ss) zero c e = subst (λ (j : ℕ). Has (slides_from first (s ∷ ss)) (Slide j c)) (zero_plus first)
+    (has_left (map (Slide first) (counted_from 0 (s.cells - 1))) (slides_from (suc first) ss) (Slide first c)
+    (has_map (Slide first) (counted_from 0 (s.cells - 1)) c (subst (λ (j : ℕ). Has (counted_from 0 (s.cells - 1)) j) (plus_zero c)
+    (counted_has 0 (s.cells - 1) c (omega (arith, e))))))
   where
     zero_plus : (a : ℕ) → a ≡ a + 0
     zero_plus a = omega arith
 
     plus_zero : (a : ℕ) → 0 + a ≡ a
     plus_zero a = omega arith
-slide_has first (s ∷ ss) (suc k) c e = subst (λ (j : ℕ). Has (slides_from first (s ∷ ss)) (Slide j c)) (one_on first k) (has_right (map (Slide first) (counted_from 0 (s.cells - 1))) (slides_from (suc first) ss) (Slide (suc first + k) c) (slide_has (suc first) ss k c e))
+slide_has first (s ∷ ss) (suc k) c e = subst (λ (j : ℕ). Has (slides_from first (s ∷ ss)) (Slide j c)) (one_on first k)
+    (has_right (map (Slide first) (counted_from 0 (s.cells - 1))) (slides_from (suc first) ss) (Slide (suc first + k) c) (slide_has (suc first) ss k c e))
   where
     one_on : (a b : ℕ) → suc a + b ≡ a + suc b
     one_on a b = omega arith
@@ -113,7 +121,8 @@ at_there cells (suc k) f e = go cells k e
     go (c ∷ cells) zero e = (omega arith, omega arith)
     go (c ∷ cells) (suc k) e = let h = go cells k e in (omega arith, omega (arith, h.1))
 
-on_stage : (l : Plan) (s : State) (kind : ℕ → Move) (i : ℕ) (f : Cell → Option Bar) → HasShape l s → on (cell_at s.cells i) (Some NoSuchSite) f ≡ None → Has (at_stages l kind) (kind i)
+on_stage : (l : Plan) (s : State) (kind : ℕ → Move) (i : ℕ) (f : Cell → Option Bar) → HasShape l s → on (cell_at s.cells i) (Some NoSuchSite) f ≡ None →
+    Has (at_stages l kind) (kind i)
 on_stage l s kind i f h e = let z = at_there s.cells i f e in stage_has l kind i z.0 (let c = h.cells in omega (arith, c, z.1))
 
 get_below : (q : List (Option Op)) (k : ℕ) (f : Option Op → Option Bar) → on (slice_get q k) (Some NoSuchSite) f ≡ None → k < length q
@@ -225,7 +234,8 @@ all_has l s mv h i e = go mv i (bar_row l s mv e)
     go (Launch j) i e = from_launches (Launch j) (has_right upto_sends launches (Launch j) (on_stage l s Launch j _ h e))
     go (Slide k c) i e = from_slides (Slide k c) (has_right upto_launches slides (Slide k c) (on_cell l s k c h e))
     go Access i e = from_returns Access (has_right upto_slides returns Access (record { place = 0; there = refl }))
-    go (Recover j) i e = from_returns (Recover j) (has_right upto_slides returns (Recover j) (has_tail Access (at_stages l Recover) (Recover j) (on_stage l s Recover j _ h e)))
+    go (Recover j) i e = from_returns (Recover j) (has_right upto_slides returns (Recover j)
+        (has_tail Access (at_stages l Recover) (Recover j) (on_stage l s Recover j _ h e)))
     go Leave i e = at_end Leave (record { place = 0; there = refl })
     go Exit i e = at_end Exit (record { place = 1; there = refl })
     go Serve i e = at_end Serve (record { place = 2; there = refl })
@@ -243,7 +253,8 @@ pub kept_passes : {A : Type 0} → (p : A → Bool) (xs : List A) (k : ℕ) (x :
 kept_passes p [] k x e = absurd (cc)
 kept_passes p (y ∷ xs) k x e = go (p y) refl k e (λ j f. kept_passes p xs j x f)
   where
-    go : (b : Bool) → p y ≡ b → (k : ℕ) → slice_get (cond b (y ∷ filter p xs) (filter p xs)) k ≡ Some x → ((j : ℕ) → slice_get (filter p xs) j ≡ Some x → (p x ≡ true) × Has xs x) → (p x ≡ true) × Has (y ∷ xs) x
+    go : (b : Bool) → p y ≡ b → (k : ℕ) → slice_get (cond b (y ∷ filter p xs) (filter p xs)) k ≡ Some x →
+        ((j : ℕ) → slice_get (filter p xs) j ≡ Some x → (p x ≡ true) × Has xs x) → (p x ≡ true) × Has (y ∷ xs) x
     go true f zero e h = let z : y ≡ x = cc in (ap p (sym z) ∙ f, record { place = 0; there = ap Some z })
     go true f (suc k) e h = let r = h k e in (r.0, has_tail y xs x r.1)
     go false f k e h = let r = h k e in (r.0, has_tail y xs x r.1)
@@ -254,12 +265,14 @@ none_has (y ∷ xs) x e h = absurd (cc)
 
 -- with no other candidate no move but Issue is allowed
 pub no_other_stuck : (l : Plan) (s : State) → HasShape l s → other_moves (candidates l s) ≡ [] → IsStuck l s
-no_other_stuck l s h n = λ mv i e. none_has (other_moves (candidates l s)) mv n (has_filter (λ v. not (is_issue v)) (candidates l s) mv (rw i refl) (is_candidate l s mv h i e))
+no_other_stuck l s h n = λ mv i e. none_has (other_moves (candidates l s)) mv n (has_filter (λ v. not (is_issue v)) (candidates l s) mv (rw i refl)
+    (is_candidate l s mv h i e))
 
 some_there : {A : Type 0} → (y : A) (xs : List A) → nat_lt 0 (length (y ∷ xs)) ≡ true
 some_there y xs = grind arith
 
-pub held_stuck : (l : Plan) (s : State) (k : ℕ) (mv : Move) → HasShape l s → slice_get (held_back (candidates l s)) k ≡ Some mv → is_issue mv ≡ true → IsStuck l s
+pub held_stuck : (l : Plan) (s : State) (k : ℕ) (mv : Move) → HasShape l s → slice_get (held_back (candidates l s)) k ≡ Some mv → is_issue mv ≡ true →
+    IsStuck l s
 unfolding held_back
 held_stuck l s k mv h e i = go (other_moves (candidates l s)) refl e
   where
@@ -269,18 +282,21 @@ held_stuck l s k mv h e i = go (other_moves (candidates l s)) refl e
     go : (xs : List Move) → other_moves (candidates l s) ≡ xs → slice_get (if nat_lt 0 (length xs) then xs else candidates l s) k ≡ Some mv → IsStuck l s
     go [] f e = no_other_stuck l s h f
     go (y ∷ xs) f e =
-        let g : slice_get (other_moves (candidates l s)) k ≡ Some mv = ap (λ (q : List Move). slice_get q k) f ∙ sym (ap (λ (b : Bool). slice_get (if b then y ∷ xs else candidates l s) k) (some_there y xs)) ∙ e in
+        let g : slice_get (other_moves (candidates l s)) k ≡ Some mv = ap (λ (q : List Move). slice_get q k) f
+        ∙ sym (ap (λ (b : Bool). slice_get (if b then y ∷ xs else candidates l s) k) (some_there y xs)) ∙ e in
         absurd (clash (ap not (sym i) ∙ (kept_passes (λ v. not (is_issue v)) (candidates l s) k mv g).0))
 
 -- a move is there to be picked, with Issue held back or not
-pub some_pick : (l : Plan) (s : State) → HasShape l s → (IsStuck l s → bar l s (Issue Next) ≡ None) → ((mv : Move) × Has (candidates l s) mv) × ((mv : Move) × Has (held_back (candidates l s)) mv)
+pub some_pick : (l : Plan) (s : State) → HasShape l s → (IsStuck l s → bar l s (Issue Next) ≡ None) →
+    ((mv : Move) × Has (candidates l s) mv) × ((mv : Move) × Has (held_back (candidates l s)) mv)
 unfolding held_back
 some_pick l s h r = go (other_moves (candidates l s)) refl
   where
     first : Has (all_moves l) (Issue Next)
     first = unfold all_moves in record { place = 0; there = refl }
 
-    go : (xs : List Move) → other_moves (candidates l s) ≡ xs → ((mv : Move) × Has (candidates l s) mv) × ((mv : Move) × Has (if nat_lt 0 (length (other_moves (candidates l s))) then other_moves (candidates l s) else candidates l s) mv)
+    go : (xs : List Move) → other_moves (candidates l s) ≡ xs → ((mv : Move) × Has (candidates l s) mv)
+        × ((mv : Move) × Has (if nat_lt 0 (length (other_moves (candidates l s))) then other_moves (candidates l s) else candidates l s) mv)
     go [] f = let c = candidate l s (Issue Next) (r (no_other_stuck l s h f)) first in ((Issue Next, c), (Issue Next, rw f c))
     go (y ∷ xs) f =
         let g : slice_get (other_moves (candidates l s)) 0 ≡ Some y = ap (λ (q : List Move). slice_get q 0) f in

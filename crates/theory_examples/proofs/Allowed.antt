@@ -21,13 +21,16 @@ unfolding IsRun
 is_run plan m [] e = tt
 is_run plan m (mv ∷ moves) e = by (bar plan m.state mv) refl e (is_run plan (next plan m mv) moves)
   where
-    by : (o : Option Bar) → bar plan m.state mv ≡ o → on o (first_bar plan (next plan m mv) moves) Some ≡ None → (first_bar plan (next plan m mv) moves ≡ None → IsRun plan (next plan m mv) moves) → (bar plan m.state mv ≡ None) × IsRun plan (next plan m mv) moves
+    by : (o : Option Bar) → bar plan m.state mv ≡ o → on o (first_bar plan (next plan m mv) moves) Some ≡ None →
+        (first_bar plan (next plan m mv) moves ≡ None → IsRun plan (next plan m mv) moves) → (bar plan m.state mv ≡ None) × IsRun plan (next plan m mv) moves
     by None f e more = (f, more e)
     by (Some b) f e more = absurd (cc)
 
 -- what computes, put together
-pub ends : {plan : Plan} {x : Machine} {moves : List Move} {s : State} → first_bar plan (start plan x) moves ≡ None → after_moves plan x moves ≡ s → EndsIn plan x moves s
+pub ends : {plan : Plan} {x : Machine} {moves : List Move} {s : State} → first_bar plan (start plan x) moves ≡ None → after_moves plan x moves ≡ s →
+    EndsIn plan x moves s
 ends {plan} {x} {moves} {s} e f = record { allowed = is_run plan (start plan x) moves e; ends = f }
 
-pub barred : {plan : Plan} {x : Machine} {moves : List Move} {mv : Move} {why : Bar} → first_bar plan (start plan x) moves ≡ None → bar plan (after_moves plan x moves) mv ≡ Some why → IsBarred plan x moves mv why
+pub barred : {plan : Plan} {x : Machine} {moves : List Move} {mv : Move} {why : Bar} → first_bar plan (start plan x) moves ≡ None →
+    bar plan (after_moves plan x moves) mv ≡ Some why → IsBarred plan x moves mv why
 barred {plan} {x} {moves} {mv} {why} e f = record { allowed = is_run plan (start plan x) moves e; barred = f }

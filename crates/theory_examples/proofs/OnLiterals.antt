@@ -29,5 +29,11 @@ use Rattle.cf_semantics.specs.runs.Runs.{opened, IsRun, run}
 use Rattle.cf_semantics.specs.claims.Weight.{most_cells, cell_weight, op_weight, weight, moves_per_issue}
 
 unfoldable pub on_literals : ⊤
-unfolding access_made load_value extended op_value is_taken alu_value next_pc decoded_jalr decoded_branch decoded_load decoded_store decoded_imm decoded_op decoded_fence decoded_system decoded decoded_mul decoded_m decoded_as opcode rd_of funct3 rs1_of rs2_of funct7 high12 imm_i imm_s imm_b imm_u imm_j lower_word upper_word product_of value_of bounds_of is_permitted permits_at fetch_at synced range_of writable_of can_write load_at memory_with stored after read write with_break call asks_input asks_output retire compute access_memory pass synchronize serial execute step_on step stages_of unit_at serves siding_of launch_stage recover_stage cells_of homes has_mul last_stage meeting counted bar is_drained kind_of src1_of src2_of dst_of target_of is_indirect fetched finish_trap free_trap access_trap mem_after answer_of serve_of step_at kept restored port moved next finish fresh all_moves candidates held_back paced opened IsRun run most_cells cell_weight op_weight weight moves_per_issue
+unfolding access_made load_value extended op_value is_taken alu_value next_pc decoded_jalr decoded_branch decoded_load decoded_store decoded_imm decoded_op
+    decoded_fence decoded_system decoded decoded_mul decoded_m decoded_as opcode rd_of funct3 rs1_of rs2_of funct7 high12 imm_i imm_s imm_b imm_u imm_j
+    lower_word upper_word product_of value_of bounds_of is_permitted permits_at fetch_at synced range_of writable_of can_write load_at memory_with stored after
+    read write with_break call asks_input asks_output retire compute access_memory pass synchronize serial execute step_on step stages_of unit_at serves
+    siding_of launch_stage recover_stage cells_of homes has_mul last_stage meeting counted bar is_drained kind_of src1_of src2_of dst_of target_of is_indirect
+    fetched finish_trap free_trap access_trap mem_after answer_of serve_of step_at kept restored port moved next finish fresh all_moves candidates held_back
+    paced opened IsRun run most_cells cell_weight op_weight weight moves_per_issue
 on_literals = tt

@@ -18,7 +18,8 @@ use Rattle.theory_examples.proofs.OnLiterals.{on_literals}
 abbrev pub skipping_a_sum : Machine
 skipping_a_sum = sample (0x63 ∷ 0x04 ∷ 0x00 ∷ 0x00 ∷ 0x93 ∷ 0x80 ∷ 0x10 ∷ 0x00 ∷ [])
 
--- The branch is executed, and its turn stands below it; above the turn's stage the branch waits to leave. What was issued on the wrong guess stands beside the turn and has asked for x1.
+-- The branch is executed, and its turn stands below it; above the turn's stage the branch waits to leave. What was
+-- issued on the wrong guess stands beside the turn and has asked for x1.
 abbrev pub wrong_guess : List Move
 wrong_guess = Issue Next ∷ Execute 1 ∷ Send 1 ∷ Climb 1 ∷ Issue Next ∷ []
 

@@ -30,7 +30,8 @@ pub load_comes_back : EndsIn tiny loading
     (record (opened tiny loading) {
       cells =
           empty_cell ∷
-          complete (record (done (issued 0x10000 load_x1 (known 2 0x7f0ffff0) None (known 1 0)) 0x10004) { launched = true; recovered = true }) (Value 1 0) ∷ [];
+          complete (record (done (issued 0x10000 load_x1 (known 2 0x7f0ffff0) None (known 1 0)) 0x10004) { launched = true; recovered = true }) (Value 1 0)
+          ∷ [];
       fetch = Running 0x10004;
     })
 unfolding on_literals

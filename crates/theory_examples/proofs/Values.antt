@@ -29,13 +29,15 @@ put_seven = instr.OpImm imm_op.Add 10 0 (pos 7)
 -- The first instruction executes and sends its result: it stays in stage 1, beside the packet.
 pub executed_and_sent : EndsIn tiny seven
     (Issue Next ∷ Execute 1 ∷ Send 1 ∷ [])
-    (record (opened tiny seven) { cells = complete (done (issued 0x10000 put_seven None None (known 10 7)) 0x10004) (Value 10 7) ∷ empty_cell ∷ []; fetch = Running 0x10004 })
+    (record (opened tiny seven)
+    { cells = complete (done (issued 0x10000 put_seven None None (known 10 7)) 0x10004) (Value 10 7) ∷ empty_cell ∷ []; fetch = Running 0x10004 })
 unfolding on_literals
 executed_and_sent = ends refl refl
 
 -- Sixteen moves take the program to its end: two instructions retire, and the call exits with 7.
 pub exits_with_seven : EndsIn tiny seven
-    (Issue Next ∷ Execute 1 ∷ Send 1 ∷ Exit ∷ Climb 1 ∷ Leave ∷ Issue Next ∷ Execute 1 ∷ Send 1 ∷ Exit ∷ Climb 1 ∷ Leave ∷ Issue Next ∷ Climb 1 ∷ Serve ∷ Leave ∷ [])
+    (Issue Next ∷ Execute 1 ∷ Send 1 ∷ Exit ∷ Climb 1 ∷ Leave ∷ Issue Next ∷ Execute 1 ∷ Send 1 ∷ Exit ∷ Climb 1 ∷ Leave ∷ Issue Next ∷ Climb 1 ∷ Serve ∷ Leave
+    ∷ [])
     (record (opened tiny seven) { fetch = Waiting; regs = slice_set (slice_set start_regs 10 7) 17 93; retired = 2; ending = Some (ending.Exit 7) })
 unfolding on_literals
 exits_with_seven = ends refl refl
@@ -69,7 +71,8 @@ add_one = instr.OpImm imm_op.Add 5 10 (pos 1)
 -- The register file sends the value that was asked for down the pipe, where it finds the instruction that asked.
 pub asked_and_sent_down : EndsIn tiny asking
     (Issue Next ∷ Climb 1 ∷ Emit ∷ [])
-    (record (opened tiny asking) { cells = empty_cell ∷ full (issued 0x10000 add_one (unknown 10) None (unknown 5)) (Value 10 0) ∷ []; fetch = Running 0x10004 })
+    (record (opened tiny asking)
+    { cells = empty_cell ∷ full (issued 0x10000 add_one (unknown 10) None (unknown 5)) (Value 10 0) ∷ []; fetch = Running 0x10004 })
 unfolding on_literals
 asked_and_sent_down = ends refl refl
 
@@ -110,7 +113,8 @@ multiplying = sample (0xb3 ∷ 0x02 ∷ 0x73 ∷ 0x02 ∷ [])
 pub no_multiplication : EndsIn tiny multiplying
     (Issue Next ∷ [])
     (record (opened tiny multiplying) {
-      cells = holds (record (issued 0x10000 put_seven None None None) { what = None; done = true; ending = Some (ending.Trap 2 0x10000 0x027302b3) }) ∷ empty_cell ∷ [];
+      cells = holds (record (issued 0x10000 put_seven None None None) { what = None; done = true; ending = Some (ending.Trap 2 0x10000 0x027302b3) })
+          ∷ empty_cell ∷ [];
       fetch = Waiting;
     })
 unfolding on_literals

@@ -50,7 +50,8 @@ shifts_aside = record plain {
 -- a machine at the start of the program of these bytes, which stand at 00010000
 abbrev pub program : List ℕ → Memory
 program bytes = record {
-  areas = record { base = 0x10000; write = false; exec = true; bytes = bytes; code = bytes } ∷ record { base = 0x7f0ffff0; write = true; exec = false; bytes = 0 ∷ 0 ∷ 0 ∷ 0 ∷ []; code = [] } ∷ [];
+  areas = record { base = 0x10000; write = false; exec = true; bytes = bytes; code = bytes }
+      ∷ record { base = 0x7f0ffff0; write = true; exec = false; bytes = 0 ∷ 0 ∷ 0 ∷ 0 ∷ []; code = [] } ∷ [];
   program_break = 0;
 }
 

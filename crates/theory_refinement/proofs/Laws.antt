@@ -38,7 +38,9 @@ written_is None d v regs e = rw (← e) refl
 written_is (Some b) d v regs e = rw (← e) refl
 
 -- finishing, by its outcome
-finish_as : (p : Passenger) (answer : Option ℕ) (t : Option End) (n v : ℕ) → finish_trap (instruction p) p.pc (value_in p.src1) (value_in p.src2) ≡ t → next_pc (instruction p) p.pc (value_in p.src1) (value_in p.src2) ≡ n → on answer (value_of (instruction p) p.pc (value_in p.src1) (value_in p.src2)) (λ v. v) ≡ v → finish p answer ≡ on t (finished p n v) (trapped p)
+finish_as : (p : Passenger) (answer : Option ℕ) (t : Option End) (n v : ℕ) → finish_trap (instruction p) p.pc (value_in p.src1) (value_in p.src2) ≡ t →
+    next_pc (instruction p) p.pc (value_in p.src1) (value_in p.src2) ≡ n → on answer (value_of (instruction p) p.pc (value_in p.src1) (value_in p.src2))
+    (λ v. v) ≡ v → finish p answer ≡ on t (finished p n v) (trapped p)
 unfolding finish
 finish_as p answer t n v e f g = rw (e, f, g) refl
 
@@ -47,7 +49,8 @@ finish_departs : (p : Passenger) (i : Instr) (x : Machine) (answer : Option ℕ)
     departed (finish p answer) x mem
     ≡ on (finish_trap i x.hart.pc (value_read x.hart.regs (src1_of i)) (value_read x.hart.regs (src2_of i)))
     (Goes (onward x (next_pc i x.hart.pc (value_read x.hart.regs (src1_of i)) (value_read x.hart.regs (src2_of i)))
-    (value_written x.hart.regs (dst_of i) (on answer (value_of i x.hart.pc (value_read x.hart.regs (src1_of i)) (value_read x.hart.regs (src2_of i))) (λ v. v))) mem))
+    (value_written x.hart.regs (dst_of i) (on answer (value_of i x.hart.pc (value_read x.hart.regs (src1_of i)) (value_read x.hart.regs (src2_of i))) (λ v. v)))
+    mem))
     Stops
 finish_departs p i x answer mem h =
     let is = word_is p i h.what in
@@ -55,11 +58,14 @@ finish_departs p i x answer mem h =
     let b = value_read x.hart.regs (src2_of i) in
     let t : finish_trap (instruction p) p.pc (value_in p.src1) (value_in p.src2) ≡ finish_trap i x.hart.pc a b = rw (is, h.pc, h.first, h.second) refl in
     let n : next_pc (instruction p) p.pc (value_in p.src1) (value_in p.src2) ≡ next_pc i x.hart.pc a b = rw (is, h.pc, h.first, h.second) refl in
-    let v : on answer (value_of (instruction p) p.pc (value_in p.src1) (value_in p.src2)) (λ v. v) ≡ on answer (value_of i x.hart.pc a b) (λ v. v) = rw (is, h.pc, h.first, h.second) refl in
-    ap (λ (q : Passenger). departed q x mem) (finish_as p answer (finish_trap i x.hart.pc a b) (next_pc i x.hart.pc a b) (on answer (value_of i x.hart.pc a b) (λ v. v)) t n v)
+    let v : on answer (value_of (instruction p) p.pc (value_in p.src1) (value_in p.src2)) (λ v. v) ≡ on answer (value_of i x.hart.pc a b) (λ v. v) =
+    rw (is, h.pc, h.first, h.second) refl in
+    ap (λ (q : Passenger). departed q x mem) (finish_as p answer (finish_trap i x.hart.pc a b) (next_pc i x.hart.pc a b)
+    (on answer (value_of i x.hart.pc a b) (λ v. v)) t n v)
     ∙ by (finish_trap i x.hart.pc a b) (next_pc i x.hart.pc a b) (on answer (value_of i x.hart.pc a b) (λ v. v))
   where
-    by : (o : Option End) (n v : ℕ) → departed (on o (finished p n v) (trapped p)) x mem ≡ on o (Goes (onward x n (value_written x.hart.regs (dst_of i) v) mem)) Stops
+    by : (o : Option End) (n v : ℕ) → departed (on o (finished p n v) (trapped p)) x mem ≡ on o
+        (Goes (onward x n (value_written x.hart.regs (dst_of i) v) mem)) Stops
     by None n v = rw h.unended (ap (λ (q : List ℕ). Goes (onward x n q mem)) (written_is p.dst (dst_of i) v x.hart.regs h.destination))
     by (Some e) n v = refl
 
@@ -82,7 +88,8 @@ accesses_as_launched isa x i p f c h =
     let mem = mem_after i a b x.hart.mem in
     let answer : answer_of (instruction p) (value_in p.src1) (value_in p.src2) x.hart.mem ≡ v = rw (is, h.first, h.second) refl in
     let after : mem_after (instruction p) (value_in p.src1) (value_in p.src2) x.hart.mem ≡ mem = rw (is, h.first, h.second) refl in
-    let trap : access_trap (instruction p) p.pc (value_in p.src1) (bounds_of x.hart.mem) ≡ access_trap i x.hart.pc a (bounds_of x.hart.mem) = rw (is, h.pc, h.first) refl in
+    let trap : access_trap (instruction p) p.pc (value_in p.src1) (bounds_of x.hart.mem) ≡ access_trap i x.hart.pc a (bounds_of x.hart.mem) =
+    rw (is, h.pc, h.first) refl in
     let gone : returned p x ≡ Goes (onward x (word_after x.hart.pc) (value_written x.hart.regs (dst_of i) v) mem) =
     ap (λ (z : ℕ). departed (finish p (Some z)) x (mem_after (instruction p) (value_in p.src1) (value_in p.src2) x.hart.mem)) answer
     ∙ ap (departed (finish p (Some v)) x) after
@@ -94,7 +101,8 @@ accesses_as_launched isa x i p f c h =
     ∙ ap (λ (o : Option End). on o (returned p x) Stops) (sym trap)
 
 -- third law
-serves : (isa : Isa) (x : Machine) (i : Instr) (p : Passenger) → fetched isa x.hart.mem x.hart.pc ≡ Got i → is_serial (kind_of i) ≡ true → IsReadyPassenger p i x → step_here isa x ≡ replied p x (serve_of (instruction p) x.hart.regs x.hart.mem x.rest)
+serves : (isa : Isa) (x : Machine) (i : Instr) (p : Passenger) → fetched isa x.hart.mem x.hart.pc ≡ Got i → is_serial (kind_of i) ≡ true →
+    IsReadyPassenger p i x → step_here isa x ≡ replied p x (serve_of (instruction p) x.hart.regs x.hart.mem x.rest)
 serves isa x i p f c h =
     let is = word_is p i h.what in
     let a = value_read x.hart.regs (src1_of i) in
@@ -103,10 +111,19 @@ serves isa x i p f c h =
     rw is (s ∙ by (serve_of i x.hart.regs x.hart.mem x.rest))
   where
     by : (c : Called) → served c (dst_of i) x ≡ replied p x c
-    by (called.Value a) = rw (h.unended, h.pc) (ap (λ (q : List ℕ). Goes (record { hart = record { pc = word_after x.hart.pc; regs = q; mem = a.mem; retired = x.hart.retired + 1 }; rest = a.rest; output = x.output ++ a.output })) (sym (written_is p.dst (dst_of i) a.value x.hart.regs h.destination)))
+    by (called.Value a) =
+        rw (h.unended, h.pc) (ap
+        (λ (q : List ℕ). Goes
+        (record {
+          hart = record { pc = word_after x.hart.pc; regs = q; mem = a.mem; retired = x.hart.retired + 1 };
+          rest = a.rest;
+          output = x.output
+              ++ a.output;
+        })) (sym (written_is p.dst (dst_of i) a.value x.hart.regs h.destination)))
     by (called.Exit status) = refl
 
-passes : (isa : Isa) (x : Machine) (i : Instr) (cache : List (Option ℕ)) (g : Guess) → fetched isa x.hart.mem x.hart.pc ≡ Got i → is_free (kind_of i) ≡ true → step_here isa x ≡ departed (fresh cache (Got i) x.hart.pc g) x x.hart.mem
+passes : (isa : Isa) (x : Machine) (i : Instr) (cache : List (Option ℕ)) (g : Guess) → fetched isa x.hart.mem x.hart.pc ≡ Got i → is_free (kind_of i) ≡ true →
+    step_here isa x ≡ departed (fresh cache (Got i) x.hart.pc g) x x.hart.mem
 unfolding fresh
 passes isa x i cache g f c =
     let a = value_read x.hart.regs (src1_of i) in
@@ -115,7 +132,8 @@ passes isa x i cache g f c =
     let s : step_here isa x ≡ stepped_as Free i a b x = step_is isa x x.hart.pc i f ∙ ap (λ (z : Class). stepped_as z i a b x) k in
     rw k (s ∙ by (free_trap i x.hart.pc))
   where
-    by : (o : Option End) → on o (Goes (onward x (word_after x.hart.pc) x.hart.regs x.hart.mem)) Stops ≡ departed (on o (fresh_fence i x.hart.pc g) (fresh_end (Some i) x.hart.pc g)) x x.hart.mem
+    by : (o : Option End) → on o (Goes (onward x (word_after x.hart.pc) x.hart.regs x.hart.mem)) Stops
+        ≡ departed (on o (fresh_fence i x.hart.pc g) (fresh_end (Some i) x.hart.pc g)) x x.hart.mem
     by None = refl
     by (Some e) = refl
 
@@ -128,13 +146,15 @@ unfolding fresh
 issue cache (Bad e) pc g = (refl, refl)
 issue cache (Got i) pc g = grind arith
 
-reads : (isa : Isa) (x : Machine) (i : Instr) → fetched isa x.hart.mem x.hart.pc ≡ Got i → (word : ℕ) × (decoded_as isa word ≡ Some i) × (machine.step isa x ≡ machine.after_output x.output (machine.execute (class_of i) x.hart x.rest word i))
+reads : (isa : Isa) (x : Machine) (i : Instr) → fetched isa x.hart.mem x.hart.pc ≡ Got i →
+    (word : ℕ) × (decoded_as isa word ≡ Some i) × (machine.step isa x ≡ machine.after_output x.output (machine.execute (class_of i) x.hart x.rest word i))
 unfolding kind_of
 reads isa x i f =
     let q = fetched_is isa x.hart.mem x.hart.pc i f in
     (q.word, q.read, step_executes isa x i q)
 
-others : (isa : Isa) (x : Machine) (i : Instr) (n : Machine) → fetched isa x.hart.mem x.hart.pc ≡ Got i → step_here isa x ≡ Goes n → (r : ℕ) → dst_of i ≢ Some r → slice_index n.hart.regs r ≡ slice_index x.hart.regs r
+others : (isa : Isa) (x : Machine) (i : Instr) (n : Machine) → fetched isa x.hart.mem x.hart.pc ≡ Got i → step_here isa x ≡ Goes n → (r : ℕ) →
+    dst_of i ≢ Some r → slice_index n.hart.regs r ≡ slice_index x.hart.regs r
 others isa x i n f e r d =
     ap (λ (s : StepResult). slice_index (after_step s x).hart.regs r) (sym e) ∙ (step_keeps isa x x.hart.pc i f).other r d
 

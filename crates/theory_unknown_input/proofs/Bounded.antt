@@ -22,20 +22,25 @@ use Rattle.theory_unknown_input.proofs.Rechosen.{over}
 use Rattle.theory_unknown_input.proofs.Theorems.{anew_kept, anew_started, held_anew}
 
 -- what a move costs where the moment holds with the input that the move finds
-costs_by : (plan : Plan) (x : Machine) (m : Moment) (mv : Move) → Suits plan → bar plan m.state mv ≡ None → HoldsAfter plan x m → suc (weight plan (next plan m mv).state) ≤ weight plan m.state + moves_per_issue plan * counts (is_issue mv) 1
+costs_by : (plan : Plan) (x : Machine) (m : Moment) (mv : Move) → Suits plan → bar plan m.state mv ≡ None → HoldsAfter plan x m →
+    suc (weight plan (next plan m mv).state) ≤ weight plan m.state + moves_per_issue plan * counts (is_issue mv) 1
 costs_by plan x m mv acc free h = costs plan m h.machine mv acc free (sound_at plan x m mv free h)
 
 -- each move but Issue lowers the weight, whatever it finds of the input, and Issue raises it by less than K
-pub costs_anew : (plan : Plan) (start : Machine) (m : Moment) (mv : Move) (rest : List ℕ) (written : List Line) → Suits plan → bar plan m.state mv ≡ None → HoldsAnew plan start written m
+pub costs_anew : (plan : Plan) (start : Machine) (m : Moment) (mv : Move) (rest : List ℕ) (written : List Line) → Suits plan → bar plan m.state mv ≡ None →
+    HoldsAnew plan start written m
     → suc (weight plan (next plan (finding rest m) mv).state) ≤ weight plan m.state + moves_per_issue plan * counts (is_issue mv) 1
 costs_anew plan start m mv rest written acc free h = go (found plan m mv h.rest rest)
   where
-    go : (mv ≡ Serve) ⊎ (next plan (finding rest m) mv ≡ finding rest (next plan (finding h.rest m) mv)) → suc (weight plan (next plan (finding rest m) mv).state) ≤ weight plan m.state + moves_per_issue plan * counts (is_issue mv) 1
-    go (inl is) = costs_by plan (over rest h.at) (finding rest m) mv acc free (held_anew plan h.at m h.rest rest (sym (ap (bar plan m.state) is) ∙ free) h.level h.held h.clear)
+    go : (mv ≡ Serve) ⊎ (next plan (finding rest m) mv ≡ finding rest (next plan (finding h.rest m) mv)) →
+        suc (weight plan (next plan (finding rest m) mv).state) ≤ weight plan m.state + moves_per_issue plan * counts (is_issue mv) 1
+    go (inl is) = costs_by plan (over rest h.at) (finding rest m) mv acc free (held_anew plan h.at m h.rest rest (sym (ap (bar plan m.state) is)
+        ∙ free) h.level h.held h.clear)
     go (inr is) = rw is (costs_by plan h.at (finding h.rest m) mv acc free h.held)
 
 -- so do several
-paid : (plan : Plan) (start : Machine) (m last : Moment) (moves : List Move) (written later : List Line) → Suits plan → LeadsTo plan m moves last later → HoldsAnew plan start written m
+paid : (plan : Plan) (start : Machine) (m last : Moment) (moves : List Move) (written later : List Line) → Suits plan → LeadsTo plan m moves last later →
+    HoldsAnew plan start written m
     → length moves + weight plan last.state ≤ weight plan m.state + moves_per_issue plan * issues moves
 unfolding LeadsTo
 paid plan start m last [] written later acc (same, none) h =
@@ -43,19 +48,23 @@ paid plan start m last [] written later acc (same, none) h =
     omega (arith, e)
 paid plan start m last (mv ∷ moves) written later acc (rest, after, free, leads, is) h =
     let a = costs_anew plan start m mv rest written acc free h in
-    let b = paid plan start (next plan (finding rest m) mv) last moves (written ++ retires plan m.state mv) after acc leads (anew_kept plan start m mv rest written acc free h) in
-    let c : moves_per_issue plan * (counts (is_issue mv) 1 + issues moves) ≡ moves_per_issue plan * counts (is_issue mv) 1 + moves_per_issue plan * issues moves = grind arith in
+    let b = paid plan start (next plan (finding rest m) mv) last moves (written ++ retires plan m.state mv) after acc leads
+    (anew_kept plan start m mv rest written acc free h) in
+    let c : moves_per_issue plan * (counts (is_issue mv) 1 + issues moves) ≡ moves_per_issue plan * counts
+    (is_issue mv) 1 + moves_per_issue plan * issues moves = grind arith in
     omega (arith, a, b, c)
 
 -- a run from the beginning has at most K moves for each Issue, whatever each move finds of the input
-pub run_bounded_anew : (plan : Plan) (x : Machine) (last : Moment) (moves : List Move) (written : List Line) → IsAccepted plan → length x.hart.regs ≡ 32 → LeadsTo plan (start plan x) moves last written → length moves ≤ moves_per_issue plan * issues moves
+pub run_bounded_anew : (plan : Plan) (x : Machine) (last : Moment) (moves : List Move) (written : List Line) → IsAccepted plan → length x.hart.regs ≡ 32 →
+    LeadsTo plan (start plan x) moves last written → length moves ≤ moves_per_issue plan * issues moves
 run_bounded_anew plan x last moves written accepted wide leads =
     let p = paid plan x (start plan x) last moves [] written (accepted_suits plan accepted) leads (anew_started plan x wide) in
     let z = opened_weight plan x in
     omega (arith, p, z)
 
 -- with issue held back a run has at most as many moves as the weight of the state from which it starts, whatever each move finds of the input
-pub drain_bounded_anew : (plan : Plan) (start : Machine) (m last : Moment) (moves : List Move) (written later : List Line) → IsAccepted plan → HoldsAnew plan start written m → LeadsTo plan m moves last later → issues moves ≡ 0 → length moves ≤ weight plan m.state
+pub drain_bounded_anew : (plan : Plan) (start : Machine) (m last : Moment) (moves : List Move) (written later : List Line) → IsAccepted plan →
+    HoldsAnew plan start written m → LeadsTo plan m moves last later → issues moves ≡ 0 → length moves ≤ weight plan m.state
 drain_bounded_anew plan start m last moves written later accepted h leads held =
     let p = paid plan start m last moves written later (accepted_suits plan accepted) leads h in
     let none : moves_per_issue plan * issues moves ≡ 0 = ap (λ (n : ℕ). moves_per_issue plan * n) held ∙ times_zero (moves_per_issue plan) in

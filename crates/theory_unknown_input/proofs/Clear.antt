@@ -1,4 +1,5 @@
--- While an instruction that needs the whole machine is not answered, nothing in the processor has the value of its destination below it; and a change in the middle of the column.
+-- While an instruction that needs the whole machine is not answered, nothing in the processor has the value of its
+-- destination below it; and a change in the middle of the column.
 use Rattle.std.proofs.Common.{◌≡◌, ℕ, List, [], ◌∷◌, ◌++◌, Option, Some, Bool, true, false, ◌&&◌, ◌||◌, not, refl, arith}
 use Rattle.cf_bind.specs.Meeting.{meeting}
 use Rattle.cf_bind.specs.declared.packet.Packet.{Packet}
@@ -75,7 +76,8 @@ pub clear_walk : IsWalk (ℕ → Bool) Fits past Follows
 clear_walk = record { stays = item_follows; goes_on = past_follows }
 
 -- a stretch of the column is replaced by one below which no more is waited for
-pub clear_replaced : (s t : State) (above old new below : List Item) → column s ≡ above ++ (old ++ below) → column t ≡ above ++ (new ++ below) → t.cache ≡ s.cache → Replaces (ℕ → Bool) Fits past Follows old new (walk past above none_awaited) → IsClear s → IsClear t
+pub clear_replaced : (s t : State) (above old new below : List Item) → column s ≡ above ++ (old ++ below) → column t ≡ above ++ (new ++ below) →
+    t.cache ≡ s.cache → Replaces (ℕ → Bool) Fits past Follows old new (walk past above none_awaited) → IsClear s → IsClear t
 clear_replaced s t above old new below was is c f h =
     let a = replaced (ℕ → Bool) Fits past Follows clear_walk above old new below none_awaited f (rw was at h.fit) in
     record { fit = rw is a.0; ends = rw (is, c) (fewer_end _ _ s.cache a.1 (rw was at h.ends)) }
@@ -84,7 +86,8 @@ clear_replaced s t above old new below was is c f h =
     fewer_end w v cache f e = λ r n g. not_awaited w v r f (e r n g)
 
 -- a passenger is replaced by one that gives no register that it did not
-pub rider_clear : (i j : ℕ) (p q : Passenger) (w : ℕ → Bool) → ((r : ℕ) → gives q r ≡ true → gives p r ≡ true) → Replaces (ℕ → Bool) Fits past Follows (Up i p ∷ []) (Up j q ∷ []) w
+pub rider_clear : (i j : ℕ) (p q : Passenger) (w : ℕ → Bool) → ((r : ℕ) → gives q r ≡ true → gives p r ≡ true) →
+    Replaces (ℕ → Bool) Fits past Follows (Up i p ∷ []) (Up j q ∷ []) w
 unfolding Fits past
 rider_clear i j p q w f = record { fit = λ h. h; follows = λ h. record { fewer = λ r e. grind (arith, f r) } }
 
@@ -98,6 +101,7 @@ unfolding Fits past
 packet_clear i j k w = record { fit = λ h. grind arith; follows = λ h. record { fewer = λ r e. e } }
 
 -- a meeting: what waits for its answer kills a value of its destination
-pub met_clear : (i : ℕ) (p : Passenger) (k : Packet) (w : ℕ → Bool) → (p.done ≡ false → Blank p.dst) → Replaces (ℕ → Bool) Fits past Follows (Down i k ∷ Up i p ∷ []) (met_items i (meeting p k).passenger (meeting p k).packet) w
+pub met_clear : (i : ℕ) (p : Passenger) (k : Packet) (w : ℕ → Bool) → (p.done ≡ false → Blank p.dst) →
+    Replaces (ℕ → Bool) Fits past Follows (Down i k ∷ Up i p ∷ []) (met_items i (meeting p k).passenger (meeting p k).packet) w
 unfolding Fits past meeting
 met_clear i p k w b = record { fit = λ h. grind arith; follows = λ h. record { fewer = λ r e. grind arith } }

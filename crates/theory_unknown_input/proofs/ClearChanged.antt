@@ -40,14 +40,16 @@ pub climb_clear : (l : Plan) (s : State) (i : ℕ) → bar l s (Climb i) ≡ Non
 climb_clear l s i e h =
     let r = climb_ready l s i (bar_row l s (Climb i) e) in
     let q = climb_stretch l s i r in
-    rw (next_climb l s i r.low r.high r.at_low r.at_high, add-one) (clear_replaced s (record s { cells = cells_climbed s i r.low r.high }) q.above (Up i r.who ∷ []) (Up (suc i) r.who ∷ []) q.below q.was q.is refl (rider_clear i (suc i) r.who r.who _ (λ n g. g)) h)
+    rw (next_climb l s i r.low r.high r.at_low r.at_high, add-one) (clear_replaced s (record s { cells = cells_climbed s i r.low r.high }) q.above (Up i r.who
+    ∷ []) (Up (suc i) r.who ∷ []) q.below q.was q.is refl (rider_clear i (suc i) r.who r.who _ (λ n g. g)) h)
 
 -- Fall to the stage i, from the one above it
 fall_above : (l : Plan) (s : State) (i : ℕ) → row_bar l s (Fall (suc i)) ≡ None → IsClear s → IsClear (moved l s (Fall (suc i)))
 fall_above l s i e h =
     let r = fall_ready l s i e in
     let q = fall_stretch s i r in
-    rw (next_fall l s i r.high r.low r.at_high r.at_low, sub-one) (clear_replaced s (record s { cells = cells_fallen s i r.low r.high }) q.above (Down (suc i) r.what ∷ []) (Down i r.what ∷ []) q.below q.was q.is refl (packet_clear (suc i) i r.what _) h)
+    rw (next_fall l s i r.high r.low r.at_high r.at_low, sub-one) (clear_replaced s (record s { cells = cells_fallen s i r.low r.high }) q.above
+    (Down (suc i) r.what ∷ []) (Down i r.what ∷ []) q.below q.was q.is refl (packet_clear (suc i) i r.what _) h)
 
 -- Fall: a packet stands one stage lower
 pub fall_clear : (l : Plan) (s : State) (i : ℕ) → bar l s (Fall i) ≡ None → IsClear s → IsClear (moved l s (Fall i))
@@ -55,14 +57,16 @@ fall_clear l s zero e h = absurd (no_fall l s (bar_row l s (Fall zero) e))
 fall_clear l s (suc i) e h = fall_above l s i (bar_row l s (Fall (suc i)) e) h
 
 -- Meet: a value of the register that the passenger is to give does not pass it
-pub meet_clear : {rest out : List ℕ} (l : Plan) (s : State) (x : Machine) (i : ℕ) → bar l s (Meet i) ≡ None → Sound l s rest out x → IsClear s → IsClear (moved l s (Meet i))
+pub meet_clear : {rest out : List ℕ} (l : Plan) (s : State) (x : Machine) (i : ℕ) → bar l s (Meet i) ≡ None → Sound l s rest out x → IsClear s →
+    IsClear (moved l s (Meet i))
 meet_clear {rest} {out} l s x i e h n =
     let r = meet_ready l s i (bar_row l s (Meet i) e) in
     let p = meet_stretch s i r in
     let old : List Item = Down i r.what ∷ Up i r.who ∷ [] in
     let new = met_items i (meeting r.who r.what).passenger (meeting r.who r.what).packet in
     let k = here l s x p.above old p.below p.was h in
-    rw (next_meet l s i r.here r.who r.what r.at_here r.sits r.lies) (clear_replaced s (with_cell s i (cell_met r.here r.who r.what)) p.above old new p.below p.was p.is refl (met_clear i r.who r.what _ k.stands.0.blank) n)
+    rw (next_meet l s i r.here r.who r.what r.at_here r.sits r.lies) (clear_replaced s (with_cell s i (cell_met r.here r.who r.what)) p.above old new p.below
+    p.was p.is refl (met_clear i r.who r.what _ k.stands.0.blank) n)
 
 -- what is executed is not waited for
 done_quiet : (p : Passenger) → p.done ≡ true → awaits p ≡ false
@@ -74,7 +78,8 @@ execute_clear l s i e h =
     let r = execute_ready l s i (bar_row l s (Execute i) e) in
     let q = spot s i r.here r.who r.at_here r.sits in
     let f = finish r.who None in
-    rw (next_execute l s i r.here r.who r.at_here r.sits) (clear_replaced s (with_cell s i (with_passenger r.here f)) q.above (Up i r.who ∷ []) (Up i f ∷ []) q.below q.was (q.is f) refl (quiet_clear i i r.who f _ (done_quiet f (finish_done r.who None))) h)
+    rw (next_execute l s i r.here r.who r.at_here r.sits) (clear_replaced s (with_cell s i (with_passenger r.here f)) q.above (Up i r.who ∷ []) (Up i f
+    ∷ []) q.below q.was (q.is f) refl (quiet_clear i i r.who f _ (done_quiet f (finish_done r.who None))) h)
 
 -- Launch: the passenger is launched, or it traps
 pub launch_clear : (l : Plan) (s : State) (i : ℕ) → bar l s (Launch i) ≡ None → IsClear s → IsClear (moved l s (Launch i))
@@ -86,11 +91,14 @@ launch_clear l s i e h =
     go r None f =
         let q = spot s i r.here r.who r.at_here r.sits in
         let p = sent_out r.who in
-        rw (launched_out l s i r.here r.who r.number f r.siding) (clear_replaced s (with_siding (with_cell s i (with_passenger r.here p)) r.number (slice_set (siding_at s r.number) 0 (Some (operation r.who)))) q.above (Up i r.who ∷ []) (Up i p ∷ []) q.below q.was (q.is p) refl (rider_clear i i r.who p _ (λ n g. g)) h)
+        rw (launched_out l s i r.here r.who r.number f r.siding) (clear_replaced s (with_siding (with_cell s i (with_passenger r.here p)) r.number
+        (slice_set (siding_at s r.number) 0 (Some (operation r.who)))) q.above (Up i r.who ∷ []) (Up i p ∷ []) q.below q.was (q.is p) refl
+        (rider_clear i i r.who p _ (λ n g. g)) h)
     go r (Some b) f =
         let q = spot s i r.here r.who r.at_here r.sits in
         let p = trapped r.who b in
-        rw (launched_trap l s i r.here r.who b f) (clear_replaced s (with_cell s i (with_passenger r.here p)) q.above (Up i r.who ∷ []) (Up i p ∷ []) q.below q.was (q.is p) refl (quiet_clear i i r.who p _ (done_quiet p refl)) h)
+        rw (launched_trap l s i r.here r.who b f) (clear_replaced s (with_cell s i (with_passenger r.here p)) q.above (Up i r.who ∷ []) (Up i p
+        ∷ []) q.below q.was (q.is p) refl (quiet_clear i i r.who p _ (done_quiet p refl)) h)
 
 -- what has taken its operation back is not waited for
 back_quiet : (p : Passenger) (o : Option ℕ) → awaits (back_in p o) ≡ false
@@ -106,7 +114,9 @@ recover_clear l s i e h =
     let r = recover_ready l s i (bar_row l s (Recover i) e) in
     let q = spot s i r.here r.who r.at_here r.sits in
     let p = back_in r.who r.what.answer in
-    rw (next_recover l s i r.here r.who r.number r.what r.at_here r.sits r.siding r.lies) (clear_replaced s (with_siding (with_cell s i (with_passenger r.here p)) r.number (set_last (siding_at s r.number) None)) q.above (Up i r.who ∷ []) (Up i p ∷ []) q.below q.was (q.is p) refl (quiet_clear i i r.who p _ (back_quiet r.who r.what.answer)) h)
+    rw (next_recover l s i r.here r.who r.number r.what r.at_here r.sits r.siding r.lies) (clear_replaced s
+    (with_siding (with_cell s i (with_passenger r.here p)) r.number (set_last (siding_at s r.number) None)) q.above (Up i r.who ∷ []) (Up i p
+    ∷ []) q.below q.was (q.is p) refl (quiet_clear i i r.who p _ (back_quiet r.who r.what.answer)) h)
 
 -- Serve: the passenger is answered, or ends the program
 pub serve_clear : (l : Plan) (m : Moment) → bar l m.state Serve ≡ None → IsClear m.state → IsClear (next l m Serve).state
@@ -119,11 +129,13 @@ serve_clear l m e h =
     go r (called.Value a) =
         let q = spot m.state l.stages r.here r.who r.at_here r.sits in
         let p = answered r.who a.value in
-        clear_replaced m.state (record (with_cell m.state l.stages (with_passenger r.here p)) { mem = a.mem }) q.above (Up l.stages r.who ∷ []) (Up l.stages p ∷ []) q.below q.was (q.is p) refl (quiet_clear l.stages l.stages r.who p _ (done_quiet p refl)) h
+        clear_replaced m.state (record (with_cell m.state l.stages (with_passenger r.here p)) { mem = a.mem }) q.above (Up l.stages r.who ∷ []) (Up l.stages p
+        ∷ []) q.below q.was (q.is p) refl (quiet_clear l.stages l.stages r.who p _ (done_quiet p refl)) h
     go r (called.Exit z) =
         let q = spot m.state l.stages r.here r.who r.at_here r.sits in
         let p = quit r.who z in
-        clear_replaced m.state (with_cell m.state l.stages (with_passenger r.here p)) q.above (Up l.stages r.who ∷ []) (Up l.stages p ∷ []) q.below q.was (q.is p) refl (quiet_clear l.stages l.stages r.who p _ (done_quiet p refl)) h
+        clear_replaced m.state (with_cell m.state l.stages (with_passenger r.here p)) q.above (Up l.stages r.who ∷ []) (Up l.stages p ∷ []) q.below q.was
+        (q.is p) refl (quiet_clear l.stages l.stages r.who p _ (done_quiet p refl)) h
 
 -- Slide: the column stays
 pub slide_clear : (l : Plan) (s : State) (k c : ℕ) → bar l s (Slide k c) ≡ None → IsClear s → IsClear (moved l s (Slide k c))

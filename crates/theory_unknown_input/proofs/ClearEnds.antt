@@ -58,7 +58,8 @@ left_cache : (s : State) (n : ℕ) (c : Cell) (p : Passenger) → (left s n c p)
 left_cache s n c p = grind arith
 
 -- Leave keeps it: the passenger that leaves waits for nothing
-pub leave_clear : {rest out : List ℕ} (l : Plan) (s : State) (x : Machine) → Suits l → bar l s Leave ≡ None → Sound l s rest out x → IsClear s → IsClear (moved l s Leave)
+pub leave_clear : {rest out : List ℕ} (l : Plan) (s : State) (x : Machine) → Suits l → bar l s Leave ≡ None → Sound l s rest out x → IsClear s →
+    IsClear (moved l s Leave)
 leave_clear l s x acc e h k =
     let r = leave_ready l s (bar_row l s Leave e) in
     let n = l.stages in
@@ -67,7 +68,8 @@ leave_clear l s x acc e h k =
     let below = packet_in n r.here.packet ++ column_from 1 c.below in
     let t = left s n r.here p in
     let was : column s ≡ Up n p ∷ below = c.was ∙ ap (λ (q : List Item). q ++ column_from 1 c.below) (rider_first n r.here p r.sits r.clear) in
-    let is : column t ≡ below = ap (column_from 1) (left_cells s n r.here p) ∙ c.set (without_passenger r.here) ∙ ap (λ (q : List Item). q ++ column_from 1 c.below) (rider_gone n r.here) in
+    let is : column t ≡ below = ap (column_from 1) (left_cells s n r.here p) ∙ c.set (without_passenger r.here)
+    ∙ ap (λ (q : List Item). q ++ column_from 1 c.below) (rider_gone n r.here) in
     let same = past_settled n p none_awaited (settled p r.over) in
     let fit = rw was at k.fit in
     let ends = rw was at k.ends in
@@ -91,7 +93,8 @@ unfolding past
 past_down i k w = refl
 
 -- Emit keeps it: above the value that it sends down nothing is waited for
-pub emit_clear : {rest out : List ℕ} (l : Plan) (s : State) (x : Machine) → Suits l → bar l s Emit ≡ None → Sound l s rest out x → IsClear s → IsClear (moved l s Emit)
+pub emit_clear : {rest out : List ℕ} (l : Plan) (s : State) (x : Machine) → Suits l → bar l s Emit ≡ None → Sound l s rest out x → IsClear s →
+    IsClear (moved l s Emit)
 emit_clear l s x acc e h k =
     let r = emit_ready l s (bar_row l s Emit e) in
     let n = l.stages in
@@ -147,7 +150,8 @@ unfolding Fits
 fits_up i p w = tt
 
 -- Issue keeps it: below the new passenger stands nothing, and its destination is forgotten
-pub issue_clear : {rest out : List ℕ} (l : Plan) (s : State) (x : Machine) (g : Guess) → Suits l → bar l s (Issue g) ≡ None → Sound l s rest out x → IsClear s → IsClear (moved l s (Issue g))
+pub issue_clear : {rest out : List ℕ} (l : Plan) (s : State) (x : Machine) (g : Guess) → Suits l → bar l s (Issue g) ≡ None → Sound l s rest out x → IsClear s →
+    IsClear (moved l s (Issue g))
 issue_clear l s x g acc e h k =
     let r = issue_ready l s g (bar_row l s (Issue g) e) in
     let p : Passenger = fresh s.cache (fetched (isa_of l) s.mem r.pc) r.pc g in
@@ -155,7 +159,8 @@ issue_clear l s x g acc e h k =
     let c : Cell = record r.here { passenger = Some p; met = false } in
     let t : State = record s { cells = c ∷ r.others; lane = s.lane ++ requests p; fetch = fetch_at (goto p); cache = forgets (reg_in p.dst) s.cache } in
     let was : column s ≡ column_from 2 r.others ++ items 1 r.here = ap (column_from 1) r.cells in
-    let is : column t ≡ column s ++ new = ap (λ (q : List Item). column_from 2 r.others ++ q) (issue_items r.here p r.free) ∙ sym (append_assoc (column_from 2 r.others) (items 1 r.here) new) ∙ ap (λ (q : List Item). q ++ new) (sym was) in
+    let is : column t ≡ column s ++ new = ap (λ (q : List Item). column_from 2 r.others ++ q) (issue_items r.here p r.free)
+    ∙ sym (append_assoc (column_from 2 r.others) (items 1 r.here) new) ∙ ap (λ (q : List Item). q ++ new) (sym was) in
     let w = walk past (column s) none_awaited in
     rw (next_issue l s g r.here r.others r.pc p r.cells r.runs refl) (record {
       fit = rw is (fit_append _ Fits past (column s) new none_awaited k.fit (fits_up 1 p w, tt));
@@ -173,7 +178,8 @@ exit_ends i (Turn pc) b c w f h = cleared_ends w c
 exit_ends i Halt b c w f h = cleared_ends w c
 
 -- Exit keeps it: the value that is kept at the bottom stood there before
-pub exit_clear : {rest out : List ℕ} (l : Plan) (s : State) (x : Machine) → Suits l → bar l s Exit ≡ None → Sound l s rest out x → IsClear s → IsClear (moved l s Exit)
+pub exit_clear : {rest out : List ℕ} (l : Plan) (s : State) (x : Machine) → Suits l → bar l s Exit ≡ None → Sound l s rest out x → IsClear s →
+    IsClear (moved l s Exit)
 exit_clear l s x acc e h k =
     let r = exit_ready l s (bar_row l s Exit e) in
     let what = r.what in
@@ -185,5 +191,6 @@ exit_clear l s x acc e h k =
     let w = walk past upper none_awaited in
     rw (next_exit l s r.here r.others what r.cells r.lies) (record {
       fit = fit_front _ Fits past upper last none_awaited fit;
-      ends = exit_ends 1 what l.cache s.cache w (fit_back _ Fits past upper last none_awaited fit).0 (rw (was, walk_append past upper last none_awaited) at k.ends);
+      ends = exit_ends 1 what l.cache s.cache w (fit_back _ Fits past upper last none_awaited fit).0
+          (rw (was, walk_append past upper last none_awaited) at k.ends);
     })

@@ -15,7 +15,8 @@ use Rattle.theory_unknown_input.proofs.ClearSend.{send_clear}
 use Rattle.theory_unknown_input.proofs.Clear.{IsClear}
 
 -- every move that is allowed keeps it
-pub clear_kept : (l : Plan) (m : Moment) (x : Machine) (mv : Move) → Suits l → bar l m.state mv ≡ None → Sound l m.state m.rest m.output x → IsClear m.state → IsClear (next l m mv).state
+pub clear_kept : (l : Plan) (m : Moment) (x : Machine) (mv : Move) → Suits l → bar l m.state mv ≡ None → Sound l m.state m.rest m.output x → IsClear m.state →
+    IsClear (next l m mv).state
 unfolding next
 clear_kept l m x (Issue g) acc e h k = issue_clear l m.state x g acc e h k
 clear_kept l m x Emit acc e h k = emit_clear l m.state x acc e h k

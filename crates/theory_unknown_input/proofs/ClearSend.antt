@@ -31,7 +31,8 @@ past_unawaited l (Up i p) b w r e f = let z : b ≡ false = past_open l (Up i p)
 past_unawaited l (Down i k) b w r e f = f (past_open l (Down i k) b e)
 
 -- where something may follow, nothing above is waited for
-pub walk_unawaited : (l : Plan) (xs : List Item) (b : Bool) (w : ℕ → Bool) (r : ℕ) → walk (lone.past l) xs b ≡ false → (b ≡ false → w r ≡ false) → walk past xs w r ≡ false
+pub walk_unawaited : (l : Plan) (xs : List Item) (b : Bool) (w : ℕ → Bool) (r : ℕ) → walk (lone.past l) xs b ≡ false → (b ≡ false → w r ≡ false) →
+    walk past xs w r ≡ false
 walk_unawaited l [] b w r e f = f e
 walk_unawaited l (x ∷ xs) b w r e f = walk_unawaited l xs (lone.past l x b) (past x w) r e (λ z. past_unawaited l x b w r z f)
 
@@ -48,7 +49,8 @@ unfolding past
 past_sent i p k w = refl
 
 -- Send keeps it: above the value that goes down nothing is waited for
-pub send_clear : {rest out : List ℕ} (l : Plan) (s : State) (x : Machine) (i : ℕ) → Suits l → bar l s (Send i) ≡ None → Sound l s rest out x → IsClear s → IsClear (moved l s (Send i))
+pub send_clear : {rest out : List ℕ} (l : Plan) (s : State) (x : Machine) (i : ℕ) → Suits l → bar l s (Send i) ≡ None → Sound l s rest out x → IsClear s →
+    IsClear (moved l s (Send i))
 send_clear l s x i acc e h k =
     let r = send_ready l s i (bar_row l s (Send i) e) in
     let p = send_stretch s i r in
@@ -69,6 +71,8 @@ send_clear l s x i acc e h k =
     let fit = rw was at k.fit in
     let back = fit_back _ Fits past up ((Up i who ∷ []) ++ under) none_awaited fit in
     rw (next_send l s i r.here who r.what r.at_here r.sits r.owes) (record {
-      fit = rw is (fit_append _ Fits past up (new ++ under) none_awaited (fit_front _ Fits past up ((Up i who ∷ []) ++ under) none_awaited fit) (fits_up i q w, (fits_sent i q r.what w done free, subst (λ (v : ℕ → Bool). Everywhere Fits past under v) same back.1)));
-      ends = rw (is, walk_append past up (new ++ under) none_awaited) (subst (λ (v : ℕ → Bool). Ends (walk past under v) s.cache) same (rw (was, walk_append past up ((Up i who ∷ []) ++ under) none_awaited) at k.ends));
+      fit = rw is (fit_append _ Fits past up (new ++ under) none_awaited (fit_front _ Fits past up ((Up i who ∷ []) ++ under) none_awaited fit)
+          (fits_up i q w, (fits_sent i q r.what w done free, subst (λ (v : ℕ → Bool). Everywhere Fits past under v) same back.1)));
+      ends = rw (is, walk_append past up (new ++ under) none_awaited) (subst (λ (v : ℕ → Bool). Ends (walk past under v) s.cache) same
+          (rw (was, walk_append past up ((Up i who ∷ []) ++ under) none_awaited) at k.ends));
     })

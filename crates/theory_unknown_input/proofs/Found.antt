@@ -8,7 +8,8 @@ use Rattle.cf_semantics.specs.state.State.{Moment}
 use Rattle.theory_unknown_input.specs.UnknownInput.{finding}
 
 -- any other move does the same whatever it finds, and leaves the input as it found it
-pub found : (plan : Plan) (m : Moment) (mv : Move) (before rest : List ℕ) → (mv ≡ Serve) ⊎ (next plan (finding rest m) mv ≡ finding rest (next plan (finding before m) mv))
+pub found : (plan : Plan) (m : Moment) (mv : Move) (before rest : List ℕ) → (mv ≡ Serve) ⊎ (next plan (finding rest m) mv
+    ≡ finding rest (next plan (finding before m) mv))
 unfolding next
 found plan m (Issue g) before rest = inr refl
 found plan m Emit before rest = inr refl

@@ -33,17 +33,20 @@ goes_here isa x y e = of (step isa x) e
     of (outcome.Exit status) e = absurd (cc)
 
 -- the machine's own steps, which find what is there, are such steps
-pub goes_on : (isa : Isa) (x0 x y : Machine) (n g : ℕ) (written : List Line) → GoesTo isa x0 n x written → after isa x g ≡ Some y → GoesTo isa x0 (g + n) y (written ++ sequence isa x g)
+pub goes_on : (isa : Isa) (x0 x y : Machine) (n g : ℕ) (written : List Line) → GoesTo isa x0 n x written → after isa x g ≡ Some y →
+    GoesTo isa x0 (g + n) y (written ++ sequence isa x g)
 unfolding after sequence GoesTo
 goes_on isa x0 x y n zero written goes e =
     let same : x ≡ y = cc in
     let number : n ≡ 0 + n = omega arith in
-    subst (λ (k : ℕ). GoesTo isa x0 k y (written ++ [])) number (subst (λ (z : Machine). GoesTo isa x0 n z (written ++ [])) same (subst (λ (l : List Line). GoesTo isa x0 n x l) (sym (append-nil written)) goes))
+    subst (λ (k : ℕ). GoesTo isa x0 k y (written ++ [])) number (subst (λ (z : Machine). GoesTo isa x0 n z (written ++ [])) same
+    (subst (λ (l : List Line). GoesTo isa x0 n x l) (sym (append-nil written)) goes))
 goes_on isa x0 x y n (suc g) written goes e =
     let number : suc (g + n) ≡ suc g + n = omega arith in
     subst (λ (k : ℕ). GoesTo isa x0 k y (written ++ sequence isa x (suc g))) number (of (after isa x g) refl e (λ z f. goes_on isa x0 x z n g written goes f))
   where
-    of : (o : Option Machine) → after isa x g ≡ o → step_from isa o ≡ Some y → ((z : Machine) → after isa x g ≡ Some z → GoesTo isa x0 (g + n) z (written ++ sequence isa x g))
+    of : (o : Option Machine) → after isa x g ≡ o → step_from isa o ≡ Some y → ((z : Machine) → after isa x g ≡ Some z →
+        GoesTo isa x0 (g + n) z (written ++ sequence isa x g))
         → GoesTo isa x0 (suc (g + n)) y (written ++ (sequence isa x g ++ on (after isa x g) [] (lines_at isa)))
     of None f e before = absurd (cc)
     of (Some z) f e before = (

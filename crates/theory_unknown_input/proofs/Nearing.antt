@@ -55,7 +55,8 @@ left_open : (plan : Plan) (m : Moment) (rest : List ℕ) (n : ℕ) → Nearing p
 left_open plan m rest n h = record { at = h.at; rest = h.rest; level = h.level; near = h.near; reaching = h.reaching }
 
 -- a move from a moment at which they are sure over some machine
-moved_near : (plan : Plan) (x : Machine) (m : Moment) (mv : Move) (n : ℕ) → Suits plan → bar plan m.state mv ≡ None → m.state.retired ≡ x.hart.retired → n ≤ suc m.state.retired → Reaching plan x m n → Nearing plan (next plan m mv) n
+moved_near : (plan : Plan) (x : Machine) (m : Moment) (mv : Move) (n : ℕ) → Suits plan → bar plan m.state mv ≡ None → m.state.retired ≡ x.hart.retired →
+    n ≤ suc m.state.retired → Reaching plan x m n → Nearing plan (next plan m mv) n
 moved_near plan x m mv n acc free level near r =
     let k : Reaching plan x (next plan m mv) n = move_keeps plan x m mv n acc free r in
     nearing plan x (next plan m mv) n (let c = k.held.count in omega (arith, c, level, near)) k
@@ -78,7 +79,8 @@ unfolding sure.SureAt
 stands_there isa p s x h = let e = h.0.path in cc
 
 -- where a call is to be served, one instruction is sure to retire, or the program is sure to end
-call_nears : {rest out : List ℕ} (plan : Plan) (s : State) (x : Machine) → bar plan s Serve ≡ None → Sound plan s rest out x → (1 ≤ (way (isa_of plan) s x).count) ⊎ ((way (isa_of plan) s x).stop ≡ true)
+call_nears : {rest out : List ℕ} (plan : Plan) (s : State) (x : Machine) → bar plan s Serve ≡ None → Sound plan s rest out x →
+    (1 ≤ (way (isa_of plan) s x).count) ⊎ ((way (isa_of plan) s x).stop ≡ true)
 call_nears {rest} {out} plan s x free h =
     let r : Serves plan s = serve_ready plan s (bar_row plan s Serve free) in
     let c : Scene plan s rest out x r = scene plan s x r h in
@@ -92,37 +94,46 @@ call_nears {rest} {out} plan s x free h =
     go v w g (inr a) = inr (g.1 a)
 
 -- whatever the call finds
-call_reaches : (plan : Plan) (x : Machine) (m : Moment) (n : ℕ) → bar plan m.state Serve ≡ None → n ≤ suc m.state.retired → HoldsAfter plan x m → Reaching plan x m n
-call_reaches plan x m n free near h = record { held = h; far = λ _. go (way (isa_of plan) m.state h.machine) (call_nears plan m.state h.machine free (sound_at plan x m Serve free h)) }
+call_reaches : (plan : Plan) (x : Machine) (m : Moment) (n : ℕ) → bar plan m.state Serve ≡ None → n ≤ suc m.state.retired → HoldsAfter plan x m →
+    Reaching plan x m n
+call_reaches plan x m n free near h =
+    record { held = h; far = λ _. go (way (isa_of plan) m.state h.machine) (call_nears plan m.state h.machine free (sound_at plan x m Serve free h)) }
   where
     go : (w : Way) → (1 ≤ w.count) ⊎ (w.stop ≡ true) → (n ≤ m.state.retired + w.count) ⊎ (w.stop ≡ true)
     go w (inl a) = inl (omega (arith, near, a))
     go w (inr a) = inr a
 
 -- every move leaves them sure, whatever it finds of the input
-pub nearing_kept : (plan : Plan) (start : Machine) (m : Moment) (mv : Move) (rest : List ℕ) (n : ℕ) (written : List Line) → Suits plan → bar plan m.state mv ≡ None → HoldsAnew plan start written m → Nearing plan m n → Nearing plan (next plan (finding rest m) mv) n
+pub nearing_kept : (plan : Plan) (start : Machine) (m : Moment) (mv : Move) (rest : List ℕ) (n : ℕ) (written : List Line) → Suits plan →
+    bar plan m.state mv ≡ None → HoldsAnew plan start written m → Nearing plan m n → Nearing plan (next plan (finding rest m) mv) n
 nearing_kept plan start m mv rest n written acc free h near = go (found plan m mv near.rest rest)
   where
     call : mv ≡ Serve → Nearing plan (next plan (finding rest m) mv) n
     call is =
         let open_here : bar plan m.state Serve ≡ None = sym (ap (bar plan m.state) is) ∙ free in
         let held = held_anew plan near.at m near.rest rest open_here near.level near.reaching.held h.clear in
-        moved_near plan (over rest near.at) (finding rest m) mv n acc free near.level near.near (call_reaches plan (over rest near.at) (finding rest m) n open_here near.near held)
+        moved_near plan (over rest near.at) (finding rest m) mv n acc free near.level near.near
+        (call_reaches plan (over rest near.at) (finding rest m) n open_here near.near held)
 
     go : (mv ≡ Serve) ⊎ (next plan (finding rest m) mv ≡ finding rest (next plan (finding near.rest m) mv)) → Nearing plan (next plan (finding rest m) mv) n
     go (inl is) = call is
-    go (inr is) = rw is (left_open plan (next plan (finding near.rest m) mv) rest n (moved_near plan near.at (finding near.rest m) mv n acc free near.level near.near near.reaching))
+    go (inr is) = rw is (left_open plan (next plan (finding near.rest m) mv) rest n (moved_near plan near.at
+        (finding near.rest m) mv n acc free near.level near.near near.reaching))
 
 -- the first move out of a drained moment makes one more sure
-pub nearing_first : (plan : Plan) (start : Machine) (m : Moment) (mv : Move) (rest : List ℕ) (written : List Line) → Suits plan → bar plan m.state mv ≡ None → HoldsAnew plan start written m → is_drained m.state ≡ true → Nearing plan (next plan (finding rest m) mv) (suc m.state.retired)
-nearing_first plan start m mv rest written acc free h drained = go (found plan m mv h.rest rest) (only_issue plan h.at (finding h.rest m) mv acc free h.held drained)
+pub nearing_first : (plan : Plan) (start : Machine) (m : Moment) (mv : Move) (rest : List ℕ) (written : List Line) → Suits plan → bar plan m.state mv ≡ None →
+    HoldsAnew plan start written m → is_drained m.state ≡ true → Nearing plan (next plan (finding rest m) mv) (suc m.state.retired)
+nearing_first plan start m mv rest written acc free h drained = go (found plan m mv h.rest rest)
+    (only_issue plan h.at (finding h.rest m) mv acc free h.held drained)
   where
     first : Reaching plan h.at (next plan (finding h.rest m) mv) (suc m.state.retired)
     first = first_move plan h.at (finding h.rest m) mv acc free h.held drained
 
-    go : (mv ≡ Serve) ⊎ (next plan (finding rest m) mv ≡ finding rest (next plan (finding h.rest m) mv)) → is_issue mv ≡ true → Nearing plan (next plan (finding rest m) mv) (suc m.state.retired)
+    go : (mv ≡ Serve) ⊎ (next plan (finding rest m) mv ≡ finding rest (next plan (finding h.rest m) mv)) → is_issue mv ≡ true →
+        Nearing plan (next plan (finding rest m) mv) (suc m.state.retired)
     go (inl is) issue = absurd (let e = sym (ap is_issue is) ∙ issue in cc)
-    go (inr is) issue = rw is (left_open plan (next plan (finding h.rest m) mv) rest (suc m.state.retired) (nearing plan h.at (next plan (finding h.rest m) mv) (suc m.state.retired) (let c = first.held.count in let l = h.level in omega (arith, c, l)) first))
+    go (inr is) issue = rw is (left_open plan (next plan (finding h.rest m) mv) rest (suc m.state.retired)
+        (nearing plan h.at (next plan (finding h.rest m) mv) (suc m.state.retired) (let c = first.held.count in let l = h.level in omega (arith, c, l)) first))
 
 -- once drained, they have retired
 pub nearing_retired : (plan : Plan) (m : Moment) (n : ℕ) → Nearing plan m n → m.state.ending ≡ None → is_drained m.state ≡ true → n ≤ m.state.retired

@@ -49,27 +49,33 @@ offered_allowed plan count s k mv there = go (is_held plan count) there
     go false e = candidate_allowed plan s k mv e
 
 -- while the candidates are held, an Issue is offered only where no other move is allowed
-pub offered_held : (plan : Plan) (count : ℕ) (s : State) (k : ℕ) (mv : Move) → HasShape plan s → slice_get (offered plan count s) k ≡ Some mv → is_held plan count ≡ true → is_issue mv ≡ true → IsStuck plan s
+pub offered_held : (plan : Plan) (count : ℕ) (s : State) (k : ℕ) (mv : Move) → HasShape plan s → slice_get (offered plan count s) k ≡ Some mv →
+    is_held plan count ≡ true → is_issue mv ≡ true → IsStuck plan s
 unfolding offered
-offered_held plan count s k mv shape there held issue = held_stuck plan s k mv shape (subst (λ (b : Bool). slice_get (if b then held_back (candidates plan s) else candidates plan s) k ≡ Some mv) held there) issue
+offered_held plan count s k mv shape there held issue = held_stuck plan s k mv shape (subst
+    (λ (b : Bool). slice_get (if b then held_back (candidates plan s) else candidates plan s) k ≡ Some mv) held there) issue
 
 -- while the program goes on, the processor is laid out as its layout says
-pub anew_shape : (plan : Plan) (start : Machine) (m : Moment) (written : List Line) → HoldsAnew plan start written m → m.state.ending ≡ None → HasShape plan m.state
+pub anew_shape : (plan : Plan) (start : Machine) (m : Moment) (written : List Line) → HoldsAnew plan start written m → m.state.ending ≡ None →
+    HasShape plan m.state
 anew_shape plan start m written h going =
     let s : Sound plan m.state h.rest m.output h.held.machine = subst (HoldsAt plan m.state h.rest m.output h.held.machine) going h.held.stage in
     record { cells = s.size; sidings = s.moored.berths }
 
 -- and where no move but Issue is allowed, it is drained and Issue is allowed
-pub anew_rested : (plan : Plan) (start : Machine) (m : Moment) (written : List Line) → IsAccepted plan → (h : HoldsAnew plan start written m) → m.state.ending ≡ None → IsStuck plan m.state → Rested plan h.held.machine (finding h.rest m)
+pub anew_rested : (plan : Plan) (start : Machine) (m : Moment) (written : List Line) → IsAccepted plan → (h : HoldsAnew plan start written m) →
+    m.state.ending ≡ None → IsStuck plan m.state → Rested plan h.held.machine (finding h.rest m)
 anew_rested plan start m written accepted h going stuck = rested plan h.at (finding h.rest m) (accepted_suits plan accepted) h.tidy h.held going stuck
 
 -- so at least one move is offered, whatever is counted
-pub offered_some : (plan : Plan) (start : Machine) (m : Moment) (count : ℕ) (written : List Line) → IsAccepted plan → HoldsAnew plan start written m → m.state.ending ≡ None → 1 ≤ length (offered plan count m.state)
+pub offered_some : (plan : Plan) (start : Machine) (m : Moment) (count : ℕ) (written : List Line) → IsAccepted plan → HoldsAnew plan start written m →
+    m.state.ending ≡ None → 1 ≤ length (offered plan count m.state)
 unfolding offered
 offered_some plan start m count written accepted h going =
     let p = some_pick plan m.state (anew_shape plan start m written h going) (λ stuck. (anew_rested plan start m written accepted h going stuck).issue) in
     of (is_held plan count) (has_some (candidates plan m.state) p.0.0 p.0.1) (has_some (held_back (candidates plan m.state)) p.1.0 p.1.1)
   where
-    of : (b : Bool) → 1 ≤ length (candidates plan m.state) → 1 ≤ length (held_back (candidates plan m.state)) → 1 ≤ length (if b then held_back (candidates plan m.state) else candidates plan m.state)
+    of : (b : Bool) → 1 ≤ length (candidates plan m.state) → 1 ≤ length (held_back (candidates plan m.state)) →
+        1 ≤ length (if b then held_back (candidates plan m.state) else candidates plan m.state)
     of true free held = held
     of false free held = free

@@ -32,18 +32,35 @@ use Rattle.theory_unknown_input.proofs.Nearing.{Nearing, nearing_first, nearing_
 use Rattle.theory_unknown_input.proofs.Theorems.{anew_kept, anew_started}
 
 -- they are runs
-pub paces_leads : (plan : Plan) (count : ℕ) (m last : Moment) (moves : List Move) (written : List Line) → PacesTo plan count m moves last written → LeadsTo plan m moves last written
+pub paces_leads : (plan : Plan) (count : ℕ) (m last : Moment) (moves : List Move) (written : List Line) → PacesTo plan count m moves last written →
+    LeadsTo plan m moves last written
 unfolding PacesTo LeadsTo
 paces_leads plan count m last [] written paces = paces
-paces_leads plan count m last (mv ∷ moves) written (rest, later, e, free, hold, event, paces, is) =
-    (rest, later, free, paces_leads plan (paced count mv e (is_drained (next plan (finding rest m) mv).state)) (next plan (finding rest m) mv) last moves later paces, is)
+paces_leads plan count m last (mv ∷ moves) written (rest, later, e, free, hold, event, paces, is) = (
+  rest,
+  later,
+  free,
+  paces_leads plan (paced count mv e (is_drained (next plan (finding rest m) mv).state))
+      (next plan (finding rest m) mv) last moves later paces,
+  is,
+)
 
 -- a run under the hold rule over an input that tells what it has left is one of them
-pub told_paces : (plan : Plan) (count : ℕ) (m : Moment) (moves : List Move) → IsPaced plan count m moves → PacesTo plan count m moves (run plan m moves) (lines plan m moves)
+pub told_paces : (plan : Plan) (count : ℕ) (m : Moment) (moves : List Move) → IsPaced plan count m moves →
+    PacesTo plan count m moves (run plan m moves) (lines plan m moves)
 unfolding IsPaced PacesTo run lines
 told_paces plan count m [] paces = (refl, refl)
-told_paces plan count m (mv ∷ moves) (free, hold, (e, event, paces)) =
-    (m.rest, lines plan (next plan m mv) moves, e, free, hold, event, told_paces plan (paced count mv e (is_drained (next plan m mv).state)) (next plan m mv) moves paces, refl)
+told_paces plan count m (mv ∷ moves) (free, hold, (e, event, paces)) = (
+  m.rest,
+  lines plan (next plan m mv) moves,
+  e,
+  free,
+  hold,
+  event,
+  told_paces plan (paced count mv e (is_drained (next plan m mv).state))
+      (next plan m mv) moves paces,
+  refl,
+)
 
 -- since the last drained moment more is sure to retire, or the program is sure to end
 pub record Since (plan : Plan) (start : Machine) (m : Moment) (rests : ℕ) : Type 0 where
@@ -53,7 +70,8 @@ pub record Since (plan : Plan) (start : Machine) (m : Moment) (rests : ℕ) : Ty
 
 -- a drained moment with nothing counted, or one on its way
 abbrev pub OnItsWay : Plan → Machine → Moment → ℕ → ℕ → Type 0
-OnItsWay plan start m count rests = ((is_drained m.state ≡ true) × (count ≡ 0) × (start.hart.retired + rests ≤ m.state.retired)) ⊎ ((is_drained m.state ≡ false) × Since plan start m rests)
+OnItsWay plan start m count rests = ((is_drained m.state ≡ true) × (count ≡ 0) × (start.hart.retired + rests ≤ m.state.retired))
+    ⊎ ((is_drained m.state ≡ false) × Since plan start m rests)
 
 -- how many Issue moves there were: as many as retirements and drained moments allow for; and where the moment stands while the program goes on
 pub record Pacing (plan : Plan) (start : Machine) (m : Moment) (count done : ℕ) : Type 0 where
@@ -67,19 +85,25 @@ pub record Pacing (plan : Plan) (start : Machine) (m : Moment) (count done : ℕ
   pub going : m.state.ending ≡ None → (count ≡ slack) × OnItsWay plan start m count rests
 
 -- a move out of a drained moment, or on the way
-since : (plan : Plan) (start : Machine) (m : Moment) (mv : Move) (rest : List ℕ) (count rests : ℕ) (written : List Line) → Suits plan → bar plan m.state mv ≡ None → HoldsAnew plan start written m → OnItsWay plan start m count rests → Since plan start (next plan (finding rest m) mv) rests
-since plan start m mv rest count rests written acc free h (inl w) = record { mark = m.state.retired; above = w.2; nearing = nearing_first plan start m mv rest written acc free h w.0 }
-since plan start m mv rest count rests written acc free h (inr w) = record { mark = w.1.mark; above = w.1.above; nearing = nearing_kept plan start m mv rest (suc w.1.mark) written acc free h w.1.nearing }
+since : (plan : Plan) (start : Machine) (m : Moment) (mv : Move) (rest : List ℕ) (count rests : ℕ) (written : List Line) → Suits plan →
+    bar plan m.state mv ≡ None → HoldsAnew plan start written m → OnItsWay plan start m count rests → Since plan start (next plan (finding rest m) mv) rests
+since plan start m mv rest count rests written acc free h (inl w) =
+    record { mark = m.state.retired; above = w.2; nearing = nearing_first plan start m mv rest written acc free h w.0 }
+since plan start m mv rest count rests written acc free h (inr w) =
+    record { mark = w.1.mark; above = w.1.above; nearing = nearing_kept plan start m mv rest (suc w.1.mark) written acc free h w.1.nearing }
 
 -- at a drained moment there are at least as many retirements as there were drained moments, this one included
-rested_once : (plan : Plan) (start : Machine) (m : Moment) (rests : ℕ) → Since plan start m rests → m.state.ending ≡ None → is_drained m.state ≡ true → start.hart.retired + suc rests ≤ m.state.retired
+rested_once : (plan : Plan) (start : Machine) (m : Moment) (rests : ℕ) → Since plan start m rests → m.state.ending ≡ None → is_drained m.state ≡ true →
+    start.hart.retired + suc rests ≤ m.state.retired
 rested_once plan start m rests s unended drained =
     let a = s.above in
     let b = nearing_retired plan m (suc s.mark) s.nearing unended drained in
     omega (arith, a, b)
 
 -- an Issue is counted only where fewer than 2N are: where the candidates are held it is made only where nothing else is allowed, and there nothing is counted
-room : (plan : Plan) (start : Machine) (m : Moment) (mv : Move) (count rests : ℕ) (written : List Line) → Suits plan → HoldsAnew plan start written m → m.state.ending ≡ None → (is_held plan count ≡ true → is_issue mv ≡ true → IsStuck plan m.state) → OnItsWay plan start m count rests → is_issue mv ≡ true → count < 2 * plan.stages
+room : (plan : Plan) (start : Machine) (m : Moment) (mv : Move) (count rests : ℕ) (written : List Line) → Suits plan → HoldsAnew plan start written m →
+    m.state.ending ≡ None → (is_held plan count ≡ true → is_issue mv ≡ true → IsStuck plan m.state) → OnItsWay plan start m count rests → is_issue mv ≡ true →
+    count < 2 * plan.stages
 room plan start m mv count rests written acc h unended hold way issue = go (is_held plan count) refl
   where
     clash : false ≡ true → ⊥
@@ -108,7 +132,9 @@ on_the_way count mv = go (is_issue mv)
     go false = omega arith
 
 -- a move that leads from one moment to another
-counted : (plan : Plan) (start : Machine) (m t : Moment) (mv : Move) (e : Event) (count done : ℕ) → (p : Pacing plan start m count done) → t.state.retired ≡ m.state.retired + counts (is_retirement e) 1 → Since plan start t p.rests → p.slack + counts (is_issue mv) 1 ≤ 2 * plan.stages → count ≡ p.slack → Pacing plan start t (paced count mv e (is_drained t.state)) (done + counts (is_issue mv) 1)
+counted : (plan : Plan) (start : Machine) (m t : Moment) (mv : Move) (e : Event) (count done : ℕ) → (p : Pacing plan start m count done) →
+    t.state.retired ≡ m.state.retired + counts (is_retirement e) 1 → Since plan start t p.rests → p.slack + counts (is_issue mv) 1 ≤ 2 * plan.stages →
+    count ≡ p.slack → Pacing plan start t (paced count mv e (is_drained t.state)) (done + counts (is_issue mv) 1)
 unfolding paced
 counted plan start m t mv e count done p rises s fits counts_slack = go (is_retirement e) (is_drained t.state) t.state.ending refl refl refl
   where
@@ -152,7 +178,8 @@ counted plan start m t mv e count done p rises s fits counts_slack = go (is_reti
         }
 
     -- or the program has ended, or the moment is on its way
-    other : (now : ℕ) → is_retirement e ≡ false → (t.state.ending ≡ None → (is_drained t.state ≡ false) × (now ≡ count + counts (is_issue mv) 1)) → Pacing plan start t now (done + counts (is_issue mv) 1)
+    other : (now : ℕ) → is_retirement e ≡ false → (t.state.ending ≡ None → (is_drained t.state ≡ false) × (now ≡ count + counts (is_issue mv) 1)) →
+        Pacing plan start t now (done + counts (is_issue mv) 1)
     other now r f = record {
       gone = p.gone;
       rests = p.rests;
@@ -164,19 +191,23 @@ counted plan start m t mv e count done p rises s fits counts_slack = go (is_reti
       going = λ n. let g = f n in ((let a = g.1 in omega (arith, a, counts_slack)), inr (g.0, s));
     }
 
-    go : (r d : Bool) (o : Option End) → is_retirement e ≡ r → is_drained t.state ≡ d → t.state.ending ≡ o → Pacing plan start t (if is_retirement e || is_drained t.state then 0 else (if is_issue mv then count + 1 else count)) (done + counts (is_issue mv) 1)
+    go : (r d : Bool) (o : Option End) → is_retirement e ≡ r → is_drained t.state ≡ d → t.state.ending ≡ o →
+        Pacing plan start t (if is_retirement e || is_drained t.state then 0 else (if is_issue mv then count + 1 else count)) (done + counts (is_issue mv) 1)
     go true d o r f n = rw r (retired r d f)
     go false true None r f n = rw (r, f) (rests_now r f n)
     go false true (Some end) r f n = rw (r, f) (other 0 r (λ y. absurd (let z = sym y ∙ n in cc)))
     go false false o r f n = rw (r, f) (other (if is_issue mv then count + 1 else count) r (λ _. (f, on_the_way count mv)))
 
 -- each move keeps the count
-step : (plan : Plan) (start : Machine) (m : Moment) (mv : Move) (rest : List ℕ) (e : Event) (count done : ℕ) (written : List Line) → Suits plan → bar plan m.state mv ≡ None → (is_held plan count ≡ true → is_issue mv ≡ true → IsStuck plan m.state) → IsEvent plan m.state mv e
-    → HoldsAnew plan start written m → Pacing plan start m count done → Pacing plan start (next plan (finding rest m) mv) (paced count mv e (is_drained (next plan (finding rest m) mv).state)) (done + counts (is_issue mv) 1)
+step : (plan : Plan) (start : Machine) (m : Moment) (mv : Move) (rest : List ℕ) (e : Event) (count done : ℕ) (written : List Line) → Suits plan →
+    bar plan m.state mv ≡ None → (is_held plan count ≡ true → is_issue mv ≡ true → IsStuck plan m.state) → IsEvent plan m.state mv e
+    → HoldsAnew plan start written m → Pacing plan start m count done → Pacing plan start (next plan (finding rest m) mv)
+    (paced count mv e (is_drained (next plan (finding rest m) mv).state)) (done + counts (is_issue mv) 1)
 step plan start m mv rest e count done written acc free hold event h p =
     let unended : m.state.ending ≡ None = going plan m.state mv free in
     let before = p.going unended in
-    counted plan start m (next plan (finding rest m) mv) mv e count done p (retires_so plan (finding rest m) mv e free event) (since plan start m mv rest count p.rests written acc free h before.1)
+    counted plan start m (next plan (finding rest m) mv) mv e count done p (retires_so plan (finding rest m) mv e free event)
+    (since plan start m mv rest count p.rests written acc free h before.1)
     (fits before.0 (is_issue mv) refl (room plan start m mv count p.rests written acc h unended hold before.1)) before.0
   where
     fits : count ≡ p.slack → (b : Bool) → is_issue mv ≡ b → (is_issue mv ≡ true → count < 2 * plan.stages) → p.slack + counts b 1 ≤ 2 * plan.stages
@@ -184,7 +215,9 @@ step plan start m mv rest e count done written acc free hold event h p =
     fits c false i free = let l = p.low in omega (arith, l)
 
 -- a run
-paced_run : (plan : Plan) (start : Machine) (m last : Moment) (count done : ℕ) (moves : List Move) (written later : List Line) → Suits plan → PacesTo plan count m moves last later → HoldsAnew plan start written m → Pacing plan start m count done → (c : ℕ) × Pacing plan start last c (done + issues moves)
+paced_run : (plan : Plan) (start : Machine) (m last : Moment) (count done : ℕ) (moves : List Move) (written later : List Line) → Suits plan →
+    PacesTo plan count m moves last later → HoldsAnew plan start written m → Pacing plan start m count done →
+    (c : ℕ) × Pacing plan start last c (done + issues moves)
 unfolding PacesTo
 paced_run plan start m last count done [] written later acc (is, none) h p =
     (count, subst (λ (n : ℕ). Pacing plan start last count n) (zero_more done) (subst (λ (t : Moment). Pacing plan start t count done) (sym is) p))
@@ -195,7 +228,8 @@ paced_run plan start m last count done (mv ∷ moves) written later acc (rest, a
     let t : Moment = next plan (finding rest m) mv in
     let q = step plan start m mv rest e count done written acc free hold event h p in
     let k = anew_kept plan start m mv rest written acc free h in
-    let z = paced_run plan start t last (paced count mv e (is_drained t.state)) (done + counts (is_issue mv) 1) moves (written ++ retires plan m.state mv) after acc paces k q in
+    let z = paced_run plan start t last (paced count mv e (is_drained t.state)) (done + counts (is_issue mv) 1) moves (written
+    ++ retires plan m.state mv) after acc paces k q in
     (z.0, subst (λ (n : ℕ). Pacing plan start last z.0 n) (sums done (counts (is_issue mv) 1) (issues moves)) z.1)
   where
     sums : (a b c : ℕ) → (a + b) + c ≡ a + (b + c)
@@ -228,12 +262,14 @@ few_issues n gone rests slack done fewer low bound =
     omega (arith, low, bound, a, b)
 
 -- under the hold rule a run from the beginning has at most 4 N K (r + 1) moves, where r instructions have retired, whatever each move finds of the input
-pub paced_bounded_anew : (plan : Plan) (x : Machine) (moves : List Move) (m : Moment) (written : List Line) → IsAccepted plan → length x.hart.regs ≡ 32 → PacesTo plan 0 (start plan x) moves m written → length moves ≤ 4 * plan.stages * moves_per_issue plan * (gained x m.state + 1)
+pub paced_bounded_anew : (plan : Plan) (x : Machine) (moves : List Move) (m : Moment) (written : List Line) → IsAccepted plan → length x.hart.regs ≡ 32 →
+    PacesTo plan 0 (start plan x) moves m written → length moves ≤ 4 * plan.stages * moves_per_issue plan * (gained x m.state + 1)
 paced_bounded_anew plan x moves m written accepted wide paces =
     let p = (paced_run plan x (start plan x) m 0 0 moves [] written (accepted_suits plan accepted) paces (anew_started plan x wide) (begins plan x)).1 in
     let b = run_bounded_anew plan x m moves written accepted wide (paces_leads plan 0 (start plan x) m moves written paces) in
     let n : gained x m.state ≡ p.gone = let c = p.retired in omega (arith, c) in
-    let few = times_more (moves_per_issue plan) (issues moves) ((4 * plan.stages) * (p.gone + 1)) (few_issues plan.stages p.gone p.rests p.slack (issues moves) p.fewer p.low (let q = p.bound in omega (arith, q))) in
+    let few = times_more (moves_per_issue plan) (issues moves) ((4 * plan.stages) * (p.gone + 1))
+    (few_issues plan.stages p.gone p.rests p.slack (issues moves) p.fewer p.low (let q = p.bound in omega (arith, q))) in
     let same = turn (moves_per_issue plan) (4 * plan.stages) (p.gone + 1) in
     subst (λ (g : ℕ). length moves ≤ 4 * plan.stages * moves_per_issue plan * (g + 1)) (sym n) (omega (arith, b, few, same))
   where
@@ -241,5 +277,7 @@ paced_bounded_anew plan x moves m written accepted wide paces =
     turn a b c = grind arith
 
 -- so has one over an input that tells what it has left
-pub paced_run_bounded : (plan : Plan) (x : Machine) (moves : List Move) → IsAccepted plan → length x.hart.regs ≡ 32 → IsPaced plan 0 (start plan x) moves → length moves ≤ 4 * plan.stages * moves_per_issue plan * (gained x (run plan (start plan x) moves).state + 1)
-paced_run_bounded plan x moves accepted wide paces = paced_bounded_anew plan x moves (run plan (start plan x) moves) (lines plan (start plan x) moves) accepted wide (told_paces plan 0 (start plan x) moves paces)
+pub paced_run_bounded : (plan : Plan) (x : Machine) (moves : List Move) → IsAccepted plan → length x.hart.regs ≡ 32 → IsPaced plan 0 (start plan x) moves →
+    length moves ≤ 4 * plan.stages * moves_per_issue plan * (gained x (run plan (start plan x) moves).state + 1)
+paced_run_bounded plan x moves accepted wide paces = paced_bounded_anew plan x moves (run plan (start plan x) moves)
+    (lines plan (start plan x) moves) accepted wide (told_paces plan 0 (start plan x) moves paces)

@@ -44,7 +44,8 @@ record Alike (awaited : ℕ → Bool) (w v : trail.Walk) : Type 0 where
   regs : (r : ℕ) → awaited r ≡ false → slice_index v.machine.hart.regs r ≡ slice_index w.machine.hart.regs r
 
 -- a packet fits one where it fits the other
-packet_alike : (isa : Isa) (i : ℕ) (k : Packet) (awaited : ℕ → Bool) (w v : trail.Walk) → Alike awaited w v → clear.Fits (Down i k) awaited → sure.Fits isa (Down i k) w → sure.Fits isa (Down i k) v
+packet_alike : (isa : Isa) (i : ℕ) (k : Packet) (awaited : ℕ → Bool) (w v : trail.Walk) → Alike awaited w v → clear.Fits (Down i k) awaited →
+    sure.Fits isa (Down i k) w → sure.Fits isa (Down i k) v
 unfolding sure.Fits clear.Fits
 packet_alike isa i (Value r n) awaited w v a c h =
     rw a.barred (go w.barred h)
@@ -56,29 +57,37 @@ packet_alike isa i (Turn pc) awaited w v a c h = rw (a.barred, a.goto, a.settled
 packet_alike isa i Halt awaited w v a c h = rw (a.barred, a.goto, a.trapped) h
 
 -- and is passed alike
-passed_alike : (isa : Isa) (i : ℕ) (k : Packet) (awaited : ℕ → Bool) (w v : trail.Walk) → Alike awaited w v → Alike (clear.past (Down i k) awaited) (trail.past isa (Down i k) w) (trail.past isa (Down i k) v)
+passed_alike : (isa : Isa) (i : ℕ) (k : Packet) (awaited : ℕ → Bool) (w v : trail.Walk) → Alike awaited w v →
+    Alike (clear.past (Down i k) awaited) (trail.past isa (Down i k) w) (trail.past isa (Down i k) v)
 unfolding trail.past clear.past
 passed_alike isa i (Value r n) awaited w v a = record { barred = a.barred; goto = a.goto; settled = a.settled; trapped = a.trapped; regs = a.regs }
 passed_alike isa i (Turn pc) awaited w v a = record { barred = refl; goto = a.goto; settled = a.settled; trapped = a.trapped; regs = a.regs }
 passed_alike isa i Halt awaited w v a = record { barred = refl; goto = a.goto; settled = a.settled; trapped = a.trapped; regs = a.regs }
 
 -- so are all packets below the call
-fit_alike : (isa : Isa) (xs : List Item) (awaited : ℕ → Bool) (w v : trail.Walk) → Idle xs → Alike awaited w v → Everywhere clear.Fits clear.past xs awaited → Everywhere (sure.Fits isa) (trail.past isa) xs w → Everywhere (sure.Fits isa) (trail.past isa) xs v
+fit_alike : (isa : Isa) (xs : List Item) (awaited : ℕ → Bool) (w v : trail.Walk) → Idle xs → Alike awaited w v → Everywhere clear.Fits clear.past xs awaited →
+    Everywhere (sure.Fits isa) (trail.past isa) xs w → Everywhere (sure.Fits isa) (trail.past isa) xs v
 fit_alike isa [] awaited w v q a c h = tt
 fit_alike isa (Up i p ∷ xs) awaited w v q a c h = absurd q
-fit_alike isa (Down i k ∷ xs) awaited w v q a c h =
-    (packet_alike isa i k awaited w v a c.0 h.0, fit_alike isa xs (clear.past (Down i k) awaited) (trail.past isa (Down i k) w) (trail.past isa (Down i k) v) q (passed_alike isa i k awaited w v a) c.1 h.1)
+fit_alike isa (Down i k ∷ xs) awaited w v q a c h = (
+  packet_alike isa i k awaited w v a c.0 h.0,
+  fit_alike isa xs (clear.past (Down i k) awaited) (trail.past isa (Down i k) w) (trail.past isa (Down i k) v) q
+      (passed_alike isa i k awaited w v a) c.1 h.1,
+)
 
-walk_alike : (isa : Isa) (xs : List Item) (awaited : ℕ → Bool) (w v : trail.Walk) → Idle xs → Alike awaited w v → Alike (walk clear.past xs awaited) (walk (trail.past isa) xs w) (walk (trail.past isa) xs v)
+walk_alike : (isa : Isa) (xs : List Item) (awaited : ℕ → Bool) (w v : trail.Walk) → Idle xs → Alike awaited w v →
+    Alike (walk clear.past xs awaited) (walk (trail.past isa) xs w) (walk (trail.past isa) xs v)
 walk_alike isa [] awaited w v q a = a
 walk_alike isa (Up i p ∷ xs) awaited w v q a = absurd q
-walk_alike isa (Down i k ∷ xs) awaited w v q a = walk_alike isa xs (clear.past (Down i k) awaited) (trail.past isa (Down i k) w) (trail.past isa (Down i k) v) q (passed_alike isa i k awaited w v a)
+walk_alike isa (Down i k ∷ xs) awaited w v q a = walk_alike isa xs (clear.past (Down i k) awaited) (trail.past isa (Down i k) w) (trail.past isa (Down i k) v) q
+    (passed_alike isa i k awaited w v a)
 
 -- fetch and what is kept at the bottom fit one where they fit the other
 ends_alike : (f : Fetch) (awaited : ℕ → Bool) (w v : trail.Walk) → Alike awaited w v → sure.Ends w f → sure.Ends v f
 ends_alike f awaited w v a h = rw (a.barred, a.goto) h
 
-keeps_alike : (cache : List (Option ℕ)) (awaited : ℕ → Bool) (w v : trail.Walk) → Alike awaited w v → clear.Ends awaited cache → sure.Keeps w cache → sure.Keeps v cache
+keeps_alike : (cache : List (Option ℕ)) (awaited : ℕ → Bool) (w v : trail.Walk) → Alike awaited w v → clear.Ends awaited cache → sure.Keeps w cache →
+    sure.Keeps v cache
 keeps_alike cache awaited w v a c h = rw a.barred (go w.barred h)
   where
     go : (b : Bool) → When (not b) (sure.AreRegisters cache w.machine.hart.regs) → When (not b) (sure.AreRegisters cache v.machine.hart.regs)
@@ -91,7 +100,8 @@ blank_agrees None regs e = tt
 blank_agrees (Some b) regs e = λ v f. absurd (let z = sym e ∙ f in cc)
 
 -- the call itself: nothing is claimed of its answer yet
-call_alike : (isa : Isa) (p : Passenger) (s : State) (x : Machine) (rest : List ℕ) → p.done ≡ false → p.ending ≡ None → Blank p.dst → sure.SureAt isa p (trail.top s x) → sure.SureAt isa p (trail.top s (over rest x))
+call_alike : (isa : Isa) (p : Passenger) (s : State) (x : Machine) (rest : List ℕ) → p.done ≡ false → p.ending ≡ None → Blank p.dst →
+    sure.SureAt isa p (trail.top s x) → sure.SureAt isa p (trail.top s (over rest x))
 unfolding sure.SureAt
 call_alike isa p s x rest undone unended blank h = (
   record {
@@ -119,12 +129,14 @@ whenever : {A : Type 0} → (b : Bool) → A → When b A
 whenever true a = a
 whenever false a = tt
 
-call_fits : (isa : Isa) (n : ℕ) (p : Passenger) (s : State) (x : Machine) (rest : List ℕ) → sure.SureAt isa p (trail.top s (over rest x)) → sure.Fits isa (Up n p) (trail.top s x) → sure.Fits isa (Up n p) (trail.top s (over rest x))
+call_fits : (isa : Isa) (n : ℕ) (p : Passenger) (s : State) (x : Machine) (rest : List ℕ) → sure.SureAt isa p (trail.top s (over rest x)) →
+    sure.Fits isa (Up n p) (trail.top s x) → sure.Fits isa (Up n p) (trail.top s (over rest x))
 unfolding sure.Fits
 call_fits isa n p s x rest certain h = (h.0, whenever (trail.is_sure p (trail.top s (over rest x))) certain)
 
 -- below the call the walks differ only in its answer
-call_passed : (isa : Isa) (n : ℕ) (p : Passenger) (s : State) (x : Machine) (rest : List ℕ) → p.dead ≡ false → p.done ≡ false → kind p ≡ Serial → sure.SureAt isa p (trail.top s x) → sure.SureAt isa p (trail.top s (over rest x))
+call_passed : (isa : Isa) (n : ℕ) (p : Passenger) (s : State) (x : Machine) (rest : List ℕ) → p.dead ≡ false → p.done ≡ false → kind p ≡ Serial →
+    sure.SureAt isa p (trail.top s x) → sure.SureAt isa p (trail.top s (over rest x))
     → Alike (clear.past (Up n p) none_awaited) (trail.past isa (Up n p) (trail.top s x)) (trail.past isa (Up n p) (trail.top s (over rest x)))
 unfolding sure.SureAt trail.past clear.past
 call_passed isa n p s x rest live undone serial h k = rw live (record {
@@ -138,7 +150,8 @@ call_passed isa n p s x rest live undone serial h k = rw live (record {
 })
 
 -- whatever the input has left
-pub rechosen : {rest out : List ℕ} (l : Plan) (s : State) (x : Machine) (other : List ℕ) → bar l s Serve ≡ None → Sound l s rest out x → IsClear s → Sound l s other out (over other x)
+pub rechosen : {rest out : List ℕ} (l : Plan) (s : State) (x : Machine) (other : List ℕ) → bar l s Serve ≡ None → Sound l s rest out x → IsClear s →
+    Sound l s other out (over other x)
 rechosen {rest} {out} l s x other free h c =
     let isa : Isa = isa_of l in
     let n : ℕ = l.stages in
@@ -152,14 +165,19 @@ rechosen {rest} {out} l s x other free h c =
     let gives = rw e.was at c.fit in
     let called = call_alike isa p s x other r.undone unended blank e.certain in
     let alike = call_passed isa n p s x other r.live r.undone r.serial e.certain called in
-    let under = walk_alike isa e.below (clear.past (Up n p) none_awaited) (trail.past isa (Up n p) (trail.top s x)) (trail.past isa (Up n p) (trail.top s y)) e.idle alike in
+    let under = walk_alike isa e.below (clear.past (Up n p) none_awaited) (trail.past isa (Up n p) (trail.top s x))
+    (trail.past isa (Up n p) (trail.top s y)) e.idle alike in
     let same = not_yet isa n p (dock.top l s y) r.serial e.unserved in
     let quiet = walk_idle isa e.below (dock.past isa (Up n p) (dock.top l s y)) e.idle in
     record {
       regs = h.regs;
       wide = h.wide;
       size = h.size;
-      path_fit = rw e.was (call_fits isa n p s x other called fit.0, fit_alike isa e.below (clear.past (Up n p) none_awaited) (trail.past isa (Up n p) (trail.top s x)) (trail.past isa (Up n p) (trail.top s y)) e.idle alike gives.1 fit.1);
+      path_fit = rw e.was (
+        call_fits isa n p s x other called fit.0,
+        fit_alike isa e.below (clear.past (Up n p) none_awaited)
+            (trail.past isa (Up n p) (trail.top s x)) (trail.past isa (Up n p) (trail.top s y)) e.idle alike gives.1 fit.1,
+      );
       path_ends = rw e.was (ends_alike s.fetch _ _ _ under (rw e.was at h.path_ends));
       cache = rw e.was (keeps_alike s.cache _ _ _ under (rw e.was at c.ends) (rw e.was at h.cache));
       lone_fit = h.lone_fit;

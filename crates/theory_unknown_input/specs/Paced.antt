@@ -1,4 +1,5 @@
--- Runs under the hold rule over an input that does not tell what it has left ("Counterflow Pipeline Processor Architecture", 1994; the input stands outside the processor).
+-- Runs under the hold rule over an input that does not tell what it has left ("Counterflow Pipeline Processor
+-- Architecture", 1994; the input stands outside the processor).
 use Rattle.std.specs.Prelude.{◌≡◌, ℕ, List, [], ◌∷◌, ◌++◌, None, true}
 use Rattle.cf_layout.specs.Layout.{Plan}
 use Rattle.cf_bind.specs.declared.moves.Move.{Move}
@@ -13,7 +14,9 @@ use Rattle.cf_semantics.specs.state.State.{Moment}
 use Rattle.cf_semantics.specs.claims.Weight.{is_issue}
 use Rattle.theory_unknown_input.specs.UnknownInput.{finding}
 
--- with this many Issue moves counted before the first of the moves: the moves lead from one moment to another, each allowed where it is made and finding some input, and while the candidates are held no move is an Issue unless no other move is allowed; and these instructions retire
+-- with this many Issue moves counted before the first of the moves: the moves lead from one moment to another, each
+-- allowed where it is made and finding some input, and while the candidates are held no move is an Issue unless no
+-- other move is allowed; and these instructions retire
 unfoldable pub PacesTo : Plan → ℕ → Moment → List Move → Moment → List Line → Type 0
 PacesTo plan count m [] last written = (last ≡ m) × (written ≡ [])
 PacesTo plan count m (mv ∷ moves) last written =

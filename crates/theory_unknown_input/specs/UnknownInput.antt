@@ -1,4 +1,5 @@
--- Runs over an input that does not tell what it has left: each move, and each step of the sequential machine, finds some of it ("Counterflow Pipeline Processor Architecture", 1994; the input stands outside the processor).
+-- Runs over an input that does not tell what it has left: each move, and each step of the sequential machine, finds
+-- some of it ("Counterflow Pipeline Processor Architecture", 1994; the input stands outside the processor).
 use Rattle.std.specs.Prelude.{◌≡◌, ℕ, zero, suc, ◌≤◌, List, [], ◌∷◌, ◌++◌, None}
 use Rattle.rv_inst.specs.declared.isa.Isa.{Isa}
 use Rattle.rv_machine.specs.After.{SameButInput}
@@ -33,7 +34,9 @@ GoesTo isa start (suc n) x written =
     × GoesTo isa start n before earlier × (step_here isa before ≡ Goes next) × SameButInput next x
     × (written ≡ earlier ++ lines_at isa before)
 
--- what is seen of the moment is what the sequential machine does: the count has not fallen; as many steps as have retired since the start lead to a machine, with these lines; and with some input left it is what that machine does next
+-- what is seen of the moment is what the sequential machine does: the count has not fallen; as many steps as have
+-- retired since the start lead to a machine, with these lines; and with some input left it is what that machine does
+-- next
 pub record RefinesOverUnknownInput (plan : Plan) (start : Machine) (written : List Line) (m : Moment) : Type 0 where
   pub at : Machine
   pub rises : start.hart.retired ≤ m.state.retired

@@ -24,8 +24,10 @@ has_served p = not p.dead && is_serial (kind p) && p.done && not (is_some p.endi
 abbrev pub flies : Passenger → Bool
 flies p = is_memory (kind p) && p.launched && not p.recovered
 
--- it is live and has passed the port: its call was served, or its load or store is recovered, or answered at the end of the siding. Right only in reached states,
--- and with the answer at the siding's end given only for the highest passenger whose load or store is in the siding: there that operation is its own, and what was recovered was answered
+-- it is live and has passed the port: its call was served, or its load or store is recovered, or answered at the end of
+-- the siding. Right only in reached states,
+-- and with the answer at the siding's end given only for the highest passenger whose load or store is in the siding:
+-- there that operation is its own, and what was recovered was answered
 abbrev pub has_ported : Passenger → Option ℕ → Bool
 has_ported p answer = has_served p || (not p.dead && is_memory (kind p) && (p.recovered || (p.launched && is_some answer)))
 
@@ -37,7 +39,8 @@ answer_there plan s = on (last_op (siding_at s (port plan))) None (λ o. o.answe
 abbrev pub served_count : Plan → State → ℕ
 served_count plan s = on (cell_at s.cells plan.stages) 0 (λ c. on c.passenger 0 (λ p. one (has_served p)))
 
--- the live passengers so far, how many of these there are down to the lowest that has passed the port, and the answer at the end of Memory's siding until its own passenger is passed
+-- the live passengers so far, how many of these there are down to the lowest that has passed the port, and the answer
+-- at the end of Memory's siding until its own passenger is passed
 pub record PortTally : Type 0 where
   pub live : ℕ
   pub ported : ℕ

@@ -42,7 +42,8 @@ pub record IsSame (s t : State) : Type 0 where
 abbrev pub KeepsRegisters : State → Type 0
 KeepsRegisters s = (r v : ℕ) → cached s.cache r ≡ Some v → v ≡ slice_index s.regs r
 
--- drained at the machine: the state is the one in which a processor starts on the machine, except that values may be kept at the bottom, each its register's; input and output are the machine's
+-- drained at the machine: the state is the one in which a processor starts on the machine, except that values may be
+-- kept at the bottom, each its register's; input and output are the machine's
 pub record IsDrainedAt (plan : Plan) (x : Machine) (m : Moment) : Type 0 where
   pub same : IsSame m.state (opened plan x)
   pub kept : KeepsRegisters m.state
@@ -81,7 +82,8 @@ pub record EndsAs (plan : Plan) (start : Machine) (m t : Moment) : Type 0 where
   pub more : after (isa_of plan) start (gained start m.state + right (isa_of plan) m.state at) ≡ Some final
   pub ends : EndsAt (way (isa_of plan) m.state at).stop plan final t
 
--- two ends are alike: they agree in ending, count, registers, memory, input and output; and where the program has not ended the two states are the same, but for what is kept at the bottom
+-- two ends are alike: they agree in ending, count, registers, memory, input and output; and where the program has not
+-- ended the two states are the same, but for what is kept at the bottom
 pub record EndAlike (t u : Moment) : Type 0 where
   pub ending : t.state.ending ≡ u.state.ending
   pub retired : t.state.retired ≡ u.state.retired

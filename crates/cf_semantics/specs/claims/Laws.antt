@@ -1,5 +1,7 @@
--- The four laws of single instructions: the step of the sequential machine is what the moves make of a passenger. They are for a reader: the theory rests on the same
--- content without a passenger, and on some facts that do not follow from it, all in `theory_refinement/proofs/instructions/Steps.antt`; docs/SOUNDNESS.md lists them. Whoever adds an instruction
+-- The four laws of single instructions: the step of the sequential machine is what the moves make of a passenger. They
+-- are for a reader: the theory rests on the same
+-- content without a passenger, and on some facts that do not follow from it, all in
+-- `theory_refinement/proofs/instructions/Steps.antt`; docs/SOUNDNESS.md lists them. Whoever adds an instruction
 -- to a class proves its case of `step_is` there, and of those facts that concern it.
 use Rattle.std.specs.Prelude.{◌≡◌, ◌≢◌, ℕ, List, ◌++◌, Option, Some, None, Bool, true, ◌||◌, not, slice_index}
 use Rattle.mem_regions.specs.Memory.{Memory}

@@ -39,7 +39,9 @@ abbrev pub as_launched : Option Op → Option Op
 as_launched None = None
 as_launched (Some op) = Some (record op { answer = None })
 
--- the move acts for this passenger, above which these items stand: for Leave and Serve the one in the highest stage; for Access the highest of those whose load or store is in Memory's siding, and its operation is the one at the siding's end
+-- the move acts for this passenger, above which these items stand: for Leave and Serve the one in the highest stage;
+-- for Access the highest of those whose load or store is in Memory's siding, and its operation is the one at the
+-- siding's end
 abbrev pub ActsFor : Plan → State → Move → List Item → ℕ → Passenger → Type 0
 ActsFor plan s Leave above i p = i ≡ plan.stages
 ActsFor plan s Serve above i p = i ≡ plan.stages

@@ -1,4 +1,6 @@
--- The path of the program through the column. A passenger is sure where it is live and no barrier stands above it: nothing can take it back any more. The machine after the sure passengers is the sequential machine after their instructions.
+-- The path of the program through the column. A passenger is sure where it is live and no barrier stands above it:
+-- nothing can take it back any more. The machine after the sure passengers is the sequential machine after their
+-- instructions.
 use Rattle.std.specs.Prelude.{ℕ, List, [], ◌∷◌, Option, Some, None, Bool, true, false, ◌&&◌, ◌||◌, not, ◌==◌}
 use Rattle.rv_inst.specs.declared.isa.Isa.{Isa}
 use Rattle.rv_machine.specs.Machine.{Machine}
@@ -14,7 +16,9 @@ use Rattle.cf_semantics.specs.state.State.{State}
 use Rattle.cf_semantics.specs.state.Column.{Item, Up, Down}
 use Rattle.cf_semantics.specs.state.Passengers.{goto}
 
--- what is known on the way down: the machine after the sure passengers so far; whether a barrier was passed; where the program goes after the last of them, if anywhere; whether that one is executed without ending the program, or no sure passenger was passed yet; whether it traps; and for which registers a sure passenger further down may wait
+-- what is known on the way down: the machine after the sure passengers so far; whether a barrier was passed; where the
+-- program goes after the last of them, if anywhere; whether that one is executed without ending the program, or no sure
+-- passenger was passed yet; whether it traps; and for which registers a sure passenger further down may wait
 pub record Walk : Type 0 where
   pub machine : Machine
   pub barred : Bool
@@ -41,7 +45,8 @@ abbrev pub has_reg : Option Binding → ℕ → Bool
 has_reg None r = false
 has_reg (Some b) r = b.reg == r
 
--- a sure passenger below may wait for r, which is the destination of this one: it is not executed yet, or owes the value; or it owes a turn or a halt, or ends the program,
+-- a sure passenger below may wait for r, which is the destination of this one: it is not executed yet, or owes the
+-- value; or it owes a turn or a halt, or ends the program,
 -- and then no passenger below it is sure
 abbrev pub brings : Passenger → ℕ → Bool
 brings p r = has_reg p.dst r && (not p.done || is_some p.owes || is_some p.ending)

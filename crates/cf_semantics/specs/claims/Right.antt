@@ -10,7 +10,8 @@ use Rattle.cf_semantics.specs.claims.Walks.{walk}
 use Rattle.cf_semantics.specs.claims.Path as path
 use Rattle.cf_semantics.specs.claims.Ahead.{one}
 
--- the path so far; whether all sure passengers so far are on it and go on; how many they are; and whether the first passenger that does not go on ends the program there
+-- the path so far; whether all sure passengers so far are on it and go on; how many they are; and whether the first
+-- passenger that does not go on ends the program there
 pub record Way : Type 0 where
   pub path : path.Walk
   pub on : Bool

@@ -61,7 +61,8 @@ PacketHasValue k w = Unit {0}
 -- (a) Values: those of the register file, of passengers and of packets are the sequential machine's
 pub record Values (isa : Isa) (s : State) (x : Machine) : Type 0 where
   pub registers : s.regs ≡ x.hart.regs
-  pub passengers : (p : Standing s) → When (is_sure p.who (known isa s x p.above)) (HasValues p.who (known isa s x p.above).machine (step_at isa (known isa s x p.above).machine p.who.pc))
+  pub passengers : (p : Standing s) → When (is_sure p.who (known isa s x p.above)) (HasValues p.who (known isa s x p.above).machine
+      (step_at isa (known isa s x p.above).machine p.who.pc))
   pub packets : (k : Lying s) → When (not (known isa s x k.above).barred) (PacketHasValue k.what (known isa s x k.above))
 
 -- it holds the instruction that is fetched at its address, or the trap of that address
@@ -153,14 +154,16 @@ NoneFlies [] = Unit {0}
 NoneFlies (Up i p ∷ xs) = (flies p ≡ false) × NoneFlies xs
 NoneFlies (Down i k ∷ xs) = NoneFlies xs
 
--- (f) Sidings: their operations belong, in order, to the passengers that launched them; an answer stands only at the end of Memory's siding, and is the sequential machine's
+-- (f) Sidings: their operations belong, in order, to the passengers that launched them; an answer stands only at the
+-- end of Memory's siding, and is the sequential machine's
 pub record SidingsAgree (plan : Plan) (s : State) (x : Machine) : Type 0 where
   pub operations : (k : ℕ) → operations_in (siding_at s k) ≡ operations_of plan k (column s)
   pub memory_alone : (k : ℕ) → k ≢ port plan → AreUnanswered (siding_at s k)
   pub last_alone : LastAnswered (siding_at s (port plan))
   pub answers : (p : Standing s) (a : ℕ) → flies p.who ≡ true → NoneFlies p.above → answer_there plan s ≡ Some a →
       When (is_sure p.who (known (isa_of plan) s x p.above))
-      (IsAnswer p.who.dst (after_step (step_at (isa_of plan) (known (isa_of plan) s x p.above).machine p.who.pc) (known (isa_of plan) s x p.above).machine).hart.regs a)
+      (IsAnswer p.who.dst (after_step (step_at (isa_of plan) (known (isa_of plan) s x p.above).machine p.who.pc)
+      (known (isa_of plan) s x p.above).machine).hart.regs a)
 
 -- it owes the value of r
 abbrev pub owes_value : Option Packet → ℕ → Bool

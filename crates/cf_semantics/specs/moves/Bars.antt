@@ -43,7 +43,8 @@ of_passenger c f = on c.passenger (Some NoPassenger) f
 abbrev pub is_full : Cell → Bool
 is_full c = is_some c.passenger && is_some c.packet && not c.met
 
--- a passenger must not climb out of the stage: its operation, launched before, is recovered here, or it is live, neither executed nor launched, and this is the last stage that can execute it or launch its operation
+-- a passenger must not climb out of the stage: its operation, launched before, is recovered here, or it is live,
+-- neither executed nor launched, and this is the last stage that can execute it or launch its operation
 abbrev pub stops_at : Plan → Passenger → ℕ → Bool
 stops_at plan p i =
     (p.launched && not p.recovered && recovers plan (kind p) i)
@@ -99,7 +100,8 @@ climb_bar plan c i above = on above (Some NoSuchSite) (λ d. of_passenger c (λ 
     (stops_at plan p i, NotDone) ∷
     (is_some d.passenger, Occupied) ∷ []) None))
 
--- Fall: there is no stage i, or none below it (NoSuchSite); no packet is there (NoPacket); it has not met the passenger of the stage (NotMet); the stage below has
+-- Fall: there is no stage i, or none below it (NoSuchSite); no packet is there (NoPacket); it has not met the passenger
+-- of the stage (NotMet); the stage below has
 -- a packet (Occupied)
 abbrev pub fall_bar : Cell → Option Cell → Option Bar
 fall_bar c below = on below (Some NoSuchSite) (λ d. first_of (
@@ -113,7 +115,8 @@ meet_bar c = of_passenger c (λ p. first_of (
     (not (is_some c.packet), NoPacket) ∷
     (c.met, AlreadyMet) ∷ []) None)
 
--- Execute: there is no stage i (NoSuchSite); nobody is there (NoPassenger); the passenger is dead (Dead); it is done (AlreadyDone); no unit for its class is here
+-- Execute: there is no stage i (NoSuchSite); nobody is there (NoPassenger); the passenger is dead (Dead); it is done
+-- (AlreadyDone); no unit for its class is here
 -- (NoUnit); a source has no value (SourceMissing)
 abbrev pub execute_bar : Plan → Cell → ℕ → Option Bar
 execute_bar plan c i = of_passenger c (λ p. first_of (
@@ -131,8 +134,10 @@ send_bar c = of_passenger c (λ p. first_of (
 abbrev pub entry_bar : Plan → State → Passenger → Option Bar
 entry_bar plan s p = on (siding_of plan (kind p)) None (λ k. first_of ((is_taken (slice_get (siding_at s k) 0), Occupied) ∷ []) None)
 
--- Launch: there is no stage i (NoSuchSite); nobody is there (NoPassenger); the passenger is dead (Dead); it is done or launched (AlreadyDone); no siding for its
--- class is entered from here (NoUnit); it is a load or a store and has not met the packet of the stage (NotMet); a source has no value (SourceMissing); the first cell
+-- Launch: there is no stage i (NoSuchSite); nobody is there (NoPassenger); the passenger is dead (Dead); it is done or
+-- launched (AlreadyDone); no siding for its
+-- class is entered from here (NoUnit); it is a load or a store and has not met the packet of the stage (NotMet); a
+-- source has no value (SourceMissing); the first cell
 -- of the siding is taken (Occupied)
 abbrev pub launch_bar : Plan → State → Cell → ℕ → Option Bar
 launch_bar plan s c i = of_passenger c (λ p. first_of (
@@ -151,7 +156,8 @@ slide_bar ops c = on (slice_get ops (c + 1)) (Some NoSuchSite) (λ o. first_of (
 abbrev pub access_bar : Option Op → Option Bar
 access_bar o = on o (Some OpNotThere) (λ op. first_of ((is_some op.answer, AlreadyDone) ∷ []) None)
 
--- what bars taking from the end of the class's siding: the class has no siding (NoUnit); no operation is there (OpNotThere); it is a load or a store without an answer (NotDone).
+-- what bars taking from the end of the class's siding: the class has no siding (NoUnit); no operation is there
+-- (OpNotThere); it is a load or a store without an answer (NotDone).
 -- Right only in reached states: nothing here asks whose operation this is. There it is the passenger's own, since a siding holds operations in the order
 -- in which their passengers stand, and none of these climbs past the stage where it is to recover its own.
 abbrev pub exit_op_bar : Plan → State → Passenger → Option Bar
@@ -165,7 +171,8 @@ recover_bar plan s c i = of_passenger c (λ p. first_of (
     (not (recovers plan (kind p) i), NoUnit) ∷
     (not p.launched || p.recovered, AlreadyDone) ∷ []) (exit_op_bar plan s p))
 
--- Leave: there is no stage N (NoSuchSite); nobody is there (NoPassenger); its packet has not met the passenger (NotMet); the passenger owes a packet (Owes); it is live
+-- Leave: there is no stage N (NoSuchSite); nobody is there (NoPassenger); its packet has not met the passenger
+-- (NotMet); the passenger owes a packet (Owes); it is live
 -- and not done, or what it launched is not back (NotDone)
 abbrev pub leave_bar : Cell → Option Bar
 leave_bar c = of_passenger c (λ p. first_of (
@@ -179,7 +186,8 @@ exit_bar c = first_of (
     (not (is_some c.packet), NoPacket) ∷
     (is_full c, NotMet) ∷ []) None
 
--- Serve: there is no stage N (NoSuchSite); nobody is there (NoPassenger); the passenger is dead (Dead); it is done (AlreadyDone); it is neither ECALL nor FENCE.I
+-- Serve: there is no stage N (NoSuchSite); nobody is there (NoPassenger); the passenger is dead (Dead); it is done
+-- (AlreadyDone); it is neither ECALL nor FENCE.I
 -- (NoUnit); it has not met the packet of the stage (NotMet)
 abbrev pub serve_bar : Cell → Option Bar
 serve_bar c = of_passenger c (λ p. first_of (

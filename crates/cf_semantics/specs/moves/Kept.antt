@@ -105,12 +105,14 @@ kept_lane plan s mv = Same
 
 -- the register that a move writes
 abbrev pub kept_register : Plan → State → Move → Option KeptRegister
-kept_register plan s Leave = on (cell_at s.cells plan.stages) None (λ c. on c.passenger None (λ p. on (reg_in p.dst) None (λ r. Some (record { reg = r; value = slice_index s.regs r }))))
+kept_register plan s Leave = on (cell_at s.cells plan.stages) None (λ c. on c.passenger None
+    (λ p. on (reg_in p.dst) None (λ r. Some (record { reg = r; value = slice_index s.regs r }))))
 kept_register plan s mv = None
 
 -- the bytes that an access overwrites: those of a store, in the region that it writes
 abbrev pub kept_range : Memory → Access → Option KeptBytes
-kept_range mem access = if access.write then on (writable_of mem access.addr access.width) None (λ bytes. Some (record { addr = access.addr; bytes = bytes })) else None
+kept_range mem access = if access.write then on (writable_of mem access.addr access.width) None
+    (λ bytes. Some (record { addr = access.addr; bytes = bytes })) else None
 
 abbrev pub kept_bytes : Plan → State → Move → Option KeptBytes
 kept_bytes plan s AccessMove = on (last_op (siding_at s (port plan))) None (λ op. kept_range s.mem (access_made op.instr op.a op.b))

@@ -122,7 +122,8 @@ abbrev pub recovered : Plan → State → ℕ → Cell → Passenger → State
 recovered plan s i c p = on (siding_of plan (kind p)) s (λ k. on (last_op (siding_at s k)) s (λ op.
     with_siding (with_cell s i (with_passenger c (back_in p op.answer))) k (set_last (siding_at s k) None)))
 
--- the registers with a destination's value written. Right only in reached states: there a live passenger that is done and does not end the program has this value
+-- the registers with a destination's value written. Right only in reached states: there a live passenger that is done
+-- and does not end the program has this value
 abbrev pub written : List ℕ → Option Binding → List ℕ
 written regs None = regs
 written regs (Some b) = slice_set regs b.reg (value_in (Some b))
@@ -172,7 +173,8 @@ moved plan s Leave = on_passenger s plan.stages (left s plan.stages)
 moved plan s Exit = on_cell s 1 (exited plan s)
 moved plan s Serve = s
 
--- a passenger that was answered: everything that was fetched after it must be fetched anew. Right only in reached states: there a passenger that is not done owes nothing that would be lost
+-- a passenger that was answered: everything that was fetched after it must be fetched anew. Right only in reached
+-- states: there a passenger that is not done owes nothing that would be lost
 abbrev pub answered : Passenger → ℕ → Passenger
 answered p v = record p { done = true; dst = with_value v p.dst; next = Some (word_after p.pc); owes = Some (Turn (word_after p.pc)) }
 

@@ -166,4 +166,5 @@ pub record IsLocal (plan : Plan) (m : Moment) (mv : Move) : Type 0 where
   pub leaves : bar plan m.state mv ≡ None → (x : Site) → writes plan m.state mv x ≡ false → content (next plan m mv) x ≡ content m x
   pub bars : (t : Moment) → AreAlike (reads plan m.state mv) m t → bar plan m.state mv ≡ bar plan t.state mv
   pub events : (t : Moment) (e : Event) → AreAlike (reads plan m.state mv) m t → IsEvent plan m.state mv e → IsEvent plan t.state mv e
-  pub makes : (t : Moment) → AreAlike (reads plan m.state mv) m t → bar plan m.state mv ≡ None → (x : Site) → writes plan m.state mv x ≡ true → content (next plan m mv) x ≡ content (next plan t mv) x
+  pub makes : (t : Moment) → AreAlike (reads plan m.state mv) m t → bar plan m.state mv ≡ None → (x : Site) → writes plan m.state mv x ≡ true →
+      content (next plan m mv) x ≡ content (next plan t mv) x

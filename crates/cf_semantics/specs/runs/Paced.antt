@@ -1,4 +1,5 @@
--- Runs under the hold rule: once twice as many Issue moves as there are stages are counted since the last retirement or the last drained state, no Issue is made while another move is allowed.
+-- Runs under the hold rule: once twice as many Issue moves as there are stages are counted since the last retirement or
+-- the last drained state, no Issue is made while another move is allowed.
 use Rattle.std.specs.Prelude.{◌≡◌, ℕ, List, [], ◌∷◌, None, true}
 use Rattle.cf_layout.specs.Layout.{Plan}
 use Rattle.cf_bind.specs.declared.moves.Move.{Move}
@@ -11,7 +12,8 @@ use Rattle.cf_semantics.specs.claims.Weight.{is_issue}
 use Rattle.cf_semantics.specs.state.Drained.{IsStuck, is_drained}
 use Rattle.cf_semantics.specs.moves.Holding.{is_held, paced}
 
--- with this many Issue moves counted before the first of the moves: each move is allowed where it is made, and while the candidates are held it is not an Issue unless no other move is allowed
+-- with this many Issue moves counted before the first of the moves: each move is allowed where it is made, and while
+-- the candidates are held it is not an Issue unless no other move is allowed
 unfoldable pub IsPaced : Plan → ℕ → Moment → List Move → Type 0
 IsPaced plan count m [] = Unit {0}
 IsPaced plan count m (mv ∷ moves) =

@@ -79,7 +79,8 @@ finished p n v = record p {
   owes = if is_place (guessed p.guess (instruction p) p.pc) n then value_packet v p.dst else Some (Turn n);
 }
 
--- it finishes: by what its unit computes, or with the answer of memory where there is one. A source without a value counts as 0 here; Execute and Launch wait until every source has one
+-- it finishes: by what its unit computes, or with the answer of memory where there is one. A source without a value
+-- counts as 0 here; Execute and Launch wait until every source has one
 unfoldable pub finish : Passenger → Option ℕ → Passenger
 finish p answer =
     let a = value_in p.src1 in

@@ -31,7 +31,8 @@ overwritten_same bytes at len b =
     same_between (take at bytes) (take len (drop at bytes)) (drop len (drop at bytes)) bytes at whole front
 
 area_with_same : (addr len : ℕ) (a : Area) → writes_in addr len a ≡ true → area_with addr (bytes_in addr len a) a ≡ a
-area_with_same addr len a e = ap (λ (bytes : List ℕ). let b : Area = record a { bytes = bytes } in b) (overwritten_same a.bytes (addr - a.base) len (within addr len a e))
+area_with_same addr len a e = ap (λ (bytes : List ℕ). let b : Area = record a { bytes = bytes } in
+    b) (overwritten_same a.bytes (addr - a.base) len (within addr len a e))
 
 bytes_in_length : (addr len : ℕ) (a : Area) → writes_in addr len a ≡ true → length (bytes_in addr len a) ≡ len
 bytes_in_length addr len a e = let b = within addr len a e in rw (length-take, length-drop) (omega (arith, b))
@@ -41,7 +42,8 @@ record Found (addr len : ℕ) (old : List ℕ) (areas : List Area) : Type 0 wher
   long : length old ≡ len
   same : first_changed (writes_in addr len) (area_with addr old) areas ≡ areas
 
-found : (addr len : ℕ) (old : List ℕ) (areas : List Area) → option_map (bytes_in addr len) (find (writes_in addr len) areas) ≡ Some old → Found addr len old areas
+found : (addr len : ℕ) (old : List ℕ) (areas : List Area) → option_map (bytes_in addr len) (find (writes_in addr len) areas) ≡ Some old →
+    Found addr len old areas
 found addr len old [] e = absurd (cc)
 found addr len old (x ∷ xs) e = by (writes_in addr len x) refl e (found addr len old xs)
   where
@@ -56,12 +58,14 @@ found addr len old (x ∷ xs) e = by (writes_in addr len x) refl e (found addr l
     by false f e later = let h = later e in record { long = h.long; same = rw f (ap (λ (rest : List Area). x ∷ rest) h.same) }
 
 -- where no region has them, a write changes nothing
-nowhere : (addr len : ℕ) (w : List ℕ) (areas : List Area) → option_map (bytes_in addr len) (find (writes_in addr len) areas) ≡ None → first_changed (writes_in addr len) (area_with addr w) areas ≡ areas
+nowhere : (addr len : ℕ) (w : List ℕ) (areas : List Area) → option_map (bytes_in addr len) (find (writes_in addr len) areas) ≡ None →
+    first_changed (writes_in addr len) (area_with addr w) areas ≡ areas
 nowhere addr len w [] e = refl
 nowhere addr len w (x ∷ xs) e = by (writes_in addr len x) refl e (nowhere addr len w xs)
   where
     by : (b : Bool) → writes_in addr len x ≡ b → option_map (bytes_in addr len) (if b then Some x else find (writes_in addr len) xs) ≡ None
-        → (option_map (bytes_in addr len) (find (writes_in addr len) xs) ≡ None → first_changed (writes_in addr len) (area_with addr w) xs ≡ xs) → first_changed (writes_in addr len) (area_with addr w) (x ∷ xs) ≡ x ∷ xs
+        → (option_map (bytes_in addr len) (find (writes_in addr len) xs) ≡ None → first_changed (writes_in addr len) (area_with addr w) xs ≡ xs) →
+        first_changed (writes_in addr len) (area_with addr w) (x ∷ xs) ≡ x ∷ xs
     by true f e later = absurd (cc)
     by false f e later = rw f (ap (λ (rest : List Area). x ∷ rest) (later e))
 
@@ -76,13 +80,15 @@ stored_nowhere m addr width n e = by (is_aligned addr width)
     by true = with_areas m _ (nowhere addr width (le_bytes width n) m.areas e)
     by false = refl
 
-stored_somewhere : (m : Memory) (addr width n : ℕ) (old : List ℕ) → writable_of m addr width ≡ Some old → memory_with (stored m addr width n) addr (length old) old ≡ m
+stored_somewhere : (m : Memory) (addr width n : ℕ) (old : List ℕ) → writable_of m addr width ≡ Some old →
+    memory_with (stored m addr width n) addr (length old) old ≡ m
 unfolding memory_with writable_of
 stored_somewhere m addr width n old e =
     let h = found addr width old m.areas e in
     ap (λ (k : ℕ). memory_with (stored m addr width n) addr k old) h.long ∙ by (is_aligned addr width) refl h.same
   where
-    by : (b : Bool) → is_aligned addr width ≡ b → first_changed (writes_in addr width) (area_with addr old) m.areas ≡ m.areas → memory_with (stored m addr width n) addr width old ≡ m
+    by : (b : Bool) → is_aligned addr width ≡ b → first_changed (writes_in addr width) (area_with addr old) m.areas ≡ m.areas →
+        memory_with (stored m addr width n) addr width old ≡ m
     by true f same = stored-back m addr width n old f e
     by false f same = ap (λ (k : Memory). memory_with k addr width old) (unwritten f) ∙ with_areas m _ same
       where
@@ -90,7 +96,8 @@ stored_somewhere m addr width n old e =
         unwritten f = unfold stored in rw f refl
 
 -- an access is undone by writing back what it overwrote
-pub access_back : (m : Memory) (access : Access) → bytes_back (kept_range m access) (if access.write then stored m access.addr access.width access.value else m) ≡ m
+pub access_back : (m : Memory) (access : Access) → bytes_back (kept_range m access) (if access.write then stored m access.addr access.width access.value else m)
+    ≡ m
 access_back m access = by access.write
   where
     at : (o : Option (List ℕ)) → writable_of m access.addr access.width ≡ o
@@ -98,6 +105,7 @@ access_back m access = by access.write
     at None e = stored_nowhere m access.addr access.width access.value e
     at (Some old) e = stored_somewhere m access.addr access.width access.value old e
 
-    by : (w : Bool) → bytes_back (if w then on (writable_of m access.addr access.width) None (λ bytes. Some (record { addr = access.addr; bytes = bytes })) else None) (if w then stored m access.addr access.width access.value else m) ≡ m
+    by : (w : Bool) → bytes_back (if w then on (writable_of m access.addr access.width) None
+        (λ bytes. Some (record { addr = access.addr; bytes = bytes })) else None) (if w then stored m access.addr access.width access.value else m) ≡ m
     by true = at (writable_of m access.addr access.width) refl
     by false = refl

@@ -25,7 +25,8 @@ set_nowhere (x ∷ q) zero a e = absurd (cc)
 set_nowhere (x ∷ q) (suc k) a e = ap (λ (l : List _). x ∷ l) (set_nowhere q k a e)
 
 -- two places are written and then put back
-pub two_back : {A : Type 0} → (q : List A) (i j : ℕ) (a b x y : A) → i ≢ j → slice_get q i ≡ Some a → slice_get q j ≡ Some b → slice_set (slice_set (slice_set (slice_set q i x) j y) i a) j b ≡ q
+pub two_back : {A : Type 0} → (q : List A) (i j : ℕ) (a b x y : A) → i ≢ j → slice_get q i ≡ Some a → slice_get q j ≡ Some b →
+    slice_set (slice_set (slice_set (slice_set q i x) j y) i a) j b ≡ q
 two_back q i j a b x y n e f =
     ap (λ (l : List _). slice_set l j b) (sym (set_swap (slice_set q i x) i j a y n) ∙ ap (λ (l : List _). slice_set l j y) (set_back q i a x e))
     ∙ set_back q j b y f
@@ -43,7 +44,8 @@ put_nowhere : (cells : List Cell) (i : ℕ) (c : Cell) → cell_at cells i ≡ N
 put_nowhere cells zero c e = refl
 put_nowhere cells (suc i) c e = set_nowhere cells i c e
 
-pub put_two_back : (cells : List Cell) (i j : ℕ) (a b x y : Cell) → i ≢ j → cell_at cells i ≡ Some a → cell_at cells j ≡ Some b → put_cell (put_cell (put_cell (put_cell cells i x) j y) i a) j b ≡ cells
+pub put_two_back : (cells : List Cell) (i j : ℕ) (a b x y : Cell) → i ≢ j → cell_at cells i ≡ Some a → cell_at cells j ≡ Some b →
+    put_cell (put_cell (put_cell (put_cell cells i x) j y) i a) j b ≡ cells
 put_two_back cells zero j a b x y n e f = absurd (cc)
 put_two_back cells (suc i) zero a b x y n e f = absurd (cc)
 put_two_back cells (suc i) (suc j) a b x y n e f = two_back cells i j a b x y (λ g. n (ap suc g)) e f
@@ -76,7 +78,8 @@ siding_same [] k = refl
 siding_same (q ∷ ss) zero = refl
 siding_same (q ∷ ss) (suc k) = ap (λ (l : List (List (Option Op))). q ∷ l) (siding_same ss k)
 
-pub op_put : (ss : List (List (Option Op))) (k c : ℕ) (q : List (Option Op)) (o : Option Op) → on (slice_get (slice_set ss k q) k) (slice_set ss k q) (λ ops. slice_set (slice_set ss k q) k (slice_set ops c o)) ≡ slice_set ss k (slice_set q c o)
+pub op_put : (ss : List (List (Option Op))) (k c : ℕ) (q : List (Option Op)) (o : Option Op) →
+    on (slice_get (slice_set ss k q) k) (slice_set ss k q) (λ ops. slice_set (slice_set ss k q) k (slice_set ops c o)) ≡ slice_set ss k (slice_set q c o)
 op_put [] k c q o = refl
 op_put (a ∷ ss) zero c q o = refl
 op_put (a ∷ ss) (suc k) c q o = go (slice_get (slice_set ss k q) k) refl (op_put ss k c q o)
@@ -91,16 +94,20 @@ op_put (a ∷ ss) (suc k) c q o = go (slice_get (slice_set ss k q) k) refl (op_p
 pub one_op : (s : State) (k c : ℕ) (x : Option Op) → ops_back (kept_op s k c) (slice_set s.sidings k (slice_set (siding_at s k) c x)) ≡ s.sidings
 one_op s k c x = go (slice_get (siding_at s k) c) refl
   where
-    go : (o : Option (Option Op)) → slice_get (siding_at s k) c ≡ o → ops_back (on o [] (λ o. record { siding = k; place = c; op = o } ∷ [])) (slice_set s.sidings k (slice_set (siding_at s k) c x)) ≡ s.sidings
+    go : (o : Option (Option Op)) → slice_get (siding_at s k) c ≡ o → ops_back (on o [] (λ o. record { siding = k; place = c; op = o } ∷ []))
+        (slice_set s.sidings k (slice_set (siding_at s k) c x)) ≡ s.sidings
     go None e = ap (slice_set s.sidings k) (set_nowhere (siding_at s k) c x e) ∙ siding_same s.sidings k
-    go (Some o) e = op_put s.sidings k c (slice_set (siding_at s k) c x) o ∙ ap (slice_set s.sidings k) (set_back (siding_at s k) c o x e) ∙ siding_same s.sidings k
+    go (Some o) e = op_put s.sidings k c (slice_set (siding_at s k) c x) o ∙ ap (slice_set s.sidings k) (set_back (siding_at s k) c o x e)
+        ∙ siding_same s.sidings k
 
 pub no_op : (s : State) (k c : ℕ) → ops_back (kept_op s k c) s.sidings ≡ s.sidings
 no_op s k c = go (slice_get (siding_at s k) c) refl
   where
-    go : (o : Option (Option Op)) → slice_get (siding_at s k) c ≡ o → ops_back (on o [] (λ o. record { siding = k; place = c; op = o } ∷ [])) s.sidings ≡ s.sidings
+    go : (o : Option (Option Op)) → slice_get (siding_at s k) c ≡ o → ops_back (on o [] (λ o. record { siding = k; place = c; op = o } ∷ [])) s.sidings
+        ≡ s.sidings
     go None e = refl
-    go (Some o) e = ap (λ (ss : List (List (Option Op))). ops_back (record { siding = k; place = c; op = o } ∷ []) ss) (sym (siding_same s.sidings k)) ∙ op_put s.sidings k c (siding_at s k) o ∙ ap (slice_set s.sidings k) (set_same (siding_at s k) c o e) ∙ siding_same s.sidings k
+    go (Some o) e = ap (λ (ss : List (List (Option Op))). ops_back (record { siding = k; place = c; op = o } ∷ []) ss) (sym (siding_same s.sidings k))
+        ∙ op_put s.sidings k c (siding_at s k) o ∙ ap (slice_set s.sidings k) (set_same (siding_at s k) c o e) ∙ siding_same s.sidings k
 
 pub no_ops : (s : State) (c : ℕ → ℕ) (o : Option ℕ) → ops_back (on o [] (λ k. kept_op s k (c k))) s.sidings ≡ s.sidings
 no_ops s c None = refl

@@ -58,7 +58,8 @@ seated : (s : State) (cells : List Cell) → Still s (record s { cells = cells }
 seated s cells = record { sidings = refl; lane = refl; regs = refl; mem = refl; failed = refl }
 
 -- moves of only one stage
-staged : (l : Plan) (s t : State) (mv : Move) → cells_back (kept l s mv).cells t.cells ≡ s.cells → (kept l s mv).ops ≡ [] → (kept l s mv).lane ≡ Same → (kept l s mv).register ≡ None → (kept l s mv).bytes ≡ None → Still s t → Back (kept l s mv) s t
+staged : (l : Plan) (s t : State) (mv : Move) → cells_back (kept l s mv).cells t.cells ≡ s.cells → (kept l s mv).ops ≡ [] → (kept l s mv).lane ≡ Same →
+    (kept l s mv).register ≡ None → (kept l s mv).bytes ≡ None → Still s t → Back (kept l s mv) s t
 staged l s t mv cells ops lane register bytes h = record {
   cells = cells;
   ops = rw ops h.sidings;
@@ -74,7 +75,8 @@ climb_back l s i = staged l s _ (Climb i) (go (cell_at s.cells i) (cell_at s.cel
     (on_still s (cell_at s.cells i) _ (λ c. on_still s (cell_at s.cells (i + 1)) _ (λ d. seated s _)))
   where
     go : (o q : Option Cell) → cell_at s.cells i ≡ o → cell_at s.cells (i + 1) ≡ q
-        → cells_back (on o [] (λ c. record { stage = i; cell = c } ∷ on q [] (λ d. record { stage = i + 1; cell = d } ∷ []))) (on o s (λ c. on q s (climbed s i c))).cells ≡ s.cells
+        → cells_back (on o [] (λ c. record { stage = i; cell = c } ∷ on q [] (λ d. record { stage = i + 1; cell = d } ∷ [])))
+        (on o s (λ c. on q s (climbed s i c))).cells ≡ s.cells
     go None q e f = refl
     go (Some c) None e f = put_same s.cells i c e
     go (Some c) (Some d) e f = put_two_back s.cells i (i + 1) c d _ _ (λ g. absurd (omega (arith, g))) e f
@@ -89,7 +91,8 @@ fall_back l s i = staged l s _ (Fall i) (go (cell_at s.cells i) (cell_at s.cells
     apart (suc i) c e = λ g. absurd (omega (arith, g))
 
     go : (o q : Option Cell) → cell_at s.cells i ≡ o → cell_at s.cells (i - 1) ≡ q
-        → cells_back (on o [] (λ c. record { stage = i; cell = c } ∷ on q [] (λ d. record { stage = i - 1; cell = d } ∷ []))) (on o s (λ c. on q s (fallen s i c))).cells ≡ s.cells
+        → cells_back (on o [] (λ c. record { stage = i; cell = c } ∷ on q [] (λ d. record { stage = i - 1; cell = d } ∷ [])))
+        (on o s (λ c. on q s (fallen s i c))).cells ≡ s.cells
     go None q e f = refl
     go (Some c) None e f = put_same s.cells i c e
     go (Some c) (Some d) e f = put_two_back s.cells i (i - 1) c d _ _ (apart i c e) e f
@@ -97,7 +100,8 @@ fall_back l s i = staged l s _ (Fall i) (go (cell_at s.cells i) (cell_at s.cells
 meet_back : (l : Plan) (s : State) (i : ℕ) → Back (kept l s (Meet i)) s (moved l s (Meet i))
 unfolding moved kept
 meet_back l s i = staged l s _ (Meet i)
-    (on_cells s i (cell_at s.cells i) _ (λ c. on_cells s i c.passenger _ (λ p. on_cells s i c.packet _ (λ k. one_put s i (cell_met c p k))))) refl refl refl refl
+    (on_cells s i (cell_at s.cells i) _ (λ c. on_cells s i c.passenger _ (λ p. on_cells s i c.packet _ (λ k. one_put s i (cell_met c p k))))) refl refl refl
+    refl
     (on_still s (cell_at s.cells i) _ (λ c. on_still s c.passenger _ (λ p. on_still s c.packet _ (λ k. seated s _))))
 
 execute_back : (l : Plan) (s : State) (i : ℕ) → Back (kept l s (Execute i)) s (moved l s (Execute i))
@@ -128,7 +132,8 @@ issue_back : (l : Plan) (s : State) (g : Guess) → bar l s (Issue g) ≡ None �
 unfolding moved kept
 issue_back l s g e = go (cell_at s.cells 1) (running s.fetch) refl refl (bar_row l s (Issue g) e)
   where
-    go : (o : Option Cell) (f : Option ℕ) → cell_at s.cells 1 ≡ o → running s.fetch ≡ f → row_bar l s (Issue g) ≡ None → Back (kept l s (Issue g)) s (moved l s (Issue g))
+    go : (o : Option Cell) (f : Option ℕ) → cell_at s.cells 1 ≡ o → running s.fetch ≡ f → row_bar l s (Issue g) ≡ None →
+        Back (kept l s (Issue g)) s (moved l s (Issue g))
     go None f a b e = absurd (let z = rw a at e in cc)
     go (Some c) None a b e = absurd (let z = rw (a, b) at e in cc)
     go (Some c) (Some pc) a b e =
@@ -183,7 +188,15 @@ launch_back l s i = go (cell_at s.cells i) refl
     go (Some c) a = by c.passenger refl
       where
         by : (q : Option Passenger) → c.passenger ≡ q → Back (kept l s (Launch i)) s (moved l s (Launch i))
-        by None b = record { cells = launch_stage l s i; ops = rw (a, b) refl; lane = rw (a, b) refl; regs = rw (a, b) refl; mem = rw (a, b) refl; failed = rw (a, b) refl }
+        by None b = record {
+          cells = launch_stage l s i;
+          ops = rw (a, b) refl;
+          lane = rw (a, b) refl;
+          regs = rw (a, b) refl;
+          mem = rw (a, b) refl;
+          failed =
+              rw (a, b) refl;
+        }
         by (Some p) b = at (launch_trap s p) (siding_of l (kind p)) refl refl
           where
             at : (t : Option End) (k : Option ℕ) → launch_trap s p ≡ t → siding_of l (kind p) ≡ k → Back (kept l s (Launch i)) s (moved l s (Launch i))
@@ -220,7 +233,8 @@ last_back s k x =
 
 recover_stage : (l : Plan) (s : State) (i : ℕ) → CellsBack s i (moved l s (Recover i))
 unfolding moved
-recover_stage l s i = on_cells s i (cell_at s.cells i) _ (λ c. on_cells s i c.passenger _ (λ p. on_cells s i (siding_of l (kind p)) _ (λ k. on_cells s i (last_op (siding_at s k)) _ (λ op. one_put s i (with_passenger c (back_in p op.answer))))))
+recover_stage l s i = on_cells s i (cell_at s.cells i) _ (λ c. on_cells s i c.passenger _ (λ p. on_cells s i (siding_of l (kind p)) _
+    (λ k. on_cells s i (last_op (siding_at s k)) _ (λ op. one_put s i (with_passenger c (back_in p op.answer))))))
 
 recover_back : (l : Plan) (s : State) (i : ℕ) → Back (kept l s (Recover i)) s (moved l s (Recover i))
 unfolding moved kept
@@ -231,7 +245,15 @@ recover_back l s i = go (cell_at s.cells i) refl
     go (Some c) a = by c.passenger refl
       where
         by : (q : Option Passenger) → c.passenger ≡ q → Back (kept l s (Recover i)) s (moved l s (Recover i))
-        by None b = record { cells = recover_stage l s i; ops = rw (a, b) refl; lane = rw (a, b) refl; regs = rw (a, b) refl; mem = rw (a, b) refl; failed = rw (a, b) refl }
+        by None b = record {
+          cells = recover_stage l s i;
+          ops = rw (a, b) refl;
+          lane = rw (a, b) refl;
+          regs = rw (a, b) refl;
+          mem = rw (a, b) refl;
+          failed =
+              rw (a, b) refl;
+        }
         by (Some p) b = at (siding_of l (kind p)) refl
           where
             at : (k : Option ℕ) → siding_of l (kind p) ≡ k → Back (kept l s (Recover i)) s (moved l s (Recover i))
@@ -265,7 +287,8 @@ recover_back l s i = go (cell_at s.cells i) refl
 
 -- Slide: two cells of a siding
 slide_ops : (s : State) (k c : ℕ) (o : Option Op) (r : Option (Option Op)) → slice_get (siding_at s k) c ≡ Some o → slice_get (siding_at s k) (c + 1) ≡ r
-    → ops_back (record { siding = k; place = c; op = o } ∷ on r [] (λ x. record { siding = k; place = c + 1; op = x } ∷ [])) (slice_set s.sidings k (slice_set (slice_set (siding_at s k) c None) (c + 1) o)) ≡ s.sidings
+    → ops_back (record { siding = k; place = c; op = o } ∷ on r [] (λ x. record { siding = k; place = c + 1; op = x } ∷ []))
+    (slice_set s.sidings k (slice_set (slice_set (siding_at s k) c None) (c + 1) o)) ≡ s.sidings
 slide_ops s k c o None e f =
     ap (λ (q : List (Option Op)). ops_back (record { siding = k; place = c; op = o } ∷ []) (slice_set s.sidings k q)) (beyond (siding_at s k) c None o f)
     ∙ op_put s.sidings k c (slice_set (siding_at s k) c None) o
@@ -280,7 +303,8 @@ slide_ops s k c o None e f =
     beyond : (q : List (Option Op)) (c : ℕ) (x y : Option Op) → slice_get q (c + 1) ≡ None → slice_set (slice_set q c x) (c + 1) y ≡ slice_set q c x
     beyond q c x y f = set_nowhere (slice_set q c x) (c + 1) y (nothing q c (c + 1) x f)
 slide_ops s k c o (Some x) e f =
-    ap (λ (ss : List (List (Option Op))). ops_back (record { siding = k; place = c + 1; op = x } ∷ []) ss) (op_put s.sidings k c (slice_set (slice_set (siding_at s k) c None) (c + 1) o) o)
+    ap (λ (ss : List (List (Option Op))). ops_back (record { siding = k; place = c + 1; op = x } ∷ []) ss)
+    (op_put s.sidings k c (slice_set (slice_set (siding_at s k) c None) (c + 1) o) o)
     ∙ op_put s.sidings k (c + 1) (slice_set (slice_set (slice_set (siding_at s k) c None) (c + 1) o) c o) x
     ∙ ap (slice_set s.sidings k) (two_back (siding_at s k) c (c + 1) o x None o (λ g. absurd (omega (arith, g))) e f) ∙ siding_same s.sidings k
 
@@ -290,7 +314,14 @@ slide_back l s k c = go (slice_get (siding_at s k) c) refl
   where
     go : (r : Option (Option Op)) → slice_get (siding_at s k) c ≡ r → Back (kept l s (Slide k c)) s (moved l s (Slide k c))
     go None e = record { cells = rw e refl; ops = rw e refl; lane = rw e refl; regs = rw e refl; mem = rw e refl; failed = rw e refl }
-    go (Some o) e = record { cells = rw e refl; ops = rw e (slide_ops s k c o (slice_get (siding_at s k) (c + 1)) e refl); lane = rw e refl; regs = rw e refl; mem = rw e refl; failed = rw e refl }
+    go (Some o) e = record {
+      cells = rw e refl;
+      ops = rw e (slide_ops s k c o (slice_get (siding_at s k) (c + 1)) e refl);
+      lane = rw e refl;
+      regs = rw e refl;
+      mem = rw e refl;
+      failed = rw e refl;
+    }
 
 -- Access: the last cell of the port's siding, and the bytes
 access_move_back : (l : Plan) (s : State) → Back (kept l s Access) s (moved l s Access)
@@ -298,7 +329,15 @@ unfolding moved kept mem_after
 access_move_back l s = go (last_op (siding_at s (port l))) refl
   where
     go : (o : Option Op) → last_op (siding_at s (port l)) ≡ o → Back (kept l s Access) s (moved l s Access)
-    go None e = record { cells = rw e refl; ops = rw e (no_op s (port l) (last_place s (port l))); lane = rw e refl; regs = rw e refl; mem = rw e refl; failed = rw e refl }
+    go None e = record {
+      cells = rw e refl;
+      ops = rw e (no_op s (port l) (last_place s (port l)));
+      lane = rw e refl;
+      regs = rw e refl;
+      mem = rw e refl;
+      failed =
+          rw e refl;
+    }
     go (Some op) e = record {
       cells = rw e refl;
       ops = rw e (last_back s (port l) (Some (record op { answer = Some (answer_of op.instr op.a op.b s.mem) })));
@@ -309,11 +348,13 @@ access_move_back l s = go (last_op (siding_at s (port l))) refl
     }
 
 -- Leave: a stage, and the register
-register_same : (regs : List ℕ) (o : Option Binding) → register_back (on (reg_in o) None (λ r. Some (record { reg = r; value = slice_index regs r }))) regs ≡ regs
+register_same : (regs : List ℕ) (o : Option Binding) → register_back (on (reg_in o) None (λ r. Some (record { reg = r; value = slice_index regs r }))) regs
+    ≡ regs
 register_same regs None = refl
 register_same regs (Some b) = set-get_or regs b.reg 0
 
-register_written : (regs : List ℕ) (o : Option Binding) → register_back (on (reg_in o) None (λ r. Some (record { reg = r; value = slice_index regs r }))) (written regs o) ≡ regs
+register_written : (regs : List ℕ) (o : Option Binding) → register_back (on (reg_in o) None (λ r. Some (record { reg = r; value = slice_index regs r })))
+    (written regs o) ≡ regs
 register_written regs None = refl
 register_written regs (Some b) = set-set regs b.reg (value_in (Some b)) (slice_index regs b.reg) ∙ set-get_or regs b.reg 0
 
@@ -336,7 +377,15 @@ leave_back l s = go (cell_at s.cells l.stages) refl
     go (Some c) a = by c.passenger refl
       where
         by : (q : Option Passenger) → c.passenger ≡ q → Back (kept l s Leave) s (moved l s Leave)
-        by None b = record { cells = leave_stage l s; ops = rw (a, b) refl; lane = rw (a, b) refl; regs = rw (a, b) refl; mem = rw (a, b) refl; failed = rw (a, b) refl }
+        by None b = record {
+          cells = leave_stage l s;
+          ops = rw (a, b) refl;
+          lane = rw (a, b) refl;
+          regs = rw (a, b) refl;
+          mem = rw (a, b) refl;
+          failed =
+              rw (a, b) refl;
+        }
         by (Some p) b = left_by p.dead p.ending refl refl
           where
             left_by : (d : Bool) (t : Option End) → p.dead ≡ d → p.ending ≡ t → Back (kept l s Leave) s (moved l s Leave)

@@ -44,7 +44,15 @@ use Rattle.std.proofs.lemmas.Bool.{or_parts}
 -- with a longer lane no less may be waited for
 lane_way : (s t : State) (x : Machine) (more : List ℕ) → t.lane ≡ s.lane ++ more → Follows (begin s x) (begin t x)
 lane_way s t x more e = record {
-  path = record { barred = λ b. b; machine = λ _. refl; goto = λ _. refl; settled = λ _ a. a; trapped = λ _ a. a; coming = λ _ r c. rw e (among_front r s.lane more c) };
+  path = record {
+    barred = λ b. b;
+    machine = λ _. refl;
+    goto = λ _. refl;
+    settled = λ _ a. a;
+    trapped = λ _ a. a;
+    coming =
+        λ _ r c. rw e (among_front r s.lane more c);
+  };
   count = refl;
   stop = refl;
   on = λ _. refl;
@@ -59,17 +67,35 @@ pub record Grown (isa : Isa) (s t : State) (x : Machine) (p : Passenger) : Type 
   pub is : way isa t x ≡ past isa (Up 1 p) above
   pub first : column s ≡ [] → above ≡ begin t x
 
-grown : {rest out : List ℕ} (l : Plan) (s : State) (x : Machine) (g : Guess) (r : Issues l s g) → Sound l s rest out x → Grown (isa_of l) s (moved l s (Issue g)) x (fresh s.cache (fetched (isa_of l) s.mem r.pc) r.pc g)
+grown : {rest out : List ℕ} (l : Plan) (s : State) (x : Machine) (g : Guess) (r : Issues l s g) → Sound l s rest out x →
+    Grown (isa_of l) s (moved l s (Issue g)) x (fresh s.cache (fetched (isa_of l) s.mem r.pc) r.pc g)
 grown {rest} {out} l s x g r h =
     let p : Passenger = fresh s.cache (fetched (isa_of l) s.mem r.pc) r.pc g in
     let new = Up 1 p ∷ [] in
-    let t : State = record s { cells = record r.here { passenger = Some p; met = false } ∷ r.others; lane = s.lane ++ requests p; fetch = fetch_at (goto p); cache = forgets (reg_in p.dst) s.cache } in
+    let t : State = record s {
+      cells = record r.here { passenger = Some p; met = false } ∷ r.others;
+      lane = s.lane ++ requests p;
+      fetch = fetch_at (goto p);
+      cache =
+          forgets (reg_in p.dst) s.cache;
+    } in
     let was : column s ≡ column_from 2 r.others ++ items 1 r.here = ap (column_from 1) r.cells in
-    let is : column t ≡ column s ++ new = ap (λ (q : List Item). column_from 2 r.others ++ q) (issue_items r.here p r.free) ∙ sym (append_assoc (column_from 2 r.others) (items 1 r.here) new) ∙ ap (λ (q : List Item). q ++ new) (sym was) in
+    let is : column t ≡ column s ++ new = ap (λ (q : List Item). column_from 2 r.others ++ q) (issue_items r.here p r.free)
+    ∙ sym (append_assoc (column_from 2 r.others) (items 1 r.here) new) ∙ ap (λ (q : List Item). q ++ new) (sym was) in
     let f = lane_way s t x (requests p) refl in
-    let q = walk_follows _ (Fits (isa_of l)) (past (isa_of l)) Follows (way_walk (isa_of l)) (column s) _ _ f (fits_way (isa_of l) (column s) (trail.top s x) (begin s x) refl h.path_fit) in
-    let w : way (isa_of l) t x ≡ past (isa_of l) (Up 1 p) (walk (past (isa_of l)) (column s) (begin t x)) = ap (λ (z : List Item). walk (past (isa_of l)) z (begin t x)) is ∙ walk_append (past (isa_of l)) (column s) new (begin t x) in
-    rw (next_issue l s g r.here r.others r.pc p r.cells r.runs refl) (record { above = walk (past (isa_of l)) (column s) (begin t x); count = q.count; stop = q.stop; is = w; first = λ e. ap (λ (z : List Item). walk (past (isa_of l)) z (begin t x)) e })
+    let q = walk_follows _ (Fits (isa_of l)) (past (isa_of l)) Follows (way_walk (isa_of l)) (column s) _ _ f
+    (fits_way (isa_of l) (column s) (trail.top s x) (begin s x) refl h.path_fit) in
+    let w : way (isa_of l) t x ≡ past (isa_of l) (Up 1 p) (walk (past (isa_of l)) (column s) (begin t x)) =
+    ap (λ (z : List Item). walk (past (isa_of l)) z (begin t x)) is ∙ walk_append (past (isa_of l)) (column s) new (begin t x) in
+    rw (next_issue l s g r.here r.others r.pc p r.cells r.runs refl)
+    (record {
+      above = walk (past (isa_of l)) (column s) (begin t x);
+      count = q.count;
+      stop = q.stop;
+      is = w;
+      first =
+          λ e. ap (λ (z : List Item). walk (past (isa_of l)) z (begin t x)) e;
+    })
 
 -- one more passenger takes nothing from the way
 pub past_grows : (isa : Isa) (i : ℕ) (p : Passenger) (w : Way) → (w.count ≤ (past isa (Up i p) w).count) × (w.stop ≡ true → (past isa (Up i p) w).stop ≡ true)
@@ -77,7 +103,8 @@ unfolding past
 past_grows isa i p w = (grind arith, λ e. grind (arith, e))
 
 -- a passenger that stands where the machine is adds to it, or ends it
-pub past_first : (isa : Isa) (i : ℕ) (p : Passenger) (s : State) (x : Machine) → p.dead ≡ false → p.pc ≡ x.hart.pc → (1 ≤ (past isa (Up i p) (begin s x)).count) ⊎ ((past isa (Up i p) (begin s x)).stop ≡ true)
+pub past_first : (isa : Isa) (i : ℕ) (p : Passenger) (s : State) (x : Machine) → p.dead ≡ false → p.pc ≡ x.hart.pc →
+    (1 ≤ (past isa (Up i p) (begin s x)).count) ⊎ ((past isa (Up i p) (begin s x)).stop ≡ true)
 unfolding past follows stops
 past_first isa i p s x d c = go (goes (step_at isa x p.pc)) refl
   where
@@ -94,7 +121,8 @@ pub record Reaching (l : Plan) (x0 : Machine) (m : Moment) (n : ℕ) : Type 0 wh
   pub far : m.state.ending ≡ None → (n ≤ m.state.retired + (way (isa_of l) m.state held.machine).count) ⊎ ((way (isa_of l) m.state held.machine).stop ≡ true)
 
 -- Issue
-issue_keeps : (l : Plan) (x0 : Machine) (m : Moment) (g : Guess) (n : ℕ) → Suits l → bar l m.state (Issue g) ≡ None → Reaching l x0 m n → Reaching l x0 (next l m (Issue g)) n
+issue_keeps : (l : Plan) (x0 : Machine) (m : Moment) (g : Guess) (n : ℕ) → Suits l → bar l m.state (Issue g) ≡ None → Reaching l x0 m n →
+    Reaching l x0 (next l m (Issue g)) n
 unfolding next
 issue_keeps l x0 m g n acc e h =
     let x = h.held.machine in
@@ -105,9 +133,16 @@ issue_keeps l x0 m g n acc e h =
     let same = one_machine l x0 m _ c.retired h.held k in
     let r = issue_ready l m.state g (bar_row l m.state (Issue g) e) in
     let w = grown l m.state x g r sound in
-    record { held = k; far = λ _. subst (λ (y : Machine). (n ≤ (moved l m.state (Issue g)).retired + (way (isa_of l) (moved l m.state (Issue g)) y).count) ⊎ ((way (isa_of l) (moved l m.state (Issue g)) y).stop ≡ true)) (sym same) (go w c.retired (h.far going)) }
+    record {
+      held = k;
+      far = λ _. subst (λ (y : Machine). (n ≤ (moved l m.state (Issue g)).retired + (way (isa_of l) (moved l m.state (Issue g)) y).count)
+          ⊎ ((way (isa_of l) (moved l m.state (Issue g)) y).stop ≡ true)) (sym same) (go w c.retired (h.far going));
+    }
   where
-    go : {p : Passenger} → Grown (isa_of l) m.state (moved l m.state (Issue g)) h.held.machine p → (moved l m.state (Issue g)).retired ≡ m.state.retired → (n ≤ m.state.retired + (way (isa_of l) m.state h.held.machine).count) ⊎ ((way (isa_of l) m.state h.held.machine).stop ≡ true) → (n ≤ (moved l m.state (Issue g)).retired + (way (isa_of l) (moved l m.state (Issue g)) h.held.machine).count) ⊎ ((way (isa_of l) (moved l m.state (Issue g)) h.held.machine).stop ≡ true)
+    go : {p : Passenger} → Grown (isa_of l) m.state (moved l m.state (Issue g)) h.held.machine p → (moved l m.state (Issue g)).retired ≡ m.state.retired →
+        (n ≤ m.state.retired + (way (isa_of l) m.state h.held.machine).count) ⊎ ((way (isa_of l) m.state h.held.machine).stop ≡ true) →
+        (n ≤ (moved l m.state (Issue g)).retired + (way (isa_of l) (moved l m.state (Issue g)) h.held.machine).count)
+        ⊎ ((way (isa_of l) (moved l m.state (Issue g)) h.held.machine).stop ≡ true)
     go {p} w c (inl z) =
         let a = (past_grows (isa_of l) 1 p w.above).0 in
         let b = w.count in
@@ -116,7 +151,8 @@ issue_keeps l x0 m g n acc e h =
     go {p} w c (inr z) = inr (ap (λ (v : Way). v.stop) w.is ∙ (past_grows (isa_of l) 1 p w.above).1 (w.stop ∙ z))
 
 -- the first Issue in a drained moment
-first_issue : (l : Plan) (x0 : Machine) (m : Moment) (g : Guess) → Suits l → bar l m.state (Issue g) ≡ None → HoldsAfter l x0 m → is_drained m.state ≡ true → Reaching l x0 (next l m (Issue g)) (suc m.state.retired)
+first_issue : (l : Plan) (x0 : Machine) (m : Moment) (g : Guess) → Suits l → bar l m.state (Issue g) ≡ None → HoldsAfter l x0 m → is_drained m.state ≡ true →
+    Reaching l x0 (next l m (Issue g)) (suc m.state.retired)
 unfolding next
 first_issue l x0 m g acc e h d =
     let sound = sound_at l x0 m (Issue g) e h in
@@ -127,32 +163,58 @@ first_issue l x0 m g acc e h d =
     let w = grown l m.state h.machine g r sound in
     let q = fetched (isa_of l) m.state.mem r.pc in
     let none = empty_column m.state d in
-    let ends : m.state.fetch ≡ Running h.machine.hart.pc = subst (λ (z : List Item). sure.Ends (walk (trail.past (isa_of l)) z (trail.top m.state h.machine)) m.state.fetch) none sound.path_ends in
+    let ends : m.state.fetch ≡ Running h.machine.hart.pc = subst (λ (z : List Item). sure.Ends
+    (walk (trail.past (isa_of l)) z (trail.top m.state h.machine)) m.state.fetch) none sound.path_ends in
     let pc : (fresh m.state.cache q r.pc g).pc ≡ h.machine.hart.pc = fresh_pc q m.state.cache r.pc g ∙ same_pc r.pc h.machine.hart.pc (sym r.runs ∙ ends) in
     let first = past_first (isa_of l) 1 (fresh m.state.cache q r.pc g) (moved l m.state (Issue g)) h.machine (fresh_is q m.state.cache r.pc g).live pc in
-    record { held = k; far = λ _. subst (λ (y : Machine). (suc m.state.retired ≤ (moved l m.state (Issue g)).retired + (way (isa_of l) (moved l m.state (Issue g)) y).count) ⊎ ((way (isa_of l) (moved l m.state (Issue g)) y).stop ≡ true)) (sym same) (go (fresh m.state.cache q r.pc g) c.retired (w.is ∙ ap (past (isa_of l) (Up 1 (fresh m.state.cache q r.pc g))) (w.first none)) first) }
+    record {
+      held = k;
+      far = λ _. subst (λ (y : Machine). (suc m.state.retired ≤ (moved l m.state (Issue g)).retired +
+          (way (isa_of l) (moved l m.state (Issue g)) y).count) ⊎ ((way (isa_of l) (moved l m.state (Issue g)) y).stop ≡ true)) (sym same)
+          (go (fresh m.state.cache q r.pc g) c.retired (w.is ∙ ap (past (isa_of l) (Up 1 (fresh m.state.cache q r.pc g))) (w.first none)) first);
+    }
   where
     same_pc : (a b : ℕ) → Running a ≡ Running b → a ≡ b
     same_pc a b e = cc
 
-    go : (p : Passenger) → (moved l m.state (Issue g)).retired ≡ m.state.retired → way (isa_of l) (moved l m.state (Issue g)) h.machine ≡ past (isa_of l) (Up 1 p) (begin (moved l m.state (Issue g)) h.machine) → (1 ≤ (past (isa_of l) (Up 1 p) (begin (moved l m.state (Issue g)) h.machine)).count) ⊎ ((past (isa_of l) (Up 1 p) (begin (moved l m.state (Issue g)) h.machine)).stop ≡ true) → (suc m.state.retired ≤ (moved l m.state (Issue g)).retired + (way (isa_of l) (moved l m.state (Issue g)) h.machine).count) ⊎ ((way (isa_of l) (moved l m.state (Issue g)) h.machine).stop ≡ true)
-    go p c is (inl z) = let d : (way (isa_of l) (moved l m.state (Issue g)) h.machine).count ≡ (past (isa_of l) (Up 1 p) (begin (moved l m.state (Issue g)) h.machine)).count = ap (λ (v : Way). v.count) is in inl (omega (arith, z, c, d))
+    go : (p : Passenger) → (moved l m.state (Issue g)).retired ≡ m.state.retired → way (isa_of l) (moved l m.state (Issue g)) h.machine
+        ≡ past (isa_of l) (Up 1 p) (begin (moved l m.state (Issue g)) h.machine) →
+        (1 ≤ (past (isa_of l) (Up 1 p) (begin (moved l m.state (Issue g)) h.machine)).count)
+        ⊎ ((past (isa_of l) (Up 1 p) (begin (moved l m.state (Issue g)) h.machine)).stop ≡ true) →
+        (suc m.state.retired ≤ (moved l m.state (Issue g)).retired + (way (isa_of l) (moved l m.state (Issue g)) h.machine).count)
+        ⊎ ((way (isa_of l) (moved l m.state (Issue g)) h.machine).stop ≡ true)
+    go p c is (inl z) = let d : (way (isa_of l) (moved l m.state (Issue g)) h.machine).count
+        ≡ (past (isa_of l) (Up 1 p) (begin (moved l m.state (Issue g)) h.machine)).count = ap (λ (v : Way). v.count) is in inl (omega (arith, z, c, d))
     go p c is (inr z) = inr (ap (λ (v : Way). v.stop) is ∙ z)
 
 -- any other move
-other_keeps : (l : Plan) (x0 : Machine) (m : Moment) (mv : Move) (n : ℕ) → Suits l → is_issue mv ≡ false → bar l m.state mv ≡ None → Reaching l x0 m n → Reaching l x0 (next l m mv) n
+other_keeps : (l : Plan) (x0 : Machine) (m : Moment) (mv : Move) (n : ℕ) → Suits l → is_issue mv ≡ false → bar l m.state mv ≡ None → Reaching l x0 m n →
+    Reaching l x0 (next l m mv) n
 other_keeps l x0 m mv n acc i e h =
     let x = h.held.machine in
     let going = runs.going l m.state mv e in
-    let total : Total (isa_of l) m.state x (m.state.retired + (way (isa_of l) m.state x).count) (way (isa_of l) m.state x).stop = record { sum = refl; stop = refl } in
-    let g = so_kept l x0 m mv (m.state.retired + (way (isa_of l) m.state x).count) (way (isa_of l) m.state x).stop acc i e (record { held = h.held; total = subst (λ (o : Option End). EndsSo (isa_of l) m.state x o (m.state.retired + (way (isa_of l) m.state x).count) (way (isa_of l) m.state x).stop) (sym going) total }) in
+    let total : Total (isa_of l) m.state x (m.state.retired + (way (isa_of l) m.state x).count) (way (isa_of l) m.state x).stop =
+    record { sum = refl; stop = refl } in
+    let g = so_kept l x0 m mv (m.state.retired + (way (isa_of l) m.state x).count) (way (isa_of l) m.state x).stop acc i e
+    (record {
+      held = h.held;
+      total = subst (λ (o : Option End). EndsSo (isa_of l) m.state x o (m.state.retired + (way (isa_of l) m.state x).count)
+          (way (isa_of l) m.state x).stop) (sym going) total;
+    }) in
     record { held = g.held; far = λ z. go g z (h.far going) }
   where
-    go : (g : GoesSo l x0 (next l m mv) (m.state.retired + (way (isa_of l) m.state h.held.machine).count) (way (isa_of l) m.state h.held.machine).stop) → (next l m mv).state.ending ≡ None → (n ≤ m.state.retired + (way (isa_of l) m.state h.held.machine).count) ⊎ ((way (isa_of l) m.state h.held.machine).stop ≡ true) → (n ≤ (next l m mv).state.retired + (way (isa_of l) (next l m mv).state g.held.machine).count) ⊎ ((way (isa_of l) (next l m mv).state g.held.machine).stop ≡ true)
-    go g z (inl y) = let t = subst (λ (o : Option End). EndsSo (isa_of l) (next l m mv).state g.held.machine o (m.state.retired + (way (isa_of l) m.state h.held.machine).count) (way (isa_of l) m.state h.held.machine).stop) z g.total in let s = t.sum in inl (omega (arith, s, y))
-    go g z (inr y) = let t = subst (λ (o : Option End). EndsSo (isa_of l) (next l m mv).state g.held.machine o (m.state.retired + (way (isa_of l) m.state h.held.machine).count) (way (isa_of l) m.state h.held.machine).stop) z g.total in inr (t.stop ∙ y)
+    go : (g : GoesSo l x0 (next l m mv) (m.state.retired + (way (isa_of l) m.state h.held.machine).count) (way (isa_of l) m.state h.held.machine).stop) →
+        (next l m mv).state.ending ≡ None → (n ≤ m.state.retired + (way (isa_of l) m.state h.held.machine).count)
+        ⊎ ((way (isa_of l) m.state h.held.machine).stop ≡ true) → (n ≤ (next l m mv).state.retired + (way (isa_of l) (next l m mv).state g.held.machine).count)
+        ⊎ ((way (isa_of l) (next l m mv).state g.held.machine).stop ≡ true)
+    go g z (inl y) = let t = subst (λ (o : Option End). EndsSo (isa_of l) (next l m mv).state g.held.machine o
+        (m.state.retired + (way (isa_of l) m.state h.held.machine).count) (way (isa_of l) m.state h.held.machine).stop) z g.total in let s = t.sum in
+        inl (omega (arith, s, y))
+    go g z (inr y) = let t = subst (λ (o : Option End). EndsSo (isa_of l) (next l m mv).state g.held.machine o
+        (m.state.retired + (way (isa_of l) m.state h.held.machine).count) (way (isa_of l) m.state h.held.machine).stop) z g.total in inr (t.stop ∙ y)
 
-pub move_keeps : (l : Plan) (x0 : Machine) (m : Moment) (mv : Move) (n : ℕ) → Suits l → bar l m.state mv ≡ None → Reaching l x0 m n → Reaching l x0 (next l m mv) n
+pub move_keeps : (l : Plan) (x0 : Machine) (m : Moment) (mv : Move) (n : ℕ) → Suits l → bar l m.state mv ≡ None → Reaching l x0 m n →
+    Reaching l x0 (next l m mv) n
 move_keeps l x0 m (Issue g) n acc e h = issue_keeps l x0 m g n acc e h
 move_keeps l x0 m Emit n acc e h = other_keeps l x0 m Emit n acc refl e h
 move_keeps l x0 m (Climb i) n acc e h = other_keeps l x0 m (Climb i) n acc refl e h
@@ -222,7 +284,8 @@ drained_weighs l s d =
     all true b c e = absurd (cc)
 
 -- in a drained moment only Issue is allowed
-pub only_issue : (l : Plan) (x0 : Machine) (m : Moment) (mv : Move) → Suits l → bar l m.state mv ≡ None → HoldsAfter l x0 m → is_drained m.state ≡ true → is_issue mv ≡ true
+pub only_issue : (l : Plan) (x0 : Machine) (m : Moment) (mv : Move) → Suits l → bar l m.state mv ≡ None → HoldsAfter l x0 m → is_drained m.state ≡ true →
+    is_issue mv ≡ true
 only_issue l x0 m mv acc e h d = go (is_issue mv) refl
   where
     go : (b : Bool) → is_issue mv ≡ b → is_issue mv ≡ true
@@ -236,7 +299,8 @@ only_issue l x0 m mv acc e h d = go (is_issue mv) refl
         times_zero : (a : ℕ) → a * 0 ≡ 0
         times_zero a = grind arith
 
-pub first_move : (l : Plan) (x0 : Machine) (m : Moment) (mv : Move) → Suits l → bar l m.state mv ≡ None → HoldsAfter l x0 m → is_drained m.state ≡ true → Reaching l x0 (next l m mv) (suc m.state.retired)
+pub first_move : (l : Plan) (x0 : Machine) (m : Moment) (mv : Move) → Suits l → bar l m.state mv ≡ None → HoldsAfter l x0 m → is_drained m.state ≡ true →
+    Reaching l x0 (next l m mv) (suc m.state.retired)
 first_move l x0 m mv acc e h d = go mv e (only_issue l x0 m mv acc e h d)
   where
     go : (mv : Move) → bar l m.state mv ≡ None → is_issue mv ≡ true → Reaching l x0 (next l m mv) (suc m.state.retired)
@@ -255,7 +319,8 @@ first_move l x0 m mv acc e h d = go mv e (only_issue l x0 m mv acc e h d)
     go Exit e i = absurd (cc)
     go Serve e i = absurd (cc)
 
-pub run_keeps : (l : Plan) (x0 : Machine) (m : Moment) (moves : List Move) (n : ℕ) → Suits l → IsRun l m moves → Reaching l x0 m n → Reaching l x0 (run l m moves) n
+pub run_keeps : (l : Plan) (x0 : Machine) (m : Moment) (moves : List Move) (n : ℕ) → Suits l → IsRun l m moves → Reaching l x0 m n →
+    Reaching l x0 (run l m moves) n
 unfolding IsRun run
 run_keeps l x0 m [] n acc r h = h
 run_keeps l x0 m (mv ∷ moves) n acc r h = run_keeps l x0 (next l m mv) moves n acc r.1 (move_keeps l x0 m mv n acc r.0 h)

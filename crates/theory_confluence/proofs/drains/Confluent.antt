@@ -60,7 +60,8 @@ ends_alike l true x t u a b = ended_alike l x t u a b
 ends_alike l false x t u a b = drained_alike l x t u a b
 
 pub agree : (l : Plan) (x0 : Machine) (m t u : Moment) → EndsAs l x0 m t → EndsAs l x0 m u → EndAlike t u
-agree l x0 m t u a b = ends_alike l (way (isa_of l) m.state a.at).stop a.final t u a.ends (subst (λ (y : Machine). EndsAt (way (isa_of l) m.state a.at).stop l y u) (sym final) (subst (λ (z : Bool). EndsAt z l b.final u) (sym stop) b.ends))
+agree l x0 m t u a b = ends_alike l (way (isa_of l) m.state a.at).stop a.final t u a.ends (subst
+    (λ (y : Machine). EndsAt (way (isa_of l) m.state a.at).stop l y u) (sym final) (subst (λ (z : Bool). EndsAt z l b.final u) (sym stop) b.ends))
   where
     at : a.at ≡ b.at
     at = some_same a.at b.at (sym a.count ∙ b.count)

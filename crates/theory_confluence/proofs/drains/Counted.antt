@@ -32,7 +32,8 @@ next_counts isa x y e = step_counts isa x y (goes e)
         of (outcome.Trap cause pc detail) e = absurd (cc)
         of (outcome.Exit status) e = absurd (cc)
 
-counts_on : (isa : Isa) (x y : Machine) (n : ℕ) (o : Option Machine) → ((z : Machine) → o ≡ Some z → z.hart.retired ≡ x.hart.retired + n) → step_from isa o ≡ Some y → y.hart.retired ≡ x.hart.retired + suc n
+counts_on : (isa : Isa) (x y : Machine) (n : ℕ) (o : Option Machine) → ((z : Machine) → o ≡ Some z → z.hart.retired ≡ x.hart.retired + n) →
+    step_from isa o ≡ Some y → y.hart.retired ≡ x.hart.retired + suc n
 counts_on isa x y n None h e = absurd (cc)
 counts_on isa x y n (Some z) h e =
     let a = h z refl in

@@ -48,10 +48,12 @@ row_emit l s c e = rw e refl
 row_leave : (l : Plan) (s : State) (c : Cell) → cell_at s.cells l.stages ≡ Some c → row_bar l s Leave ≡ leave_bar c
 row_leave l s c e = rw e refl
 
-row_climb : (l : Plan) (s : State) (i : ℕ) (c d : Cell) → cell_at s.cells i ≡ Some c → cell_at s.cells (suc i) ≡ Some d → row_bar l s (Climb i) ≡ climb_bar l c i (Some d)
+row_climb : (l : Plan) (s : State) (i : ℕ) (c d : Cell) → cell_at s.cells i ≡ Some c → cell_at s.cells (suc i) ≡ Some d →
+    row_bar l s (Climb i) ≡ climb_bar l c i (Some d)
 row_climb l s i c d e f = let g : cell_at s.cells (i + 1) ≡ Some d = rw add-one f in rw (e, g) refl
 
-row_at : (l : Plan) (s : State) (i : ℕ) (c : Cell) → cell_at s.cells i ≡ Some c → (row_bar l s (Execute i) ≡ execute_bar l c i) × (row_bar l s (Launch i) ≡ launch_bar l s c i) × (row_bar l s (Recover i) ≡ recover_bar l s c i)
+row_at : (l : Plan) (s : State) (i : ℕ) (c : Cell) → cell_at s.cells i ≡ Some c → (row_bar l s (Execute i) ≡ execute_bar l c i)
+    × (row_bar l s (Launch i) ≡ launch_bar l s c i) × (row_bar l s (Recover i) ≡ recover_bar l s c i)
 row_at l s i c e = (rw e refl, rw e refl, rw e refl)
 
 row_serve : (l : Plan) (s : State) (c : Cell) → cell_at s.cells l.stages ≡ Some c → row_bar l s Serve ≡ serve_bar c
@@ -72,12 +74,15 @@ pub record Above (l : Plan) (s : State) (i : ℕ) (c : Cell) (p : Passenger) (be
   pub held : (stops_at l p i ≡ true) ⊎ ((i ≡ l.stages) × (((p.launched && not p.recovered) || (not p.dead && not p.done)) ≡ true))
 
 -- in its siding
-recover_free : (l : Plan) (s : State) (i k : ℕ) (c : Cell) (p : Passenger) (op : Op) → c.passenger ≡ Some p → siding_of l (kind p) ≡ Some k → recover_stage l k ≡ i → p.launched ≡ true → p.recovered ≡ false → last_op (siding_at s k) ≡ Some op → (is_memory (kind p) && not (is_some op.answer)) ≡ false → recover_bar l s c i ≡ None
+recover_free : (l : Plan) (s : State) (i k : ℕ) (c : Cell) (p : Passenger) (op : Op) → c.passenger ≡ Some p → siding_of l (kind p) ≡ Some k →
+    recover_stage l k ≡ i → p.launched ≡ true → p.recovered ≡ false → last_op (siding_at s k) ≡ Some op →
+    (is_memory (kind p) && not (is_some op.answer)) ≡ false → recover_bar l s c i ≡ None
 recover_free l s i k c p op e f g a b o m =
     let same : recovers l (kind p) i ≡ true = rw f (grind (arith, g)) in
     rw e (rw (same, a, b) (rw f (rw o (rw m refl))))
 
-first_out : (l : Plan) (k i : ℕ) (p : Passenger) (below : List Item) → siding_of l (kind p) ≡ Some k → p.launched ≡ true → p.recovered ≡ false → operations_of l k (Up i p ∷ below) ≡ operation p ∷ operations_of l k below
+first_out : (l : Plan) (k i : ℕ) (p : Passenger) (below : List Item) → siding_of l (kind p) ≡ Some k → p.launched ≡ true → p.recovered ≡ false →
+    operations_of l k (Up i p ∷ below) ≡ operation p ∷ operations_of l k below
 first_out l k i p below e f g =
     let same : (k == k) ≡ true = grind arith in
     let out : in_siding l k p ≡ true = rw (f, g, e) same in
@@ -86,7 +91,8 @@ first_out l k i p below e f g =
 not_empty : (a : Op) (q r : List Op) → r ≡ a ∷ q → r ≢ []
 not_empty a q r e f = let z = sym e ∙ f in cc
 
-out_moves : {rest out : List ℕ} (l : Plan) (s : State) (x : Machine) (i : ℕ) (c : Cell) (p : Passenger) (below : List Item) → Suits l → Barred l s → Sound l s rest out x → Above l s i c p below → p.launched ≡ true → p.recovered ≡ false → ⊥
+out_moves : {rest out : List ℕ} (l : Plan) (s : State) (x : Machine) (i : ℕ) (c : Cell) (p : Passenger) (below : List Item) → Suits l → Barred l s →
+    Sound l s rest out x → Above l s i c p below → p.launched ≡ true → p.recovered ≡ false → ⊥
 out_moves {rest} {out} l s x i c p below acc b h a o n = siding (siding_of l (kind p)) refl (a.stands.out o n)
   where
     stage : (k : ℕ) → siding_of l (kind p) ≡ Some k → (launch_stage l k ≤ i) × (i ≤ recover_stage l k) → recover_stage l k ≡ i
@@ -101,7 +107,8 @@ out_moves {rest} {out} l s x i c p below acc b h a o n = siding (siding_of l (ki
     siding (Some k) e r = last (last_op (siding_at s k)) refl
       where
         some : operations_in (siding_at s k) ≢ []
-        some = not_empty (operation p) (operations_of l k below) (operations_in (siding_at s k)) (h.moored.operations k ∙ ap (operations_of l k) a.was ∙ first_out l k i p below e o n)
+        some = not_empty (operation p) (operations_of l k below) (operations_in (siding_at s k)) (h.moored.operations k ∙ ap (operations_of l k) a.was
+            ∙ first_out l k i p below e o n)
 
         last : (u : Option Op) → last_op (siding_at s k) ≡ u → ⊥
         last None f = let z = slides (siding_at s k) some f in b.row (Slide k z.c) refl (row_slide l s k z.c z.op z.here z.there)
@@ -131,7 +138,9 @@ no_first (Some op ∷ q) e = absurd (full (operations_in q) e)
     full [] z = cc
     full (x ∷ a) z = cc
 
-launch_free : (l : Plan) (s : State) (i k : ℕ) (c : Cell) (p : Passenger) → c.passenger ≡ Some p → c.packet ≡ None → p.dead ≡ false → p.done ≡ false → p.launched ≡ false → siding_of l (kind p) ≡ Some k → launch_stage l k ≡ i → missing p.src1 ≡ None → missing p.src2 ≡ None → is_taken (slice_get (siding_at s k) 0) ≡ false → launch_bar l s c i ≡ None
+launch_free : (l : Plan) (s : State) (i k : ℕ) (c : Cell) (p : Passenger) → c.passenger ≡ Some p → c.packet ≡ None → p.dead ≡ false → p.done ≡ false →
+    p.launched ≡ false → siding_of l (kind p) ≡ Some k → launch_stage l k ≡ i → missing p.src1 ≡ None → missing p.src2 ≡ None →
+    is_taken (slice_get (siding_at s k) 0) ≡ false → launch_bar l s c i ≡ None
 launch_free l s i k c p e f d u a g st m1 m2 t =
     let at : launches l (kind p) i ≡ true = rw g (grind (arith, st)) in
     rw (e, f) (rw (d, u, a, at, and_false (is_memory (kind p)), m1, m2) (rw g (rw t refl)))
@@ -140,16 +149,19 @@ launch_free l s i k c p e f d u a g st m1 m2 t =
     and_false true = refl
     and_false false = refl
 
-execute_free : (l : Plan) (i : ℕ) (c : Cell) (p : Passenger) → c.passenger ≡ Some p → p.dead ≡ false → p.done ≡ false → unit_at l (kind p) i ≡ true → missing p.src1 ≡ None → missing p.src2 ≡ None → execute_bar l c i ≡ None
+execute_free : (l : Plan) (i : ℕ) (c : Cell) (p : Passenger) → c.passenger ≡ Some p → p.dead ≡ false → p.done ≡ false → unit_at l (kind p) i ≡ true →
+    missing p.src1 ≡ None → missing p.src2 ≡ None → execute_bar l c i ≡ None
 execute_free l i c p e d u n m1 m2 = rw e (rw (d, u, n, m1, m2) refl)
 
-serve_free : (c : Cell) (p : Passenger) → c.passenger ≡ Some p → c.packet ≡ None → p.dead ≡ false → p.done ≡ false → is_serial (kind p) ≡ true → serve_bar c ≡ None
+serve_free : (c : Cell) (p : Passenger) → c.passenger ≡ Some p → c.packet ≡ None → p.dead ≡ false → p.done ≡ false → is_serial (kind p) ≡ true →
+    serve_bar c ≡ None
 serve_free c p e f d u k = rw (e, f) (rw (d, u, k) refl)
 
 other_class : (c : Class) → is_serial c ≡ false → is_free c ≡ false → is_memory c ≡ false → is_plain c ≡ true
 other_class c a b m = grind arith
 
-waits_moves : {rest out : List ℕ} (l : Plan) (s : State) (x : Machine) (i : ℕ) (c : Cell) (p : Passenger) (below : List Item) → Suits l → Barred l s → Sound l s rest out x → Above l s i c p below → p.dead ≡ false → p.done ≡ false → p.launched ≡ false → ⊥
+waits_moves : {rest out : List ℕ} (l : Plan) (s : State) (x : Machine) (i : ℕ) (c : Cell) (p : Passenger) (below : List Item) → Suits l → Barred l s →
+    Sound l s rest out x → Above l s i c p below → p.dead ≡ false → p.done ≡ false → p.launched ≡ false → ⊥
 waits_moves {rest} {out} l s x i c p below acc b h a d u n = class (is_serial (kind p)) (is_free (kind p)) refl refl
   where
     low : (o : Option ℕ) → siding_of l (kind p) ≡ o → Where o (i ≤ last_stage l (kind p)) (λ k. i ≤ launch_stage l k)
@@ -158,7 +170,8 @@ waits_moves {rest} {out} l s x i c p below acc b h a d u n = class (is_serial (k
     stop : (o : Option ℕ) → siding_of l (kind p) ≡ o → ((ends_units l (kind p) i || launches l (kind p) i) ≡ true) ⊎ (i ≡ l.stages)
     stop o e = go a.held
       where
-        go : (stops_at l p i ≡ true) ⊎ ((i ≡ l.stages) × (((p.launched && not p.recovered) || (not p.dead && not p.done)) ≡ true)) → ((ends_units l (kind p) i || launches l (kind p) i) ≡ true) ⊎ (i ≡ l.stages)
+        go : (stops_at l p i ≡ true) ⊎ ((i ≡ l.stages) × (((p.launched && not p.recovered) || (not p.dead && not p.done)) ≡ true)) →
+            ((ends_units l (kind p) i || launches l (kind p) i) ≡ true) ⊎ (i ≡ l.stages)
         go (inl z) = inl (grind (arith, z, n, d, u))
         go (inr z) = inr z.0
 
@@ -179,7 +192,8 @@ waits_moves {rest} {out} l s x i c p below acc b h a d u n = class (is_serial (k
             go (inr z) = let y = low (Some k) e in let o = acc.order (kind p) k e in let q = acc.in_pipe (kind p) k e in absurd (omega (arith, z, y, o, q))
 
         none : operations_of l k (column s) ≡ []
-        none = ap (operations_of l k) a.was ∙ skip ∙ flown_range l k below (riders_more (λ j. j < i) (λ j. (launch_stage l k ≤ j) → (j ≤ recover_stage l k) → ⊥) below (λ j q y z. omega (arith, stage)) a.under) a.each
+        none = ap (operations_of l k) a.was ∙ skip ∙ flown_range l k below (riders_more (λ j. j < i) (λ j. (launch_stage l k ≤ j) → (j ≤ recover_stage l k) →
+            ⊥) below (λ j q y z. omega (arith, stage)) a.under) a.each
           where
             skip : operations_of l k (Up i p ∷ below) ≡ operations_of l k below
             skip = rw n refl
@@ -188,7 +202,8 @@ waits_moves {rest} {out} l s x i c p below acc b h a d u n = class (is_serial (k
         first = no_first (siding_at s k) (h.moored.operations k ∙ none)
 
     execute : is_plain (kind p) ≡ true → siding_of l (kind p) ≡ None → ⊥
-    execute m e = b.row (Execute i) refl ((row_at l s i c a.at_here).0 ∙ execute_free l i c p a.sits d u (subst (λ (j : ℕ). unit_at l (kind p) j ≡ true) last (acc.unit_last (kind p) e m (a.stands.homed m))) here1 here2)
+    execute m e = b.row (Execute i) refl ((row_at l s i c a.at_here).0 ∙ execute_free l i c p a.sits d u
+        (subst (λ (j : ℕ). unit_at l (kind p) j ≡ true) last (acc.unit_last (kind p) e m (a.stands.homed m))) here1 here2)
       where
         last : last_stage l (kind p) ≡ i
         last = go (stop None e)
@@ -231,13 +246,15 @@ waits_moves {rest} {out} l s x i c p below acc b h a d u n = class (is_serial (k
         siding None g false y = execute (other_class (kind p) e f y) g
 
 -- any topmost passenger moves
-above_moves : {rest out : List ℕ} (l : Plan) (s : State) (x : Machine) (i : ℕ) (c : Cell) (p : Passenger) (below : List Item) → Suits l → Barred l s → Sound l s rest out x → Above l s i c p below → ⊥
+above_moves : {rest out : List ℕ} (l : Plan) (s : State) (x : Machine) (i : ℕ) (c : Cell) (p : Passenger) (below : List Item) → Suits l → Barred l s →
+    Sound l s rest out x → Above l s i c p below → ⊥
 above_moves {rest} {out} l s x i c p below acc b h a = go p.launched p.recovered p.dead p.done refl refl refl refl
   where
     held : (((p.launched && not p.recovered) || (not p.dead && not p.done)) ≡ true)
     held = from a.held
       where
-        from : (stops_at l p i ≡ true) ⊎ ((i ≡ l.stages) × (((p.launched && not p.recovered) || (not p.dead && not p.done)) ≡ true)) → ((p.launched && not p.recovered) || (not p.dead && not p.done)) ≡ true
+        from : (stops_at l p i ≡ true) ⊎ ((i ≡ l.stages) × (((p.launched && not p.recovered) || (not p.dead && not p.done)) ≡ true)) →
+            ((p.launched && not p.recovered) || (not p.dead && not p.done)) ≡ true
         from (inl z) = grind (arith, z)
         from (inr z) = z.1
 
@@ -250,7 +267,8 @@ above_moves {rest} {out} l s x i c p below acc b h a = go p.launched p.recovered
     go false r true u e f g k = absurd (let z = held in grind arith)
     go false r false true e f g k = absurd (let z = held in grind arith)
 
-sure_known : (isa : Isa) (i : ℕ) (p : Passenger) (w : trail.Walk) → ((r : ℕ) → w.coming r ≡ false) → w.barred ≡ false → sure.Fits isa (Up i p) w → p.dead ≡ false → (missing p.src1 ≡ None) × (missing p.src2 ≡ None)
+sure_known : (isa : Isa) (i : ℕ) (p : Passenger) (w : trail.Walk) → ((r : ℕ) → w.coming r ≡ false) → w.barred ≡ false → sure.Fits isa (Up i p) w →
+    p.dead ≡ false → (missing p.src1 ≡ None) × (missing p.src2 ≡ None)
 sure_known isa i p w f b h d = go (sure_at isa i p w d b h)
   where
     go : sure.SureAt isa p w → (missing p.src1 ≡ None) × (missing p.src2 ≡ None)
@@ -267,7 +285,8 @@ got_cell (d ∷ cells) zero c e = omega arith
 got_cell (d ∷ cells) (suc k) c e = let h = got_cell cells k c e in omega arith
 
 -- it is held at its stage, or at the highest
-head_held : (l : Plan) (s : State) → Barred l s → length s.cells ≡ l.stages → (q : Head 1 s.cells) → q.here.packet ≡ None → q.who.owes ≡ None → (stops_at l q.who (suc q.k) ≡ true) ⊎ ((suc q.k ≡ l.stages) × (((q.who.launched && not q.who.recovered) || (not q.who.dead && not q.who.done)) ≡ true))
+head_held : (l : Plan) (s : State) → Barred l s → length s.cells ≡ l.stages → (q : Head 1 s.cells) → q.here.packet ≡ None → q.who.owes ≡ None →
+    (stops_at l q.who (suc q.k) ≡ true) ⊎ ((suc q.k ≡ l.stages) × (((q.who.launched && not q.who.recovered) || (not q.who.dead && not q.who.done)) ≡ true))
 head_held l s b z q free owes = go (nat_lt (suc q.k) l.stages) refl
   where
     in_range : q.k < l.stages
@@ -279,16 +298,22 @@ head_held l s b z q free owes = go (nat_lt (suc q.k) l.stages) refl
     not_less : nat_lt (suc q.k) l.stages ≡ false → l.stages ≤ suc q.k
     not_less e = grind arith
 
-    go : (c : Bool) → nat_lt (suc q.k) l.stages ≡ c → (stops_at l q.who (suc q.k) ≡ true) ⊎ ((suc q.k ≡ l.stages) × (((q.who.launched && not q.who.recovered) || (not q.who.dead && not q.who.done)) ≡ true))
+    go : (c : Bool) → nat_lt (suc q.k) l.stages ≡ c → (stops_at l q.who (suc q.k) ≡ true) ⊎ ((suc q.k ≡ l.stages)
+        × (((q.who.launched && not q.who.recovered) || (not q.who.dead && not q.who.done)) ≡ true))
     go true e =
         let m = less e in
         let d = get_cell s.cells (suc q.k) (omega (arith, m, z)) in
-        inl (stops_here l q.here d.0 q.who (suc q.k) q.sits free owes (q.clear d.0 d.1) (λ y. b.row (Climb (suc q.k)) refl (row_climb l s (suc q.k) q.here d.0 q.at_here d.1 ∙ y)))
+        inl (stops_here l q.here d.0 q.who (suc q.k) q.sits free owes (q.clear d.0 d.1) (λ y. b.row (Climb (suc q.k)) refl
+        (row_climb l s (suc q.k) q.here d.0 q.at_here d.1 ∙ y)))
     go false e =
         let m = not_less e in
         let r = in_range in
         let n : suc q.k ≡ l.stages = omega (arith, m, r) in
-        inr (n, held_top q.here q.who q.sits free owes (λ y. b.row Leave refl (row_leave l s q.here (subst (λ (j : ℕ). cell_at s.cells j ≡ Some q.here) n q.at_here) ∙ y)))
+        inr (
+          n,
+          held_top q.here q.who q.sits free owes (λ y. b.row Leave refl (row_leave l s q.here
+              (subst (λ (j : ℕ). cell_at s.cells j ≡ Some q.here) n q.at_here) ∙ y)),
+        )
 
 no_head : {rest out : List ℕ} (l : Plan) (s : State) (x : Machine) → Suits l → Barred l s → s.lane ≡ [] → Sound l s rest out x → Head 1 s.cells → ⊥
 no_head {rest} {out} l s x acc b lane h q =
@@ -301,10 +326,26 @@ no_head {rest} {out} l s x acc b lane h q =
     let free = no_packet l s b q.k q.here q.at_here in
     let owes = owes_none q.here q.who q.sits free (λ z. b.row (Send i) refl (row_send l s i q.here q.at_here ∙ z)) in
     let none : (r : ℕ) → trail.among r s.lane ≡ false = λ r. ap (trail.among r) lane in
-    above_moves l s x i q.here q.who q.rest acc b h (record { at_here = q.at_here; sits = q.sits; free = free; was = was; stands = stands.0; each = stands.1; under = order.0; owes = owes; known1 = λ d. (sure_known (isa_of l) i q.who (trail.top s x) none refl fits.0 d).0; known2 = λ d. (sure_known (isa_of l) i q.who (trail.top s x) none refl fits.0 d).1; held = head_held l s b h.size q free owes })
+    above_moves l s x i q.here q.who q.rest acc b h
+    (record {
+      at_here = q.at_here;
+      sits = q.sits;
+      free = free;
+      was = was;
+      stands = stands.0;
+      each = stands.1;
+      under = order.0;
+      owes = owes;
+      known1 =
+          λ d. (sure_known (isa_of l) i q.who (trail.top s x) none refl fits.0 d).0;
+      known2 =
+          λ d. (sure_known (isa_of l) i q.who (trail.top s x) none refl fits.0 d).1;
+      held = head_held l s b h.size q free owes;
+    })
 
 -- what is left, and that the next instruction can be issued
-issue_free : (l : Plan) (s : State) (c : Cell) (pc : ℕ) → Suits l → s.lane ≡ [] → s.fetch ≡ Running pc → cell_at s.cells 1 ≡ Some c → c.passenger ≡ None → row_bar l s (Issue Next) ≡ None
+issue_free : (l : Plan) (s : State) (c : Cell) (pc : ℕ) → Suits l → s.lane ≡ [] → s.fetch ≡ Running pc → cell_at s.cells 1 ≡ Some c → c.passenger ≡ None →
+    row_bar l s (Issue Next) ≡ None
 issue_free l s c pc acc e f g h =
     let p : Passenger = fresh s.cache (fetched (isa_of l) s.mem pc) pc Next in
     let n = asks_size (missing p.src1) (missing p.src2) in
@@ -319,7 +360,8 @@ pub record IsEmpty (plan : Plan) (s : State) (x : Machine) : Type 0 where
   pub fetch : s.fetch ≡ Running x.hart.pc
   pub issue : bar plan s (Issue Next) ≡ None
 
-pub stuck_empty : {rest out : List ℕ} (l : Plan) (s : State) (x : Machine) → Suits l → s.ending ≡ None → s.failed ≡ false → IsStuck l s → Sound l s rest out x → IsEmpty l s x
+pub stuck_empty : {rest out : List ℕ} (l : Plan) (s : State) (x : Machine) → Suits l → s.ending ≡ None → s.failed ≡ false → IsStuck l s → Sound l s rest out x →
+    IsEmpty l s x
 stuck_empty {rest} {out} l s x acc e f stuck h =
     let b = barred l s e f stuck in
     let top = get_cell s.cells (l.stages - 1) (let t = acc.tall in omega (arith, t, h.size)) in
@@ -333,4 +375,11 @@ stuck_empty {rest} {out} l s x acc e f stuck h =
     go b lane (inl c) =
         let run : s.fetch ≡ Running x.hart.pc = subst (λ (z : List Item). sure.Ends (walk (trail.past (isa_of l)) z (trail.top s x)) s.fetch) c h.path_ends in
         let low = get_cell s.cells 0 (let t = acc.tall in omega (arith, t, h.size)) in
-        record { column = c; lane = lane; sidings = λ k. h.moored.operations k ∙ ap (operations_of l k) c; fetch = run; issue = bar_is l s (Issue Next) e f ∙ issue_free l s low.0 x.hart.pc acc lane run low.1 (first_clear 1 s.cells c low.0 low.1) }
+        record {
+          column = c;
+          lane = lane;
+          sidings = λ k. h.moored.operations k ∙ ap (operations_of l k) c;
+          fetch = run;
+          issue = bar_is l s (Issue Next) e f
+              ∙ issue_free l s low.0 x.hart.pc acc lane run low.1 (first_clear 1 s.cells c low.0 low.1);
+        }

@@ -50,7 +50,8 @@ nobody i false (Some p) (Some k) e = absurd (cc)
 blank_cell : (i : ℕ) (c : Cell) → items i c ≡ [] → is_neat c ≡ true → c ≡ empty_cell
 blank_cell i c e n = let z = nobody i c.met c.passenger c.packet e in go c.passenger c.packet c.met z.0 z.1 n
   where
-    go : (p : Option Passenger) (k : Option Packet) (b : Bool) → p ≡ None → k ≡ None → (not b || (is_some p && is_some k)) ≡ true → record { passenger = p; packet = k; met = b } ≡ empty_cell
+    go : (p : Option Passenger) (k : Option Packet) (b : Bool) → p ≡ None → k ≡ None → (not b || (is_some p && is_some k)) ≡ true →
+        record { passenger = p; packet = k; met = b } ≡ empty_cell
     go None None false e f g = refl
     go None None true e f g = absurd (cc)
     go (Some p) k b e f g = absurd (cc)
@@ -77,7 +78,8 @@ blank_ops (o ∷ q) e =
     none None e = refl
     none (Some op) e = absurd (cc)
 
-blank_sidings : (ss : List (List (Option Op))) (ps : List SidingPlan) → length ss ≡ length ps → ((k : ℕ) → operations_in (cells_in ss k) ≡ []) → ((k : ℕ) → length (cells_in ss k) ≡ (unwrap_or (slice_get ps k) no_siding).cells) → ss ≡ map empty_siding ps
+blank_sidings : (ss : List (List (Option Op))) (ps : List SidingPlan) → length ss ≡ length ps → ((k : ℕ) → operations_in (cells_in ss k) ≡ []) →
+    ((k : ℕ) → length (cells_in ss k) ≡ (unwrap_or (slice_get ps k) no_siding).cells) → ss ≡ map empty_siding ps
 blank_sidings [] [] e f g = refl
 blank_sidings [] (p ∷ ps) e f g = absurd (cc)
 blank_sidings (q ∷ ss) [] e f g = absurd (cc)
@@ -86,7 +88,8 @@ blank_sidings (q ∷ ss) (p ∷ ps) e f g =
     let b = blank_sidings ss ps (omega (arith, e)) (λ k. f (suc k)) (λ k. g (suc k)) in
     rw a (ap (λ (l : List (List (Option Op))). empty_siding p ∷ l) b)
 
-sidings_blank : (l : Plan) (s : State) → length s.sidings ≡ length l.sidings → ((k : ℕ) → operations_in (siding_at s k) ≡ []) → ((k : ℕ) → length (siding_at s k) ≡ cells_of l k) → s.sidings ≡ map empty_siding l.sidings
+sidings_blank : (l : Plan) (s : State) → length s.sidings ≡ length l.sidings → ((k : ℕ) → operations_in (siding_at s k) ≡ []) →
+    ((k : ℕ) → length (siding_at s k) ≡ cells_of l k) → s.sidings ≡ map empty_siding l.sidings
 unfolding cells_of
 sidings_blank l s e f g = blank_sidings s.sidings l.sidings e f g
 
@@ -120,7 +123,8 @@ empty_keeps l x m h e r v c =
     let k = subst (λ (q : List Item). sure.Keeps (walk (trail.past (isa_of l)) q (trail.top m.state x)) m.state.cache) e h.cache in
     k r v c ∙ ap (λ (q : List ℕ). slice_index q r) (sym h.regs)
 
-pub empty_drained : (l : Plan) (x : Machine) (m : Moment) → IsTidy l m.state → m.state.retired ≡ x.hart.retired → m.state.ending ≡ None → Sound l m.state m.rest m.output x → IsEmpty l m.state x → IsDrainedAt l x m
+pub empty_drained : (l : Plan) (x : Machine) (m : Moment) → IsTidy l m.state → m.state.retired ≡ x.hart.retired → m.state.ending ≡ None →
+    Sound l m.state m.rest m.output x → IsEmpty l m.state x → IsDrainedAt l x m
 unfolding opened
 empty_drained l x m t n e h q =
     let ends = subst (λ (z : List Item). dock.Ends (walk (dock.past (isa_of l)) z (dock.top l m.state x)) m.state.mem m.rest m.output) q.column h.port_ends in
@@ -147,7 +151,8 @@ pub record Rested (plan : Plan) (x : Machine) (m : Moment) : Type 0 where
   pub issue : bar plan m.state (Issue Next) ≡ None
   pub column : column m.state ≡ []
 
-pub rested : (l : Plan) (x0 : Machine) (m : Moment) → Suits l → IsTidy l m.state → (h : HoldsAfter l x0 m) → m.state.ending ≡ None → IsStuck l m.state → Rested l h.machine m
+pub rested : (l : Plan) (x0 : Machine) (m : Moment) → Suits l → IsTidy l m.state → (h : HoldsAfter l x0 m) → m.state.ending ≡ None → IsStuck l m.state →
+    Rested l h.machine m
 rested l x0 m acc t h e stuck =
     let sound : Sound l m.state m.rest m.output h.machine = subst (HoldsAt l m.state m.rest m.output h.machine) e h.stage in
     let q = stuck_empty l m.state h.machine acc e t.failed stuck sound in

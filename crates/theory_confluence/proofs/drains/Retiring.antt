@@ -22,7 +22,8 @@ use Rattle.theory_refinement.proofs.moves.Leave.{leave_ready, left_dead, left_on
 use Rattle.theory_refinement.proofs.claims.Runs as runs
 
 -- Leave
-leave_retires : (l : Plan) (s : State) (e : Event) → bar l s Leave ≡ None → IsEvent l s Leave e → (moved l s Leave).retired ≡ s.retired + counts (is_retirement e) 1
+leave_retires : (l : Plan) (s : State) (e : Event) → bar l s Leave ≡ None → IsEvent l s Leave e →
+    (moved l s Leave).retired ≡ s.retired + counts (is_retirement e) 1
 leave_retires l s e b v =
     let r = leave_ready l s (bar_row l s Leave b) in
     rw (next_leave l s r.here r.who r.at_here r.sits) (go l.stages r.here r.who e (v r.here r.who r.at_here r.sits))
@@ -57,7 +58,8 @@ plain : (e : Event) → e ≡ event.Plain → is_retirement e ≡ false
 plain e h = rw h refl
 
 -- a move whose event is a retirement counts one, any other none
-pub retires_so : (l : Plan) (m : Moment) (mv : Move) (e : Event) → bar l m.state mv ≡ None → IsEvent l m.state mv e → (next l m mv).state.retired ≡ m.state.retired + counts (is_retirement e) 1
+pub retires_so : (l : Plan) (m : Moment) (mv : Move) (e : Event) → bar l m.state mv ≡ None → IsEvent l m.state mv e →
+    (next l m mv).state.retired ≡ m.state.retired + counts (is_retirement e) 1
 unfolding next
 retires_so l m Leave e b v = leave_retires l m.state e b v
 retires_so l m (Meet i) e b v = quiet m.state.retired _ e (ap is_retirement v ∙ meet_quiet (cell_at m.state.cells i)) (runs.meet_counts l m.state i).retired

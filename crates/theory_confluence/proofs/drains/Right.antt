@@ -23,16 +23,20 @@ pub record Follows (w v : Way) : Type 0 where
   pub lost : w.path.barred ≡ false → v.path.barred ≡ true → ahead w ≡ false
 
 -- off the path, or after a wrong guess, no passenger counts
-after_lost : (isa : Isa) (i : ℕ) (p : Passenger) (w : Way) → w.path.barred ≡ false → ahead w ≡ false → sure.Fits isa (Up i p) w.path → ((past isa (Up i p) w).count ≡ w.count) × (ahead (past isa (Up i p) w) ≡ false) × ((past isa (Up i p) w).stop ≡ w.stop)
+after_lost : (isa : Isa) (i : ℕ) (p : Passenger) (w : Way) → w.path.barred ≡ false → ahead w ≡ false → sure.Fits isa (Up i p) w.path →
+    ((past isa (Up i p) w).count ≡ w.count) × (ahead (past isa (Up i p) w) ≡ false) × ((past isa (Up i p) w).stop ≡ w.stop)
 unfolding past sure.Fits trail.past sure.SureAt follows stops
 after_lost isa i p w b a h = grind arith
 
 -- a rider is not counted below a barrier
-barred_count : (isa : Isa) (i : ℕ) (p : Passenger) (w : Way) → w.path.barred ≡ true → ((past isa (Up i p) w).count ≡ w.count) × ((past isa (Up i p) w).on ≡ w.on) × ((past isa (Up i p) w).stop ≡ w.stop)
+barred_count : (isa : Isa) (i : ℕ) (p : Passenger) (w : Way) → w.path.barred ≡ true → ((past isa (Up i p) w).count ≡ w.count)
+    × ((past isa (Up i p) w).on ≡ w.on) × ((past isa (Up i p) w).stop ≡ w.stop)
 unfolding past
 barred_count isa i p w b = grind arith
 
-same_count : (isa : Isa) (i : ℕ) (p : Passenger) (w v : Way) → v.count ≡ w.count → v.on ≡ w.on → v.path.barred ≡ w.path.barred → v.path.machine ≡ w.path.machine → v.stop ≡ w.stop → ((past isa (Up i p) v).count ≡ (past isa (Up i p) w).count) × ((past isa (Up i p) v).on ≡ (past isa (Up i p) w).on) × ((past isa (Up i p) v).stop ≡ (past isa (Up i p) w).stop)
+same_count : (isa : Isa) (i : ℕ) (p : Passenger) (w v : Way) → v.count ≡ w.count → v.on ≡ w.on → v.path.barred ≡ w.path.barred →
+    v.path.machine ≡ w.path.machine → v.stop ≡ w.stop → ((past isa (Up i p) v).count ≡ (past isa (Up i p) w).count)
+    × ((past isa (Up i p) v).on ≡ (past isa (Up i p) w).on) × ((past isa (Up i p) v).stop ≡ (past isa (Up i p) w).stop)
 unfolding past
 same_count isa i p w v c o b x s = grind arith
 
@@ -49,11 +53,13 @@ barred_stays : (isa : Isa) (i : ℕ) (p : Passenger) (q : trail.Walk) → q.barr
 unfolding trail.past
 barred_stays isa i p q b = grind arith
 
-same_barred : (isa : Isa) (i : ℕ) (p : Passenger) (q r : trail.Walk) → q.barred ≡ false → r.barred ≡ false → (trail.past isa (Up i p) r).barred ≡ (trail.past isa (Up i p) q).barred
+same_barred : (isa : Isa) (i : ℕ) (p : Passenger) (q r : trail.Walk) → q.barred ≡ false → r.barred ≡ false →
+    (trail.past isa (Up i p) r).barred ≡ (trail.past isa (Up i p) q).barred
 unfolding trail.past
 same_barred isa i p q r a b = grind arith
 
-rider_follows : (isa : Isa) (i : ℕ) (p : Passenger) (w v : Way) → Follows w v → sure.Fits isa (Up i p) w.path → Follows (past isa (Up i p) w) (past isa (Up i p) v)
+rider_follows : (isa : Isa) (i : ℕ) (p : Passenger) (w v : Way) → Follows w v → sure.Fits isa (Up i p) w.path →
+    Follows (past isa (Up i p) w) (past isa (Up i p) v)
 rider_follows isa i p w v f h = go w.path.barred v.path.barred refl refl
   where
     q : paths.Follows (past isa (Up i p) w).path (past isa (Up i p) v).path
@@ -74,7 +80,15 @@ rider_follows isa i p w v f h = go w.path.barred v.path.barred refl refl
         record { path = q; count = n.0 ∙ f.count ∙ sym m.0; stop = n.2 ∙ f.stop ∙ sym m.2; on = λ e. absurd (cc); lost = λ _ _. m.1 }
     go false false a c =
         let m = same_count isa i p w v f.count (f.on c) (c ∙ sym a) (f.path.machine c) f.stop in
-        record { path = q; count = m.0; stop = m.2; on = λ _. m.1; lost = λ e d. let z = same_barred isa i p w.path v.path a c in absurd (true≢false (sym d ∙ ap (λ (u : trail.Walk). u.barred) (past_path isa (Up i p) v) ∙ z ∙ sym (ap (λ (u : trail.Walk). u.barred) (past_path isa (Up i p) w)) ∙ e)) }
+        record {
+          path = q;
+          count = m.0;
+          stop = m.2;
+          on = λ _. m.1;
+          lost = λ e d. let z = same_barred isa i p w.path v.path a c in
+              absurd (true≢false (sym d ∙ ap (λ (u : trail.Walk). u.barred) (past_path isa (Up i p) v) ∙ z
+              ∙ sym (ap (λ (u : trail.Walk). u.barred) (past_path isa (Up i p) w)) ∙ e));
+        }
 
 packet_follows : (isa : Isa) (i : ℕ) (k : Packet) (w v : Way) → Follows w v → Follows (past isa (Down i k) w) (past isa (Down i k) v)
 unfolding past trail.past
@@ -95,6 +109,8 @@ pub way_walk : (isa : Isa) → IsWalk Way (Fits isa) (past isa) Follows
 way_walk isa = record { stays = item_stays isa; goes_on = item_goes_on isa }
 
 -- Execute, Recover: where a turn is owed, the guess was wrong and what follows is off the path
-pub finish_way : (isa : Isa) (i : ℕ) (p q : Passenger) (w : Way) → q.pc ≡ p.pc → q.dead ≡ p.dead → paths.Follows (trail.past isa (Up i p) w.path) (trail.past isa (Up i q) w.path) → (w.path.barred ≡ false → p.dead ≡ false → trail.turns q.owes ≡ true → ahead (past isa (Up i p) w) ≡ false) → trail.turns p.owes ≡ false → Follows (past isa (Up i p) w) (past isa (Up i q) w)
+pub finish_way : (isa : Isa) (i : ℕ) (p q : Passenger) (w : Way) → q.pc ≡ p.pc → q.dead ≡ p.dead →
+    paths.Follows (trail.past isa (Up i p) w.path) (trail.past isa (Up i q) w.path) → (w.path.barred ≡ false → p.dead ≡ false → trail.turns q.owes ≡ true →
+    ahead (past isa (Up i p) w) ≡ false) → trail.turns p.owes ≡ false → Follows (past isa (Up i p) w) (past isa (Up i q) w)
 unfolding past trail.past follows stops
 finish_way isa i p q w e d f t u = grind arith

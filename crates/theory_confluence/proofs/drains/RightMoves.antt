@@ -25,22 +25,31 @@ pub packet_label : (isa : Isa) (i j : ℕ) (k : Packet) (w : Way) → past isa (
 unfolding past trail.past
 packet_label isa i j k w = refl
 
-pub launch_count : (isa : Isa) (i : ℕ) (p : Passenger) (w : Way) → ((past isa (Up i (sent_out p)) w).count ≡ (past isa (Up i p) w).count) × ((past isa (Up i (sent_out p)) w).on ≡ (past isa (Up i p) w).on) × ((past isa (Up i (sent_out p)) w).stop ≡ (past isa (Up i p) w).stop)
+pub launch_count : (isa : Isa) (i : ℕ) (p : Passenger) (w : Way) → ((past isa (Up i (sent_out p)) w).count ≡ (past isa (Up i p) w).count)
+    × ((past isa (Up i (sent_out p)) w).on ≡ (past isa (Up i p) w).on) × ((past isa (Up i (sent_out p)) w).stop ≡ (past isa (Up i p) w).stop)
 unfolding past follows stops
 launch_count isa i p w = (grind arith, grind arith, grind arith)
 
 -- Send
-pub send_count : (isa : Isa) (i : ℕ) (p : Passenger) (k : Packet) (w : Way) → p.owes ≡ Some k → ((walk (past isa) (Up i (record p { owes = None }) ∷ Down i k ∷ []) w).count ≡ (past isa (Up i p) w).count) × ((walk (past isa) (Up i (record p { owes = None }) ∷ Down i k ∷ []) w).on ≡ (past isa (Up i p) w).on) × ((walk (past isa) (Up i (record p { owes = None }) ∷ Down i k ∷ []) w).stop ≡ (past isa (Up i p) w).stop)
+pub send_count : (isa : Isa) (i : ℕ) (p : Passenger) (k : Packet) (w : Way) → p.owes ≡ Some k →
+    ((walk (past isa) (Up i (record p { owes = None }) ∷ Down i k ∷ []) w).count ≡ (past isa (Up i p) w).count)
+    × ((walk (past isa) (Up i (record p { owes = None }) ∷ Down i k ∷ []) w).on ≡ (past isa (Up i p) w).on)
+    × ((walk (past isa) (Up i (record p { owes = None }) ∷ Down i k ∷ []) w).stop ≡ (past isa (Up i p) w).stop)
 unfolding past follows stops
 send_count isa i p k w e = (grind arith, grind arith, grind arith)
 
 -- Meet
-pub meet_count : (isa : Isa) (i : ℕ) (p : Passenger) (k : Packet) (w : Way) → ((walk (past isa) (met_items i (meeting p k).passenger (meeting p k).packet) w).count ≡ (walk (past isa) (Down i k ∷ Up i p ∷ []) w).count) × ((walk (past isa) (met_items i (meeting p k).passenger (meeting p k).packet) w).on ≡ (walk (past isa) (Down i k ∷ Up i p ∷ []) w).on) × ((walk (past isa) (met_items i (meeting p k).passenger (meeting p k).packet) w).stop ≡ (walk (past isa) (Down i k ∷ Up i p ∷ []) w).stop)
+pub meet_count : (isa : Isa) (i : ℕ) (p : Passenger) (k : Packet) (w : Way) →
+    ((walk (past isa) (met_items i (meeting p k).passenger (meeting p k).packet) w).count ≡ (walk (past isa) (Down i k ∷ Up i p ∷ []) w).count)
+    × ((walk (past isa) (met_items i (meeting p k).passenger (meeting p k).packet) w).on ≡ (walk (past isa) (Down i k ∷ Up i p ∷ []) w).on)
+    × ((walk (past isa) (met_items i (meeting p k).passenger (meeting p k).packet) w).stop ≡ (walk (past isa) (Down i k ∷ Up i p ∷ []) w).stop)
 unfolding past trail.past meeting follows stops
 meet_count isa i p k w = (grind arith, grind arith, grind arith)
 
 -- Execute, Recover: where a turn or a halt is owed, what follows is off the path
-pub finish_ahead : (isa : Isa) (i : ℕ) (p : Passenger) (w : Way) (a : Option ℕ) → p.done ≡ false → goto_undone (kind p) p ≡ guessed p.guess (instruction p) p.pc → p.dead ≡ false → w.path.barred ≡ false → Finishes p w.path.machine (step_at isa w.path.machine p.pc) a → trail.turns (finish p a).owes ≡ true → ahead (past isa (Up i p) w) ≡ false
+pub finish_ahead : (isa : Isa) (i : ℕ) (p : Passenger) (w : Way) (a : Option ℕ) → p.done ≡ false →
+    goto_undone (kind p) p ≡ guessed p.guess (instruction p) p.pc → p.dead ≡ false → w.path.barred ≡ false →
+    Finishes p w.path.machine (step_at isa w.path.machine p.pc) a → trail.turns (finish p a).owes ≡ true → ahead (past isa (Up i p) w) ≡ false
 unfolding past trail.past follows finish
 finish_ahead isa i p w a u g d b f t = go (finish_trap (instruction p) p.pc (value_in p.src1) (value_in p.src2)) refl
   where
@@ -49,7 +58,8 @@ finish_ahead isa i p w a u g d b f t = go (finish_trap (instruction p) p.pc (val
     go None z = let m = f.goes z in let s = m.1 in let n = m.2.pc in grind arith
 
 -- Launch of what memory does not permit
-pub trap_ahead : (isa : Isa) (i : ℕ) (p : Passenger) (w : Way) (e : End) → p.dead ≡ false → w.path.barred ≡ false → step_at isa w.path.machine p.pc ≡ Stops e → ahead (past isa (Up i p) w) ≡ false
+pub trap_ahead : (isa : Isa) (i : ℕ) (p : Passenger) (w : Way) (e : End) → p.dead ≡ false → w.path.barred ≡ false → step_at isa w.path.machine p.pc ≡ Stops e →
+    ahead (past isa (Up i p) w) ≡ false
 unfolding past trail.past follows
 trap_ahead isa i p w e d b s = grind arith
 

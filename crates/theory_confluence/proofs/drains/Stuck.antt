@@ -49,7 +49,8 @@ row_meet l s i c e = rw e refl
 row_exit : (l : Plan) (s : State) (c : Cell) → cell_at s.cells 1 ≡ Some c → row_bar l s Exit ≡ exit_bar c
 row_exit l s c e = rw e refl
 
-row_fall : (l : Plan) (s : State) (i : ℕ) (c d : Cell) → cell_at s.cells (suc i) ≡ Some c → cell_at s.cells i ≡ Some d → row_bar l s (Fall (suc i)) ≡ fall_bar c (Some d)
+row_fall : (l : Plan) (s : State) (i : ℕ) (c d : Cell) → cell_at s.cells (suc i) ≡ Some c → cell_at s.cells i ≡ Some d →
+    row_bar l s (Fall (suc i)) ≡ fall_bar c (Some d)
 row_fall l s i c d e f = let g : cell_at s.cells (suc i - 1) ≡ Some d = rw sub-one f in rw (e, g) refl
 
 -- what is not allowed, by the row
@@ -60,7 +61,8 @@ pub no_packet : (l : Plan) (s : State) → Barred l s → (i : ℕ) (c : Cell) �
 no_packet l s h zero c e = lowest c (λ z. h.row (Meet 1) refl (row_meet l s 1 c e ∙ z)) (λ z. h.row Exit refl (row_exit l s c e ∙ z))
 no_packet l s h (suc i) c e =
     let b = cell_below s.cells i c e in
-    higher c b.0 (no_packet l s h i b.0 b.1) (λ z. h.row (Meet (suc (suc i))) refl (row_meet l s (suc (suc i)) c e ∙ z)) (λ z. h.row (Fall (suc (suc i))) refl (row_fall l s (suc i) c b.0 e b.1 ∙ z))
+    higher c b.0 (no_packet l s h i b.0 b.1) (λ z. h.row (Meet (suc (suc i))) refl (row_meet l s (suc (suc i)) c e ∙ z))
+    (λ z. h.row (Fall (suc (suc i))) refl (row_fall l s (suc i) c b.0 e b.1 ∙ z))
 
 -- the topmost passenger
 pub record Head (i : ℕ) (cells : List Cell) : Type 0 where
@@ -97,10 +99,30 @@ top_of i (c ∷ cs) f = go (top_of (suc i) cs (λ k d e. f (suc k) d e)) c.passe
     go (inl e) None g = inl (rw e (bare_items i c (f 0 c refl) ∙ ap (passenger_in i) g))
     go (inl e) (Some p) g =
         let z : i + 0 ≡ i = omega arith in
-        inr (record { k = 0; here = c; who = p; rest = []; at_here = refl; sits = g; was = ap (λ (q : List Item). q ++ items i c) e ∙ bare_items i c (f 0 c refl) ∙ ap (passenger_in i) g ∙ ap (λ (j : ℕ). Up j p ∷ []) (sym z); clear = λ d y. first_clear (suc i) cs e d y })
+        inr (record {
+          k = 0;
+          here = c;
+          who = p;
+          rest = [];
+          at_here = refl;
+          sits = g;
+          was = ap (λ (q : List Item). q ++ items i c) e
+              ∙ bare_items i c (f 0 c refl) ∙ ap (passenger_in i) g ∙ ap (λ (j : ℕ). Up j p ∷ []) (sym z);
+          clear = λ d y. first_clear (suc i) cs e d y;
+        })
     go (inr h) o g =
         let z : suc i + h.k ≡ i + suc h.k = omega arith in
-        inr (record { k = suc h.k; here = h.here; who = h.who; rest = h.rest ++ items i c; at_here = h.at_here; sits = h.sits; was = ap (λ (q : List Item). q ++ items i c) h.was ∙ ap (λ (j : ℕ). Up j h.who ∷ (h.rest ++ items i c)) z; clear = h.clear })
+        inr (record {
+          k = suc h.k;
+          here = h.here;
+          who = h.who;
+          rest = h.rest ++ items i c;
+          at_here = h.at_here;
+          sits = h.sits;
+          was =
+              ap (λ (q : List Item). q ++ items i c) h.was ∙ ap (λ (j : ℕ). Up j h.who ∷ (h.rest ++ items i c)) z;
+          clear = h.clear;
+        })
 
 -- bars of the topmost passenger's moves
 pub known : (o : Option Binding) (coming : ℕ → Bool) → ((r : ℕ) → coming r ≡ false) → sure.Comes o coming → missing o ≡ None
@@ -125,14 +147,17 @@ lane_none (r ∷ q) c e n = absurd (n (grind arith))
 pub record Held (p : Passenger) : Type 0 where
   pub how : ((p.launched ≡ true) × (p.recovered ≡ false)) ⊎ ((p.dead ≡ false) × (p.done ≡ false) × (p.launched ≡ false))
 
-pub held_top : (c : Cell) (p : Passenger) → c.passenger ≡ Some p → c.packet ≡ None → p.owes ≡ None → leave_bar c ≢ None → ((p.launched && not p.recovered) || (not p.dead && not p.done)) ≡ true
+pub held_top : (c : Cell) (p : Passenger) → c.passenger ≡ Some p → c.packet ≡ None → p.owes ≡ None → leave_bar c ≢ None →
+    ((p.launched && not p.recovered) || (not p.dead && not p.done)) ≡ true
 held_top c p e f o n = go ((p.launched && not p.recovered) || (not p.dead && not p.done)) refl
   where
-    go : (b : Bool) → ((p.launched && not p.recovered) || (not p.dead && not p.done)) ≡ b → ((p.launched && not p.recovered) || (not p.dead && not p.done)) ≡ true
+    go : (b : Bool) → ((p.launched && not p.recovered) || (not p.dead && not p.done)) ≡ b →
+        ((p.launched && not p.recovered) || (not p.dead && not p.done)) ≡ true
     go true k = k
     go false k = absurd (n (grind arith))
 
-pub stops_here : (l : Plan) (c d : Cell) (p : Passenger) (i : ℕ) → c.passenger ≡ Some p → c.packet ≡ None → p.owes ≡ None → d.passenger ≡ None → climb_bar l c i (Some d) ≢ None → stops_at l p i ≡ true
+pub stops_here : (l : Plan) (c d : Cell) (p : Passenger) (i : ℕ) → c.passenger ≡ Some p → c.packet ≡ None → p.owes ≡ None → d.passenger ≡ None →
+    climb_bar l c i (Some d) ≢ None → stops_at l p i ≡ true
 stops_here l c d p i e f o g n = go (stops_at l p i) refl
   where
     go : (b : Bool) → stops_at l p i ≡ b → stops_at l p i ≡ true
@@ -164,5 +189,6 @@ slides (Some op ∷ Some o ∷ q) n e =
     full [] z = cc
     full (x ∷ a) z = cc
 
-pub row_slide : (l : Plan) (s : State) (k c : ℕ) (op : Op) → slice_get (siding_at s k) c ≡ Some (Some op) → slice_get (siding_at s k) (suc c) ≡ Some None → row_bar l s (Slide k c) ≡ None
+pub row_slide : (l : Plan) (s : State) (k c : ℕ) (op : Op) → slice_get (siding_at s k) c ≡ Some (Some op) → slice_get (siding_at s k) (suc c) ≡ Some None →
+    row_bar l s (Slide k c) ≡ None
 row_slide l s k c op e f = rw (add-one, f, e) refl

@@ -67,7 +67,8 @@ pub record IsTidy (plan : Plan) (s : State) : Type 0 where
   pub failed : s.failed ≡ false
 
 -- what is done where there is something
-neat_on : {A : Type 0} → (o : Option A) (d : State) (f : A → State) → all_neat d.cells ≡ true → ((a : A) → o ≡ Some a → all_neat (f a).cells ≡ true) → all_neat (on o d f).cells ≡ true
+neat_on : {A : Type 0} → (o : Option A) (d : State) (f : A → State) → all_neat d.cells ≡ true → ((a : A) → o ≡ Some a → all_neat (f a).cells ≡ true) →
+    all_neat (on o d f).cells ≡ true
 neat_on None d f h g = h
 neat_on (Some a) d f h g = g a refl
 
@@ -75,7 +76,8 @@ neat_on (Some a) d f h g = g a refl
 seat_neat : (c : Cell) (p : Passenger) → is_neat c ≡ true → is_neat (with_passenger c p) ≡ true
 seat_neat c p h = grind arith
 
-seated : (s : State) (i : ℕ) (c : Cell) (p : Passenger) → all_neat s.cells ≡ true → cell_at s.cells i ≡ Some c → all_neat (put_cell s.cells i (with_passenger c p)) ≡ true
+seated : (s : State) (i : ℕ) (c : Cell) (p : Passenger) → all_neat s.cells ≡ true → cell_at s.cells i ≡ Some c →
+    all_neat (put_cell s.cells i (with_passenger c p)) ≡ true
 seated s i c p h e = put_neat s.cells i _ h (seat_neat c p (at_neat s.cells i c h e))
 
 met_neat : (c : Cell) (p : Passenger) (k : Packet) → is_neat (cell_met c p k) ≡ true
@@ -95,21 +97,27 @@ emit_neat s n (r ∷ lane) c h = put_neat s.cells n _ h refl
 leave_neat : (s : State) (n : ℕ) (c : Cell) (p : Passenger) → all_neat s.cells ≡ true → all_neat (left s n c p).cells ≡ true
 leave_neat s n c p h = ap all_neat (left_cells s n c p) ∙ put_neat s.cells n _ h refl
 
-launch_neat : (l : Plan) (s : State) (i : ℕ) (c : Cell) (p : Passenger) → all_neat s.cells ≡ true → cell_at s.cells i ≡ Some c → all_neat (launched l s i c p).cells ≡ true
+launch_neat : (l : Plan) (s : State) (i : ℕ) (c : Cell) (p : Passenger) → all_neat s.cells ≡ true → cell_at s.cells i ≡ Some c →
+    all_neat (launched l s i c p).cells ≡ true
 launch_neat l s i c p h e = neat_on (launch_trap s p) _ _ (neat_on (siding_of l (kind p)) s _ h (λ k _. seated s i c _ h e)) (λ b _. seated s i c _ h e)
 
-recover_neat : (l : Plan) (s : State) (i : ℕ) (c : Cell) (p : Passenger) → all_neat s.cells ≡ true → cell_at s.cells i ≡ Some c → all_neat (recovered l s i c p).cells ≡ true
+recover_neat : (l : Plan) (s : State) (i : ℕ) (c : Cell) (p : Passenger) → all_neat s.cells ≡ true → cell_at s.cells i ≡ Some c →
+    all_neat (recovered l s i c p).cells ≡ true
 recover_neat l s i c p h e = neat_on (siding_of l (kind p)) s _ h (λ k _. neat_on (last_op (siding_at s k)) s _ h (λ op _. seated s i c _ h e))
 
 move_neat : (l : Plan) (s : State) (mv : Move) → bar l s mv ≡ None → all_neat s.cells ≡ true → all_neat (moved l s mv).cells ≡ true
 unfolding moved
 move_neat l s (Issue g) b h = neat_on (cell_at s.cells 1) s _ h (λ c _. neat_on (running s.fetch) s _ h (λ pc _. set_neat s.cells 0 _ h refl))
 move_neat l s Emit b h = neat_on (cell_at s.cells l.stages) s _ h (λ c _. emit_neat s l.stages s.lane c h)
-move_neat l s (Climb i) b h = neat_on (cell_at s.cells i) s _ h (λ c _. neat_on (cell_at s.cells (i + 1)) s _ h (λ d _. put_neat _ (i + 1) _ (put_neat s.cells i _ h refl) refl))
-move_neat l s (Fall i) b h = neat_on (cell_at s.cells i) s _ h (λ c _. neat_on (cell_at s.cells (i - 1)) s _ h (λ d _. put_neat _ (i - 1) _ (put_neat s.cells i _ h refl) refl))
-move_neat l s (Meet i) b h = neat_on (cell_at s.cells i) s _ h (λ c _. neat_on c.passenger s _ h (λ p _. neat_on c.packet s _ h (λ k _. put_neat s.cells i _ h (met_neat c p k))))
+move_neat l s (Climb i) b h = neat_on (cell_at s.cells i) s _ h (λ c _. neat_on (cell_at s.cells (i + 1)) s _ h
+    (λ d _. put_neat _ (i + 1) _ (put_neat s.cells i _ h refl) refl))
+move_neat l s (Fall i) b h = neat_on (cell_at s.cells i) s _ h (λ c _. neat_on (cell_at s.cells (i - 1)) s _ h
+    (λ d _. put_neat _ (i - 1) _ (put_neat s.cells i _ h refl) refl))
+move_neat l s (Meet i) b h = neat_on (cell_at s.cells i) s _ h (λ c _. neat_on c.passenger s _ h
+    (λ p _. neat_on c.packet s _ h (λ k _. put_neat s.cells i _ h (met_neat c p k))))
 move_neat l s (Execute i) b h = neat_on (cell_at s.cells i) s _ h (λ c e. neat_on c.passenger s _ h (λ p _. seated s i c _ h e))
-move_neat l s (Send i) b h = let r = send_ready l s i (bar_row l s (Send i) b) in rw (r.at_here, r.sits) (put_neat s.cells i _ h (sent_neat r.who r.what r.owes))
+move_neat l s (Send i) b h = let r = send_ready l s i (bar_row l s (Send i) b) in rw (r.at_here, r.sits)
+    (put_neat s.cells i _ h (sent_neat r.who r.what r.owes))
 move_neat l s (Launch i) b h = neat_on (cell_at s.cells i) s _ h (λ c e. neat_on c.passenger s _ h (λ p _. launch_neat l s i c p h e))
 move_neat l s (Slide k c) b h = neat_on (slice_get (siding_at s k) c) s _ h (λ o _. h)
 move_neat l s Access b h = neat_on (last_op (siding_at s (port l))) s _ h (λ op _. h)

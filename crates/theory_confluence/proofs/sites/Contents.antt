@@ -26,7 +26,8 @@ text b code = record { base = b.base; size = b.size; exec = b.exec; code = code 
 heads : {A : Type 0} → {a b : A} {xs ys : List A} → a ∷ xs ≡ b ∷ ys → (a ≡ b) × (xs ≡ ys)
 heads e = (cc, cc)
 
-texts_same : (xs ys : List Area) → map area_bounds xs ≡ map area_bounds ys → map (λ (a : Area). a.code) xs ≡ map (λ (a : Area). a.code) ys → map area_text xs ≡ map area_text ys
+texts_same : (xs ys : List Area) → map area_bounds xs ≡ map area_bounds ys → map (λ (a : Area). a.code) xs ≡ map (λ (a : Area). a.code) ys →
+    map area_text xs ≡ map area_text ys
 texts_same [] [] e f = refl
 texts_same [] (y ∷ ys) e f = absurd (cc)
 texts_same (x ∷ xs) [] e f = absurd (cc)
@@ -48,7 +49,8 @@ fetched_same isa m n pc e f = fetched_alike isa m n pc (code m n e f)
 range_in : ℕ → ℕ → Bounds → List ℕ → List ℕ
 range_in addr len b bytes = take len (drop (addr - b.base) bytes)
 
-find_same : (addr len : ℕ) (xs ys : List Area) → map area_bounds xs ≡ map area_bounds ys → map (λ (a : Area). a.bytes) xs ≡ map (λ (a : Area). a.bytes) ys → option_map (bytes_in addr len) (find (lies_in addr len) xs) ≡ option_map (bytes_in addr len) (find (lies_in addr len) ys)
+find_same : (addr len : ℕ) (xs ys : List Area) → map area_bounds xs ≡ map area_bounds ys → map (λ (a : Area). a.bytes) xs ≡ map (λ (a : Area). a.bytes) ys →
+    option_map (bytes_in addr len) (find (lies_in addr len) xs) ≡ option_map (bytes_in addr len) (find (lies_in addr len) ys)
 unfolding range_in
 find_same addr len [] [] e f = refl
 find_same addr len [] (y ∷ ys) e f = absurd (cc)
@@ -59,8 +61,10 @@ find_same addr len (x ∷ xs) (y ∷ ys) e f =
     let here : bytes_in addr len x ≡ bytes_in addr len y = ap (λ (b : Bounds). range_in addr len b x.bytes) p.0 ∙ ap (range_in addr len (area_bounds y)) q.0 in
     go (lies_in addr len x) (lies_in addr len y) (ap (holds addr len) p.0) here (find_same addr len xs ys p.1 q.1)
   where
-    go : (a b : Bool) → a ≡ b → bytes_in addr len x ≡ bytes_in addr len y → option_map (bytes_in addr len) (find (lies_in addr len) xs) ≡ option_map (bytes_in addr len) (find (lies_in addr len) ys) →
-        option_map (bytes_in addr len) (cond a (Some x) (find (lies_in addr len) xs)) ≡ option_map (bytes_in addr len) (cond b (Some y) (find (lies_in addr len) ys))
+    go : (a b : Bool) → a ≡ b → bytes_in addr len x ≡ bytes_in addr len y → option_map (bytes_in addr len) (find (lies_in addr len) xs)
+        ≡ option_map (bytes_in addr len) (find (lies_in addr len) ys) →
+        option_map (bytes_in addr len) (cond a (Some x) (find (lies_in addr len) xs)) ≡ option_map (bytes_in addr len)
+        (cond b (Some y) (find (lies_in addr len) ys))
     go true true e h k = ap Some h
     go false false e h k = k
     go true false e h k = absurd (cc)
@@ -68,17 +72,20 @@ find_same addr len (x ∷ xs) (y ∷ ys) e f =
 
 load_same : (m n : Memory) (addr width : ℕ) → bounds_of m ≡ bounds_of n → bytes_of m ≡ bytes_of n → load_at m addr width ≡ load_at n addr width
 unfolding load_at range_of bounds_of bytes_of
-load_same m n addr width e f = ap (λ (o : Option (List ℕ)). if is_aligned addr width then number_of o else Err Misaligned) (find_same addr width m.areas n.areas e f)
+load_same m n addr width e f = ap (λ (o : Option (List ℕ)). if is_aligned addr width then number_of o else Err Misaligned)
+    (find_same addr width m.areas n.areas e f)
 
 pub answer_same : (i : Instr) (a b : ℕ) (m n : Memory) → bounds_of m ≡ bounds_of n → bytes_of m ≡ bytes_of n → answer_of i a b m ≡ answer_of i a b n
 unfolding answer_of
-answer_same i a b m n e f = ap (λ (r : Result ℕ MemErr). if (access_made i a b).write then 0 else extended i (number r)) (load_same m n (access_made i a b).addr (access_made i a b).width e f)
+answer_same i a b m n e f = ap (λ (r : Result ℕ MemErr). if (access_made i a b).write then 0 else extended i (number r))
+    (load_same m n (access_made i a b).addr (access_made i a b).width e f)
 
 -- regions of the same bounds, bytes and code are the same
 area : Bounds → List ℕ → List ℕ → Area
 area b bytes code = record { base = b.base; write = b.write; exec = b.exec; bytes = bytes; code = code }
 
-areas_same : (xs ys : List Area) → map area_bounds xs ≡ map area_bounds ys → map (λ (a : Area). a.bytes) xs ≡ map (λ (a : Area). a.bytes) ys → map (λ (a : Area). a.code) xs ≡ map (λ (a : Area). a.code) ys → xs ≡ ys
+areas_same : (xs ys : List Area) → map area_bounds xs ≡ map area_bounds ys → map (λ (a : Area). a.bytes) xs ≡ map (λ (a : Area). a.bytes) ys →
+    map (λ (a : Area). a.code) xs ≡ map (λ (a : Area). a.code) ys → xs ≡ ys
 unfolding area
 areas_same [] [] e f g = refl
 areas_same [] (y ∷ ys) e f g = absurd (cc)
@@ -87,7 +94,8 @@ areas_same (x ∷ xs) (y ∷ ys) e f g =
     let p = heads e in
     let q = heads f in
     let r = heads g in
-    both (ap (λ (b : Bounds). area b x.bytes x.code) p.0 ∙ ap (λ (l : List ℕ). area (area_bounds y) l x.code) q.0 ∙ ap (area (area_bounds y) y.bytes) r.0) (areas_same xs ys p.1 q.1 r.1)
+    both (ap (λ (b : Bounds). area b x.bytes x.code) p.0 ∙ ap (λ (l : List ℕ). area (area_bounds y) l x.code) q.0 ∙ ap (area (area_bounds y) y.bytes) r.0)
+    (areas_same xs ys p.1 q.1 r.1)
   where
     both : {a b : Area} {us vs : List Area} → a ≡ b → us ≡ vs → a ∷ us ≡ b ∷ vs
     both e f = rw (e, f) refl
@@ -106,7 +114,9 @@ memory_same m n e f g h = both (areas_same m.areas n.areas e f g) h
 written_bytes : ℕ → List ℕ → Bounds → List ℕ → List ℕ
 written_bytes addr w b bytes = overwritten bytes (addr - b.base) w
 
-changed_same : (addr len : ℕ) (w : List ℕ) (xs ys : List Area) → map area_bounds xs ≡ map area_bounds ys → map (λ (a : Area). a.bytes) xs ≡ map (λ (a : Area). a.bytes) ys → map (λ (a : Area). a.bytes) (first_changed (writes_in addr len) (area_with addr w) xs) ≡ map (λ (a : Area). a.bytes) (first_changed (writes_in addr len) (area_with addr w) ys)
+changed_same : (addr len : ℕ) (w : List ℕ) (xs ys : List Area) → map area_bounds xs ≡ map area_bounds ys →
+    map (λ (a : Area). a.bytes) xs ≡ map (λ (a : Area). a.bytes) ys → map (λ (a : Area). a.bytes) (first_changed (writes_in addr len) (area_with addr w) xs)
+    ≡ map (λ (a : Area). a.bytes) (first_changed (writes_in addr len) (area_with addr w) ys)
 unfolding written_bytes
 changed_same addr len w [] [] e f = refl
 changed_same addr len w [] (y ∷ ys) e f = absurd (cc)
@@ -114,33 +124,43 @@ changed_same addr len w (x ∷ xs) [] e f = absurd (cc)
 changed_same addr len w (x ∷ xs) (y ∷ ys) e f =
     let p = heads e in
     let q = heads f in
-    let here : (area_with addr w x).bytes ≡ (area_with addr w y).bytes = ap (λ (b : Bounds). written_bytes addr w b x.bytes) p.0 ∙ ap (written_bytes addr w (area_bounds y)) q.0 in
+    let here : (area_with addr w x).bytes ≡ (area_with addr w y).bytes = ap (λ (b : Bounds). written_bytes addr w b x.bytes) p.0
+    ∙ ap (written_bytes addr w (area_bounds y)) q.0 in
     go (writes_in addr len x) (writes_in addr len y) (ap (permits_in addr len true) p.0) here q.0 q.1 (changed_same addr len w xs ys p.1 q.1)
   where
     both : {a b : List ℕ} {us vs : List (List ℕ)} → a ≡ b → us ≡ vs → a ∷ us ≡ b ∷ vs
     both e f = rw (e, f) refl
 
-    go : (a b : Bool) → a ≡ b → (area_with addr w x).bytes ≡ (area_with addr w y).bytes → x.bytes ≡ y.bytes → map (λ (a : Area). a.bytes) xs ≡ map (λ (a : Area). a.bytes) ys → map (λ (a : Area). a.bytes) (first_changed (writes_in addr len) (area_with addr w) xs) ≡ map (λ (a : Area). a.bytes) (first_changed (writes_in addr len) (area_with addr w) ys) →
-        map (λ (a : Area). a.bytes) (if a then area_with addr w x ∷ xs else x ∷ first_changed (writes_in addr len) (area_with addr w) xs) ≡ map (λ (a : Area). a.bytes) (if b then area_with addr w y ∷ ys else y ∷ first_changed (writes_in addr len) (area_with addr w) ys)
+    go : (a b : Bool) → a ≡ b → (area_with addr w x).bytes ≡ (area_with addr w y).bytes → x.bytes ≡ y.bytes →
+        map (λ (a : Area). a.bytes) xs ≡ map (λ (a : Area). a.bytes) ys → map (λ (a : Area). a.bytes) (first_changed (writes_in addr len) (area_with addr w) xs)
+        ≡ map (λ (a : Area). a.bytes) (first_changed (writes_in addr len) (area_with addr w) ys) →
+        map (λ (a : Area). a.bytes) (if a then area_with addr w x ∷ xs else x ∷ first_changed (writes_in addr len) (area_with addr w) xs)
+        ≡ map (λ (a : Area). a.bytes) (if b then area_with addr w y ∷ ys else y ∷ first_changed (writes_in addr len) (area_with addr w) ys)
     go true true e h k r s = both h r
     go false false e h k r s = both k s
     go true false e h k r s = absurd (cc)
     go false true e h k r s = absurd (cc)
 
-stored_same : (m n : Memory) (addr width v : ℕ) → bounds_of m ≡ bounds_of n → bytes_of m ≡ bytes_of n → bytes_of (stored m addr width v) ≡ bytes_of (stored n addr width v)
+stored_same : (m n : Memory) (addr width v : ℕ) → bounds_of m ≡ bounds_of n → bytes_of m ≡ bytes_of n →
+    bytes_of (stored m addr width v) ≡ bytes_of (stored n addr width v)
 unfolding stored memory_with bounds_of bytes_of
 stored_same m n addr width v e f = go (is_aligned addr width)
   where
-    go : (b : Bool) → map (λ (a : Area). a.bytes) (if b then record m { areas = first_changed (writes_in addr width) (area_with addr (le_bytes width v)) m.areas } else m).areas ≡ map (λ (a : Area). a.bytes) (if b then record n { areas = first_changed (writes_in addr width) (area_with addr (le_bytes width v)) n.areas } else n).areas
+    go : (b : Bool) → map (λ (a : Area). a.bytes) (if b then
+        record m { areas = first_changed (writes_in addr width) (area_with addr (le_bytes width v)) m.areas } else m).areas
+        ≡ map (λ (a : Area). a.bytes) (if b then record n { areas = first_changed (writes_in addr width) (area_with addr (le_bytes width v)) n.areas } else
+        n).areas
     go true = changed_same addr width (le_bytes width v) m.areas n.areas e f
     go false = f
 
 -- the bytes after an access depend on the bytes before it, and the break stays
-pub after_same : (i : Instr) (a b : ℕ) (m n : Memory) → bounds_of m ≡ bounds_of n → bytes_of m ≡ bytes_of n → bytes_of (mem_after i a b m) ≡ bytes_of (mem_after i a b n)
+pub after_same : (i : Instr) (a b : ℕ) (m n : Memory) → bounds_of m ≡ bounds_of n → bytes_of m ≡ bytes_of n →
+    bytes_of (mem_after i a b m) ≡ bytes_of (mem_after i a b n)
 unfolding mem_after
 after_same i a b m n e f = go (access_made i a b).write
   where
-    go : (w : Bool) → bytes_of (if w then stored m (access_made i a b).addr (access_made i a b).width (access_made i a b).value else m) ≡ bytes_of (if w then stored n (access_made i a b).addr (access_made i a b).width (access_made i a b).value else n)
+    go : (w : Bool) → bytes_of (if w then stored m (access_made i a b).addr (access_made i a b).width (access_made i a b).value else m)
+        ≡ bytes_of (if w then stored n (access_made i a b).addr (access_made i a b).width (access_made i a b).value else n)
     go true = stored_same m n (access_made i a b).addr (access_made i a b).width (access_made i a b).value e f
     go false = f
 

@@ -115,23 +115,29 @@ exit_effect f cache c = record (one_stage 1 (without_packet c)) { fetch = Some f
 
 -- the effect of a move; for Serve it means nothing
 unfoldable pub effect : Plan → State → Move → Effect
-effect l s (Issue g) = on (cell_at s.cells 1) nothing (λ c. on (running s.fetch) nothing (λ pc. issue_effect s.lane s.cache (fresh s.cache (fetched (isa_of l) s.mem pc) pc g) c))
+effect l s (Issue g) = on (cell_at s.cells 1) nothing (λ c. on (running s.fetch) nothing (λ pc. issue_effect s.lane s.cache
+    (fresh s.cache (fetched (isa_of l) s.mem pc) pc g) c))
 effect l s Emit = on (cell_at s.cells l.stages) nothing (emit_effect l.stages s.regs s.lane)
-effect l s (Climb i) = on (cell_at s.cells i) nothing (λ c. on (cell_at s.cells (i + 1)) nothing (λ d. two_stages i (without_passenger c) (i + 1) (record d { passenger = c.passenger; met = false })))
-effect l s (Fall i) = on (cell_at s.cells i) nothing (λ c. on (cell_at s.cells (i - 1)) nothing (λ d. two_stages i (without_packet c) (i - 1) (record d { packet = c.packet; met = false })))
+effect l s (Climb i) = on (cell_at s.cells i) nothing (λ c. on (cell_at s.cells (i + 1)) nothing
+    (λ d. two_stages i (without_passenger c) (i + 1) (record d { passenger = c.passenger; met = false })))
+effect l s (Fall i) = on (cell_at s.cells i) nothing (λ c. on (cell_at s.cells (i - 1)) nothing
+    (λ d. two_stages i (without_packet c) (i - 1) (record d { packet = c.packet; met = false })))
 effect l s (Meet i) = on (cell_at s.cells i) nothing (λ c. on c.passenger nothing (λ p. on c.packet nothing (λ k. one_stage i (cell_met c p k))))
 effect l s (Execute i) = on (cell_at s.cells i) nothing (λ c. on c.passenger nothing (λ p. one_stage i (with_passenger c (finish p None))))
 effect l s (Send i) = on (cell_at s.cells i) nothing (λ c. on c.passenger nothing (λ p. one_stage i (sent p)))
 effect l s (Launch i) = on (cell_at s.cells i) nothing (λ c. on c.passenger nothing (λ p. launch_effect i c p (siding_of l (kind p)) (launch_trap s p)))
 effect l s (Slide k c) = on (slice_get (siding_at s k) c) nothing (slide_effect k c)
 effect l s Access = on (last_op (siding_at s (port l))) nothing (λ op. access_effect (port l) (last_number s (port l)) op (answer_of op.instr op.a op.b s.mem))
-effect l s (Recover i) = on (cell_at s.cells i) nothing (λ c. on c.passenger nothing (λ p. on (siding_of l (kind p)) nothing (λ k. on (last_op (siding_at s k)) nothing (recover_effect i c p k (last_number s k)))))
-effect l s Leave = on (cell_at s.cells l.stages) nothing (λ c. on c.passenger nothing (λ p. leave_as p.dead p.ending l.stages c (written s.regs p.dst) (s.retired + 1)))
+effect l s (Recover i) = on (cell_at s.cells i) nothing (λ c. on c.passenger nothing (λ p. on (siding_of l (kind p)) nothing
+    (λ k. on (last_op (siding_at s k)) nothing (recover_effect i c p k (last_number s k)))))
+effect l s Leave = on (cell_at s.cells l.stages) nothing (λ c. on c.passenger nothing (λ p. leave_as p.dead p.ending l.stages c (written s.regs p.dst)
+    (s.retired + 1)))
 effect l s Exit = on (cell_at s.cells 1) nothing (λ c. on c.packet nothing (λ k. exit_effect (turned s.fetch k) (keeps l.cache s.cache k) c))
 effect l s Serve = nothing
 
 -- the effect made in the state is the state after the move
-on_applied : {A : Type 0} → (o : Option A) (s : State) (f : A → State) (g : A → Effect) → ((a : A) → f a ≡ applied (g a) s) → on o s f ≡ applied (on o nothing g) s
+on_applied : {A : Type 0} → (o : Option A) (s : State) (f : A → State) (g : A → Effect) → ((a : A) → f a ≡ applied (g a) s) →
+    on o s f ≡ applied (on o nothing g) s
 on_applied None s f g h = refl
 on_applied (Some a) s f g h = h a
 
@@ -139,19 +145,24 @@ emit_applied : (n : ℕ) (s : State) (lane : List ℕ) (c : Cell) → emitted s 
 emit_applied n s [] c = refl
 emit_applied n s (r ∷ lane) c = refl
 
-launch_applied : (s : State) (i : ℕ) (c : Cell) (p : Passenger) (k : Option ℕ) (o : Option End) → on o (on k s (λ k. with_siding (with_cell s i (with_passenger c (record p { launched = true }))) k (slice_set (siding_at s k) 0 (Some (operation p))))) (λ e. with_cell s i (with_passenger c (trapped p e))) ≡ applied (launch_effect i c p k o) s
+launch_applied : (s : State) (i : ℕ) (c : Cell) (p : Passenger) (k : Option ℕ) (o : Option End) →
+    on o (on k s (λ k. with_siding (with_cell s i (with_passenger c (record p { launched = true }))) k (slice_set (siding_at s k) 0 (Some (operation p)))))
+    (λ e. with_cell s i (with_passenger c (trapped p e))) ≡ applied (launch_effect i c p k o) s
 launch_applied s i c p k (Some e) = refl
 launch_applied s i c p None None = refl
 launch_applied s i c p (Some k) None = refl
 
 -- two puts in one siding
-put_twice : (ss : List (List (Option Op))) (k : ℕ) (q : List (Option Op)) (f : List (Option Op) → List (Option Op)) → f [] ≡ [] → slice_set (slice_set ss k q) k (f (cells_in (slice_set ss k q) k)) ≡ slice_set ss k (f q)
+put_twice : (ss : List (List (Option Op))) (k : ℕ) (q : List (Option Op)) (f : List (Option Op) → List (Option Op)) → f [] ≡ [] →
+    slice_set (slice_set ss k q) k (f (cells_in (slice_set ss k q) k)) ≡ slice_set ss k (f q)
 put_twice [] k q f e = refl
 put_twice (a ∷ ss) zero q f e = refl
 put_twice (a ∷ ss) (suc k) q f e = ap (λ (l : List (List (Option Op))). a ∷ l) (put_twice ss k q f e)
 
-slide_applied : (s : State) (k c : ℕ) (o : Option Op) → with_siding s k (slice_set (slice_set (siding_at s k) c None) (c + 1) o) ≡ applied (slide_effect k c o) s
-slide_applied s k c o = ap (λ (ss : List (List (Option Op))). record s { sidings = ss }) (sym (put_twice s.sidings k (slice_set (siding_at s k) c None) (λ q. slice_set q (c + 1) o) refl))
+slide_applied : (s : State) (k c : ℕ) (o : Option Op) → with_siding s k (slice_set (slice_set (siding_at s k) c None) (c + 1) o)
+    ≡ applied (slide_effect k c o) s
+slide_applied s k c o = ap (λ (ss : List (List (Option Op))). record s { sidings = ss }) (sym
+    (put_twice s.sidings k (slice_set (siding_at s k) c None) (λ q. slice_set q (c + 1) o) refl))
 
 pub set_last_is : (q : List (Option Op)) (o : Option Op) → set_last q o ≡ slice_set q (length q - 1) o
 set_last_is [] o = refl
@@ -161,11 +172,15 @@ set_last_is (a ∷ b ∷ q) o = ap (λ (l : List (Option Op)). a ∷ l) (set_las
     go : (n : ℕ) → a ∷ slice_set (b ∷ q) (suc n - 1) o ≡ slice_set (a ∷ b ∷ q) (suc (suc n) - 1) o
     go n = let e : suc n - 1 ≡ n = omega arith in let f : suc (suc n) - 1 ≡ suc n = omega arith in rw (e, f) refl
 
-access_applied : (l : Plan) (s : State) (op : Op) → accessed l s op ≡ applied (access_effect (port l) (last_number s (port l)) op (answer_of op.instr op.a op.b s.mem)) s
-access_applied l s op = ap (λ (q : List (Option Op)). record (with_siding s (port l) q) { mem = mem_after op.instr op.a op.b s.mem }) (set_last_is (siding_at s (port l)) (Some (record op { answer = Some (answer_of op.instr op.a op.b s.mem) })))
+access_applied : (l : Plan) (s : State) (op : Op) → accessed l s op ≡ applied (access_effect (port l) (last_number s (port l)) op
+    (answer_of op.instr op.a op.b s.mem)) s
+access_applied l s op = ap (λ (q : List (Option Op)). record (with_siding s (port l) q) { mem = mem_after op.instr op.a op.b s.mem })
+    (set_last_is (siding_at s (port l)) (Some (record op { answer = Some (answer_of op.instr op.a op.b s.mem) })))
 
-recover_applied : (s : State) (i : ℕ) (c : Cell) (p : Passenger) (k : ℕ) (op : Op) → with_siding (with_cell s i (with_passenger c (back_in p op.answer))) k (set_last (siding_at s k) None) ≡ applied (recover_effect i c p k (last_number s k) op) s
-recover_applied s i c p k op = ap (λ (q : List (Option Op)). with_siding (with_cell s i (with_passenger c (back_in p op.answer))) k q) (set_last_is (siding_at s k) None)
+recover_applied : (s : State) (i : ℕ) (c : Cell) (p : Passenger) (k : ℕ) (op : Op) → with_siding (with_cell s i (with_passenger c (back_in p op.answer))) k
+    (set_last (siding_at s k) None) ≡ applied (recover_effect i c p k (last_number s k) op) s
+recover_applied s i c p k op = ap (λ (q : List (Option Op)). with_siding (with_cell s i (with_passenger c (back_in p op.answer))) k q)
+    (set_last_is (siding_at s k) None)
 
 leave_applied : (s : State) (n : ℕ) (c : Cell) (p : Passenger) → left s n c p ≡ applied (leave_as p.dead p.ending n c (written s.regs p.dst) (s.retired + 1)) s
 leave_applied s n c p = grind arith
@@ -179,10 +194,12 @@ moved_applied l s (Fall i) = on_applied (cell_at s.cells i) s _ _ (λ c. on_appl
 moved_applied l s (Meet i) = on_applied (cell_at s.cells i) s _ _ (λ c. on_applied c.passenger s _ _ (λ p. on_applied c.packet s _ _ (λ k. refl)))
 moved_applied l s (Execute i) = on_applied (cell_at s.cells i) s _ _ (λ c. on_applied c.passenger s _ _ (λ p. refl))
 moved_applied l s (Send i) = on_applied (cell_at s.cells i) s _ _ (λ c. on_applied c.passenger s _ _ (λ p. refl))
-moved_applied l s (Launch i) = on_applied (cell_at s.cells i) s _ _ (λ c. on_applied c.passenger s _ _ (λ p. launch_applied s i c p (siding_of l (kind p)) (launch_trap s p)))
+moved_applied l s (Launch i) = on_applied (cell_at s.cells i) s _ _ (λ c. on_applied c.passenger s _ _
+    (λ p. launch_applied s i c p (siding_of l (kind p)) (launch_trap s p)))
 moved_applied l s (Slide k c) = on_applied (slice_get (siding_at s k) c) s _ _ (λ o. slide_applied s k c o)
 moved_applied l s Access = on_applied (last_op (siding_at s (port l))) s _ _ (λ op. access_applied l s op)
-moved_applied l s (Recover i) = on_applied (cell_at s.cells i) s _ _ (λ c. on_applied c.passenger s _ _ (λ p. on_applied (siding_of l (kind p)) s _ _ (λ k. on_applied (last_op (siding_at s k)) s _ _ (λ op. recover_applied s i c p k op))))
+moved_applied l s (Recover i) = on_applied (cell_at s.cells i) s _ _ (λ c. on_applied c.passenger s _ _
+    (λ p. on_applied (siding_of l (kind p)) s _ _ (λ k. on_applied (last_op (siding_at s k)) s _ _ (λ op. recover_applied s i c p k op))))
 moved_applied l s Leave = on_applied (cell_at s.cells l.stages) s _ _ (λ c. on_applied c.passenger s _ _ (λ p. leave_applied s l.stages c p))
 moved_applied l s Exit = on_applied (cell_at s.cells 1) s _ _ (λ c. on_applied c.packet s _ _ (λ k. refl))
 moved_applied l s Serve = refl

@@ -28,7 +28,8 @@ serve_writes l s = refl
 
 no_serve : (l : Plan) (s : State) (a b : Move) → AreIndependent l s a b → is_serve a ≡ false
 unfolding is_serve
-no_serve l s Serve b i = absurd (let z = (or_parts (reads l s b Failure) (writes l s b Failure) (i.first Failure (serve_writes l s))).0 in let y = reads_failure l s b in clash (sym y ∙ z))
+no_serve l s Serve b i = absurd (let z = (or_parts (reads l s b Failure) (writes l s b Failure) (i.first Failure (serve_writes l s))).0 in
+    let y = reads_failure l s b in clash (sym y ∙ z))
   where
     clash : true ≡ false → ⊥
     clash e = cc
@@ -64,7 +65,8 @@ next_made l m Leave e = ap (λ (s : State). record m { state = s }) (moved_appli
 next_made l m Exit e = ap (λ (s : State). record m { state = s }) (moved_applied l m.state Exit)
 
 -- a does not touch what b reads
-not_touched : (l : Plan) (m : Moment) (a b : Move) → AreIndependent l m.state a b → bar l m.state a ≡ None → (x : Site) → reads l m.state b x ≡ true → touches (effect l m.state a) x ≡ false
+not_touched : (l : Plan) (m : Moment) (a b : Move) → AreIndependent l m.state a b → bar l m.state a ≡ None → (x : Site) → reads l m.state b x ≡ true →
+    touches (effect l m.state a) x ≡ false
 not_touched l m a b i e x r = go (touches (effect l m.state a) x) refl
   where
     clash : true ≡ false → ⊥
@@ -77,20 +79,26 @@ not_touched l m a b i e x r = go (touches (effect l m.state a) x) refl
         let z = (or_parts (reads l m.state b x) (writes l m.state b x) (i.first x w)).0 in
         absurd (clash (sym r ∙ z))
 
-alike_after : (l : Plan) (m : Moment) (a b : Move) → AreIndependent l m.state a b → bar l m.state a ≡ None → AreAlike (reads l m.state b) m (made (effect l m.state a) m)
-alike_after l m a b i e = record { sites = λ x r. sym (untouched (effect l m.state a) m x (not_touched l m a b i e x r)); frame = framed (effect l m.state a) m.state }
+alike_after : (l : Plan) (m : Moment) (a b : Move) → AreIndependent l m.state a b → bar l m.state a ≡ None →
+    AreAlike (reads l m.state b) m (made (effect l m.state a) m)
+alike_after l m a b i e =
+    record { sites = λ x r. sym (untouched (effect l m.state a) m x (not_touched l m a b i e x r)); frame = framed (effect l m.state a) m.state }
 
 -- the other has the same bar before and after
 pub bar_after : (l : Plan) (m : Moment) (a b : Move) → AreIndependent l m.state a b → bar l m.state a ≡ None → bar l m.state b ≡ bar l (next l m a).state b
-bar_after l m a b i e = (has_law l m b).bar_by (made (effect l m.state a) m) (alike_after l m a b i e) ∙ ap (λ (k : Moment). bar l k.state b) (sym (next_made l m a (no_serve l m.state a b i)))
+bar_after l m a b i e = (has_law l m b).bar_by (made (effect l m.state a) m) (alike_after l m a b i e)
+    ∙ ap (λ (k : Moment). bar l k.state b) (sym (next_made l m a (no_serve l m.state a b i)))
 
-both_made : (l : Plan) (m : Moment) (a b : Move) → AreIndependent l m.state a b → bar l m.state a ≡ None → bar l m.state b ≡ None → next l (next l m a) b ≡ made (effect l m.state b) (made (effect l m.state a) m)
+both_made : (l : Plan) (m : Moment) (a b : Move) → AreIndependent l m.state a b → bar l m.state a ≡ None → bar l m.state b ≡ None →
+    next l (next l m a) b ≡ made (effect l m.state b) (made (effect l m.state a) m)
 both_made l m a b i e f =
     let n = made (effect l m.state a) m in
     let same = (has_law l m b).effect_by n f (alike_after l m a b i e) in
-    ap (λ (k : Moment). next l k b) (next_made l m a (no_serve l m.state a b i)) ∙ next_made l n b (no_serve l m.state b a (turned_round l m.state a b i)) ∙ ap (λ (g : Effect). made g n) (sym same)
+    ap (λ (k : Moment). next l k b) (next_made l m a (no_serve l m.state a b i)) ∙ next_made l n b (no_serve l m.state b a (turned_round l m.state a b i))
+    ∙ ap (λ (g : Effect). made g n) (sym same)
 
-apart : (l : Plan) (m : Moment) (a b : Move) → AreIndependent l m.state a b → bar l m.state a ≡ None → bar l m.state b ≡ None → (x : Site) → touches (effect l m.state a) x ≡ true → touches (effect l m.state b) x ≡ false
+apart : (l : Plan) (m : Moment) (a b : Move) → AreIndependent l m.state a b → bar l m.state a ≡ None → bar l m.state b ≡ None → (x : Site) →
+    touches (effect l m.state a) x ≡ true → touches (effect l m.state b) x ≡ false
 apart l m a b i e f x t = go (touches (effect l m.state b) x) refl
   where
     clash : true ≡ false → ⊥
@@ -104,7 +112,8 @@ apart l m a b i e f x t = go (touches (effect l m.state b) x) refl
         let z = (or_parts (reads l m.state b x) (writes l m.state b x) (i.first x w)).1 in
         absurd (clash (sym v ∙ z))
 
-pub same_moment : (l : Plan) (m : Moment) (a b : Move) → AreIndependent l m.state a b → bar l m.state a ≡ None → bar l m.state b ≡ None → next l (next l m a) b ≡ next l (next l m b) a
+pub same_moment : (l : Plan) (m : Moment) (a b : Move) → AreIndependent l m.state a b → bar l m.state a ≡ None → bar l m.state b ≡ None →
+    next l (next l m a) b ≡ next l (next l m b) a
 same_moment l m a b i e f =
     both_made l m a b i e f
     ∙ ap (λ (s : State). record m { state = s }) (effects_swap (effect l m.state b) (effect l m.state a) m.state (apart l m a b i e f))

@@ -46,21 +46,26 @@ get_put q r k m a e = go (m == k) refl
     go false f = get_other q k m a (differ m k f) ∙ e ∙ sym (get_other r k m a (differ m k f))
     go true f = let z = alike m k f in rw (← z) (get_here q m a ∙ ap (λ (o : Option _). on o None (λ _. Some a)) e ∙ sym (get_here r m a))
 
-cell_put : (cells others : List Cell) (i j : ℕ) (c : Cell) → cell_at cells j ≡ cell_at others j → cell_at (put_cell cells i c) j ≡ cell_at (put_cell others i c) j
+cell_put : (cells others : List Cell) (i j : ℕ) (c : Cell) → cell_at cells j ≡ cell_at others j →
+    cell_at (put_cell cells i c) j ≡ cell_at (put_cell others i c) j
 cell_put cells others zero j c e = e
 cell_put cells others (suc i) zero c e = refl
 cell_put cells others (suc i) (suc j) c e = get_put cells others i j c e
 
-stages_put : (ps : List StagePut) (cells others : List Cell) (j : ℕ) → cell_at cells j ≡ cell_at others j → cell_at (put_stages ps cells) j ≡ cell_at (put_stages ps others) j
+stages_put : (ps : List StagePut) (cells others : List Cell) (j : ℕ) → cell_at cells j ≡ cell_at others j →
+    cell_at (put_stages ps cells) j ≡ cell_at (put_stages ps others) j
 stages_put [] cells others j e = e
-stages_put (p ∷ ps) cells others j e = stages_put ps (put_cell cells p.stage p.cell) (put_cell others p.stage p.cell) j (cell_put cells others p.stage j p.cell e)
+stages_put (p ∷ ps) cells others j e = stages_put ps (put_cell cells p.stage p.cell) (put_cell others p.stage p.cell) j
+    (cell_put cells others p.stage j p.cell e)
 
-op_here : (ss : List (List (Option Op))) (k c : ℕ) (o : Option Op) → slice_get (cells_in (put_op ss k c o) k) c ≡ on (slice_get (cells_in ss k) c) None (λ _. Some o)
+op_here : (ss : List (List (Option Op))) (k c : ℕ) (o : Option Op) → slice_get (cells_in (put_op ss k c o) k) c
+    ≡ on (slice_get (cells_in ss k) c) None (λ _. Some o)
 op_here [] k c o = refl
 op_here (q ∷ ss) zero c o = get_here q c o
 op_here (q ∷ ss) (suc k) c o = op_here ss k c o
 
-op_put : (ss rs : List (List (Option Op))) (k c j d : ℕ) (o : Option Op) → slice_get (cells_in ss j) d ≡ slice_get (cells_in rs j) d → slice_get (cells_in (put_op ss k c o) j) d ≡ slice_get (cells_in (put_op rs k c o) j) d
+op_put : (ss rs : List (List (Option Op))) (k c j d : ℕ) (o : Option Op) → slice_get (cells_in ss j) d ≡ slice_get (cells_in rs j) d →
+    slice_get (cells_in (put_op ss k c o) j) d ≡ slice_get (cells_in (put_op rs k c o) j) d
 op_put ss rs k c j d o e = go (j == k) (d == c) refl refl
   where
     away : (j ≡ k → d ≡ c → ⊥) → slice_get (cells_in (put_op ss k c o) j) d ≡ slice_get (cells_in (put_op rs k c o) j) d
@@ -69,9 +74,11 @@ op_put ss rs k c j d o e = go (j == k) (d == c) refl refl
     go : (a b : Bool) → (j == k) ≡ a → (d == c) ≡ b → slice_get (cells_in (put_op ss k c o) j) d ≡ slice_get (cells_in (put_op rs k c o) j) d
     go false b f g = away (λ x y. differ j k f x)
     go true false f g = away (λ x y. differ d c g y)
-    go true true f g = let y = alike j k f in let z = alike d c g in rw (← y, ← z) (op_here ss j d o ∙ ap (λ (p : Option (Option Op)). on p None (λ _. Some o)) e ∙ sym (op_here rs j d o))
+    go true true f g = let y = alike j k f in let z = alike d c g in rw (← y, ← z) (op_here ss j d o
+        ∙ ap (λ (p : Option (Option Op)). on p None (λ _. Some o)) e ∙ sym (op_here rs j d o))
 
-ops_put : (ps : List CellPut) (ss rs : List (List (Option Op))) (j d : ℕ) → slice_get (cells_in ss j) d ≡ slice_get (cells_in rs j) d → slice_get (cells_in (put_ops ps ss) j) d ≡ slice_get (cells_in (put_ops ps rs) j) d
+ops_put : (ps : List CellPut) (ss rs : List (List (Option Op))) (j d : ℕ) → slice_get (cells_in ss j) d ≡ slice_get (cells_in rs j) d →
+    slice_get (cells_in (put_ops ps ss) j) d ≡ slice_get (cells_in (put_ops ps rs) j) d
 ops_put [] ss rs j d e = e
 ops_put (p ∷ ps) ss rs j d e = ops_put ps (put_op ss p.siding p.number p.op) (put_op rs p.siding p.number p.op) j d (op_put ss rs p.siding p.number j d p.op e)
 
@@ -87,7 +94,8 @@ break_stays (Some op) m = after_break op.instr op.a op.b m
 two : {bytes others : List (List ℕ)} {a b : ℕ} → bytes ≡ others → a ≡ b → OfMemory bytes a ≡ OfMemory others b
 two e f = rw (e, f) refl
 
-bytes_in : (m t : Moment) → content m Memory ≡ content t Memory → (bytes_of m.state.mem ≡ bytes_of t.state.mem) × (m.state.mem.program_break ≡ t.state.mem.program_break)
+bytes_in : (m t : Moment) → content m Memory ≡ content t Memory → (bytes_of m.state.mem ≡ bytes_of t.state.mem)
+    × (m.state.mem.program_break ≡ t.state.mem.program_break)
 bytes_in m t e = (cc, cc)
 
 -- an effect leaves the same where the same was
@@ -98,7 +106,8 @@ put_same e m t Lane f h = ap (λ (l : List ℕ). OfNumbers (unwrap_or e.lane l))
 put_same e m t Fetching f h = ap (λ l. OfFetch (unwrap_or e.fetch l)) (cc)
 put_same e m t Cache f h = ap (λ (l : List (Option ℕ)). OfCache (unwrap_or e.cache l)) (cc)
 put_same e m t Registers f h = ap (λ (l : List ℕ). OfNumbers (unwrap_or e.regs l)) (cc)
-put_same e m t Memory f h = let z = bytes_in m t h in two (bytes_put e.access m.state.mem t.state.mem f.bounds z.0) (break_stays e.access m.state.mem ∙ z.1 ∙ sym (break_stays e.access t.state.mem))
+put_same e m t Memory f h = let z = bytes_in m t h in two (bytes_put e.access m.state.mem t.state.mem f.bounds z.0) (break_stays e.access m.state.mem ∙ z.1
+    ∙ sym (break_stays e.access t.state.mem))
 put_same e m t Code f h = ap OfCode (codes_stay e.access m.state.mem) ∙ h ∙ sym (ap OfCode (codes_stay e.access t.state.mem))
 put_same e m t Input f h = h
 put_same e m t Output f h = h
@@ -140,7 +149,8 @@ written_read l s mv x w = go (uses l s mv x) refl
 
 -- the event
 event_same : (l : Plan) (m t : Moment) (mv : Move) (e : Event) → AreAlike (reads l m.state mv) m t → IsEvent l m.state mv e → IsEvent l t.state mv e
-event_same l m t (Meet i) e h v = v ∙ ap (λ (o : Option Cell). on o event.Plain (λ c. on c.passenger event.Plain (λ p. on c.packet event.Plain (meeting_event p)))) (stage_same m t i (h.sites (Stage i) (self i)))
+event_same l m t (Meet i) e h v = v ∙ ap (λ (o : Option Cell). on o event.Plain (λ c. on c.passenger event.Plain
+    (λ p. on c.packet event.Plain (meeting_event p)))) (stage_same m t i (h.sites (Stage i) (self i)))
   where
     self : (i : ℕ) → reads l m.state (Meet i) (Stage i) ≡ true
     self i = grind arith
@@ -162,8 +172,10 @@ event_same l m t Exit e h v = v
 event_same l m t Serve e h v = v
 
 -- any move but Serve
-made_leaves : (l : Plan) (m : Moment) (mv : Move) → is_serve mv ≡ false → bar l m.state mv ≡ None → (x : Site) → writes l m.state mv x ≡ false → content (next l m mv) x ≡ content m x
-made_leaves l m mv n e x w = ap (λ (k : Moment). content k x) (next_made l m mv n) ∙ untouched (effect l m.state mv) m x (go (touches (effect l m.state mv) x) refl)
+made_leaves : (l : Plan) (m : Moment) (mv : Move) → is_serve mv ≡ false → bar l m.state mv ≡ None → (x : Site) → writes l m.state mv x ≡ false →
+    content (next l m mv) x ≡ content m x
+made_leaves l m mv n e x w = ap (λ (k : Moment). content k x) (next_made l m mv n) ∙ untouched (effect l m.state mv) m x
+    (go (touches (effect l m.state mv) x) refl)
   where
     clash : true ≡ false → ⊥
     clash e = cc
@@ -172,7 +184,8 @@ made_leaves l m mv n e x w = ap (λ (k : Moment). content k x) (next_made l m mv
     go false t = t
     go true t = absurd (clash (sym ((has_law l m mv).within e x t) ∙ w))
 
-made_same : (l : Plan) (m t : Moment) (mv : Move) → is_serve mv ≡ false → AreAlike (reads l m.state mv) m t → bar l m.state mv ≡ None → (x : Site) → writes l m.state mv x ≡ true → content (next l m mv) x ≡ content (next l t mv) x
+made_same : (l : Plan) (m t : Moment) (mv : Move) → is_serve mv ≡ false → AreAlike (reads l m.state mv) m t → bar l m.state mv ≡ None → (x : Site) →
+    writes l m.state mv x ≡ true → content (next l m mv) x ≡ content (next l t mv) x
 made_same l m t mv n h e x w =
     ap (λ (k : Moment). content k x) (next_made l m mv n)
     ∙ put_same (effect l m.state mv) m t x h.frame (h.sites x (written_read l m.state mv x w))
@@ -184,7 +197,8 @@ serve_leaves : (l : Plan) (m : Moment) (x : Site) → writes l m.state Serve x �
 unfolding next
 serve_leaves l m x w = go (cell_at m.state.cells l.stages)
   where
-    stage : (j : ℕ) (c : Cell) → writes l m.state Serve (Stage j) ≡ false → OfStage (cell_at (put_cell m.state.cells l.stages c) j) ≡ OfStage (cell_at m.state.cells j)
+    stage : (j : ℕ) (c : Cell) → writes l m.state Serve (Stage j) ≡ false → OfStage (cell_at (put_cell m.state.cells l.stages c) j)
+        ≡ OfStage (cell_at m.state.cells j)
     stage j c w = ap OfStage (cell_other m.state.cells l.stages j c (differ j l.stages (first w)))
       where
         first : writes l m.state Serve (Stage j) ≡ false → (j == l.stages) ≡ false
@@ -259,14 +273,16 @@ found l m t h = record {
     output : content m Output ≡ content t Output → m.output ≡ t.output
     output e = cc
 
-serve_same : (l : Plan) (m t : Moment) → AreAlike (reads l m.state Serve) m t → (x : Site) → content m x ≡ content t x → content (next l m Serve) x ≡ content (next l t Serve) x
+serve_same : (l : Plan) (m t : Moment) → AreAlike (reads l m.state Serve) m t → (x : Site) → content m x ≡ content t x →
+    content (next l m Serve) x ≡ content (next l t Serve) x
 unfolding next
 serve_same l m t h x e = rw q.cell (go (cell_at t.state.cells l.stages))
   where
     q : Served l m t
     q = found l m t h
 
-    answer : (x : Site) (c : Cell) (p : Passenger) (a : Called) → content m x ≡ content t x → content (served m l.stages c p a) x ≡ content (served t l.stages c p a) x
+    answer : (x : Site) (c : Cell) (p : Passenger) (a : Called) → content m x ≡ content t x →
+        content (served m l.stages c p a) x ≡ content (served t l.stages c p a) x
     answer (Stage j) c p (called.Value a) e = ap OfStage (cell_put m.state.cells t.state.cells l.stages j _ (cc))
     answer (Stage j) c p (called.Exit z) e = ap OfStage (cell_put m.state.cells t.state.cells l.stages j _ (cc))
     answer (SidingCell k d) c p (called.Value a) e = e
@@ -296,7 +312,8 @@ serve_same l m t h x e = rw q.cell (go (cell_at t.state.cells l.stages))
 
     who : (c : Cell) (o : Option Passenger) → content (on o m (asked m l.stages c)) x ≡ content (on o t (asked t l.stages c)) x
     who c None = e
-    who c (Some p) = answer x c p (serve_of (instruction p) m.state.regs m.state.mem m.rest) e ∙ ap (λ (a : Called). content (served t l.stages c p a) x) (calls (instruction p))
+    who c (Some p) = answer x c p (serve_of (instruction p) m.state.regs m.state.mem m.rest) e
+        ∙ ap (λ (a : Called). content (served t l.stages c p a) x) (calls (instruction p))
       where
         calls : (i : _) → serve_of i m.state.regs m.state.mem m.rest ≡ serve_of i t.state.regs t.state.mem t.rest
         calls i = rw (q.regs, q.mem, q.rest) refl
@@ -329,12 +346,14 @@ leaves l m mv e x w = go (is_serve mv) refl
     go false n = made_leaves l m mv n e x w
     go true n = let z = serves mv n in rw z (serve_leaves l m x (rw z at w))
 
-makes : (l : Plan) (m t : Moment) (mv : Move) → AreAlike (reads l m.state mv) m t → bar l m.state mv ≡ None → (x : Site) → writes l m.state mv x ≡ true → content (next l m mv) x ≡ content (next l t mv) x
+makes : (l : Plan) (m t : Moment) (mv : Move) → AreAlike (reads l m.state mv) m t → bar l m.state mv ≡ None → (x : Site) → writes l m.state mv x ≡ true →
+    content (next l m mv) x ≡ content (next l t mv) x
 makes l m t mv h e x w = go (is_serve mv) refl
   where
     go : (b : Bool) → is_serve mv ≡ b → content (next l m mv) x ≡ content (next l t mv) x
     go false n = made_same l m t mv n h e x w
-    go true n = let z = serves mv n in rw z (serve_same l m t (subst (λ (v : Move). AreAlike (reads l m.state v) m t) z h) x (h.sites x (written_read l m.state mv x w)))
+    go true n = let z = serves mv n in rw z (serve_same l m t (subst (λ (v : Move). AreAlike (reads l m.state v) m t) z h) x
+        (h.sites x (written_read l m.state mv x w)))
 
 -- the frame
 serve_frame : (l : Plan) (m : Moment) → HasFrame m.state (next l m Serve).state
@@ -344,7 +363,8 @@ serve_frame l m = go (cell_at m.state.cells l.stages)
     same : HasFrame m.state m.state
     same = record { bounds = refl; sizes = λ k. refl }
 
-    answer : (c : Cell) (p : Passenger) (a : Called) → serve_of (instruction p) m.state.regs m.state.mem m.rest ≡ a → HasFrame m.state (served m l.stages c p a).state
+    answer : (c : Cell) (p : Passenger) (a : Called) → serve_of (instruction p) m.state.regs m.state.mem m.rest ≡ a →
+        HasFrame m.state (served m l.stages c p a).state
     answer c p (called.Value a) e = record { bounds = sym (served_bounds (instruction p) m.state.regs m.state.mem m.rest a e); sizes = λ k. refl }
     answer c p (called.Exit z) e = record { bounds = refl; sizes = λ k. refl }
 

@@ -84,7 +84,8 @@ put_swap cells zero (suc j) c d e = refl
 put_swap cells (suc i) zero c d e = refl
 put_swap cells (suc i) (suc j) c d e = set_swap cells i j c d (λ f. e (ap suc f))
 
-stage_past : (ps : List StagePut) (cells : List Cell) (j : ℕ) (d : Cell) → any_stage j ps ≡ false → put_stages ps (put_cell cells j d) ≡ put_cell (put_stages ps cells) j d
+stage_past : (ps : List StagePut) (cells : List Cell) (j : ℕ) (d : Cell) → any_stage j ps ≡ false →
+    put_stages ps (put_cell cells j d) ≡ put_cell (put_stages ps cells) j d
 stage_past [] cells j d e = refl
 stage_past (p ∷ ps) cells j d e =
     let z = or_parts (j == p.stage) (any_stage j ps) e in
@@ -93,19 +94,23 @@ stage_past (p ∷ ps) cells j d e =
 pub self : (i : ℕ) (b : Bool) → ((i == i) || b) ≡ true
 self i b = grind arith
 
-stages_swap : (ps qs : List StagePut) (cells : List Cell) → ((j : ℕ) → any_stage j qs ≡ true → any_stage j ps ≡ false) → put_stages ps (put_stages qs cells) ≡ put_stages qs (put_stages ps cells)
+stages_swap : (ps qs : List StagePut) (cells : List Cell) → ((j : ℕ) → any_stage j qs ≡ true → any_stage j ps ≡ false) →
+    put_stages ps (put_stages qs cells) ≡ put_stages qs (put_stages ps cells)
 stages_swap ps [] cells h = refl
-stages_swap ps (q ∷ qs) cells h = stages_swap ps qs (put_cell cells q.stage q.cell) (λ j e. h j (or_right (j == q.stage) (any_stage j qs) e)) ∙ ap (put_stages qs) (stage_past ps cells q.stage q.cell (h q.stage (self q.stage (any_stage q.stage qs))))
+stages_swap ps (q ∷ qs) cells h = stages_swap ps qs (put_cell cells q.stage q.cell) (λ j e. h j (or_right (j == q.stage) (any_stage j qs) e))
+    ∙ ap (put_stages qs) (stage_past ps cells q.stage q.cell (h q.stage (self q.stage (any_stage q.stage qs))))
 
 -- sidings
-pub op_other : (ss : List (List (Option Op))) (k c j d : ℕ) (o : Option Op) → (j ≡ k → d ≡ c → ⊥) → slice_get (cells_in (put_op ss k c o) j) d ≡ slice_get (cells_in ss j) d
+pub op_other : (ss : List (List (Option Op))) (k c j d : ℕ) (o : Option Op) → (j ≡ k → d ≡ c → ⊥) →
+    slice_get (cells_in (put_op ss k c o) j) d ≡ slice_get (cells_in ss j) d
 op_other [] k c j d o e = refl
 op_other (q ∷ ss) zero c zero d o e = get_other q c d o (e refl)
 op_other (q ∷ ss) zero c (suc j) d o e = refl
 op_other (q ∷ ss) (suc k) c zero d o e = refl
 op_other (q ∷ ss) (suc k) c (suc j) d o e = op_other ss k c j d o (λ f. e (ap suc f))
 
-ops_other : (ps : List CellPut) (ss : List (List (Option Op))) (j d : ℕ) → any_cell j d ps ≡ false → slice_get (cells_in (put_ops ps ss) j) d ≡ slice_get (cells_in ss j) d
+ops_other : (ps : List CellPut) (ss : List (List (Option Op))) (j d : ℕ) → any_cell j d ps ≡ false →
+    slice_get (cells_in (put_ops ps ss) j) d ≡ slice_get (cells_in ss j) d
 ops_other [] ss j d e = refl
 ops_other (p ∷ ps) ss j d e =
     let z = or_parts ((j == p.siding) && (d == p.number)) (any_cell j d ps) e in
@@ -118,7 +123,8 @@ op_swap (q ∷ ss) zero c (suc j) d o r e = refl
 op_swap (q ∷ ss) (suc k) c zero d o r e = refl
 op_swap (q ∷ ss) (suc k) c (suc j) d o r e = ap (λ (l : List (List (Option Op))). q ∷ l) (op_swap ss k c j d o r (λ f. e (ap suc f)))
 
-op_past : (ps : List CellPut) (ss : List (List (Option Op))) (j d : ℕ) (r : Option Op) → any_cell j d ps ≡ false → put_ops ps (put_op ss j d r) ≡ put_op (put_ops ps ss) j d r
+op_past : (ps : List CellPut) (ss : List (List (Option Op))) (j d : ℕ) (r : Option Op) → any_cell j d ps ≡ false →
+    put_ops ps (put_op ss j d r) ≡ put_op (put_ops ps ss) j d r
 op_past [] ss j d r e = refl
 op_past (p ∷ ps) ss j d r e =
     let z = or_parts ((j == p.siding) && (d == p.number)) (any_cell j d ps) e in
@@ -127,9 +133,12 @@ op_past (p ∷ ps) ss j d r e =
 pub self_cell : (i j : ℕ) (b : Bool) → (((i == i) && (j == j)) || b) ≡ true
 self_cell i j b = grind arith
 
-ops_swap : (ps qs : List CellPut) (ss : List (List (Option Op))) → ((j d : ℕ) → any_cell j d qs ≡ true → any_cell j d ps ≡ false) → put_ops ps (put_ops qs ss) ≡ put_ops qs (put_ops ps ss)
+ops_swap : (ps qs : List CellPut) (ss : List (List (Option Op))) → ((j d : ℕ) → any_cell j d qs ≡ true → any_cell j d ps ≡ false) →
+    put_ops ps (put_ops qs ss) ≡ put_ops qs (put_ops ps ss)
 ops_swap ps [] ss h = refl
-ops_swap ps (q ∷ qs) ss h = ops_swap ps qs (put_op ss q.siding q.number q.op) (λ j d e. h j d (or_right ((j == q.siding) && (d == q.number)) (any_cell j d qs) e)) ∙ ap (put_ops qs) (op_past ps ss q.siding q.number q.op (h q.siding q.number (self_cell q.siding q.number (any_cell q.siding q.number qs))))
+ops_swap ps (q ∷ qs) ss h = ops_swap ps qs (put_op ss q.siding q.number q.op) (λ j d e. h j d
+    (or_right ((j == q.siding) && (d == q.number)) (any_cell j d qs) e)) ∙ ap (put_ops qs)
+    (op_past ps ss q.siding q.number q.op (h q.siding q.number (self_cell q.siding q.number (any_cell q.siding q.number qs))))
 
 -- single parts
 given_other : {A : Type 0} → (o : Option A) (a : A) → is_some o ≡ false → unwrap_or o a ≡ a
@@ -173,7 +182,8 @@ codes_are m = codes_in m.areas
 
 pub codes_stay : (o : Option Op) (mem : regions.Memory) → codes_of (accessing o mem) ≡ codes_of mem
 codes_stay None mem = refl
-codes_stay (Some op) mem = sym (codes_are (mem_after op.instr op.a op.b mem)) ∙ ap (map (λ (t : Text). t.code)) (code_after op.instr op.a op.b mem) ∙ codes_are mem
+codes_stay (Some op) mem = sym (codes_are (mem_after op.instr op.a op.b mem)) ∙ ap (map (λ (t : Text). t.code)) (code_after op.instr op.a op.b mem)
+    ∙ codes_are mem
 
 pub bounds_stay : (o : Option Op) (mem : regions.Memory) → bounds_of (accessing o mem) ≡ bounds_of mem
 bounds_stay None mem = refl
@@ -228,7 +238,8 @@ effects_swap e f s h = parts
     (given_swap e.count f.count s.retired (h Count))
     (end_swap e.ending f.ending s.ending (h Ended))
   where
-    parts : {c c' : List Cell} {o o' : List (List (Option Op))} {l l' : List ℕ} {f f' : Fetch} {k k' : List (Option ℕ)} {r r' : List ℕ} {m m' : regions.Memory} {n n' : ℕ} {e e' : Option End} {b : Bool} →
+    parts : {c c' : List Cell} {o o' : List (List (Option Op))} {l l' : List ℕ} {f f' : Fetch} {k k' : List (Option ℕ)} {r r' : List ℕ} {m m' : regions.Memory}
+        {n n' : ℕ} {e e' : Option End} {b : Bool} →
         c ≡ c' → o ≡ o' → l ≡ l' → f ≡ f' → k ≡ k' → r ≡ r' → m ≡ m' → n ≡ n' → e ≡ e' →
         state c o l f k r m n e b ≡ state c' o' l' f' k' r' m' n' e' b
     parts p1 p2 p3 p4 p5 p6 p7 p8 p9 = rw (p1, p2, p3, p4, p5, p6, p7, p8, p9) refl

@@ -32,7 +32,8 @@ use Rattle.rv_machine.specs.Machine.{Machine}
 use Rattle.std.specs.Prelude.{map, replicate}
 
 -- a rider stands where it may
-pub stands_at : {rest out : List ℕ} (l : Plan) (s : State) (x : Machine) (i : ℕ) (c : Cell) (p : Passenger) → cell_at s.cells i ≡ Some c → c.passenger ≡ Some p → Sound l s rest out x → Stands l i p
+pub stands_at : {rest out : List ℕ} (l : Plan) (s : State) (x : Machine) (i : ℕ) (c : Cell) (p : Passenger) → cell_at s.cells i ≡ Some c →
+    c.passenger ≡ Some p → Sound l s rest out x → Stands l i p
 stands_at {rest} {out} l s x i c p e f h =
     let q = spot s i c p e f in
     let each = each_back l q.above ((Up i p ∷ []) ++ q.below) (subst (Each l) q.was h.stands) in
@@ -50,7 +51,8 @@ aboard l p acc k d u h = go p.launched p.recovered refl refl
 pub asks_size : (a b : Option ℕ) → length (both a b) ≤ 2
 asks_size a b = grind arith
 
-issue_cell : (n d : ℕ) (c : Cell) (p : Passenger) → 0 < n → c.passenger ≡ None → p.owes ≡ None → cell_weight n d 1 (record c { passenger = Some p; met = false }) ≤ cell_weight n d 1 c + (2 * n + (2 * n + (d + 3)))
+issue_cell : (n d : ℕ) (c : Cell) (p : Passenger) → 0 < n → c.passenger ≡ None → p.owes ≡ None →
+    cell_weight n d 1 (record c { passenger = Some p; met = false }) ≤ cell_weight n d 1 c + (2 * n + (2 * n + (d + 3)))
 unfolding cell_weight
 issue_cell n d c p l e f = grind arith
 
@@ -60,7 +62,8 @@ more_lane k a (suc zero) e = let h : k * (a + 1) ≡ k * a + k = grind arith in 
 more_lane k a (suc (suc zero)) e = let h : k * (a + 2) ≡ k * a + (k + k) = grind arith in omega (arith, h)
 more_lane k a (suc (suc (suc r))) e = absurd (omega arith)
 
-issue_rises : (l : Plan) (s : State) (g : Guess) → length s.cells ≡ l.stages → bar l s (Issue g) ≡ None → suc (weight l (moved l s (Issue g))) ≤ weight l s + moves_per_issue l
+issue_rises : (l : Plan) (s : State) (g : Guess) → length s.cells ≡ l.stages → bar l s (Issue g) ≡ None →
+    suc (weight l (moved l s (Issue g))) ≤ weight l s + moves_per_issue l
 unfolding weight moves_per_issue
 issue_rises l s g z e =
     let r = issue_ready l s g (bar_row l s (Issue g) e) in
@@ -69,15 +72,20 @@ issue_rises l s g z e =
     let size : suc (length r.others) ≡ l.stages = ap length (sym r.cells) ∙ z in
     let c = issue_cell l.stages (most_cells l.sidings) r.here p (omega arith) r.free n.owes in
     let lane = more_lane (2 * l.stages + 1) (length s.lane) (length (requests p)) (asks_size (missing p.src1) (missing p.src2)) in
-    let both : (2 * l.stages + 1) * length (s.lane ++ requests p) ≡ (2 * l.stages + 1) * (length s.lane + length (requests p)) = ap (λ (j : ℕ). (2 * l.stages + 1) * j) (length-append s.lane (requests p)) in
-    let was : cells_weight l.stages (most_cells l.sidings) 1 s.cells ≡ cell_weight l.stages (most_cells l.sidings) 1 r.here + cells_weight l.stages (most_cells l.sidings) 2 r.others = ap (cells_weight l.stages (most_cells l.sidings) 1) r.cells in
-    rw (next_issue l s g r.here r.others r.pc p r.cells r.runs refl) (sum l.stages (most_cells l.sidings) _ _ (cells_weight l.stages (most_cells l.sidings) 2 r.others) (sidings_weight s.sidings) _ _ _ c (omega (arith, lane, both)) was)
+    let both : (2 * l.stages + 1) * length (s.lane ++ requests p) ≡ (2 * l.stages + 1) * (length s.lane + length (requests p)) =
+    ap (λ (j : ℕ). (2 * l.stages + 1) * j) (length-append s.lane (requests p)) in
+    let was : cells_weight l.stages (most_cells l.sidings) 1 s.cells ≡ cell_weight l.stages (most_cells l.sidings) 1 r.here + cells_weight l.stages
+    (most_cells l.sidings) 2 r.others = ap (cells_weight l.stages (most_cells l.sidings) 1) r.cells in
+    rw (next_issue l s g r.here r.others r.pc p r.cells r.runs refl) (sum l.stages (most_cells l.sidings) _ _
+    (cells_weight l.stages (most_cells l.sidings) 2 r.others) (sidings_weight s.sidings) _ _ _ c (omega (arith, lane, both)) was)
   where
-    sum : (n d a b r q x y w : ℕ) → b ≤ a + (2 * n + (2 * n + (d + 3))) → y ≤ x + ((2 * n + 1) + (2 * n + 1)) → w ≡ a + r → suc (((b + r) + q) + y) ≤ ((w + q) + x) + (8 * n + d + 8)
+    sum : (n d a b r q x y w : ℕ) → b ≤ a + (2 * n + (2 * n + (d + 3))) → y ≤ x + ((2 * n + 1) + (2 * n + 1)) → w ≡ a + r →
+        suc (((b + r) + q) + y) ≤ ((w + q) + x) + (8 * n + d + 8)
     sum n d a b r q x y w e f g = omega arith
 
 -- each move costs one, and each Issue gives K
-pub costs : (l : Plan) (m : Moment) (x : Machine) (mv : Move) → Suits l → bar l m.state mv ≡ None → Sound l m.state m.rest m.output x → suc (weight l (next l m mv).state) ≤ weight l m.state + moves_per_issue l * counts (is_issue mv) 1
+pub costs : (l : Plan) (m : Moment) (x : Machine) (mv : Move) → Suits l → bar l m.state mv ≡ None → Sound l m.state m.rest m.output x →
+    suc (weight l (next l m mv).state) ≤ weight l m.state + moves_per_issue l * counts (is_issue mv) 1
 unfolding next
 costs l m x mv acc e h = go mv e
   where
@@ -104,16 +112,19 @@ costs l m x mv acc e h = go mv e
     go Serve e = free _ _ (serve_falls l m (λ r. aboard l r.who acc r.serial r.live r.undone (stands_at l s x l.stages r.here r.who r.at_here r.sits h)) e)
 
 -- where a move is allowed the program has not ended, and the state is sound
-pub sound_at : (l : Plan) (x0 : Machine) (m : Moment) (mv : Move) → bar l m.state mv ≡ None → (h : HoldsAfter l x0 m) → Sound l m.state m.rest m.output h.machine
+pub sound_at : (l : Plan) (x0 : Machine) (m : Moment) (mv : Move) → bar l m.state mv ≡ None → (h : HoldsAfter l x0 m) →
+    Sound l m.state m.rest m.output h.machine
 sound_at l x0 m mv e h = subst (HoldsAt l m.state m.rest m.output h.machine) (going l m.state mv e) h.stage
 
-pub paid : (l : Plan) (x0 : Machine) (m : Moment) (moves : List Move) → Suits l → IsRun l m moves → HoldsAfter l x0 m → length moves + weight l (run l m moves).state ≤ weight l m.state + moves_per_issue l * issues moves
+pub paid : (l : Plan) (x0 : Machine) (m : Moment) (moves : List Move) → Suits l → IsRun l m moves → HoldsAfter l x0 m →
+    length moves + weight l (run l m moves).state ≤ weight l m.state + moves_per_issue l * issues moves
 unfolding IsRun run
 paid l x0 m [] acc r h = omega arith
 paid l x0 m (mv ∷ moves) acc r h =
     let a = costs l m h.machine mv acc r.0 (sound_at l x0 m mv r.0 h) in
     let b = paid l x0 (next l m mv) moves acc r.1 (kept l x0 m mv acc r.0 h) in
-    let c : moves_per_issue l * (counts (is_issue mv) 1 + issues moves) ≡ moves_per_issue l * counts (is_issue mv) 1 + moves_per_issue l * issues moves = grind arith in
+    let c : moves_per_issue l * (counts (is_issue mv) 1 + issues moves) ≡ moves_per_issue l * counts (is_issue mv) 1 + moves_per_issue l * issues moves =
+    grind arith in
     omega (arith, a, b, c)
 
 -- the state at the beginning weighs nothing
@@ -146,7 +157,8 @@ opened_weight l x =
     omega (arith, a, b, c)
 
 -- a run from the beginning has at most K moves for each Issue
-pub bounded_run : (l : Plan) (x0 : Machine) (moves : List Move) → Suits l → length x0.hart.regs ≡ 32 → IsRun l (start l x0) moves → length moves ≤ moves_per_issue l * issues moves
+pub bounded_run : (l : Plan) (x0 : Machine) (moves : List Move) → Suits l → length x0.hart.regs ≡ 32 → IsRun l (start l x0) moves →
+    length moves ≤ moves_per_issue l * issues moves
 unfolding run
 bounded_run l x0 moves acc w r =
     let p = paid l x0 (start l x0) moves acc r (holds_after l x0 [] acc w nothing) in
@@ -157,7 +169,8 @@ bounded_run l x0 moves acc w r =
     nothing = unfold IsRun in tt
 
 -- with issue held back, a run from a reached moment has at most as many moves as the weight
-pub bounded_drain : (l : Plan) (x0 : Machine) (m : Moment) (more : List Move) → Suits l → HoldsAfter l x0 m → IsRun l m more → issues more ≡ 0 → length more ≤ weight l m.state
+pub bounded_drain : (l : Plan) (x0 : Machine) (m : Moment) (more : List Move) → Suits l → HoldsAfter l x0 m → IsRun l m more → issues more ≡ 0 →
+    length more ≤ weight l m.state
 bounded_drain l x0 m more acc h q z =
     let p = paid l x0 m more acc q h in
     let y : moves_per_issue l * issues more ≡ 0 = ap (λ (n : ℕ). moves_per_issue l * n) z ∙ times_zero (moves_per_issue l) in

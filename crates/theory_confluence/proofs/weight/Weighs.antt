@@ -32,8 +32,18 @@ pub cell_weighs : (n d : ℕ) (cells : List Cell) (i : ℕ) (c : Cell) → cell_
 cell_weighs n d cells i c e =
     let p = place cells i c e in
     let j : 1 + length p.below ≡ i = omega (arith, p.number) in
-    let at : (e : Cell) → cells_weight n d 1 (p.below ++ e ∷ p.above) ≡ (cells_weight n d 1 p.below + cells_weight n d (suc i) p.above) + cell_weight n d i e = λ e. let h = cells_weight_append n d 1 p.below (e ∷ p.above) ∙ ap (λ (j : ℕ). cells_weight n d 1 p.below + cells_weight n d j (e ∷ p.above)) j in omega (arith, h) in
-    record { rest = cells_weight n d 1 p.below + cells_weight n d (suc i) p.above; now = ap (cells_weight n d 1) p.split ∙ at c; put = λ e. ap (cells_weight n d 1) (p.set e) ∙ at e; low = omega (arith, p.number); high = omega (arith, p.number, ap length p.split ∙ length-append p.below (c ∷ p.above)) }
+    let at : (e : Cell) → cells_weight n d 1 (p.below ++ e ∷ p.above) ≡ (cells_weight n d 1 p.below + cells_weight n d (suc i) p.above) + cell_weight n d i e =
+    λ e. let h = cells_weight_append n d 1 p.below (e ∷ p.above) ∙ ap (λ (j : ℕ). cells_weight n d 1 p.below + cells_weight n d j (e ∷ p.above)) j in
+    omega (arith, h) in
+    record {
+      rest = cells_weight n d 1 p.below + cells_weight n d (suc i) p.above;
+      now = ap (cells_weight n d 1) p.split ∙ at c;
+      put =
+          λ e. ap (cells_weight n d 1) (p.set e) ∙ at e;
+      low = omega (arith, p.number);
+      high =
+          omega (arith, p.number, ap length p.split ∙ length-append p.below (c ∷ p.above));
+    }
 
 -- two neighbours
 pub record PairWeighs (n d : ℕ) (cells : List Cell) (i : ℕ) (a b : Cell) : Type 0 where
@@ -48,8 +58,18 @@ pub pair_weighs : (n d : ℕ) (cells : List Cell) (i : ℕ) (a b : Cell) → cel
 pair_weighs n d cells i a b e f =
     let p = pair cells i a b e f in
     let j : 1 + length p.below ≡ i = omega (arith, p.number) in
-    let at : (a b : Cell) → cells_weight n d 1 (p.below ++ a ∷ b ∷ p.above) ≡ (cells_weight n d 1 p.below + cells_weight n d (suc (suc i)) p.above) + (cell_weight n d i a + cell_weight n d (suc i) b) = λ a b. let h = cells_weight_append n d 1 p.below (a ∷ b ∷ p.above) ∙ ap (λ (j : ℕ). cells_weight n d 1 p.below + cells_weight n d j (a ∷ b ∷ p.above)) j in omega (arith, h) in
-    record { rest = cells_weight n d 1 p.below + cells_weight n d (suc (suc i)) p.above; now = ap (cells_weight n d 1) p.split ∙ at a b; up = λ a b. ap (cells_weight n d 1) (p.set a b) ∙ at a b; down = λ a b. ap (cells_weight n d 1) (p.set_down a b) ∙ at a b; low = omega (arith, p.number); high = omega (arith, p.number, ap length p.split ∙ length-append p.below (a ∷ b ∷ p.above)) }
+    let at : (a b : Cell) → cells_weight n d 1 (p.below ++ a ∷ b ∷ p.above) ≡ (cells_weight n d 1 p.below + cells_weight n d (suc (suc i)) p.above) +
+    (cell_weight n d i a + cell_weight n d (suc i) b) = λ a b. let h = cells_weight_append n d 1 p.below (a ∷ b ∷ p.above)
+    ∙ ap (λ (j : ℕ). cells_weight n d 1 p.below + cells_weight n d j (a ∷ b ∷ p.above)) j in omega (arith, h) in
+    record {
+      rest = cells_weight n d 1 p.below + cells_weight n d (suc (suc i)) p.above;
+      now = ap (cells_weight n d 1) p.split ∙ at a b;
+      up =
+          λ a b. ap (cells_weight n d 1) (p.set a b) ∙ at a b;
+      down = λ a b. ap (cells_weight n d 1) (p.set_down a b) ∙ at a b;
+      low = omega (arith, p.number);
+      high = omega (arith, p.number, ap length p.split ∙ length-append p.below (a ∷ b ∷ p.above));
+    }
 
 -- one siding
 pub record SidingWeighs (ss : List (List (Option Op))) (k : ℕ) : Type 0 where
@@ -59,7 +79,13 @@ pub record SidingWeighs (ss : List (List (Option Op))) (k : ℕ) : Type 0 where
 
 pub siding_weighs : (ss : List (List (Option Op))) (k n : ℕ) → length (cells_in ss k) ≡ suc n → SidingWeighs ss k
 siding_weighs [] k n e = absurd (cc)
-siding_weighs (q ∷ ss) zero n e = record { rest = sidings_weight ss; now = omega arith; put = λ r f. ap (λ (j : ℕ). siding_weight j 0 r + sidings_weight ss) f ∙ swap (siding_weight (length q) 0 r) (sidings_weight ss) }
+siding_weighs (q ∷ ss) zero n e =
+    record {
+      rest = sidings_weight ss;
+      now = omega arith;
+      put = λ r f. ap (λ (j : ℕ). siding_weight j 0 r + sidings_weight ss) f
+          ∙ swap (siding_weight (length q) 0 r) (sidings_weight ss);
+    }
   where
     swap : (a b : ℕ) → a + b ≡ b + a
     swap a b = omega arith
@@ -67,12 +93,14 @@ siding_weighs (q ∷ ss) (suc k) n e =
     let r = siding_weighs ss k n e in
     record { rest = siding_weight (length q) 0 q + r.rest; now = omega (arith, r.now); put = λ u f. let h = r.put u f in omega (arith, h) }
 
-one_on : (n j : ℕ) (op : Op) (r : ℕ) → suc j < n → suc (op_weight n j None + (op_weight n (suc j) (Some op) + r)) ≡ op_weight n j (Some op) + (op_weight n (suc j) None + r)
+one_on : (n j : ℕ) (op : Op) (r : ℕ) → suc j < n → suc (op_weight n j None + (op_weight n (suc j) (Some op) + r))
+    ≡ op_weight n j (Some op) + (op_weight n (suc j) None + r)
 unfolding op_weight
 one_on n j op r e = omega arith
 
 -- an operation that goes one cell on
-pub slide_weight : (n j : ℕ) (q : List (Option Op)) (c : ℕ) (op : Op) → j + length q ≤ n → slice_get q c ≡ Some (Some op) → slice_get q (suc c) ≡ Some None → suc (siding_weight n j (slice_set (slice_set q c None) (suc c) (Some op))) ≡ siding_weight n j q
+pub slide_weight : (n j : ℕ) (q : List (Option Op)) (c : ℕ) (op : Op) → j + length q ≤ n → slice_get q c ≡ Some (Some op) → slice_get q (suc c) ≡ Some None →
+    suc (siding_weight n j (slice_set (slice_set q c None) (suc c) (Some op))) ≡ siding_weight n j q
 slide_weight n j [] c op b e f = absurd (cc)
 slide_weight n j (o ∷ []) zero op b e f = absurd (cc)
 slide_weight n j (o ∷ p ∷ q) zero op b e f =
@@ -98,4 +126,9 @@ last_weighs n j zero (o ∷ p ∷ q) e = absurd (omega arith)
 last_weighs n j (suc c) (o ∷ p ∷ q) e =
     let r = last_weighs n (suc j) c (p ∷ q) (omega arith) in
     let y : suc j + c ≡ j + suc c = omega arith in
-    record { rest = op_weight n j o + r.rest; now = let h = r.now ∙ ap (λ (i : ℕ). r.rest + op_weight n i (last_op (p ∷ q))) y in omega (arith, h); put = λ u. let h = r.put u ∙ ap (λ (i : ℕ). r.rest + op_weight n i u) y in omega (arith, h) }
+    record {
+      rest = op_weight n j o + r.rest;
+      now = let h = r.now ∙ ap (λ (i : ℕ). r.rest + op_weight n i (last_op (p ∷ q))) y in
+          omega (arith, h);
+      put = λ u. let h = r.put u ∙ ap (λ (i : ℕ). r.rest + op_weight n i u) y in omega (arith, h);
+    }

@@ -60,7 +60,8 @@ ported_high l i p a acc h e = go (ahead.has_served p) p.recovered refl refl
 
     go : (b c : Bool) → ahead.has_served p ≡ b → p.recovered ≡ c → launch_stage l (port l) ≤ i
     go true c f g = let s = h.served f in let o = acc.order Memory (port l) acc.memory in let q = acc.in_pipe Memory (port l) acc.memory in omega arith
-    go false true f g = let m : is_memory (kind p) ≡ true = grind arith in let w = rw (at m) at (h.back g) in let o = acc.order Memory (port l) acc.memory in omega arith
+    go false true f g = let m : is_memory (kind p) ≡ true = grind arith in let w = rw (at m) at (h.back g) in let o = acc.order Memory (port l) acc.memory in
+        omega arith
     go false false f g = let m : is_memory (kind p) ≡ true = grind arith in let w = rw (at m) at (h.out (grind arith) g) in w.0
 
 pub sure_pc : (isa : Isa) (p : Passenger) (w : trail.Walk) (c : ℕ) → w.goto ≡ Some c → sure.SureAt isa p w → p.pc ≡ c
@@ -72,11 +73,13 @@ unfolding dock.Fits
 docked_of isa i p w h = h
 
 -- what a rider does to the walk, if it is live and sure
-pub sure_past : (isa : Isa) (i : ℕ) (p : Passenger) (w : dock.Dock) → p.dead ≡ false → w.path.barred ≡ false → ((dock.past isa (Up i p) w).path.machine ≡ after_step (step_at isa w.path.machine p.pc) w.path.machine) × ((dock.past isa (Up i p) w).path.goto ≡ goto p)
+pub sure_past : (isa : Isa) (i : ℕ) (p : Passenger) (w : dock.Dock) → p.dead ≡ false → w.path.barred ≡ false →
+    ((dock.past isa (Up i p) w).path.machine ≡ after_step (step_at isa w.path.machine p.pc) w.path.machine) × ((dock.past isa (Up i p) w).path.goto ≡ goto p)
 unfolding dock.past trail.past
 sure_past isa i p w d b = (grind arith, grind arith)
 
-pub dead_past : (isa : Isa) (i : ℕ) (p : Passenger) (w : dock.Dock) → p.dead ≡ true → ((dock.past isa (Up i p) w).path.machine ≡ w.path.machine) × ((dock.past isa (Up i p) w).path.goto ≡ w.path.goto) × ((dock.past isa (Up i p) w).mem ≡ w.mem)
+pub dead_past : (isa : Isa) (i : ℕ) (p : Passenger) (w : dock.Dock) → p.dead ≡ true → ((dock.past isa (Up i p) w).path.machine ≡ w.path.machine)
+    × ((dock.past isa (Up i p) w).path.goto ≡ w.path.goto) × ((dock.past isa (Up i p) w).mem ≡ w.mem)
 unfolding dock.past trail.past
 dead_past isa i p w d = (grind arith, grind arith, grind arith)
 
@@ -85,24 +88,32 @@ unfolding dock.past
 risk_past isa (Up i p) w e = (grind arith, grind arith)
 risk_past isa (Down i k) w e = (grind arith, grind arith)
 
-pub mem_past : (isa : Isa) (i : ℕ) (p : Passenger) (w : dock.Dock) (b : Bool) → ahead.has_ported p w.answer ≡ b → (dock.past isa (Up i p) w).mem ≡ (if b then (after_step (step_at isa w.path.machine p.pc) w.path.machine).hart.mem else w.mem)
+pub mem_past : (isa : Isa) (i : ℕ) (p : Passenger) (w : dock.Dock) (b : Bool) → ahead.has_ported p w.answer ≡ b →
+    (dock.past isa (Up i p) w).mem ≡ (if b then (after_step (step_at isa w.path.machine p.pc) w.path.machine).hart.mem else w.mem)
 unfolding dock.past
 mem_past isa i p w b e = rw e refl
 
-pub answer_past : (isa : Isa) (i : ℕ) (p : Passenger) (w : dock.Dock) (t : ahead.PortTally) → t.answer ≡ w.answer → (ahead.counted (Up i p) t).answer ≡ (dock.past isa (Up i p) w).answer
+pub answer_past : (isa : Isa) (i : ℕ) (p : Passenger) (w : dock.Dock) (t : ahead.PortTally) → t.answer ≡ w.answer →
+    (ahead.counted (Up i p) t).answer ≡ (dock.past isa (Up i p) w).answer
 unfolding dock.past ahead.counted
 answer_past isa i p w t e = rw e refl
 
-tally_past : (i : ℕ) (p : Passenger) (t : ahead.PortTally) (b : Bool) → ahead.has_ported p t.answer ≡ b → ((ahead.counted (Up i p) t).ported ≡ (if b then t.live + 1 else t.ported)) × ((ahead.counted (Up i p) t).live ≡ t.live + ahead.one (not p.dead))
+tally_past : (i : ℕ) (p : Passenger) (t : ahead.PortTally) (b : Bool) → ahead.has_ported p t.answer ≡ b →
+    ((ahead.counted (Up i p) t).ported ≡ (if b then t.live + 1 else t.ported)) × ((ahead.counted (Up i p) t).live ≡ t.live + ahead.one (not p.dead))
 unfolding ahead.counted
 tally_past i p t b e = (rw e refl, refl)
 
-pub result_past : (isa : Isa) (i : ℕ) (k : Packet) (w : dock.Dock) (t : ahead.PortTally) → ((dock.past isa (Down i k) w).path.machine ≡ w.path.machine) × ((dock.past isa (Down i k) w).path.goto ≡ w.path.goto) × ((dock.past isa (Down i k) w).mem ≡ w.mem) × ((dock.past isa (Down i k) w).answer ≡ w.answer) × (ahead.counted (Down i k) t ≡ t) × ((dock.past isa (Down i k) w).risky ≡ false → w.risky ≡ false)
+pub result_past : (isa : Isa) (i : ℕ) (k : Packet) (w : dock.Dock) (t : ahead.PortTally) →
+    ((dock.past isa (Down i k) w).path.machine ≡ w.path.machine) × ((dock.past isa (Down i k) w).path.goto ≡ w.path.goto)
+    × ((dock.past isa (Down i k) w).mem ≡ w.mem) × ((dock.past isa (Down i k) w).answer ≡ w.answer) × (ahead.counted (Down i k) t ≡ t)
+    × ((dock.past isa (Down i k) w).risky ≡ false → w.risky ≡ false)
 unfolding dock.past trail.past ahead.counted
 result_past isa i k w t = (grind arith, grind arith, refl, refl, refl, λ e. grind arith)
 
 -- at a rider
-pub live_on : (l : Plan) (m : Machine) (n i : ℕ) (p : Passenger) (w : dock.Dock) (t : ahead.PortTally) → Stands l i p → sure.Fits (isa_of l) (Up i p) w.path → dock.Fits (isa_of l) (Up i p) w → (w.path.barred ≡ true → w.risky ≡ true) → p.dead ≡ false → (dock.past (isa_of l) (Up i p) w).risky ≡ false → still p ≡ false → OnPath (isa_of l) m n w t → OnPath (isa_of l) m n (dock.past (isa_of l) (Up i p) w) (ahead.counted (Up i p) t)
+pub live_on : (l : Plan) (m : Machine) (n i : ℕ) (p : Passenger) (w : dock.Dock) (t : ahead.PortTally) → Stands l i p → sure.Fits (isa_of l) (Up i p) w.path →
+    dock.Fits (isa_of l) (Up i p) w → (w.path.barred ≡ true → w.risky ≡ true) → p.dead ≡ false → (dock.past (isa_of l) (Up i p) w).risky ≡ false →
+    still p ≡ false → OnPath (isa_of l) m n w t → OnPath (isa_of l) m n (dock.past (isa_of l) (Up i p) w) (ahead.counted (Up i p) t)
 live_on l m n i p w t s f k g d r b h =
     let q = risk_past (isa_of l) (Up i p) w r in
     let o = open_of w g q.0 in
@@ -114,19 +125,27 @@ live_on l m n i p w t s f k g d r b h =
     let v = sure_past (isa_of l) i p w d o in
     let u = (tally_past i p t (ahead.has_ported p t.answer) refl).1 in
     let count : n + (ahead.counted (Up i p) t).live ≡ suc (n + t.live) = omega (arith, u ∙ ap (λ (a : Bool). t.live + ahead.one (not a)) d) in
-    record { so_far = ap (after (isa_of l) m) count ∙ after_more (isa_of l) m w.path.machine y (n + t.live) h.so_far e ∙ ap Some (sym v.0); goto = v.1 ∙ z.next ∙ ap (λ (a : Machine). Some a.hart.pc) (sym v.0) }
+    record {
+      so_far = ap (after (isa_of l) m) count ∙ after_more (isa_of l) m w.path.machine y (n + t.live) h.so_far e ∙ ap Some (sym v.0);
+      goto = v.1 ∙ z.next
+          ∙ ap (λ (a : Machine). Some a.hart.pc) (sym v.0);
+    }
   where
     still_off : p.dead ≡ false → (is_memory (kind p) && not p.done && not p.launched) ≡ false
     still_off d = grind arith
 
-pub dead_on : (isa : Isa) (m : Machine) (n i : ℕ) (p : Passenger) (w : dock.Dock) (t : ahead.PortTally) → p.dead ≡ true → OnPath isa m n w t → OnPath isa m n (dock.past isa (Up i p) w) (ahead.counted (Up i p) t)
+pub dead_on : (isa : Isa) (m : Machine) (n i : ℕ) (p : Passenger) (w : dock.Dock) (t : ahead.PortTally) → p.dead ≡ true → OnPath isa m n w t →
+    OnPath isa m n (dock.past isa (Up i p) w) (ahead.counted (Up i p) t)
 dead_on isa m n i p w t d h =
     let v = dead_past isa i p w d in
     let u = (tally_past i p t (ahead.has_ported p t.answer) refl).1 in
     let count : n + (ahead.counted (Up i p) t).live ≡ n + t.live = omega (arith, u ∙ ap (λ (a : Bool). t.live + ahead.one (not a)) d) in
     record { so_far = ap (after isa m) count ∙ h.so_far ∙ ap Some (sym v.0); goto = v.1 ∙ h.goto ∙ ap (λ (a : Machine). Some a.hart.pc) (sym v.0) }
 
-rider_reach : (l : Plan) (m : Machine) (n i : ℕ) (p : Passenger) (w : dock.Dock) (t : ahead.PortTally) → Stands l i p → sure.Fits (isa_of l) (Up i p) w.path → dock.Fits (isa_of l) (Up i p) w → (w.path.barred ≡ true → w.risky ≡ true) → t.answer ≡ w.answer → (ahead.has_ported p w.answer ≡ true → w.risky ≡ false → OnPath (isa_of l) m n w t) → Reach (isa_of l) m n w t → Reach (isa_of l) m n (dock.past (isa_of l) (Up i p) w) (ahead.counted (Up i p) t)
+rider_reach : (l : Plan) (m : Machine) (n i : ℕ) (p : Passenger) (w : dock.Dock) (t : ahead.PortTally) → Stands l i p → sure.Fits (isa_of l) (Up i p) w.path →
+    dock.Fits (isa_of l) (Up i p) w → (w.path.barred ≡ true → w.risky ≡ true) → t.answer ≡ w.answer →
+    (ahead.has_ported p w.answer ≡ true → w.risky ≡ false → OnPath (isa_of l) m n w t) → Reach (isa_of l) m n w t →
+    Reach (isa_of l) m n (dock.past (isa_of l) (Up i p) w) (ahead.counted (Up i p) t)
 rider_reach l m n i p w t s f k g a o h = go (ahead.has_ported p w.answer) refl
   where
     go : (b : Bool) → ahead.has_ported p w.answer ≡ b → Reach (isa_of l) m n (dock.past (isa_of l) (Up i p) w) (ahead.counted (Up i p) t)
@@ -145,23 +164,36 @@ rider_reach l m n i p w t s f k g a o h = go (ahead.has_ported p w.answer) refl
         let z = ported_on l i p w s certain (docked_of (isa_of l) i p w k) e in
         let st : step_here (isa_of l) w.path.machine ≡ Goes y = ap (step_at (isa_of l) w.path.machine) (sym c) ∙ z in
         let count : n + (ahead.counted (Up i p) t).ported ≡ suc (n + t.live) = omega (arith, u.0) in
-        record { at = y; count = ap (after (isa_of l) m) count ∙ after_more (isa_of l) m w.path.machine y (n + t.live) on'.so_far st; mem = mem_past (isa_of l) i p w true e }
+        record {
+          at = y;
+          count = ap (after (isa_of l) m) count ∙ after_more (isa_of l) m w.path.machine y (n + t.live) on'.so_far st;
+          mem =
+              mem_past (isa_of l) i p w true e;
+        }
       where
         live : (b : Bool) → p.dead ≡ b → p.dead ≡ false
         live false x = x
         live true x = absurd (grind arith)
 
-pub walk_reach : (l : Plan) (m : Machine) (n : ℕ) (xs : List Item) (w : dock.Dock) (t : ahead.PortTally) (b : Bool) → Suits l → Sorted xs → Each l xs → Everywhere (sure.Fits (isa_of l)) (trail.past (isa_of l)) xs w.path → Everywhere (dock.Fits (isa_of l)) (dock.past (isa_of l)) xs w → (w.path.barred ≡ true → w.risky ≡ true) → t.answer ≡ w.answer → (b ≡ true → Riders (λ j. j < launch_stage l (port l)) xs) → (w.risky ≡ false → b ≡ false → OnPath (isa_of l) m n w t) → Reach (isa_of l) m n w t → Reach (isa_of l) m n (walk (dock.past (isa_of l)) xs w) (walk ahead.counted xs t)
+pub walk_reach : (l : Plan) (m : Machine) (n : ℕ) (xs : List Item) (w : dock.Dock) (t : ahead.PortTally) (b : Bool) → Suits l → Sorted xs → Each l xs →
+    Everywhere (sure.Fits (isa_of l)) (trail.past (isa_of l)) xs w.path → Everywhere (dock.Fits (isa_of l)) (dock.past (isa_of l)) xs w →
+    (w.path.barred ≡ true → w.risky ≡ true) → t.answer ≡ w.answer → (b ≡ true → Riders (λ j. j < launch_stage l (port l)) xs) →
+    (w.risky ≡ false → b ≡ false → OnPath (isa_of l) m n w t) → Reach (isa_of l) m n w t →
+    Reach (isa_of l) m n (walk (dock.past (isa_of l)) xs w) (walk ahead.counted xs t)
 walk_reach l m n [] w t b acc so ea fp fd g a low o h = h
 walk_reach l m n (Up i p ∷ xs) w t b acc so ea fp fd g a low o h =
-    let here : ahead.has_ported p w.answer ≡ true → w.risky ≡ false → OnPath (isa_of l) m n w t = λ e r. o r (behind_not b refl low (ported_high l i p w.answer acc ea.0 e)) in
-    walk_reach l m n xs (dock.past (isa_of l) (Up i p) w) (ahead.counted (Up i p) t) (b || still p) acc so.1 ea.1 (rw (past_path (isa_of l) (Up i p) w) fp.1) fd.1 (past_safe (isa_of l) (Up i p) w g) (answer_past (isa_of l) i p w t a) (lower b refl (still p) refl low) (λ r e. ahead_on p.dead refl r (parts b (still p) e)) (rider_reach l m n i p w t ea.0 fp.0 fd.0 g a here h)
+    let here : ahead.has_ported p w.answer ≡ true → w.risky ≡ false → OnPath (isa_of l) m n w t =
+    λ e r. o r (behind_not b refl low (ported_high l i p w.answer acc ea.0 e)) in
+    walk_reach l m n xs (dock.past (isa_of l) (Up i p) w) (ahead.counted (Up i p) t) (b || still p) acc so.1 ea.1
+    (rw (past_path (isa_of l) (Up i p) w) fp.1) fd.1 (past_safe (isa_of l) (Up i p) w g) (answer_past (isa_of l) i p w t a)
+    (lower b refl (still p) refl low) (λ r e. ahead_on p.dead refl r (parts b (still p) e)) (rider_reach l m n i p w t ea.0 fp.0 fd.0 g a here h)
   where
     behind_not : (c : Bool) → b ≡ c → (b ≡ true → Riders (λ j. j < launch_stage l (port l)) (Up i p ∷ xs)) → launch_stage l (port l) ≤ i → b ≡ false
     behind_not false e f q = e
     behind_not true e f q = absurd (let z = (f e).0 in omega arith)
 
-    lower : (c : Bool) → b ≡ c → (d : Bool) → still p ≡ d → (b ≡ true → Riders (λ j. j < launch_stage l (port l)) (Up i p ∷ xs)) → (b || still p) ≡ true → Riders (λ j. j < launch_stage l (port l)) xs
+    lower : (c : Bool) → b ≡ c → (d : Bool) → still p ≡ d → (b ≡ true → Riders (λ j. j < launch_stage l (port l)) (Up i p ∷ xs)) → (b || still p) ≡ true →
+        Riders (λ j. j < launch_stage l (port l)) xs
     lower true e d u f q = (f e).1
     lower false e true u f q = let z = still_low l i p acc ea.0 u in riders_more (λ j. j < i) (λ j. j < launch_stage l (port l)) xs (λ j y. omega arith) so.0
     lower false e false u f q = absurd (grind arith)
@@ -169,15 +201,26 @@ walk_reach l m n (Up i p ∷ xs) w t b acc so ea fp fd g a low o h =
     parts : (c d : Bool) → (c || d) ≡ false → (c ≡ false) × (d ≡ false)
     parts c d e = (grind arith, grind arith)
 
-    ahead_on : (d : Bool) → p.dead ≡ d → (dock.past (isa_of l) (Up i p) w).risky ≡ false → (b ≡ false) × (still p ≡ false) → OnPath (isa_of l) m n (dock.past (isa_of l) (Up i p) w) (ahead.counted (Up i p) t)
+    ahead_on : (d : Bool) → p.dead ≡ d → (dock.past (isa_of l) (Up i p) w).risky ≡ false → (b ≡ false) × (still p ≡ false) →
+        OnPath (isa_of l) m n (dock.past (isa_of l) (Up i p) w) (ahead.counted (Up i p) t)
     ahead_on true e r q = dead_on (isa_of l) m n i p w t e (o (risk_past (isa_of l) (Up i p) w r).0 q.0)
     ahead_on false e r q = live_on l m n i p w t ea.0 fp.0 fd.0 g e r q.1 (o (risk_past (isa_of l) (Up i p) w r).0 q.0)
 walk_reach l m n (Down i k ∷ xs) w t b acc so ea fp fd g a low o h =
     let q = result_past (isa_of l) i k w t in
-    walk_reach l m n xs (dock.past (isa_of l) (Down i k) w) (ahead.counted (Down i k) t) b acc so ea (rw (past_path (isa_of l) (Down i k) w) fp.1) fd.1 (past_safe (isa_of l) (Down i k) w g) (ap (λ (z : ahead.PortTally). z.answer) q.4 ∙ a ∙ sym q.3) low (λ r e. let z = o (q.5 r) e in record { so_far = ap (λ (y : ahead.PortTally). after (isa_of l) m (n + y.live)) q.4 ∙ z.so_far ∙ ap Some (sym q.0); goto = q.1 ∙ z.goto ∙ ap (λ (y : Machine). Some y.hart.pc) (sym q.0) }) (record { at = h.at; count = ap (λ (y : ahead.PortTally). after (isa_of l) m (n + y.ported)) q.4 ∙ h.count; mem = q.2 ∙ h.mem })
+    walk_reach l m n xs (dock.past (isa_of l) (Down i k) w) (ahead.counted (Down i k) t) b acc so ea (rw (past_path (isa_of l) (Down i k) w) fp.1) fd.1
+    (past_safe (isa_of l) (Down i k) w g) (ap (λ (z : ahead.PortTally). z.answer) q.4 ∙ a ∙ sym q.3) low (λ r e. let z = o (q.5 r) e in
+    record {
+      so_far = ap (λ (y : ahead.PortTally). after (isa_of l) m (n + y.live)) q.4 ∙ z.so_far ∙ ap Some (sym q.0);
+      goto = q.1 ∙ z.goto
+          ∙ ap (λ (y : Machine). Some y.hart.pc) (sym q.0);
+    }) (record
+    { at = h.at; count = ap (λ (y : ahead.PortTally). after (isa_of l) m (n + y.ported)) q.4 ∙ h.count; mem = q.2 ∙ h.mem })
 
-pub memory_ahead : {rest out : List ℕ} (l : Plan) (m : Machine) (s : State) (x : Machine) → Suits l → after (isa_of l) m (gained m s) ≡ Some x → Sound l s rest out x → (z : Machine) × (after (isa_of l) m (gained m s + ahead.ported_count l s) ≡ Some z) × (s.mem ≡ z.hart.mem)
+pub memory_ahead : {rest out : List ℕ} (l : Plan) (m : Machine) (s : State) (x : Machine) → Suits l → after (isa_of l) m (gained m s) ≡ Some x →
+    Sound l s rest out x → (z : Machine) × (after (isa_of l) m (gained m s + ahead.ported_count l s) ≡ Some z) × (s.mem ≡ z.hart.mem)
 memory_ahead {rest} {out} l m s x acc a h =
     let e : gained m s + 0 ≡ gained m s = omega arith in
-    let r = walk_reach l m (gained m s) (column s) (dock.top l s x) (ahead.uncounted l s) false acc (sorted 1 s.cells) h.stands h.path_fit h.port_fit (λ b. absurd (cc)) refl (λ b. absurd (cc)) (λ _ _. record { so_far = ap (after (isa_of l) m) e ∙ a; goto = refl }) (record { at = x; count = ap (after (isa_of l) m) e ∙ a; mem = refl }) in
+    let r = walk_reach l m (gained m s) (column s) (dock.top l s x) (ahead.uncounted l s) false acc (sorted 1 s.cells) h.stands h.path_fit h.port_fit
+    (λ b. absurd (cc)) refl (λ b. absurd (cc)) (λ _ _. record { so_far = ap (after (isa_of l) m) e ∙ a; goto = refl })
+    (record { at = x; count = ap (after (isa_of l) m) e ∙ a; mem = refl }) in
     (r.at, r.count, h.port_ends.is_mem ∙ r.mem)

@@ -61,11 +61,14 @@ vacant_stage cells (suc k) e = go cells k e
 
 -- a drained state is level: no call was served, and nothing has passed the port
 pub drained_level : (plan : Plan) (s : State) → is_drained s ≡ true → (served_count plan s ≡ 0) × (ported_count plan s ≡ 0)
-drained_level plan s d =
-    (unserved (cell_at s.cells plan.stages) (vacant_stage s.cells plan.stages (vacant_cells s d)), ap (λ (q : List Item). (walk counted q (uncounted plan s)).ported) (empty_column s d))
+drained_level plan s d = (
+  unserved (cell_at s.cells plan.stages) (vacant_stage s.cells plan.stages (vacant_cells s d)),
+  ap (λ (q : List Item). (walk counted q (uncounted plan s)).ported) (empty_column s d),
+)
 
 -- Leave empties the highest stage
-left_unserved : (cells : List Cell) (n : ℕ) (c : Cell) → on (cell_at (put_cell cells n (without_passenger c)) n) 0 (λ d. on d.passenger 0 (λ p. one (has_served p))) ≡ 0
+left_unserved : (cells : List Cell) (n : ℕ) (c : Cell) → on (cell_at (put_cell cells n (without_passenger c)) n) 0
+    (λ d. on d.passenger 0 (λ p. one (has_served p))) ≡ 0
 left_unserved cells zero c = refl
 left_unserved cells (suc k) c = go cells k
   where
@@ -80,7 +83,8 @@ leave_unserved plan s free =
     rw (next_leave plan s r.here r.who r.at_here r.sits, left_cells s plan.stages r.here r.who) (left_unserved s.cells plan.stages r.here)
 
 -- where an instruction has just retired no call was served, so that the output is level: as where a run stops at its limit
-pub retired_unserved : (plan : Plan) (m : Moment) (mv : Move) → bar plan m.state mv ≡ None → m.state.retired < (next plan m mv).state.retired → served_count plan (next plan m mv).state ≡ 0
+pub retired_unserved : (plan : Plan) (m : Moment) (mv : Move) → bar plan m.state mv ≡ None → m.state.retired < (next plan m mv).state.retired →
+    served_count plan (next plan m mv).state ≡ 0
 unfolding next
 retired_unserved plan m mv free rises = go mv free rises
   where

@@ -70,7 +70,8 @@ out_above l i (Up j p ∷ xs) acc e r h = (go (still p) refl, out_above l i xs a
     go true f = absurd (let z = still_low l j p acc h.0 f in omega (arith, r.0))
 out_above l i (Down j k ∷ xs) acc e r h = out_above l i xs acc e r h
 
-live_way : (isa : Isa) (i : ℕ) (p : Passenger) (v : right.Way) → trail.is_sure p v.path ≡ true → v.on ≡ true → p.pc ≡ v.path.machine.hart.pc → step_at isa v.path.machine p.pc ≡ Goes (after_step (step_at isa v.path.machine p.pc) v.path.machine) → (right.past isa (Up i p) v).on ≡ true
+live_way : (isa : Isa) (i : ℕ) (p : Passenger) (v : right.Way) → trail.is_sure p v.path ≡ true → v.on ≡ true → p.pc ≡ v.path.machine.hart.pc →
+    step_at isa v.path.machine p.pc ≡ Goes (after_step (step_at isa v.path.machine p.pc) v.path.machine) → (right.past isa (Up i p) v).on ≡ true
 unfolding right.past right.follows
 live_way isa i p v s o c g =
     let e : (p.pc == v.path.machine.hart.pc) ≡ true = grind (arith, c) in
@@ -85,14 +86,21 @@ result_way : (isa : Isa) (i : ℕ) (k : Packet) (v : right.Way) → v.on ≡ tru
 unfolding right.past
 result_way isa i k v o = o
 
-pub way_on : (l : Plan) (xs : List Item) (w : dock.Dock) (v : right.Way) → Each l xs → Everywhere (sure.Fits (isa_of l)) (trail.past (isa_of l)) xs w.path → Everywhere (dock.Fits (isa_of l)) (dock.past (isa_of l)) xs w → (w.path.barred ≡ true → w.risky ≡ true) → v.path ≡ w.path → v.on ≡ true → w.path.goto ≡ Some w.path.machine.hart.pc → Out xs → (walk (dock.past (isa_of l)) xs w).risky ≡ false → ((walk (right.past (isa_of l)) xs v).on ≡ true) × ((walk (dock.past (isa_of l)) xs w).path.goto ≡ Some (walk (dock.past (isa_of l)) xs w).path.machine.hart.pc) × ((walk (right.past (isa_of l)) xs v).path ≡ (walk (dock.past (isa_of l)) xs w).path)
+pub way_on : (l : Plan) (xs : List Item) (w : dock.Dock) (v : right.Way) → Each l xs → Everywhere (sure.Fits (isa_of l)) (trail.past (isa_of l)) xs w.path →
+    Everywhere (dock.Fits (isa_of l)) (dock.past (isa_of l)) xs w → (w.path.barred ≡ true → w.risky ≡ true) → v.path ≡ w.path → v.on ≡ true →
+    w.path.goto ≡ Some w.path.machine.hart.pc → Out xs → (walk (dock.past (isa_of l)) xs w).risky ≡ false →
+    ((walk (right.past (isa_of l)) xs v).on ≡ true) × ((walk (dock.past (isa_of l)) xs w).path.goto
+    ≡ Some (walk (dock.past (isa_of l)) xs w).path.machine.hart.pc) × ((walk (right.past (isa_of l)) xs v).path ≡ (walk (dock.past (isa_of l)) xs w).path)
 way_on l [] w v ea fp fd g q o e out r = (o, e, q)
 way_on l (Up i p ∷ xs) w v ea fp fd g q o e out r =
     let risk = risk_past (isa_of l) (Up i p) w (walk_risky (isa_of l) xs (dock.past (isa_of l) (Up i p) w) r) in
     let next' = go p.dead refl risk in
-    way_on l xs (dock.past (isa_of l) (Up i p) w) (right.past (isa_of l) (Up i p) v) ea.1 (rw (order.past_path (isa_of l) (Up i p) w) fp.1) fd.1 (past_safe (isa_of l) (Up i p) w g) (way_path (isa_of l) (Up i p) v ∙ ap (trail.past (isa_of l) (Up i p)) q ∙ sym (order.past_path (isa_of l) (Up i p) w)) next'.0 next'.1 out.1 r
+    way_on l xs (dock.past (isa_of l) (Up i p) w) (right.past (isa_of l) (Up i p) v) ea.1 (rw (order.past_path (isa_of l) (Up i p) w) fp.1) fd.1
+    (past_safe (isa_of l) (Up i p) w g) (way_path (isa_of l) (Up i p) v ∙ ap (trail.past (isa_of l) (Up i p)) q
+    ∙ sym (order.past_path (isa_of l) (Up i p) w)) next'.0 next'.1 out.1 r
   where
-    go : (d : Bool) → p.dead ≡ d → (w.risky ≡ false) × (may_turn (Up i p) ≡ false) → ((right.past (isa_of l) (Up i p) v).on ≡ true) × ((dock.past (isa_of l) (Up i p) w).path.goto ≡ Some (dock.past (isa_of l) (Up i p) w).path.machine.hart.pc)
+    go : (d : Bool) → p.dead ≡ d → (w.risky ≡ false) × (may_turn (Up i p) ≡ false) → ((right.past (isa_of l) (Up i p) v).on ≡ true)
+        × ((dock.past (isa_of l) (Up i p) w).path.goto ≡ Some (dock.past (isa_of l) (Up i p) w).path.machine.hart.pc)
     go true d risk = let z = dead_past (isa_of l) i p w d in (dead_way (isa_of l) i p v d o, z.1 ∙ e ∙ ap (λ (y : Machine). Some y.hart.pc) (sym z.0))
     go false d risk =
         let b = open_of w g risk.0 in
@@ -100,14 +108,19 @@ way_on l (Up i p ∷ xs) w v ea fp fd g q o e out r =
         let c = sure_pc (isa_of l) p w.path w.path.machine.hart.pc e certain in
         let z = quiet_on l i p w ea.0 certain (docked_of (isa_of l) i p w fd.0) d risk.1 (off d) in
         let s : trail.is_sure p v.path ≡ true = rw (q, d, b) refl in
-        let y = sure_past (isa_of l) i p w d b in
-        (live_way (isa_of l) i p v s o (c ∙ ap (λ (u : trail.Walk). u.machine.hart.pc) (sym q)) (subst (λ (u : trail.Walk). step_at (isa_of l) u.machine p.pc ≡ Goes (after_step (step_at (isa_of l) u.machine p.pc) u.machine)) (sym q) z.goes), y.1 ∙ z.next ∙ ap (λ (u : Machine). Some u.hart.pc) (sym y.0))
+        let y = sure_past (isa_of l) i p w d b in (
+          live_way (isa_of l) i p v s o (c ∙ ap (λ (u : trail.Walk). u.machine.hart.pc) (sym q))
+              (subst (λ (u : trail.Walk). step_at (isa_of l) u.machine p.pc ≡ Goes (after_step (step_at (isa_of l) u.machine p.pc) u.machine)) (sym q) z.goes),
+          y.1 ∙ z.next ∙ ap (λ (u : Machine). Some u.hart.pc) (sym y.0),
+        )
       where
         off : p.dead ≡ false → (is_memory (kind p) && not p.done && not p.launched) ≡ false
         off d = let z = out.0 in grind arith
 way_on l (Down i k ∷ xs) w v ea fp fd g q o e out r =
     let z = result_past (isa_of l) i k w (record { live = 0; ported = 0; answer = None }) in
-    way_on l xs (dock.past (isa_of l) (Down i k) w) (right.past (isa_of l) (Down i k) v) ea (rw (order.past_path (isa_of l) (Down i k) w) fp.1) fd.1 (past_safe (isa_of l) (Down i k) w g) (way_path (isa_of l) (Down i k) v ∙ ap (trail.past (isa_of l) (Down i k)) q ∙ sym (order.past_path (isa_of l) (Down i k) w)) (result_way (isa_of l) i k v o) (z.1 ∙ e ∙ ap (λ (y : Machine). Some y.hart.pc) (sym z.0)) out r
+    way_on l xs (dock.past (isa_of l) (Down i k) w) (right.past (isa_of l) (Down i k) v) ea (rw (order.past_path (isa_of l) (Down i k) w) fp.1) fd.1
+    (past_safe (isa_of l) (Down i k) w g) (way_path (isa_of l) (Down i k) v ∙ ap (trail.past (isa_of l) (Down i k)) q
+    ∙ sym (order.past_path (isa_of l) (Down i k) w)) (result_way (isa_of l) i k v o) (z.1 ∙ e ∙ ap (λ (y : Machine). Some y.hart.pc) (sym z.0)) out r
 
 -- the highest passenger
 top_way : (isa : Isa) (s : State) (x : Machine) (n : ℕ) (p : Passenger) → p.dead ≡ false → sure.Fits isa (Up n p) (trail.top s x) → OnWay isa s x [] p
@@ -188,27 +201,32 @@ dead_unmoved s n c = record { regs = refl; mem = refl; ending = refl }
 moment_unmoved : (m : Moment) (t : State) → Untouched m.state t → Unmoved m (record m { state = t })
 moment_unmoved m t u = record { regs = u.regs; mem = u.mem; rest = refl; output = refl; ending = u.ending }
 
-leave_acts : {rest out : List ℕ} (l : Plan) (s : State) (x : Machine) → bar l s Leave ≡ None → Sound l s rest out x → Untouched s (moved l s Leave) ⊎ Acted l s x Leave
+leave_acts : {rest out : List ℕ} (l : Plan) (s : State) (x : Machine) → bar l s Leave ≡ None → Sound l s rest out x →
+    Untouched s (moved l s Leave) ⊎ Acted l s x Leave
 leave_acts {rest} {out} l s x e h = go (leave_ready l s (bar_row l s Leave e))
   where
     go : Leaves l s → Untouched s (moved l s Leave) ⊎ Acted l s x Leave
     go r =
         let c = top_cell s.cells l.stages r.here h.size r.at_here in
         let under = packet_in l.stages r.here.packet ++ column_from 1 c.below in
-        let was : column s ≡ Up l.stages r.who ∷ under = c.was ∙ ap (λ (q : List Item). q ++ column_from 1 c.below) (rider_first l.stages r.here r.who r.sits r.clear) in
+        let was : column s ≡ Up l.stages r.who ∷ under = c.was ∙ ap (λ (q : List Item). q ++ column_from 1 c.below)
+        (rider_first l.stages r.here r.who r.sits r.clear) in
         let f = rw was at h.path_fit in
         by r.who.dead refl under was f.0
       where
-        by : (d : Bool) → r.who.dead ≡ d → (under : List Item) → column s ≡ Up l.stages r.who ∷ under → sure.Fits (isa_of l) (Up l.stages r.who) (trail.top s x) → Untouched s (moved l s Leave) ⊎ Acted l s x Leave
+        by : (d : Bool) → r.who.dead ≡ d → (under : List Item) → column s ≡ Up l.stages r.who ∷ under →
+            sure.Fits (isa_of l) (Up l.stages r.who) (trail.top s x) → Untouched s (moved l s Leave) ⊎ Acted l s x Leave
         by true d under was f = inl (rw (next_leave l s r.here r.who r.at_here r.sits, left_dead s l.stages r.here r.who d) (dead_unmoved s l.stages r.here))
-        by false d under was f = inr (record { above = []; below = under; stage = l.stages; who = r.who; was = was; acts = refl; way = top_way (isa_of l) s x l.stages r.who d f })
+        by false d under was f =
+            inr (record { above = []; below = under; stage = l.stages; who = r.who; was = was; acts = refl; way = top_way (isa_of l) s x l.stages r.who d f })
 
 serve_acts : {rest out : List ℕ} (l : Plan) (s : State) (x : Machine) → bar l s Serve ≡ None → Sound l s rest out x → Acted l s x Serve
 serve_acts {rest} {out} l s x e h =
     let r = serve_ready l s (bar_row l s Serve e) in
     let c = top_cell s.cells l.stages r.here h.size r.at_here in
     let under = packet_in l.stages r.here.packet ++ column_from 1 c.below in
-    let was : column s ≡ Up l.stages r.who ∷ under = c.was ∙ ap (λ (q : List Item). q ++ column_from 1 c.below) (rider_first l.stages r.here r.who r.sits r.clear) in
+    let was : column s ≡ Up l.stages r.who ∷ under = c.was ∙ ap (λ (q : List Item). q ++ column_from 1 c.below)
+    (rider_first l.stages r.here r.who r.sits r.clear) in
     let f = rw was at h.path_fit in
     record { above = []; below = under; stage = l.stages; who = r.who; was = was; acts = refl; way = top_way (isa_of l) s x l.stages r.who r.live f.0 }
 
@@ -223,7 +241,9 @@ access_acts {rest} {out} l s x acc e h =
     let ea = each_front l f.above ((Up i p ∷ []) ++ f.below) (rw was at h.stands) in
     let out = out_above l i f.above acc c.range.0 (over f.above f.below i p (subst Sorted was (sorted 1 s.cells))) ea in
     let w = walk (dock.past (isa_of l)) f.above (dock.top l s x) in
-    let z = way_on l f.above (dock.top l s x) (begin s x) ea (fit_front _ (sure.Fits (isa_of l)) (trail.past (isa_of l)) f.above ((Up i p ∷ []) ++ f.below) _ (rw was at h.path_fit)) (fit_front _ (dock.Fits (isa_of l)) (dock.past (isa_of l)) f.above ((Up i p ∷ []) ++ f.below) _ (rw was at h.port_fit)) (λ b. absurd (cc)) refl refl refl out c.calm in
+    let z = way_on l f.above (dock.top l s x) (begin s x) ea (fit_front _ (sure.Fits (isa_of l)) (trail.past (isa_of l)) f.above ((Up i p ∷ []) ++ f.below) _
+    (rw was at h.path_fit)) (fit_front _ (dock.Fits (isa_of l)) (dock.past (isa_of l)) f.above ((Up i p ∷ []) ++ f.below) _ (rw was at h.port_fit))
+    (λ b. absurd (cc)) refl refl refl out c.calm in
     record {
       above = f.above;
       below = f.below;
@@ -231,7 +251,12 @@ access_acts {rest} {out} l s x acc e h =
       who = p;
       was = f.was;
       acts = (c.flies, none_flies f.above c.landed, ap as_launched c.ready.lies ∙ ap Some (sym f.op));
-      way = record { sure = ap (λ (u : trail.Walk). trail.is_sure p u) z.2 ∙ both p.dead w.path.barred c.live (open_of w y.safe c.calm); on = z.0; pc = sure_pc (isa_of l) p w.path w.path.machine.hart.pc z.1 c.certain ∙ ap (λ (u : trail.Walk). u.machine.hart.pc) (sym z.2) };
+      way = record {
+        sure = ap (λ (u : trail.Walk). trail.is_sure p u) z.2 ∙ both p.dead w.path.barred c.live (open_of w y.safe c.calm);
+        on = z.0;
+        pc =
+            sure_pc (isa_of l) p w.path w.path.machine.hart.pc z.1 c.certain ∙ ap (λ (u : trail.Walk). u.machine.hart.pc) (sym z.2);
+      };
     }
   where
     none_flies : (xs : List Item) → Landed xs → NoneFlies xs
@@ -242,7 +267,8 @@ access_acts {rest} {out} l s x acc e h =
     both : (a b : Bool) → a ≡ false → b ≡ false → (not a && not b) ≡ true
     both a b e f = rw (e, f) refl
 
-pub heeds : (l : Plan) (x0 : Machine) (m : Moment) (x : Machine) (mv : Move) → Suits l → after (isa_of l) x0 (gained x0 m.state) ≡ Some x → bar l m.state mv ≡ None → Sound l m.state m.rest m.output x → KeepsOrActsOnPath l x0 m mv
+pub heeds : (l : Plan) (x0 : Machine) (m : Moment) (x : Machine) (mv : Move) → Suits l → after (isa_of l) x0 (gained x0 m.state) ≡ Some x →
+    bar l m.state mv ≡ None → Sound l m.state m.rest m.output x → KeepsOrActsOnPath l x0 m mv
 unfolding next
 heeds l x0 m x (Issue g) acc a e h = inl (moment_unmoved m _ (issue_unmoved l m.state g))
 heeds l x0 m x Emit acc a e h = inl (moment_unmoved m _ (emit_unmoved l m.state))
@@ -264,8 +290,10 @@ heeds l x0 m x Exit acc a e h = inl (moment_unmoved m _ (exit_unmoved l m.state)
 heeds l x0 m x Serve acc a e h = inr (x, a, serve_acts l m.state x e h)
 
 -- off the sequential path nothing is changed
-pub run_heeds : (l : Plan) (x0 : Machine) (moves : List Move) (mv : Move) → Suits l → length x0.hart.regs ≡ 32 → IsRun l (start l x0) moves → bar l (run l (start l x0) moves).state mv ≡ None → KeepsOrActsOnPath l x0 (run l (start l x0) moves) mv
+pub run_heeds : (l : Plan) (x0 : Machine) (moves : List Move) (mv : Move) → Suits l → length x0.hart.regs ≡ 32 → IsRun l (start l x0) moves →
+    bar l (run l (start l x0) moves).state mv ≡ None → KeepsOrActsOnPath l x0 (run l (start l x0) moves) mv
 run_heeds l x0 moves mv acc w r e =
     let m = run l (start l x0) moves in
     let h = holds_after l x0 moves acc w r in
-    heeds l x0 m h.machine mv acc (ap (after (isa_of l) x0) (gained_is l x0 m h) ∙ h.after) e (subst (HoldsAt l m.state m.rest m.output h.machine) (going l m.state mv e) h.stage)
+    heeds l x0 m h.machine mv acc (ap (after (isa_of l) x0) (gained_is l x0 m h) ∙ h.after) e
+    (subst (HoldsAt l m.state m.rest m.output h.machine) (going l m.state mv e) h.stage)

@@ -70,11 +70,13 @@ idle_of n [] a b = tt
 idle_of n (Up i p ∷ xs) a b = absurd (omega (arith, a.0, b.0))
 idle_of n (Down i k ∷ xs) a b = idle_of n xs a b
 
-pub path_result : (isa : Isa) (i : ℕ) (k : Packet) (w : trail.Walk) → ((trail.past isa (Down i k) w).machine ≡ w.machine) × ((trail.past isa (Down i k) w).goto ≡ w.goto)
+pub path_result : (isa : Isa) (i : ℕ) (k : Packet) (w : trail.Walk) → ((trail.past isa (Down i k) w).machine ≡ w.machine)
+    × ((trail.past isa (Down i k) w).goto ≡ w.goto)
 unfolding trail.past
 path_result isa i k w = (grind arith, grind arith)
 
-pub idle_path : (isa : Isa) (xs : List Item) (w : trail.Walk) → Idle xs → ((walk (trail.past isa) xs w).machine ≡ w.machine) × ((walk (trail.past isa) xs w).goto ≡ w.goto)
+pub idle_path : (isa : Isa) (xs : List Item) (w : trail.Walk) → Idle xs → ((walk (trail.past isa) xs w).machine ≡ w.machine)
+    × ((walk (trail.past isa) xs w).goto ≡ w.goto)
 idle_path isa [] w h = (refl, refl)
 idle_path isa (Up i p ∷ xs) w h = absurd h
 idle_path isa (Down i k ∷ xs) w h =
@@ -90,7 +92,9 @@ idle_mute isa (Down i k ∷ xs) w h =
     let b = idle_mute isa xs (dock.past isa (Down i k) w) h in
     record { rest = b.rest ∙ a.rest; out = b.out ∙ a.out }
 
-pub served_past : (isa : Isa) (i : ℕ) (p : Passenger) (w : dock.Dock) → ahead.has_served p ≡ true → ((dock.past isa (Up i p) w).rest ≡ (after_step (step_at isa w.path.machine p.pc) w.path.machine).rest) × ((dock.past isa (Up i p) w).out ≡ (after_step (step_at isa w.path.machine p.pc) w.path.machine).output)
+pub served_past : (isa : Isa) (i : ℕ) (p : Passenger) (w : dock.Dock) → ahead.has_served p ≡ true →
+    ((dock.past isa (Up i p) w).rest ≡ (after_step (step_at isa w.path.machine p.pc) w.path.machine).rest)
+    × ((dock.past isa (Up i p) w).out ≡ (after_step (step_at isa w.path.machine p.pc) w.path.machine).output)
 unfolding dock.past
 served_past isa i p w e = (rw e refl, rw e refl)
 
@@ -143,7 +147,8 @@ heard {rest} {out} l s x h = go l.stages refl h.size
         let e = mute l (column s) (dock.top l s x) r h.stands in
         inl (record { count = z; is_rest = h.port_ends.is_rest ∙ e.rest; is_out = h.port_ends.is_out ∙ e.out })
 
-    rides : (c : Cell) (p : Passenger) → cell_at s.cells l.stages ≡ Some c → c.passenger ≡ Some p → (b : Bool) → ahead.has_served p ≡ b → Silent l s x rest out ⊎ Served l s x rest out
+    rides : (c : Cell) (p : Passenger) → cell_at s.cells l.stages ≡ Some c → c.passenger ≡ Some p → (b : Bool) → ahead.has_served p ≡ b →
+        Silent l s x rest out ⊎ Served l s x rest out
     rides c p e f false g =
         let q = spot s l.stages c p e f in
         let z : served_count l s ≡ 0 = rw (e, f, g) refl in
@@ -153,8 +158,10 @@ heard {rest} {out} l s x h = go l.stages refl h.size
         let u = idle_mute (isa_of l) q.above (dock.top l s x) up in
         let w = walk (dock.past (isa_of l)) q.above (dock.top l s x) in
         let v = rider_mute (isa_of l) l.stages p w g in
-        let d = mute l q.below (dock.past (isa_of l) (Up l.stages p) w) q.under (each_back l (Up l.stages p ∷ []) q.below (each_back l q.above ((Up l.stages p ∷ []) ++ q.below) each)) in
-        let ends = subst (λ (z : dock.Dock). dock.Ends z s.mem rest out) (ap (λ (z : List Item). walk (dock.past (isa_of l)) z (dock.top l s x)) q.was ∙ walk_append (dock.past (isa_of l)) q.above ((Up l.stages p ∷ []) ++ q.below) (dock.top l s x)) h.port_ends in
+        let d = mute l q.below (dock.past (isa_of l) (Up l.stages p) w) q.under (each_back l (Up l.stages p ∷ []) q.below
+        (each_back l q.above ((Up l.stages p ∷ []) ++ q.below) each)) in
+        let ends = subst (λ (z : dock.Dock). dock.Ends z s.mem rest out) (ap (λ (z : List Item). walk (dock.past (isa_of l)) z (dock.top l s x)) q.was
+        ∙ walk_append (dock.past (isa_of l)) q.above ((Up l.stages p ∷ []) ++ q.below) (dock.top l s x)) h.port_ends in
         inl (record { count = z; is_rest = ends.is_rest ∙ d.rest ∙ v.rest ∙ u.rest; is_out = ends.is_out ∙ d.out ∙ v.out ∙ u.out })
     rides c p e f true g =
         let q = spot s l.stages c p e f in
@@ -166,15 +173,19 @@ heard {rest} {out} l s x h = go l.stages refl h.size
         let k = here l s x q.above (Up l.stages p ∷ []) q.below q.was h in
         let calm = served_calm (isa_of l) p w (docked_of (isa_of l) l.stages p w k.port_fit.0) g in
         let live : p.dead ≡ false = alive p g in
-        let certain = sure_at (isa_of l) l.stages p w.path live (open_of w k.safe calm) (subst (λ (z : trail.Walk). sure.Fits (isa_of l) (Up l.stages p) z) (sym k.same) k.path_fit.0) in
+        let certain = sure_at (isa_of l) l.stages p w.path live (open_of w k.safe calm) (subst (λ (z : trail.Walk). sure.Fits (isa_of l) (Up l.stages p) z)
+        (sym k.same) k.path_fit.0) in
         let same = idle_path (isa_of l) q.above (trail.top s x) up in
         let goto : w.path.goto ≡ Some x.hart.pc = ap (λ (z : trail.Walk). z.goto) k.same ∙ same.1 in
         let mach : w.path.machine ≡ x = ap (λ (z : trail.Walk). z.machine) k.same ∙ same.0 in
         let pc = sure_pc (isa_of l) p w.path x.hart.pc goto certain in
-        let st = subst (λ (z : Machine). step_at (isa_of l) z p.pc ≡ Goes (after_step (step_at (isa_of l) z p.pc) z)) mach (done_goes (isa_of l) p w.path g certain) in
+        let st = subst (λ (z : Machine). step_at (isa_of l) z p.pc ≡ Goes (after_step (step_at (isa_of l) z p.pc) z)) mach
+        (done_goes (isa_of l) p w.path g certain) in
         let v = served_past (isa_of l) l.stages p w g in
-        let d = mute l q.below (dock.past (isa_of l) (Up l.stages p) w) q.under (each_back l (Up l.stages p ∷ []) q.below (each_back l q.above ((Up l.stages p ∷ []) ++ q.below) each)) in
-        let ends = subst (λ (z : dock.Dock). dock.Ends z s.mem rest out) (ap (λ (z : List Item). walk (dock.past (isa_of l)) z (dock.top l s x)) q.was ∙ walk_append (dock.past (isa_of l)) q.above ((Up l.stages p ∷ []) ++ q.below) (dock.top l s x)) h.port_ends in
+        let d = mute l q.below (dock.past (isa_of l) (Up l.stages p) w) q.under (each_back l (Up l.stages p ∷ []) q.below
+        (each_back l q.above ((Up l.stages p ∷ []) ++ q.below) each)) in
+        let ends = subst (λ (z : dock.Dock). dock.Ends z s.mem rest out) (ap (λ (z : List Item). walk (dock.past (isa_of l)) z (dock.top l s x)) q.was
+        ∙ walk_append (dock.past (isa_of l)) q.above ((Up l.stages p ∷ []) ++ q.below) (dock.top l s x)) h.port_ends in
         inr (record {
           above = q.above;
           below = q.below;
@@ -194,7 +205,9 @@ heard {rest} {out} l s x h = go l.stages refl h.size
     inner c None e f =
         let t = top_cell s.cells l.stages c h.size e in
         let z : served_count l s ≡ 0 = rw (e, f) refl in
-        let r = riders_append (λ j. j < l.stages) (items l.stages c) (column_from 1 t.below) (subst (λ (o : Option Passenger). Riders (λ j. j < l.stages) (in_order c.met (passenger_in l.stages o) (packet_in l.stages c.packet))) (sym f) (no_riders l.stages l.stages c.met c.packet)) (riders_below l.stages 1 t.below (omega (arith, t.number))) in
+        let r = riders_append (λ j. j < l.stages) (items l.stages c) (column_from 1 t.below)
+        (subst (λ (o : Option Passenger). Riders (λ j. j < l.stages) (in_order c.met (passenger_in l.stages o) (packet_in l.stages c.packet))) (sym f)
+        (no_riders l.stages l.stages c.met c.packet)) (riders_below l.stages 1 t.below (omega (arith, t.number))) in
         silent (subst (Riders (λ j. j < l.stages)) (sym t.was) r) z
 
     go : (n : ℕ) → l.stages ≡ n → length s.cells ≡ l.stages → Silent l s x rest out ⊎ Served l s x rest out
@@ -205,16 +218,24 @@ heard {rest} {out} l s x h = go l.stages refl h.size
         nothing (c ∷ q) e = absurd (cc)
     go (suc n) e f = let c = some_cell s.cells n (f ∙ e) in inner c.0 c.0.passenger (ap (cell_at s.cells) e ∙ c.1) refl
 
-pub output_ahead : {rest out : List ℕ} (l : Plan) (m : Machine) (s : State) (x : Machine) → after (isa_of l) m (gained m s) ≡ Some x → Sound l s rest out x → Spoke (isa_of l) m (gained m s + served_count l s) (record { state = s; rest = rest; output = out })
+pub output_ahead : {rest out : List ℕ} (l : Plan) (m : Machine) (s : State) (x : Machine) → after (isa_of l) m (gained m s) ≡ Some x → Sound l s rest out x →
+    Spoke (isa_of l) m (gained m s + served_count l s) (record { state = s; rest = rest; output = out })
 output_ahead {rest} {out} l m s x a h = go (heard l s x h)
   where
     count : (c : ℕ) → served_count l s ≡ c → after (isa_of l) m (gained m s + served_count l s) ≡ after (isa_of l) m (gained m s + c)
     count c e = ap (λ (z : ℕ). after (isa_of l) m (gained m s + z)) e
 
     go : Silent l s x rest out ⊎ Served l s x rest out → Spoke (isa_of l) m (gained m s + served_count l s) (record { state = s; rest = rest; output = out })
-    go (inl q) = let n : gained m s + 0 ≡ gained m s = omega arith in record { at = x; count = count 0 q.count ∙ ap (after (isa_of l) m) n ∙ a; rest = q.is_rest; output = q.is_out }
+    go (inl q) = let n : gained m s + 0 ≡ gained m s = omega arith in
+        record { at = x; count = count 0 q.count ∙ ap (after (isa_of l) m) n ∙ a; rest = q.is_rest; output = q.is_out }
     go (inr q) =
         let y = after_step (step_at (isa_of l) x q.who.pc) x in
         let n : gained m s + 1 ≡ suc (gained m s) = omega arith in
         let st : step_here (isa_of l) x ≡ Goes y = ap (step_at (isa_of l) x) (sym q.pc) ∙ q.goes in
-        record { at = y; count = count 1 q.count ∙ ap (after (isa_of l) m) n ∙ after_more (isa_of l) m x y (gained m s) a st; rest = q.is_rest; output = q.is_out }
+        record {
+          at = y;
+          count = count 1 q.count ∙ ap (after (isa_of l) m) n ∙ after_more (isa_of l) m x y (gained m s) a st;
+          rest = q.is_rest;
+          output =
+              q.is_out;
+        }

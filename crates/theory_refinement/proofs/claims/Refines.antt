@@ -26,7 +26,9 @@ plus : (isa : Isa) (m : Machine) (n c : ℕ) (x : Machine) → c ≡ 0 → after
 plus isa m n c x e a = let q : n + c ≡ n = omega arith in ap (after isa m) q ∙ a
 
 -- where the invariant holds at a moment, what is seen there is what the machine does
-pub refined : (l : Plan) (x0 : Machine) (w : List Line) (m : Moment) (x : Machine) → Suits l → x0.hart.retired ≤ m.state.retired → w ≡ sequence (isa_of l) x0 (gained x0 m.state) → after (isa_of l) x0 (gained x0 m.state) ≡ Some x → (o : Option End) → m.state.ending ≡ o → HoldsAt l m.state m.rest m.output x o → Refines l x0 w m
+pub refined : (l : Plan) (x0 : Machine) (w : List Line) (m : Moment) (x : Machine) → Suits l → x0.hart.retired ≤ m.state.retired →
+    w ≡ sequence (isa_of l) x0 (gained x0 m.state) → after (isa_of l) x0 (gained x0 m.state) ≡ Some x → (o : Option End) → m.state.ending ≡ o →
+    HoldsAt l m.state m.rest m.output x o → Refines l x0 w m
 refined l x0 w m x acc r n a None e h =
     let z = memory_ahead l x0 m.state x acc a h in
     record {
@@ -58,11 +60,13 @@ refined l x0 w m x acc r n a (Some b) e h = record {
     same a b e = cc
 
 -- what is seen of every run is what the sequential machine does
-pub run_refines : (l : Plan) (x0 : Machine) (moves : List Move) → Suits l → length x0.hart.regs ≡ 32 → IsRun l (start l x0) moves → Refines l x0 (lines l (start l x0) moves) (run l (start l x0) moves)
+pub run_refines : (l : Plan) (x0 : Machine) (moves : List Move) → Suits l → length x0.hart.regs ≡ 32 → IsRun l (start l x0) moves →
+    Refines l x0 (lines l (start l x0) moves) (run l (start l x0) moves)
 run_refines l x0 moves acc w r =
     let m = run l (start l x0) moves in
     let h = holds_after l x0 moves acc w r in
-    refined l x0 (lines l (start l x0) moves) m h.machine acc (let c = h.count in omega (arith, c)) (lines_hold l x0 moves acc w r) (ap (after (isa_of l) x0) (gained_is l x0 m h) ∙ h.after) m.state.ending refl h.stage
+    refined l x0 (lines l (start l x0) moves) m h.machine acc (let c = h.count in omega (arith, c)) (lines_hold l x0 moves acc w r)
+    (ap (after (isa_of l) x0) (gained_is l x0 m h) ∙ h.after) m.state.ending refl h.stage
 
 -- the longer of two
 one_way : (isa : Isa) (x0 : Machine) (a b : ℕ) (u v : List Line) → u ≡ sequence isa x0 a → v ≡ sequence isa x0 b → a ≤ b → IsPrefix u v
@@ -81,13 +85,16 @@ either_way (suc a) (suc b) = go (either_way a b)
     go (inr e) = inr (omega arith)
 
 -- of the lines of two runs, under any two layouts, one list is a prefix of the other
-pub lines_prefix : (k l : Plan) (x0 : Machine) (moves others : List Move) → Suits k → Suits l → length x0.hart.regs ≡ 32 → IsRun k (start k x0) moves → IsRun l (start l x0) others → IsPrefix (lines k (start k x0) moves) (lines l (start l x0) others) ⊎ IsPrefix (lines l (start l x0) others) (lines k (start k x0) moves)
+pub lines_prefix : (k l : Plan) (x0 : Machine) (moves others : List Move) → Suits k → Suits l → length x0.hart.regs ≡ 32 → IsRun k (start k x0) moves →
+    IsRun l (start l x0) others → IsPrefix (lines k (start k x0) moves) (lines l (start l x0) others)
+    ⊎ IsPrefix (lines l (start l x0) others) (lines k (start k x0) moves)
 lines_prefix k l x0 moves others ak al w r q =
     let m = run k (start k x0) moves in
     let n = run l (start l x0) others in
     let hm = holds_after k x0 moves ak w r in
     let hn = holds_after l x0 others al w q in
-    let s = one_sequence (isa_of k) (isa_of l) x0 (gained x0 m.state) (gained x0 n.state) hm.machine hn.machine (ap (after (isa_of k) x0) (gained_is k x0 m hm) ∙ hm.after) (ap (after (isa_of l) x0) (gained_is l x0 n hn) ∙ hn.after) in
+    let s = one_sequence (isa_of k) (isa_of l) x0 (gained x0 m.state) (gained x0 n.state) hm.machine hn.machine (ap (after (isa_of k) x0) (gained_is k x0 m hm)
+    ∙ hm.after) (ap (after (isa_of l) x0) (gained_is l x0 n hn) ∙ hn.after) in
     go s.0 (either_way (gained x0 m.state) (gained x0 n.state)) (lines_hold k x0 moves ak w r ∙ s.1) (lines_hold l x0 others al w q ∙ s.2)
   where
     go : (isa : Isa) {a b : ℕ} {u v : List Line} → (a ≤ b) ⊎ (b ≤ a) → u ≡ sequence isa x0 a → v ≡ sequence isa x0 b → IsPrefix u v ⊎ IsPrefix v u

@@ -122,7 +122,8 @@ pub after_more : (isa : Isa) (m x y : Machine) (n : ℕ) → after isa m n ≡ S
 unfolding after
 after_more isa m x y n e g = ap (step_from isa) e ∙ goes_on isa x y g
 
-same : (l : Plan) (m t : Moment) (x0 : Machine) → m.state.ending ≡ None → Counts m.state t.state → (h : HoldsAfter l x0 m) → Sound l t.state t.rest t.output h.machine → HoldsAfter l x0 t
+same : (l : Plan) (m t : Moment) (x0 : Machine) → m.state.ending ≡ None → Counts m.state t.state → (h : HoldsAfter l x0 m) →
+    Sound l t.state t.rest t.output h.machine → HoldsAfter l x0 t
 same l m t x0 e c h k = record {
   gained = h.gained;
   machine = h.machine;
@@ -131,7 +132,8 @@ same l m t x0 e c h k = record {
   stage = subst (HoldsAt l t.state t.rest t.output h.machine) (sym (c.ending ∙ e)) k;
 }
 
-left : (l : Plan) (m t : Moment) (x0 : Machine) → m.state.ending ≡ None → (h : HoldsAfter l x0 m) → Left l m.state t.state t.rest t.output h.machine → HoldsAfter l x0 t
+left : (l : Plan) (m t : Moment) (x0 : Machine) → m.state.ending ≡ None → (h : HoldsAfter l x0 m) → Left l m.state t.state t.rest t.output h.machine →
+    HoldsAfter l x0 t
 left l m t x0 e h k = go k.how
   where
     x : Machine
@@ -140,10 +142,29 @@ left l m t x0 e h k = go k.how
     s : State
     s = m.state
 
-    go : ((t.state.ending ≡ s.ending) × (t.state.retired ≡ s.retired) × (retires l s Leave ≡ []) × Sound l t.state t.rest t.output x) ⊎ (((y : Machine) × (step_here (isa_of l) x ≡ Goes y) × (t.state.ending ≡ s.ending) × (t.state.retired ≡ suc s.retired) × (retires l s Leave ≡ lines_at (isa_of l) x) × Sound l t.state t.rest t.output y) ⊎ ((e : End) × (t.state.ending ≡ Some e) × (t.state.retired ≡ s.retired) × (retires l s Leave ≡ []) × IsOver l t.state t.rest t.output x e)) → HoldsAfter l x0 t
-    go (inl q) = record { gained = h.gained; machine = x; count = q.1 ∙ h.count; after = h.after; stage = subst (HoldsAt l t.state t.rest t.output x) (sym (q.0 ∙ e)) q.3 }
-    go (inr (inl q)) = record { gained = suc h.gained; machine = q.0; count = q.3 ∙ ap suc h.count ∙ omega arith; after = after_more (isa_of l) x0 x q.0 h.gained h.after q.1; stage = subst (HoldsAt l t.state t.rest t.output q.0) (sym (q.2 ∙ e)) q.5 }
-    go (inr (inr q)) = record { gained = h.gained; machine = x; count = q.2 ∙ h.count; after = h.after; stage = subst (HoldsAt l t.state t.rest t.output x) (sym q.1) q.4 }
+    go : ((t.state.ending ≡ s.ending) × (t.state.retired ≡ s.retired) × (retires l s Leave ≡ []) × Sound l t.state t.rest t.output x)
+        ⊎ (((y : Machine) × (step_here (isa_of l) x ≡ Goes y) × (t.state.ending ≡ s.ending) × (t.state.retired ≡ suc s.retired)
+        × (retires l s Leave ≡ lines_at (isa_of l) x) × Sound l t.state t.rest t.output y)
+        ⊎ ((e : End) × (t.state.ending ≡ Some e) × (t.state.retired ≡ s.retired) × (retires l s Leave ≡ []) × IsOver l t.state t.rest t.output x e)) →
+        HoldsAfter l x0 t
+    go (inl q) = record {
+      gained = h.gained;
+      machine = x;
+      count = q.1 ∙ h.count;
+      after = h.after;
+      stage =
+          subst (HoldsAt l t.state t.rest t.output x) (sym (q.0 ∙ e)) q.3;
+    }
+    go (inr (inl q)) = record {
+      gained = suc h.gained;
+      machine = q.0;
+      count = q.3 ∙ ap suc h.count ∙ omega arith;
+      after = after_more (isa_of l) x0 x q.0 h.gained h.after q.1;
+      stage =
+          subst (HoldsAt l t.state t.rest t.output q.0) (sym (q.2 ∙ e)) q.5;
+    }
+    go (inr (inr q)) = record
+        { gained = h.gained; machine = x; count = q.2 ∙ h.count; after = h.after; stage = subst (HoldsAt l t.state t.rest t.output x) (sym q.1) q.4 }
 
 -- each move keeps it
 pub kept : (l : Plan) (x0 : Machine) (m : Moment) (mv : Move) → Suits l → bar l m.state mv ≡ None → HoldsAfter l x0 m → HoldsAfter l x0 (next l m mv)
@@ -264,5 +285,6 @@ started l x0 w = record {
   stage = subst (HoldsAt l (opened l x0) x0.rest x0.output x0) (sym (not_ended l x0)) (opened_sound l x0 w);
 }
 
-pub holds_after : (l : Plan) (x0 : Machine) (moves : List Move) → Suits l → length x0.hart.regs ≡ 32 → IsRun l (start l x0) moves → HoldsAfter l x0 (run l (start l x0) moves)
+pub holds_after : (l : Plan) (x0 : Machine) (moves : List Move) → Suits l → length x0.hart.regs ≡ 32 → IsRun l (start l x0) moves →
+    HoldsAfter l x0 (run l (start l x0) moves)
 holds_after l x0 moves acc w r = held_after l x0 (start l x0) moves acc r (started l x0 w)

@@ -19,7 +19,8 @@ use Rattle.theory_refinement.proofs.claims.SoundnessPort.{memory_order, port}
 use Rattle.theory_refinement.proofs.claims.SoundnessSidings.{sidings, stops}
 
 -- the twelve parts
-pub sound_is : {rest out : List ℕ} (plan : Plan) (s : State) (x : Machine) → Sound plan s rest out x → IsSound plan (record { state = s; rest = rest; output = out }) x
+pub sound_is : {rest out : List ℕ} (plan : Plan) (s : State) (x : Machine) → Sound plan s rest out x →
+    IsSound plan (record { state = s; rest = rest; output = out }) x
 sound_is plan s x h = record {
   values = values plan s x h;
   path = path plan s x h;
@@ -36,7 +37,8 @@ sound_is plan s x h = record {
 }
 
 -- every moment of a run that has not ended is sound
-pub run_sound : (plan : Plan) (x0 : Machine) (moves : List Move) → Suits plan → length x0.hart.regs ≡ 32 → IsRun plan (start plan x0) moves → (run plan (start plan x0) moves).state.ending ≡ None → IsSoundAfter plan x0 (run plan (start plan x0) moves)
+pub run_sound : (plan : Plan) (x0 : Machine) (moves : List Move) → Suits plan → length x0.hart.regs ≡ 32 → IsRun plan (start plan x0) moves →
+    (run plan (start plan x0) moves).state.ending ≡ None → IsSoundAfter plan x0 (run plan (start plan x0) moves)
 run_sound plan x0 moves acc wide allowed e =
     let m = run plan (start plan x0) moves in
     let h = holds_after plan x0 moves acc wide allowed in

@@ -35,15 +35,18 @@ no_barrier i k h = go (turns (Some k)) refl
 harmless : (plan : Plan) (xs : List Item) → Everywhere lone.Fits (lone.past plan) xs true → IsHarmless xs
 harmless plan [] h = tt
 harmless plan (Up i p ∷ xs) h = no_rider i p h.0
-harmless plan (Down i k ∷ xs) h = (no_barrier i k h.0, harmless plan xs (subst (λ (b : Bool). Everywhere lone.Fits (lone.past plan) xs b) (shut_past plan (Down i k)) h.1))
+harmless plan (Down i k ∷ xs) h =
+    (no_barrier i k h.0, harmless plan xs (subst (λ (b : Bool). Everywhere lone.Fits (lone.past plan) xs b) (shut_past plan (Down i k)) h.1))
 
 -- an item that nothing may follow, in its place
-alone : {rest out : List ℕ} (plan : Plan) (s : State) (x : Machine) (above : List Item) (i : Item) (below : List Item) → column s ≡ above ++ (i ∷ below) → ((b : Bool) → lone.past plan i b ≡ true) → Sound plan s rest out x → IsHarmless below × (s.fetch ≡ Waiting)
+alone : {rest out : List ℕ} (plan : Plan) (s : State) (x : Machine) (above : List Item) (i : Item) (below : List Item) → column s ≡ above ++ (i ∷ below) →
+    ((b : Bool) → lone.past plan i b ≡ true) → Sound plan s rest out x → IsHarmless below × (s.fetch ≡ Waiting)
 alone plan s x above i below e shut h =
     let b = walk (lone.past plan) above false in
     let fit = fit_back _ lone.Fits (lone.past plan) above (i ∷ below) false (rw e at h.lone_fit) in
     let all : walk (lone.past plan) (column s) false ≡ true =
-    ap (λ (z : List Item). walk (lone.past plan) z false) e ∙ walk_append (lone.past plan) above (i ∷ below) false ∙ ap (walk (lone.past plan) below) (shut b) ∙ shut_walk plan below in
+    ap (λ (z : List Item). walk (lone.past plan) z false) e ∙ walk_append (lone.past plan) above (i ∷ below) false ∙ ap (walk (lone.past plan) below) (shut b)
+    ∙ shut_walk plan below in
     (harmless plan below (subst (λ (z : Bool). Everywhere lone.Fits (lone.past plan) below z) (shut b) fit.1), h.lone_ends all)
 
 -- (h) no follower

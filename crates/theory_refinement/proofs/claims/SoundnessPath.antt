@@ -77,7 +77,8 @@ path plan s x h p =
 Level : Walk → Type 0
 Level w = w.barred ≡ false → w.settled ≡ true → w.goto ≡ Some w.machine.hart.pc
 
-sure_level : (isa : Isa) (p : Passenger) (w : Walk) → sure.SureAt isa p w → (p.done && not (is_some p.ending)) ≡ true → goto p ≡ Some (after_step (step_at isa w.machine p.pc) w.machine).hart.pc
+sure_level : (isa : Isa) (p : Passenger) (w : Walk) → sure.SureAt isa p w → (p.done && not (is_some p.ending)) ≡ true →
+    goto p ≡ Some (after_step (step_at isa w.machine p.pc) w.machine).hart.pc
 unfolding sure.SureAt
 sure_level isa p w h s = go p.done p.ending refl refl
   where
@@ -90,7 +91,9 @@ past_level : (isa : Isa) (i : Item) (w : Walk) → sure.Fits isa i w → Level w
 unfolding trail.past Level
 past_level isa (Up i p) w f h = by (is_sure p w) (certain isa i p w f) h
   where
-    by : (b : Bool) → When b (sure.SureAt isa p w) → (w.barred ≡ false → w.settled ≡ true → w.goto ≡ Some w.machine.hart.pc) → (trail.past_passenger isa b p w).barred ≡ false → (trail.past_passenger isa b p w).settled ≡ true → (trail.past_passenger isa b p w).goto ≡ Some (trail.past_passenger isa b p w).machine.hart.pc
+    by : (b : Bool) → When b (sure.SureAt isa p w) → (w.barred ≡ false → w.settled ≡ true → w.goto ≡ Some w.machine.hart.pc) →
+        (trail.past_passenger isa b p w).barred ≡ false → (trail.past_passenger isa b p w).settled ≡ true →
+        (trail.past_passenger isa b p w).goto ≡ Some (trail.past_passenger isa b p w).machine.hart.pc
     by true g h e s = sure_level isa p w g s
     by false g h e s = h e s
 past_level isa (Down i (Value r v)) w f h = h
@@ -101,7 +104,8 @@ level : (isa : Isa) (xs : List Item) (w : Walk) → Everywhere (sure.Fits isa) (
 level isa [] w f h = h
 level isa (i ∷ xs) w f h = level isa xs (trail.past isa i w) f.1 (past_level isa i w f.0 h)
 
-first_packet : (k : Packet) (w : Walk) → (w.settled ≡ true → w.goto ≡ Some w.machine.hart.pc) → sure.PacketFits k w → IsFirstBarrier k w.machine w.settled w.trapped
+first_packet : (k : Packet) (w : Walk) → (w.settled ≡ true → w.goto ≡ Some w.machine.hart.pc) → sure.PacketFits k w →
+    IsFirstBarrier k w.machine w.settled w.trapped
 first_packet (Value r v) w g h = tt
 first_packet (Turn pc) w g h = (same pc w.machine.hart.pc (sym h.0 ∙ g h.1), h.1)
   where
@@ -109,7 +113,8 @@ first_packet (Turn pc) w g h = (same pc w.machine.hart.pc (sym h.0 ∙ g h.1), h
     same a b e = cc
 first_packet Halt w g h = h.1
 
-first_owed : (isa : Isa) (p : Passenger) (w : Walk) (k : Packet) → p.owes ≡ Some k → sure.SureAt isa p w → IsFirstBarrier k (after_step (step_at isa w.machine p.pc) w.machine) (p.done && not (is_some p.ending)) (is_trap p.ending)
+first_owed : (isa : Isa) (p : Passenger) (w : Walk) (k : Packet) → p.owes ≡ Some k → sure.SureAt isa p w →
+    IsFirstBarrier k (after_step (step_at isa w.machine p.pc) w.machine) (p.done && not (is_some p.ending)) (is_trap p.ending)
 unfolding sure.SureAt
 first_owed isa p w k e h = by k e (subst (λ (o : Option Packet). sure.Owed o p.next p.ending) e h.0.owed)
   where
@@ -117,7 +122,8 @@ first_owed isa p w k e h = by k e (subst (λ (o : Option Packet). sure.Owed o p.
     done true d = d
     done false d = absurd (let z = h.0.unowing d in cc)
 
-    by : (k : Packet) → p.owes ≡ Some k → sure.Owed (Some k) p.next p.ending → IsFirstBarrier k (after_step (step_at isa w.machine p.pc) w.machine) (p.done && not (is_some p.ending)) (is_trap p.ending)
+    by : (k : Packet) → p.owes ≡ Some k → sure.Owed (Some k) p.next p.ending → IsFirstBarrier k (after_step (step_at isa w.machine p.pc) w.machine) (p.done
+        && not (is_some p.ending)) (is_trap p.ending)
     by (Value r v) e o = tt
     by (Turn pc) e o =
         let d = done p.done refl in
@@ -143,7 +149,8 @@ first_barrier plan s x h = record {
       under (is_sure p.who w) (first_owed (isa_of plan) p.who w k e) (certain (isa_of plan) p.stage p.who w q.path_fit.0);
 }
   where
-    lying : (b : Bool) (k : Packet) (w : Walk) → w.barred ≡ b → Level w → When (not b) (sure.PacketFits k w) → When (not b) (IsFirstBarrier k w.machine w.settled w.trapped)
+    lying : (b : Bool) (k : Packet) (w : Walk) → w.barred ≡ b → Level w → When (not b) (sure.PacketFits k w) →
+        When (not b) (IsFirstBarrier k w.machine w.settled w.trapped)
     lying true k w e l h = tt
     lying false k w e l h = first_packet k w (l e) h
 
@@ -160,7 +167,8 @@ packet_open : (isa : Isa) (i : ℕ) (k : Packet) (w : Walk) → (trail.past isa 
 unfolding trail.past
 packet_open isa i k w e = grind arith
 
-nowhere : (isa : Isa) (xs : List Item) (w : Walk) → Everywhere (sure.Fits isa) (trail.past isa) xs w → w.goto ≡ None → (walk (trail.past isa) xs w).barred ≡ false → (walk (trail.past isa) xs w).goto ≡ None
+nowhere : (isa : Isa) (xs : List Item) (w : Walk) → Everywhere (sure.Fits isa) (trail.past isa) xs w → w.goto ≡ None →
+    (walk (trail.past isa) xs w).barred ≡ false → (walk (trail.past isa) xs w).goto ≡ None
 nowhere isa [] w h g e = g
 nowhere isa (Up i p ∷ xs) w h g e =
     let o = open_walk isa (Up i p ∷ xs) w e in
@@ -172,15 +180,19 @@ nowhere isa (Down i k ∷ xs) w h g e =
     nowhere isa xs (trail.past isa (Down i k) w) h.1 (q.1 ∙ g) e
 
 -- the values that come from one item
-from_packet : (isa : Isa) (i r : ℕ) (k : Packet) (w : Walk) (b : Bool) → ((trail.past isa (Down i k) w).coming r || b) ≡ true → (w.coming r || (brings_value r (Down i k) || b)) ≡ true
+from_packet : (isa : Isa) (i r : ℕ) (k : Packet) (w : Walk) (b : Bool) → ((trail.past isa (Down i k) w).coming r || b) ≡ true →
+    (w.coming r || (brings_value r (Down i k) || b)) ≡ true
 unfolding trail.past
 from_packet isa i r k w b e = grind arith
 
-from_rider : (isa : Isa) (i r : ℕ) (p : Passenger) (w : Walk) (b : Bool) → (is_sure p w ≡ true → is_some p.ending ≡ false) → (is_sure p w ≡ true → has_reg p.dst r ≡ true → is_some p.owes ≡ true → owes_value p.owes r ≡ true) → ((trail.past isa (Up i p) w).coming r || b) ≡ true → (w.coming r || (brings_value r (Up i p) || b)) ≡ true
+from_rider : (isa : Isa) (i r : ℕ) (p : Passenger) (w : Walk) (b : Bool) → (is_sure p w ≡ true → is_some p.ending ≡ false) →
+    (is_sure p w ≡ true → has_reg p.dst r ≡ true → is_some p.owes ≡ true → owes_value p.owes r ≡ true) → ((trail.past isa (Up i p) w).coming r || b) ≡ true →
+    (w.coming r || (brings_value r (Up i p) || b)) ≡ true
 unfolding trail.past
 from_rider isa i r p w b s o e = grind arith
 
-ended_nowhere : (isa : Isa) (i : ℕ) (p : Passenger) (w : Walk) → sure.Fits isa (Up i p) w → is_sure p w ≡ true → is_some p.ending ≡ true → (trail.past isa (Up i p) w).goto ≡ None
+ended_nowhere : (isa : Isa) (i : ℕ) (p : Passenger) (w : Walk) → sure.Fits isa (Up i p) w → is_sure p w ≡ true → is_some p.ending ≡ true →
+    (trail.past isa (Up i p) w).goto ≡ None
 unfolding trail.past sure.Fits sure.SureAt
 ended_nowhere isa i p w h s e = go p.done refl
   where
@@ -196,7 +208,8 @@ barred_by : (isa : Isa) (i : ℕ) (p : Passenger) (w : Walk) → is_sure p w ≡
 unfolding trail.past
 barred_by isa i p w s t = rw s t
 
-owed_is : (isa : Isa) (i r : ℕ) (p : Passenger) (w : Walk) → sure.Fits isa (Up i p) w → (trail.past isa (Up i p) w).barred ≡ false → is_sure p w ≡ true → has_reg p.dst r ≡ true → is_some p.owes ≡ true → owes_value p.owes r ≡ true
+owed_is : (isa : Isa) (i r : ℕ) (p : Passenger) (w : Walk) → sure.Fits isa (Up i p) w → (trail.past isa (Up i p) w).barred ≡ false → is_sure p w ≡ true →
+    has_reg p.dst r ≡ true → is_some p.owes ≡ true → owes_value p.owes r ≡ true
 unfolding sure.SureAt
 owed_is isa i r p w h o s d e = by p.owes refl (rw s at (certain isa i p w h)).0.values.owed
   where
@@ -212,10 +225,12 @@ owed_is isa i r p w h o s d e = by p.owes refl (rw s at (certain isa i p w h)).0
     by (Some (Turn pc)) f g = absurd (barrier (rw f refl))
     by (Some Halt) f g = absurd (barrier (rw f refl))
 
-comes : (isa : Isa) (r pc : ℕ) (xs : List Item) (w : Walk) → Everywhere (sure.Fits isa) (trail.past isa) xs w → (walk (trail.past isa) xs w).barred ≡ false → (walk (trail.past isa) xs w).goto ≡ Some pc → (walk (trail.past isa) xs w).coming r ≡ true → (w.coming r || list_any (brings_value r) xs) ≡ true
+comes : (isa : Isa) (r pc : ℕ) (xs : List Item) (w : Walk) → Everywhere (sure.Fits isa) (trail.past isa) xs w → (walk (trail.past isa) xs w).barred ≡ false →
+    (walk (trail.past isa) xs w).goto ≡ Some pc → (walk (trail.past isa) xs w).coming r ≡ true → (w.coming r || list_any (brings_value r) xs) ≡ true
 comes isa r pc [] w h o g e = rw e refl
 comes isa r pc (Up i p ∷ xs) w h o g e =
-    from_rider isa i r p w (list_any (brings_value r) xs) (λ s. unended (is_some p.ending) refl s) (owed_is isa i r p w h.0 (open_walk isa xs (trail.past isa (Up i p) w) o)) (comes isa r pc xs (trail.past isa (Up i p) w) h.1 o g e)
+    from_rider isa i r p w (list_any (brings_value r) xs) (λ s. unended (is_some p.ending) refl s)
+    (owed_is isa i r p w h.0 (open_walk isa xs (trail.past isa (Up i p) w) o)) (comes isa r pc xs (trail.past isa (Up i p) w) h.1 o g e)
   where
     unended : (b : Bool) → is_some p.ending ≡ b → is_sure p w ≡ true → is_some p.ending ≡ false
     unended false f s = f
@@ -223,7 +238,8 @@ comes isa r pc (Up i p ∷ xs) w h o g e =
 comes isa r pc (Down i k ∷ xs) w h o g e = from_packet isa i r k w (list_any (brings_value r) xs) (comes isa r pc xs (trail.past isa (Down i k) w) h.1 o g e)
 
 -- the sources that have no value
-both_come : (isa : Isa) (s : State) (p : Passenger) (w : Walk) (above : List Item) → ((r : ℕ) → w.goto ≡ Some p.pc → w.coming r ≡ true → (trail.among r s.lane || list_any (brings_value r) above) ≡ true) → sure.SureAt isa p w → IsOnItsWay s above p.src1 × IsOnItsWay s above p.src2
+both_come : (isa : Isa) (s : State) (p : Passenger) (w : Walk) (above : List Item) → ((r : ℕ) → w.goto ≡ Some p.pc → w.coming r ≡ true →
+    (trail.among r s.lane || list_any (brings_value r) above) ≡ true) → sure.SureAt isa p w → IsOnItsWay s above p.src1 × IsOnItsWay s above p.src2
 unfolding sure.SureAt
 both_come isa s p w above f h = (λ r e. f r h.0.path (h.1.source1 r e), λ r e. f r h.0.path (h.1.source2 r e))
 
@@ -232,11 +248,15 @@ sources plan s x h p =
     let w = known (isa_of plan) s x p.above in
     let k = here plan s x p.above (Up p.stage p.who ∷ []) p.below p.split h in
     let above = fit_front _ (sure.Fits (isa_of plan)) (trail.past (isa_of plan)) p.above (Up p.stage p.who ∷ p.below) _ (rw p.split at h.path_fit) in
-    by (is_sure p.who w) refl (λ o r g e. comes (isa_of plan) r p.who.pc p.above (trail.top s x) above o g e) (certain (isa_of plan) p.stage p.who w k.path_fit.0)
+    by (is_sure p.who w) refl (λ o r g e. comes (isa_of plan) r p.who.pc p.above (trail.top s x) above o g e)
+    (certain (isa_of plan) p.stage p.who w k.path_fit.0)
   where
     open' : (p : Passenger) (w : Walk) → is_sure p w ≡ true → w.barred ≡ false
     open' p w e = grind arith
 
-    by : (b : Bool) → is_sure p.who (known (isa_of plan) s x p.above) ≡ b → ((known (isa_of plan) s x p.above).barred ≡ false → (r : ℕ) → (known (isa_of plan) s x p.above).goto ≡ Some p.who.pc → (known (isa_of plan) s x p.above).coming r ≡ true → (trail.among r s.lane || list_any (brings_value r) p.above) ≡ true) → When b (sure.SureAt (isa_of plan) p.who (known (isa_of plan) s x p.above)) → When b (IsOnItsWay s p.above p.who.src1 × IsOnItsWay s p.above p.who.src2)
+    by : (b : Bool) → is_sure p.who (known (isa_of plan) s x p.above) ≡ b → ((known (isa_of plan) s x p.above).barred ≡ false → (r : ℕ) →
+        (known (isa_of plan) s x p.above).goto ≡ Some p.who.pc → (known (isa_of plan) s x p.above).coming r ≡ true →
+        (trail.among r s.lane || list_any (brings_value r) p.above) ≡ true) → When b (sure.SureAt (isa_of plan) p.who (known (isa_of plan) s x p.above)) →
+        When b (IsOnItsWay s p.above p.who.src1 × IsOnItsWay s p.above p.who.src2)
     by true e f h = both_come (isa_of plan) s p.who (known (isa_of plan) s x p.above) p.above (f (open' p.who (known (isa_of plan) s x p.above) e)) h
     by false e f h = tt

@@ -34,7 +34,8 @@ none_turns : (isa : Isa) (xs : List Item) (w : dock.Dock) → (walk (dock.past i
 none_turns isa [] w e = refl
 none_turns isa (i ∷ xs) w e = rw (risk_past isa i w (walk_risky isa xs (dock.past isa i w) e)).1 (none_turns isa xs (dock.past isa i w) e)
 
-launched_calm : (isa : Isa) (p : Passenger) (w : dock.Dock) → dock.DockedAt isa p w → is_memory (kind p) ≡ true → p.launched ≡ true → (p.dead ≡ false) × (w.risky ≡ false)
+launched_calm : (isa : Isa) (p : Passenger) (w : dock.Dock) → dock.DockedAt isa p w → is_memory (kind p) ≡ true → p.launched ≡ true →
+    (p.dead ≡ false) × (w.risky ≡ false)
 unfolding dock.DockedAt
 launched_calm isa p w h m l = let o : (p.launched || p.recovered) ≡ true = rw l refl in (h.live m o, h.order m o)
 
@@ -47,19 +48,23 @@ memory_order plan s x h p m l =
     (q.0, none_turns isa p.above (dock.top plan s x) q.1)
 
 -- (k) port: a sure passenger counts, any other does not
-after_sure : (isa : Isa) (n i : ℕ) (p : Passenger) (xs : List Item) (w : trail.Walk) → trail.is_sure p w ≡ true → machine_after isa (suc n) (Up i p ∷ xs) w ≡ machine_after isa n xs (trail.past isa (Up i p) w)
+after_sure : (isa : Isa) (n i : ℕ) (p : Passenger) (xs : List Item) (w : trail.Walk) → trail.is_sure p w ≡ true →
+    machine_after isa (suc n) (Up i p ∷ xs) w ≡ machine_after isa n xs (trail.past isa (Up i p) w)
 after_sure isa n i p xs w e = rw e refl
 
-first_machine : (isa : Isa) (i : ℕ) (p : Passenger) (w : trail.Walk) → trail.is_sure p w ≡ true → (trail.past isa (Up i p) w).machine ≡ after_step (step_at isa w.machine p.pc) w.machine
+first_machine : (isa : Isa) (i : ℕ) (p : Passenger) (w : trail.Walk) → trail.is_sure p w ≡ true →
+    (trail.past isa (Up i p) w).machine ≡ after_step (step_at isa w.machine p.pc) w.machine
 unfolding trail.past
 first_machine isa i p w e = rw e refl
 
-after_other : (isa : Isa) (n i : ℕ) (p : Passenger) (xs : List Item) (w : trail.Walk) → trail.is_sure p w ≡ false → machine_after isa n (Up i p ∷ xs) w ≡ machine_after isa n xs (trail.past isa (Up i p) w)
+after_other : (isa : Isa) (n i : ℕ) (p : Passenger) (xs : List Item) (w : trail.Walk) → trail.is_sure p w ≡ false →
+    machine_after isa n (Up i p ∷ xs) w ≡ machine_after isa n xs (trail.past isa (Up i p) w)
 unfolding trail.past
 after_other isa zero i p xs w e = rw e refl
 after_other isa (suc n) i p xs w e = rw e refl
 
-after_packet : (isa : Isa) (n i : ℕ) (k : Packet) (xs : List Item) (w : trail.Walk) → machine_after isa n (Down i k ∷ xs) w ≡ machine_after isa n xs (trail.past isa (Down i k) w)
+after_packet : (isa : Isa) (n i : ℕ) (k : Packet) (xs : List Item) (w : trail.Walk) → machine_after isa n (Down i k ∷ xs) w
+    ≡ machine_after isa n xs (trail.past isa (Down i k) w)
 after_packet isa zero i k xs w = sym (path_result isa i k w).0
 after_packet isa (suc n) i k xs w = refl
 
@@ -77,14 +82,17 @@ counted_live : (i : ℕ) (p : Passenger) (t : ahead.PortTally) → (ahead.counte
 unfolding ahead.counted
 counted_live i p t = refl
 
-counted_ported : (i : ℕ) (p : Passenger) (t : ahead.PortTally) → (ahead.counted (Up i p) t).ported ≡ (if ahead.has_ported p t.answer then t.live + 1 else t.ported)
+counted_ported : (i : ℕ) (p : Passenger) (t : ahead.PortTally) → (ahead.counted (Up i p) t).ported
+    ≡ (if ahead.has_ported p t.answer then t.live + 1 else t.ported)
 unfolding ahead.counted
 counted_ported i p t = refl
 
 dead_is : (p : Passenger) (w : trail.Walk) → p.dead ≡ true → trail.is_sure p w ≡ false
 dead_is p w d = grind arith
 
-goes_on_rider : (isa : Isa) (all : List Item) (from : trail.Walk) (i : ℕ) (p : Passenger) (xs : List Item) (w : dock.Dock) (t : ahead.PortTally) → (w.path.barred ≡ true → w.risky ≡ true) → GoesOn isa all from (Up i p ∷ xs) w t → GoesOn isa all from xs (dock.past isa (Up i p) w) (ahead.counted (Up i p) t)
+goes_on_rider : (isa : Isa) (all : List Item) (from : trail.Walk) (i : ℕ) (p : Passenger) (xs : List Item) (w : dock.Dock) (t : ahead.PortTally) →
+    (w.path.barred ≡ true → w.risky ≡ true) → GoesOn isa all from (Up i p ∷ xs) w t → GoesOn isa all from xs (dock.past isa (Up i p) w)
+    (ahead.counted (Up i p) t)
 goes_on_rider isa all from i p xs w t safe g r n = by p.dead refl
   where
     calm : w.risky ≡ false
@@ -93,10 +101,12 @@ goes_on_rider isa all from i p xs w t safe g r n = by p.dead refl
     by : (b : Bool) → p.dead ≡ b → machine_after isa ((ahead.counted (Up i p) t).live + n) all from ≡ machine_after isa n xs (dock.past isa (Up i p) w).path
     by false d =
         let c : (ahead.counted (Up i p) t).live + n ≡ t.live + suc n = ap (λ (z : ℕ). z + n) (counted_live i p t) ∙ live_one t.live n p.dead d in
-        ap (λ (z : ℕ). machine_after isa z all from) c ∙ g calm (suc n) ∙ after_sure isa n i p xs w.path (sure_is p w.path d (open_of w safe calm)) ∙ ap (machine_after isa n xs) (sym (past_path isa (Up i p) w))
+        ap (λ (z : ℕ). machine_after isa z all from) c ∙ g calm (suc n) ∙ after_sure isa n i p xs w.path (sure_is p w.path d (open_of w safe calm))
+        ∙ ap (machine_after isa n xs) (sym (past_path isa (Up i p) w))
     by true d =
         let c : (ahead.counted (Up i p) t).live + n ≡ t.live + n = ap (λ (z : ℕ). z + n) (counted_live i p t) ∙ live_none t.live n p.dead d in
-        ap (λ (z : ℕ). machine_after isa z all from) c ∙ g calm n ∙ after_other isa n i p xs w.path (dead_is p w.path d) ∙ ap (machine_after isa n xs) (sym (past_path isa (Up i p) w))
+        ap (λ (z : ℕ). machine_after isa z all from) c ∙ g calm n ∙ after_other isa n i p xs w.path (dead_is p w.path d)
+        ∙ ap (machine_after isa n xs) (sym (past_path isa (Up i p) w))
 
 -- a passenger that has passed the port is live
 ported_live : (p : Passenger) (answer : Option ℕ) → ahead.has_ported p answer ≡ true → p.dead ≡ false
@@ -110,7 +120,9 @@ ported_live p answer e = go p.dead refl
 abbrev pub Stored : Isa → List Item → trail.Walk → dock.Dock → ahead.PortTally → Type 0
 Stored isa all from w t = w.mem ≡ (machine_after isa t.ported all from).hart.mem
 
-stored_rider : (isa : Isa) (all : List Item) (from : trail.Walk) (i : ℕ) (p : Passenger) (xs : List Item) (w : dock.Dock) (t : ahead.PortTally) → dock.Fits isa (Up i p) w → (w.path.barred ≡ true → w.risky ≡ true) → t.answer ≡ w.answer → GoesOn isa all from (Up i p ∷ xs) w t → Stored isa all from w t → Stored isa all from (dock.past isa (Up i p) w) (ahead.counted (Up i p) t)
+stored_rider : (isa : Isa) (all : List Item) (from : trail.Walk) (i : ℕ) (p : Passenger) (xs : List Item) (w : dock.Dock) (t : ahead.PortTally) →
+    dock.Fits isa (Up i p) w → (w.path.barred ≡ true → w.risky ≡ true) → t.answer ≡ w.answer → GoesOn isa all from (Up i p ∷ xs) w t → Stored isa all from w t →
+    Stored isa all from (dock.past isa (Up i p) w) (ahead.counted (Up i p) t)
 stored_rider isa all from i p xs w t fit safe same g h = by (ahead.has_ported p w.answer) refl
   where
     count : (b : Bool) → ahead.has_ported p w.answer ≡ b → (ahead.counted (Up i p) t).ported ≡ (if b then t.live + 1 else t.ported)
@@ -135,41 +147,55 @@ same_packet : (isa : Isa) (i : ℕ) (k : Packet) (w : dock.Dock) (t : ahead.Port
 unfolding dock.past ahead.counted
 same_packet isa i k w t = record { mem = refl; answer = refl; tally = refl; risky = λ e. grind arith }
 
-goes_on_packet : (isa : Isa) (all : List Item) (from : trail.Walk) (i : ℕ) (k : Packet) (xs : List Item) (w : dock.Dock) (t : ahead.PortTally) → GoesOn isa all from (Down i k ∷ xs) w t → GoesOn isa all from xs (dock.past isa (Down i k) w) (ahead.counted (Down i k) t)
+goes_on_packet : (isa : Isa) (all : List Item) (from : trail.Walk) (i : ℕ) (k : Packet) (xs : List Item) (w : dock.Dock) (t : ahead.PortTally) →
+    GoesOn isa all from (Down i k ∷ xs) w t → GoesOn isa all from xs (dock.past isa (Down i k) w) (ahead.counted (Down i k) t)
 goes_on_packet isa all from i k xs w t g r n =
     let q = same_packet isa i k w t in
-    ap (λ (z : ahead.PortTally). machine_after isa (z.live + n) all from) q.tally ∙ g (q.risky r) n ∙ after_packet isa n i k xs w.path ∙ ap (machine_after isa n xs) (sym (past_path isa (Down i k) w))
+    ap (λ (z : ahead.PortTally). machine_after isa (z.live + n) all from) q.tally ∙ g (q.risky r) n ∙ after_packet isa n i k xs w.path
+    ∙ ap (machine_after isa n xs) (sym (past_path isa (Down i k) w))
 
-stored : (isa : Isa) (all : List Item) (from : trail.Walk) (xs : List Item) (w : dock.Dock) (t : ahead.PortTally) → Everywhere (dock.Fits isa) (dock.past isa) xs w → (w.path.barred ≡ true → w.risky ≡ true) → t.answer ≡ w.answer → GoesOn isa all from xs w t → Stored isa all from w t → Stored isa all from (walk (dock.past isa) xs w) (walk ahead.counted xs t)
+stored : (isa : Isa) (all : List Item) (from : trail.Walk) (xs : List Item) (w : dock.Dock) (t : ahead.PortTally) →
+    Everywhere (dock.Fits isa) (dock.past isa) xs w → (w.path.barred ≡ true → w.risky ≡ true) → t.answer ≡ w.answer → GoesOn isa all from xs w t →
+    Stored isa all from w t → Stored isa all from (walk (dock.past isa) xs w) (walk ahead.counted xs t)
 stored isa all from [] w t fit safe same g h = h
 stored isa all from (Up i p ∷ xs) w t fit safe same g h =
-    stored isa all from xs (dock.past isa (Up i p) w) (ahead.counted (Up i p) t) fit.1 (past_safe isa (Up i p) w safe) (answer_past isa i p w t same) (goes_on_rider isa all from i p xs w t safe g) (stored_rider isa all from i p xs w t fit.0 safe same g h)
+    stored isa all from xs (dock.past isa (Up i p) w) (ahead.counted (Up i p) t) fit.1 (past_safe isa (Up i p) w safe) (answer_past isa i p w t same)
+    (goes_on_rider isa all from i p xs w t safe g) (stored_rider isa all from i p xs w t fit.0 safe same g h)
 stored isa all from (Down i k ∷ xs) w t fit safe same g h =
     let q = same_packet isa i k w t in
-    stored isa all from xs (dock.past isa (Down i k) w) (ahead.counted (Down i k) t) fit.1 (past_safe isa (Down i k) w safe) (ap (λ (z : ahead.PortTally). z.answer) q.tally ∙ same ∙ sym q.answer) (goes_on_packet isa all from i k xs w t g) (q.mem ∙ h ∙ ap (λ (z : ahead.PortTally). (machine_after isa z.ported all from).hart.mem) (sym q.tally))
+    stored isa all from xs (dock.past isa (Down i k) w) (ahead.counted (Down i k) t) fit.1 (past_safe isa (Down i k) w safe)
+    (ap (λ (z : ahead.PortTally). z.answer) q.tally ∙ same ∙ sym q.answer) (goes_on_packet isa all from i k xs w t g) (q.mem ∙ h
+    ∙ ap (λ (z : ahead.PortTally). (machine_after isa z.ported all from).hart.mem) (sym q.tally))
 
 -- only packets are passed
-after_idle : (isa : Isa) (n : ℕ) (xs ys : List Item) (w : trail.Walk) → Idle xs → machine_after isa n (xs ++ ys) w ≡ machine_after isa n ys (walk (trail.past isa) xs w)
+after_idle : (isa : Isa) (n : ℕ) (xs ys : List Item) (w : trail.Walk) → Idle xs → machine_after isa n (xs ++ ys) w
+    ≡ machine_after isa n ys (walk (trail.past isa) xs w)
 after_idle isa n [] ys w h = refl
 after_idle isa n (Up i p ∷ xs) ys w h = absurd h
 after_idle isa n (Down i k ∷ xs) ys w h = after_packet isa n i k (xs ++ ys) w ∙ after_idle isa n xs ys (trail.past isa (Down i k) w) h
 
 -- after the served passenger
-after_served : {rest out : List ℕ} (plan : Plan) (s : State) (x : Machine) (q : Served plan s x rest out) → machine_after (isa_of plan) 1 (column s) (trail.top s x) ≡ after_step (step_at (isa_of plan) x q.who.pc) x
+after_served : {rest out : List ℕ} (plan : Plan) (s : State) (x : Machine) (q : Served plan s x rest out) →
+    machine_after (isa_of plan) 1 (column s) (trail.top s x) ≡ after_step (step_at (isa_of plan) x q.who.pc) x
 after_served plan s x q =
     let isa = isa_of plan in
     let w = walk (trail.past isa) q.above (trail.top s x) in
     let same = (idle_path isa q.above (trail.top s x) q.idle).0 in
-    ap (λ (z : List Item). machine_after isa 1 z (trail.top s x)) q.was ∙ after_idle isa 1 q.above (Up plan.stages q.who ∷ q.below) (trail.top s x) q.idle ∙ after_sure isa 0 plan.stages q.who q.below w q.sure ∙ first_machine isa plan.stages q.who w q.sure ∙ ap (λ (z : Machine). after_step (step_at isa z q.who.pc) z) same
+    ap (λ (z : List Item). machine_after isa 1 z (trail.top s x)) q.was ∙ after_idle isa 1 q.above (Up plan.stages q.who ∷ q.below) (trail.top s x) q.idle
+    ∙ after_sure isa 0 plan.stages q.who q.below w q.sure ∙ first_machine isa plan.stages q.who w q.sure
+    ∙ ap (λ (z : Machine). after_step (step_at isa z q.who.pc) z) same
 
-pub port : {rest out : List ℕ} (plan : Plan) (s : State) (x : Machine) → Sound plan s rest out x → PortAgrees plan (record { state = s; rest = rest; output = out }) x
+pub port : {rest out : List ℕ} (plan : Plan) (s : State) (x : Machine) → Sound plan s rest out x →
+    PortAgrees plan (record { state = s; rest = rest; output = out }) x
 port {rest} {out} plan s x h = record {
-  memory = h.port_ends.is_mem ∙ stored (isa_of plan) (column s) (trail.top s x) (column s) (dock.top plan s x) (ahead.uncounted plan s) h.port_fit (λ b. absurd (cc)) refl (λ _ n. let e : 0 + n ≡ n = omega arith in ap (λ (z : ℕ). machine_after (isa_of plan) z (column s) (trail.top s x)) e) refl;
+  memory = h.port_ends.is_mem ∙ stored (isa_of plan) (column s) (trail.top s x) (column s) (dock.top plan s x) (ahead.uncounted plan s) h.port_fit
+      (λ b. absurd (cc)) refl (λ _ n. let e : 0 + n ≡ n = omega arith in ap (λ (z : ℕ). machine_after (isa_of plan) z (column s) (trail.top s x)) e) refl;
   input = by_rest (heard plan s x h);
   output = by_out (heard plan s x h);
 }
   where
-    count : (c : ℕ) → served_count plan s ≡ c → machine_after (isa_of plan) (served_count plan s) (column s) (trail.top s x) ≡ machine_after (isa_of plan) c (column s) (trail.top s x)
+    count : (c : ℕ) → served_count plan s ≡ c → machine_after (isa_of plan) (served_count plan s) (column s) (trail.top s x)
+        ≡ machine_after (isa_of plan) c (column s) (trail.top s x)
     count c e = ap (λ (z : ℕ). machine_after (isa_of plan) z (column s) (trail.top s x)) e
 
     by_rest : Silent plan s x rest out ⊎ Served plan s x rest out → rest ≡ (machine_after (isa_of plan) (served_count plan s) (column s) (trail.top s x)).rest

@@ -49,7 +49,8 @@ answer_kept isa (Up i p ∷ xs) w h = answer_kept isa xs (dock.past isa (Up i p)
 answer_kept isa (Down i k ∷ xs) w h = answer_kept isa xs (dock.past isa (Down i k) w) h ∙ answer_packet isa i k w
 
 -- the answer is the value of the first passenger whose operation is there
-answers_it : (isa : Isa) (i : ℕ) (p : Passenger) (w : dock.Dock) (v : Walk) (a : ℕ) → w.path ≡ v → flies p ≡ true → w.answer ≡ Some a → dock.Fits isa (Up i p) w → IsAnswer p.dst (after_step (step_at isa v.machine p.pc) v.machine).hart.regs a
+answers_it : (isa : Isa) (i : ℕ) (p : Passenger) (w : dock.Dock) (v : Walk) (a : ℕ) → w.path ≡ v → flies p ≡ true → w.answer ≡ Some a →
+    dock.Fits isa (Up i p) w → IsAnswer p.dst (after_step (step_at isa v.machine p.pc) v.machine).hart.regs a
 unfolding dock.Fits dock.DockedAt
 answers_it isa i p w v a e f g h =
     let q = h.answered f a g in

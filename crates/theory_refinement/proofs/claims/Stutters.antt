@@ -54,7 +54,8 @@ serve_regs l m = grind arith
 nothing : (s t : State) → Counts s t → t.regs ≡ s.regs → NothingRetires s t
 nothing s t c r = record { retired = c.retired; regs = r; ending = c.ending }
 
-leave_steps : (l : Plan) (m : Moment) (x : Machine) → m.state.regs ≡ x.hart.regs → Left l m.state (moved l m.state Leave) m.rest m.output x → StepsRetired (isa_of l) x m Leave (record m { state = moved l m.state Leave })
+leave_steps : (l : Plan) (m : Moment) (x : Machine) → m.state.regs ≡ x.hart.regs → Left l m.state (moved l m.state Leave) m.rest m.output x →
+    StepsRetired (isa_of l) x m Leave (record m { state = moved l m.state Leave })
 leave_steps l m x r h = go h.how
   where
     s : State
@@ -63,26 +64,41 @@ leave_steps l m x r h = go h.how
     t : State
     t = moved l m.state Leave
 
-    go : ((t.ending ≡ s.ending) × (t.retired ≡ s.retired) × (retires l s Leave ≡ []) × Sound l t m.rest m.output x) ⊎ (((y : Machine) × (step_here (isa_of l) x ≡ Goes y) × (t.ending ≡ s.ending) × (t.retired ≡ suc s.retired) × (retires l s Leave ≡ lines_at (isa_of l) x) × Sound l t m.rest m.output y) ⊎ ((e : End) × (t.ending ≡ Some e) × (t.retired ≡ s.retired) × (retires l s Leave ≡ []) × IsOver l t m.rest m.output x e)) → StepsRetired (isa_of l) x m Leave (record m { state = t })
+    go : ((t.ending ≡ s.ending) × (t.retired ≡ s.retired) × (retires l s Leave ≡ []) × Sound l t m.rest m.output x)
+        ⊎ (((y : Machine) × (step_here (isa_of l) x ≡ Goes y) × (t.ending ≡ s.ending) × (t.retired ≡ suc s.retired)
+        × (retires l s Leave ≡ lines_at (isa_of l) x) × Sound l t m.rest m.output y) ⊎ ((e : End) × (t.ending ≡ Some e) × (t.retired ≡ s.retired)
+        × (retires l s Leave ≡ []) × IsOver l t m.rest m.output x e)) → StepsRetired (isa_of l) x m Leave (record m { state = t })
     go (inl q) = inl (record { retired = q.1; regs = q.3.regs ∙ sym r; ending = q.0 })
     go (inr (inl q)) = inr (refl, inl (record { later = q.0; step = q.1; retired = q.3 ∙ omega arith; before = r; regs = q.5.regs; ending = q.2 }))
     go (inr (inr q)) = inr (refl, inr (record { end = q.0; step = q.4.stops; ending = q.1; retired = q.2; regs = q.4.regs ∙ sym r }))
 
-retired_steps : (l : Plan) (m : Moment) (x : Machine) (mv : Move) → bar l m.state mv ≡ None → Sound l m.state m.rest m.output x → StepsRetired (isa_of l) x m mv (next l m mv)
+retired_steps : (l : Plan) (m : Moment) (x : Machine) (mv : Move) → bar l m.state mv ≡ None → Sound l m.state m.rest m.output x →
+    StepsRetired (isa_of l) x m mv (next l m mv)
 unfolding next
-retired_steps l m x (Issue g) e h = inl (nothing m.state _ (issue_counts l m.state g) (quiet_unmoved l m.state (Issue g) (λ z. absurd (cc)) (λ z. absurd (cc)) (λ z. absurd (cc))).regs)
-retired_steps l m x Emit e h = inl (nothing m.state _ (emit_counts l m.state) (quiet_unmoved l m.state Emit (λ z. absurd (cc)) (λ z. absurd (cc)) (λ z. absurd (cc))).regs)
-retired_steps l m x (Climb i) e h = inl (nothing m.state _ (climb_counts l m.state i) (quiet_unmoved l m.state (Climb i) (λ z. absurd (cc)) (λ z. absurd (cc)) (λ z. absurd (cc))).regs)
-retired_steps l m x (Fall i) e h = inl (nothing m.state _ (fall_counts l m.state i) (quiet_unmoved l m.state (Fall i) (λ z. absurd (cc)) (λ z. absurd (cc)) (λ z. absurd (cc))).regs)
-retired_steps l m x (Meet i) e h = inl (nothing m.state _ (meet_counts l m.state i) (quiet_unmoved l m.state (Meet i) (λ z. absurd (cc)) (λ z. absurd (cc)) (λ z. absurd (cc))).regs)
-retired_steps l m x (Execute i) e h = inl (nothing m.state _ (execute_counts l m.state i) (quiet_unmoved l m.state (Execute i) (λ z. absurd (cc)) (λ z. absurd (cc)) (λ z. absurd (cc))).regs)
-retired_steps l m x (Send i) e h = inl (nothing m.state _ (send_counts l m.state i) (quiet_unmoved l m.state (Send i) (λ z. absurd (cc)) (λ z. absurd (cc)) (λ z. absurd (cc))).regs)
-retired_steps l m x (Launch i) e h = inl (nothing m.state _ (launch_counts l m.state i) (quiet_unmoved l m.state (Launch i) (λ z. absurd (cc)) (λ z. absurd (cc)) (λ z. absurd (cc))).regs)
-retired_steps l m x (Slide j c) e h = inl (nothing m.state _ (slide_counts l m.state j c) (quiet_unmoved l m.state (Slide j c) (λ z. absurd (cc)) (λ z. absurd (cc)) (λ z. absurd (cc))).regs)
+retired_steps l m x (Issue g) e h = inl (nothing m.state _ (issue_counts l m.state g) (quiet_unmoved l m.state (Issue g) (λ z. absurd (cc)) (λ z. absurd (cc))
+    (λ z. absurd (cc))).regs)
+retired_steps l m x Emit e h = inl (nothing m.state _ (emit_counts l m.state) (quiet_unmoved l m.state Emit (λ z. absurd (cc)) (λ z. absurd (cc))
+    (λ z. absurd (cc))).regs)
+retired_steps l m x (Climb i) e h = inl (nothing m.state _ (climb_counts l m.state i) (quiet_unmoved l m.state (Climb i) (λ z. absurd (cc)) (λ z. absurd (cc))
+    (λ z. absurd (cc))).regs)
+retired_steps l m x (Fall i) e h = inl (nothing m.state _ (fall_counts l m.state i) (quiet_unmoved l m.state (Fall i) (λ z. absurd (cc)) (λ z. absurd (cc))
+    (λ z. absurd (cc))).regs)
+retired_steps l m x (Meet i) e h = inl (nothing m.state _ (meet_counts l m.state i) (quiet_unmoved l m.state (Meet i) (λ z. absurd (cc)) (λ z. absurd (cc))
+    (λ z. absurd (cc))).regs)
+retired_steps l m x (Execute i) e h = inl (nothing m.state _ (execute_counts l m.state i) (quiet_unmoved l m.state (Execute i) (λ z. absurd (cc))
+    (λ z. absurd (cc)) (λ z. absurd (cc))).regs)
+retired_steps l m x (Send i) e h = inl (nothing m.state _ (send_counts l m.state i) (quiet_unmoved l m.state (Send i) (λ z. absurd (cc)) (λ z. absurd (cc))
+    (λ z. absurd (cc))).regs)
+retired_steps l m x (Launch i) e h = inl (nothing m.state _ (launch_counts l m.state i) (quiet_unmoved l m.state (Launch i) (λ z. absurd (cc))
+    (λ z. absurd (cc)) (λ z. absurd (cc))).regs)
+retired_steps l m x (Slide j c) e h = inl (nothing m.state _ (slide_counts l m.state j c) (quiet_unmoved l m.state (Slide j c) (λ z. absurd (cc))
+    (λ z. absurd (cc)) (λ z. absurd (cc))).regs)
 retired_steps l m x Access e h = inl (nothing m.state _ (access_counts l m.state) (access_regs l m.state))
-retired_steps l m x (Recover i) e h = inl (nothing m.state _ (recover_counts l m.state i) (quiet_unmoved l m.state (Recover i) (λ z. absurd (cc)) (λ z. absurd (cc)) (λ z. absurd (cc))).regs)
+retired_steps l m x (Recover i) e h = inl (nothing m.state _ (recover_counts l m.state i) (quiet_unmoved l m.state (Recover i) (λ z. absurd (cc))
+    (λ z. absurd (cc)) (λ z. absurd (cc))).regs)
 retired_steps l m x Leave e h = leave_steps l m x h.regs (leave_kept l m.state x e h)
-retired_steps l m x Exit e h = inl (nothing m.state _ (exit_counts l m.state) (quiet_unmoved l m.state Exit (λ z. absurd (cc)) (λ z. absurd (cc)) (λ z. absurd (cc))).regs)
+retired_steps l m x Exit e h = inl (nothing m.state _ (exit_counts l m.state) (quiet_unmoved l m.state Exit (λ z. absurd (cc)) (λ z. absurd (cc))
+    (λ z. absurd (cc))).regs)
 retired_steps l m x Serve e h = inl (nothing m.state _ (serve_counts l m) (serve_regs l m))
 
 -- what a Serve does: the environment answers as it answers the machine, or ends the program
@@ -98,11 +114,13 @@ serve_steps l m x e h =
     let f : serve_of (instruction r.who) x.hart.regs x.hart.mem x.rest ≡ a = rw (← h.regs, ← c.mem, ← c.input) refl in
     by r a (next_serve l m r.here r.who a r.at_here r.sits refl) f c.certain c.mem c.input c.output
   where
-    by : (r : Serves l m.state) (a : Called) → next l m Serve ≡ served m l.stages r.here r.who a → serve_of (instruction r.who) x.hart.regs x.hart.mem x.rest ≡ a
+    by : (r : Serves l m.state) (a : Called) → next l m Serve ≡ served m l.stages r.here r.who a →
+        serve_of (instruction r.who) x.hart.regs x.hart.mem x.rest ≡ a
         → sure.SureAt (isa_of l) r.who (trail.top m.state x) → m.state.mem ≡ x.hart.mem → m.rest ≡ x.rest → m.output ≡ x.output → Served l m x
     by r (called.Value a) n f certain mem input output =
         let y : Machine = after_call x (instruction r.who) r.who.pc a in
-        let g : step_here (isa_of l) x ≡ Goes y = at_top (isa_of l) r.who (trail.top m.state x) refl certain ∙ sure_step (isa_of l) r.who (trail.top m.state x) a r.serial f certain in
+        let g : step_here (isa_of l) x ≡ Goes y = at_top (isa_of l) r.who (trail.top m.state x) refl certain
+        ∙ sure_step (isa_of l) r.who (trail.top m.state x) a r.serial f certain in
         record {
           spoken = inr (
             refl,
@@ -135,7 +153,8 @@ serve_steps l m x e h =
     }
 
 -- input and output
-spoken_steps : (l : Plan) (m : Moment) (x : Machine) (mv : Move) → bar l m.state mv ≡ None → Sound l m.state m.rest m.output x → StepsSpoken (isa_of l) x m mv (next l m mv)
+spoken_steps : (l : Plan) (m : Moment) (x : Machine) (mv : Move) → bar l m.state mv ≡ None → Sound l m.state m.rest m.output x →
+    StepsSpoken (isa_of l) x m mv (next l m mv)
 unfolding next
 spoken_steps l m x (Issue g) e h = inl (record { rest = refl; output = refl })
 spoken_steps l m x Emit e h = inl (record { rest = refl; output = refl })
@@ -153,21 +172,31 @@ spoken_steps l m x Exit e h = inl (record { rest = refl; output = refl })
 spoken_steps l m x Serve e h = (serve_steps l m x e h).spoken
 
 -- the machine after the live passengers of the column, as far as nothing bars the path
-path_on : (l : Plan) (m : Machine) (n : ℕ) (xs : List Item) (w : dock.Dock) (t : ahead.PortTally) → Each l xs → Everywhere (sure.Fits (isa_of l)) (trail.past (isa_of l)) xs w.path → Everywhere (dock.Fits (isa_of l)) (dock.past (isa_of l)) xs w → (w.path.barred ≡ true → w.risky ≡ true) → Out xs → (walk (dock.past (isa_of l)) xs w).risky ≡ false → OnPath (isa_of l) m n w t → OnPath (isa_of l) m n (walk (dock.past (isa_of l)) xs w) (walk ahead.counted xs t)
+path_on : (l : Plan) (m : Machine) (n : ℕ) (xs : List Item) (w : dock.Dock) (t : ahead.PortTally) → Each l xs →
+    Everywhere (sure.Fits (isa_of l)) (trail.past (isa_of l)) xs w.path → Everywhere (dock.Fits (isa_of l)) (dock.past (isa_of l)) xs w →
+    (w.path.barred ≡ true → w.risky ≡ true) → Out xs → (walk (dock.past (isa_of l)) xs w).risky ≡ false → OnPath (isa_of l) m n w t →
+    OnPath (isa_of l) m n (walk (dock.past (isa_of l)) xs w) (walk ahead.counted xs t)
 path_on l m n [] w t ea fp fd g out r h = h
 path_on l m n (Up i p ∷ xs) w t ea fp fd g out r h =
-    path_on l m n xs (dock.past (isa_of l) (Up i p) w) (ahead.counted (Up i p) t) ea.1 (rw (past_path (isa_of l) (Up i p) w) fp.1) fd.1 (past_safe (isa_of l) (Up i p) w g) out.1 r (by p.dead refl)
+    path_on l m n xs (dock.past (isa_of l) (Up i p) w) (ahead.counted (Up i p) t) ea.1 (rw (past_path (isa_of l) (Up i p) w) fp.1) fd.1
+    (past_safe (isa_of l) (Up i p) w g) out.1 r (by p.dead refl)
   where
     by : (d : Bool) → p.dead ≡ d → OnPath (isa_of l) m n (dock.past (isa_of l) (Up i p) w) (ahead.counted (Up i p) t)
     by true d = dead_on (isa_of l) m n i p w t d h
     by false d = live_on l m n i p w t ea.0 fp.0 fd.0 g d (walk_risky (isa_of l) xs (dock.past (isa_of l) (Up i p) w) r) out.0 h
 path_on l m n (Down i k ∷ xs) w t ea fp fd g out r h =
     let q = result_past (isa_of l) i k w t in
-    path_on l m n xs (dock.past (isa_of l) (Down i k) w) (ahead.counted (Down i k) t) ea (rw (past_path (isa_of l) (Down i k) w) fp.1) fd.1 (past_safe (isa_of l) (Down i k) w g) out r
-    (record { so_far = ap (λ (y : ahead.PortTally). after (isa_of l) m (n + y.live)) q.4 ∙ h.so_far ∙ ap Some (sym q.0); goto = q.1 ∙ h.goto ∙ ap (λ (y : Machine). Some y.hart.pc) (sym q.0) })
+    path_on l m n xs (dock.past (isa_of l) (Down i k) w) (ahead.counted (Down i k) t) ea (rw (past_path (isa_of l) (Down i k) w) fp.1) fd.1
+    (past_safe (isa_of l) (Down i k) w g) out r
+    (record {
+      so_far = ap (λ (y : ahead.PortTally). after (isa_of l) m (n + y.live)) q.4 ∙ h.so_far ∙ ap Some (sym q.0);
+      goto = q.1 ∙ h.goto
+          ∙ ap (λ (y : Machine). Some y.hart.pc) (sym q.0);
+    })
 
 -- the memory
-access_steps : {rest out : List ℕ} (l : Plan) (start : Machine) (s : State) (x : Machine) → Suits l → after (isa_of l) start (gained start s) ≡ Some x → bar l s Access ≡ None → Sound l s rest out x → OneStored (isa_of l) start s (moved l s Access)
+access_steps : {rest out : List ℕ} (l : Plan) (start : Machine) (s : State) (x : Machine) → Suits l → after (isa_of l) start (gained start s) ≡ Some x →
+    bar l s Access ≡ None → Sound l s rest out x → OneStored (isa_of l) start s (moved l s Access)
 access_steps {rest} {out} l start s x acc count e h =
     let z = access_scene l s x acc e h in
     let f = z.first in
@@ -179,7 +208,10 @@ access_steps {rest} {out} l start s x acc count e h =
     let out = out_above l i f.above acc z.range.0 (over f.above f.below i p (subst Sorted was (sorted 1 s.cells))) ea in
     let u = walk (dock.past (isa_of l)) f.above (dock.top l s x) in
     let none : gained start s + 0 ≡ gained start s = omega arith in
-    let on = path_on l start (gained start s) f.above (dock.top l s x) (ahead.uncounted l s) ea (fit_front _ (sure.Fits (isa_of l)) (trail.past (isa_of l)) f.above ((Up i p ∷ []) ++ f.below) _ (rw was at h.path_fit)) (fit_front _ (dock.Fits (isa_of l)) (dock.past (isa_of l)) f.above ((Up i p ∷ []) ++ f.below) _ (rw was at h.port_fit)) (λ b. absurd (cc)) out z.calm (record { so_far = ap (after (isa_of l) start) none ∙ count; goto = refl }) in
+    let on = path_on l start (gained start s) f.above (dock.top l s x) (ahead.uncounted l s) ea
+    (fit_front _ (sure.Fits (isa_of l)) (trail.past (isa_of l)) f.above ((Up i p ∷ []) ++ f.below) _ (rw was at h.path_fit))
+    (fit_front _ (dock.Fits (isa_of l)) (dock.past (isa_of l)) f.above ((Up i p ∷ []) ++ f.below) _ (rw was at h.port_fit)) (λ b. absurd (cc)) out z.calm
+    (record { so_far = ap (after (isa_of l) start) none ∙ count; goto = refl }) in
     let y = after_step (step_at (isa_of l) u.path.machine p.pc) u.path.machine in
     record {
       number = gained start s + (walk ahead.counted f.above (ahead.uncounted l s)).live;
@@ -192,7 +224,8 @@ access_steps {rest} {out} l start s x acc count e h =
       mem = ap (λ (t : State). t.mem) (next_access l s z.ready.what z.ready.lies) ∙ z.stored;
     }
 
-stored_steps : (l : Plan) (start : Machine) (m : Moment) (x : Machine) (mv : Move) → Suits l → after (isa_of l) start (gained start m.state) ≡ Some x → bar l m.state mv ≡ None → Sound l m.state m.rest m.output x → StepsStored (isa_of l) start m mv (next l m mv)
+stored_steps : (l : Plan) (start : Machine) (m : Moment) (x : Machine) (mv : Move) → Suits l → after (isa_of l) start (gained start m.state) ≡ Some x →
+    bar l m.state mv ≡ None → Sound l m.state m.rest m.output x → StepsStored (isa_of l) start m mv (next l m mv)
 unfolding next
 stored_steps l start m x (Issue g) acc c e h = inl (quiet_unmoved l m.state (Issue g) (λ z. absurd (cc)) (λ z. absurd (cc)) (λ z. absurd (cc))).mem
 stored_steps l start m x Emit acc c e h = inl (quiet_unmoved l m.state Emit (λ z. absurd (cc)) (λ z. absurd (cc)) (λ z. absurd (cc))).mem

@@ -43,11 +43,13 @@ pub walk_path : (isa : Isa) (xs : List Item) (w : dock.Dock) → (walk (dock.pas
 walk_path isa [] w = refl
 walk_path isa (i ∷ xs) w = walk_path isa xs (dock.past isa i w) ∙ ap (λ (q : trail.Walk). walk (trail.past isa) xs q) (past_path isa i w)
 
-pub past_safe : (isa : Isa) (i : Item) (w : dock.Dock) → (w.path.barred ≡ true → w.risky ≡ true) → (dock.past isa i w).path.barred ≡ true → (dock.past isa i w).risky ≡ true
+pub past_safe : (isa : Isa) (i : Item) (w : dock.Dock) → (w.path.barred ≡ true → w.risky ≡ true) → (dock.past isa i w).path.barred ≡ true →
+    (dock.past isa i w).risky ≡ true
 unfolding dock.past trail.past
 past_safe isa i w s e = grind arith
 
-pub walk_safe : (isa : Isa) (xs : List Item) (w : dock.Dock) → (w.path.barred ≡ true → w.risky ≡ true) → (walk (dock.past isa) xs w).path.barred ≡ true → (walk (dock.past isa) xs w).risky ≡ true
+pub walk_safe : (isa : Isa) (xs : List Item) (w : dock.Dock) → (w.path.barred ≡ true → w.risky ≡ true) → (walk (dock.past isa) xs w).path.barred ≡ true →
+    (walk (dock.past isa) xs w).risky ≡ true
 walk_safe isa [] w s e = s e
 walk_safe isa (i ∷ xs) w s e = walk_safe isa xs (dock.past isa i w) (past_safe isa i w s) e
 
@@ -55,7 +57,9 @@ pub flown_append : (l : Plan) (k : ℕ) (xs ys : List Item) → operations_of l 
 flown_append l k [] ys = refl
 flown_append l k (Up i p ∷ xs) ys = go (in_siding l k p) (flown_append l k xs ys)
   where
-    go : (b : Bool) → operations_of l k (xs ++ ys) ≡ operations_of l k xs ++ operations_of l k ys → (if b then operation p ∷ operations_of l k (xs ++ ys) else operations_of l k (xs ++ ys)) ≡ (if b then operation p ∷ operations_of l k xs else operations_of l k xs) ++ operations_of l k ys
+    go : (b : Bool) → operations_of l k (xs ++ ys) ≡ operations_of l k xs ++ operations_of l k ys →
+        (if b then operation p ∷ operations_of l k (xs ++ ys) else operations_of l k (xs ++ ys))
+        ≡ (if b then operation p ∷ operations_of l k xs else operations_of l k xs) ++ operations_of l k ys
     go true e = ap (λ q. operation p ∷ q) e
     go false e = e
 flown_append l k (Down i q ∷ xs) ys = flown_append l k xs ys
@@ -70,12 +74,15 @@ pub record Here (l : Plan) (s : State) (x : Machine) (above old : List Item) : T
   pub same : (walk (dock.past (isa_of l)) above (dock.top l s x)).path ≡ walk (trail.past (isa_of l)) above (trail.top s x)
   pub safe : (walk (dock.past (isa_of l)) above (dock.top l s x)).path.barred ≡ true → (walk (dock.past (isa_of l)) above (dock.top l s x)).risky ≡ true
 
-pub here : {rest out : List ℕ} (l : Plan) (s : State) (x : Machine) (above old below : List Item) → column s ≡ above ++ (old ++ below) → Sound l s rest out x → Here l s x above old
+pub here : {rest out : List ℕ} (l : Plan) (s : State) (x : Machine) (above old below : List Item) → column s ≡ above ++ (old ++ below) → Sound l s rest out x →
+    Here l s x above old
 here {rest} {out} l s x above old below e h = record {
-  path_fit = fit_front _ (sure.Fits (isa_of l)) (trail.past (isa_of l)) old below _ (fit_back _ (sure.Fits (isa_of l)) (trail.past (isa_of l)) above (old ++ below) _ (rw e at h.path_fit));
+  path_fit = fit_front _ (sure.Fits (isa_of l)) (trail.past (isa_of l)) old below _ (fit_back _ (sure.Fits (isa_of l)) (trail.past (isa_of l)) above (old
+      ++ below) _ (rw e at h.path_fit));
   lone_fit = fit_front _ lone.Fits (lone.past l) old below _ (fit_back _ lone.Fits (lone.past l) above (old ++ below) _ (rw e at h.lone_fit));
   stands = each_front l old below (each_back l above (old ++ below) (rw e at h.stands));
-  port_fit = fit_front _ (dock.Fits (isa_of l)) (dock.past (isa_of l)) old below _ (fit_back _ (dock.Fits (isa_of l)) (dock.past (isa_of l)) above (old ++ below) _ (rw e at h.port_fit));
+  port_fit = fit_front _ (dock.Fits (isa_of l)) (dock.past (isa_of l)) old below _ (fit_back _ (dock.Fits (isa_of l)) (dock.past (isa_of l)) above (old
+      ++ below) _ (rw e at h.port_fit));
   wide = walk_wide (isa_of l) above (trail.top s x) h.wide;
   same = walk_path (isa_of l) above (dock.top l s x);
   safe = walk_safe (isa_of l) above (dock.top l s x) (λ b. absurd (cc));
@@ -95,7 +102,8 @@ ends_path w v f h e = grind arith
 pub keeps_path : (w v : trail.Walk) (c : List (Option ℕ)) → paths.Follows w v → sure.Keeps w c → sure.Keeps v c
 keeps_path w v c h e = go w.barred v.barred refl refl e
   where
-    go : (a b : Bool) → w.barred ≡ a → v.barred ≡ b → When (not a) (sure.AreRegisters c w.machine.hart.regs) → When (not b) (sure.AreRegisters c v.machine.hart.regs)
+    go : (a b : Bool) → w.barred ≡ a → v.barred ≡ b → When (not a) (sure.AreRegisters c w.machine.hart.regs) →
+        When (not b) (sure.AreRegisters c v.machine.hart.regs)
     go a true f g e = tt
     go true false f g e = absurd (let q = h.barred f in true≢false (sym q ∙ g))
     go false false f g e = rw (h.machine g) e
@@ -104,7 +112,8 @@ pub ends_lone : (w v : Bool) (f : Fetch) → lones.Follows w v → lone.Ends w f
 ends_lone w v f h e = λ a. e (h.shut a)
 
 pub ends_port : (w v : dock.Dock) (m : Memory) (r o : List ℕ) → ports.Follows w v → dock.Ends w m r o → dock.Ends v m r o
-ends_port w v m r o h e = record { is_mem = e.is_mem ∙ sym h.mem; is_code = e.is_code ∙ sym h.code; is_rest = e.is_rest ∙ sym h.rest; is_out = e.is_out ∙ sym h.out }
+ends_port w v m r o h e =
+    record { is_mem = e.is_mem ∙ sym h.mem; is_code = e.is_code ∙ sym h.code; is_rest = e.is_rest ∙ sym h.rest; is_out = e.is_out ∙ sym h.out }
 
 -- what no change of cells and sidings touches
 pub record Same (s t : State) : Type 0 where
@@ -120,15 +129,22 @@ pub record Docks (l : Plan) (s : State) (rest out : List ℕ) (x : Machine) : Ty
   pub ends : dock.Ends (walk (dock.past (isa_of l)) (column s) (dock.top l s x)) s.mem rest out
 
 each_changed : (l : Plan) (above old new below : List Item) → Each l new → Each l (above ++ (old ++ below)) → Each l (above ++ (new ++ below))
-each_changed l above old new below n h = each_append l above (new ++ below) (each_front l above (old ++ below) h) (each_append l new below n (each_back l old below (each_back l above (old ++ below) h)))
+each_changed l above old new below n h = each_append l above (new ++ below) (each_front l above (old ++ below) h)
+    (each_append l new below n (each_back l old below (each_back l above (old ++ below) h)))
 
-pub flown_changed : (l : Plan) (k : ℕ) (above old new below : List Item) → operations_of l k old ≡ operations_of l k new → operations_of l k (above ++ (old ++ below)) ≡ operations_of l k (above ++ (new ++ below))
-flown_changed l k above old new below e = rw (flown_append l k above (new ++ below), flown_append l k new below, flown_append l k above (old ++ below), flown_append l k old below, e)
+pub flown_changed : (l : Plan) (k : ℕ) (above old new below : List Item) → operations_of l k old ≡ operations_of l k new →
+    operations_of l k (above ++ (old ++ below)) ≡ operations_of l k (above ++ (new ++ below))
+flown_changed l k above old new below e =
+    rw (flown_append l k above (new ++ below), flown_append l k new below, flown_append l k above (old ++ below), flown_append l k old below, e)
 
 -- a change in the middle of the column, with the port and the sidings apart
-pub reshaped : {rest out r o : List ℕ} (l : Plan) (s t : State) (x : Machine) (above old new below : List Item) → column s ≡ above ++ (old ++ below) → column t ≡ above ++ (new ++ below) → Same s t → Replaces trail.Walk (sure.Fits (isa_of l)) (trail.past (isa_of l)) paths.Follows old new (walk (trail.past (isa_of l)) above (trail.top s x)) → Replaces Bool lone.Fits (lone.past l) lones.Follows old new (walk (lone.past l) above false) → Each l new → Docks l t r o x → IsMoored l t (column t) → Sound l s rest out x → Sound l t r o x
+pub reshaped : {rest out r o : List ℕ} (l : Plan) (s t : State) (x : Machine) (above old new below : List Item) → column s ≡ above ++ (old ++ below) →
+    column t ≡ above ++ (new ++ below) → Same s t → Replaces trail.Walk (sure.Fits (isa_of l)) (trail.past (isa_of l)) paths.Follows old new
+    (walk (trail.past (isa_of l)) above (trail.top s x)) → Replaces Bool lone.Fits (lone.past l) lones.Follows old new (walk (lone.past l) above false) →
+    Each l new → Docks l t r o x → IsMoored l t (column t) → Sound l s rest out x → Sound l t r o x
 reshaped {rest} {out} {r} {o} l s t x above old new below was is q fp fl n d m h =
-    let a = replaced _ (sure.Fits (isa_of l)) (trail.past (isa_of l)) paths.Follows (paths.path_walk (isa_of l)) above old new below (trail.top s x) fp (rw was at h.path_fit) in
+    let a = replaced _ (sure.Fits (isa_of l)) (trail.past (isa_of l)) paths.Follows (paths.path_walk (isa_of l)) above old new below (trail.top s x) fp
+    (rw was at h.path_fit) in
     let b = replaced _ lone.Fits (lone.past l) lones.Follows (lones.lone_walk l) above old new below false fl (rw was at h.lone_fit) in
     record {
       regs = q.regs ∙ h.regs;
@@ -146,22 +162,36 @@ reshaped {rest} {out} {r} {o} l s t x above old new below was is q fp fl n d m h
     }
 
 -- the port's part, where its walk begins as before and memory, input and output stay
-pub docked : {rest out : List ℕ} (l : Plan) (s t : State) (x : Machine) (above old new below : List Item) → column s ≡ above ++ (old ++ below) → column t ≡ above ++ (new ++ below) → dock.top l t x ≡ dock.top l s x → t.mem ≡ s.mem → Replaces dock.Dock (dock.Fits (isa_of l)) (dock.past (isa_of l)) ports.Follows old new (walk (dock.past (isa_of l)) above (dock.top l s x)) → Sound l s rest out x → Docks l t rest out x
+pub docked : {rest out : List ℕ} (l : Plan) (s t : State) (x : Machine) (above old new below : List Item) → column s ≡ above ++ (old ++ below) →
+    column t ≡ above ++ (new ++ below) → dock.top l t x ≡ dock.top l s x → t.mem ≡ s.mem →
+    Replaces dock.Dock (dock.Fits (isa_of l)) (dock.past (isa_of l)) ports.Follows old new (walk (dock.past (isa_of l)) above (dock.top l s x)) →
+    Sound l s rest out x → Docks l t rest out x
 docked {rest} {out} l s t x above old new below was is e m f h =
-    let d = replaced _ (dock.Fits (isa_of l)) (dock.past (isa_of l)) ports.Follows (ports.port_walk (isa_of l)) above old new below (dock.top l s x) f (rw was at h.port_fit) in
+    let d = replaced _ (dock.Fits (isa_of l)) (dock.past (isa_of l)) ports.Follows (ports.port_walk (isa_of l)) above old new below (dock.top l s x) f
+    (rw was at h.port_fit) in
     record { fit = rw (is, e) d.0; ends = rw (is, e, m) (ends_port _ _ s.mem rest out d.1 (rw was at h.port_ends)) }
 
-pub changed : {rest out : List ℕ} (l : Plan) (s : State) (x : Machine) (cells : List Cell) (above old new below : List Item) → column s ≡ above ++ (old ++ below) → column_from 1 cells ≡ above ++ (new ++ below) → length cells ≡ length s.cells → (Here l s x above old → Owes l s x above old new) → Sound l s rest out x → Sound l (record s { cells = cells }) rest out x
+pub changed : {rest out : List ℕ} (l : Plan) (s : State) (x : Machine) (cells : List Cell) (above old new below : List Item) →
+    column s ≡ above ++ (old ++ below) → column_from 1 cells ≡ above ++ (new ++ below) → length cells ≡ length s.cells →
+    (Here l s x above old → Owes l s x above old new) → Sound l s rest out x → Sound l (record s { cells = cells }) rest out x
 changed {rest} {out} l s x cells above old new below was is n f h =
     let o = f (here l s x above old below was h) in
     let t : State = record s { cells = cells } in
     reshaped l s t x above old new below was is (record { regs = refl; lane = refl; fetch = refl; cache = refl; size = n }) o.path o.lone o.stands
     (docked l s t x above old new below was is refl refl o.port h)
-    (record { operations = λ k. h.moored.operations k ∙ ap (operations_of l k) was ∙ flown_changed l k above old new below (o.operations k) ∙ ap (operations_of l k) (sym is); front = h.moored.front; plain = h.moored.plain; berths = h.moored.berths })
+    (record {
+      operations = λ k. h.moored.operations k ∙ ap (operations_of l k) was ∙ flown_changed l k above old new below (o.operations k)
+          ∙ ap (operations_of l k) (sym is);
+      front = h.moored.front;
+      plain = h.moored.plain;
+      berths = h.moored.berths;
+    })
     h
 
 -- a change of nothing but the sidings and memory
-pub beside : {rest out : List ℕ} (l : Plan) (s : State) (x : Machine) (sidings : List (List (Option Op))) (mem : Memory) → Docks l (record s { sidings = sidings; mem = mem }) rest out x → IsMoored l (record s { sidings = sidings; mem = mem }) (column s) → Sound l s rest out x → Sound l (record s { sidings = sidings; mem = mem }) rest out x
+pub beside : {rest out : List ℕ} (l : Plan) (s : State) (x : Machine) (sidings : List (List (Option Op))) (mem : Memory) →
+    Docks l (record s { sidings = sidings; mem = mem }) rest out x → IsMoored l (record s { sidings = sidings; mem = mem }) (column s) → Sound l s rest out x →
+    Sound l (record s { sidings = sidings; mem = mem }) rest out x
 beside {rest} {out} l s x sidings mem d m h = record {
   regs = h.regs;
   wide = h.wide;

@@ -16,7 +16,8 @@ pub operations_launch : (l : List (Option Op)) (op : Op) → operations_in (Some
 operations_launch l op = ap (λ (q : List Op). q ++ as_launched (Some op)) (sym (append-nil (operations_in l)))
 
 -- Slide
-pub operations_slide : (l : List (Option Op)) (c : ℕ) (op : Op) → slice_get l c ≡ Some (Some op) → slice_get l (suc c) ≡ Some None → operations_in (slice_set (slice_set l c None) (suc c) (Some op)) ≡ operations_in l
+pub operations_slide : (l : List (Option Op)) (c : ℕ) (op : Op) → slice_get l c ≡ Some (Some op) → slice_get l (suc c) ≡ Some None →
+    operations_in (slice_set (slice_set l c None) (suc c) (Some op)) ≡ operations_in l
 operations_slide [] c op e f = absurd (cc)
 operations_slide (o ∷ []) zero op e f = absurd (cc)
 operations_slide (o ∷ p ∷ l) zero op e f =
@@ -29,7 +30,8 @@ operations_slide (o ∷ l) (suc c) op e f = ap (λ (q : List Op). q ++ as_launch
 pub operations_last : (l : List (Option Op)) (op : Op) → last_op l ≡ Some op → operations_in l ≡ as_launched (Some op) ++ operations_in (set_last l None)
 operations_last [] op e = absurd (cc)
 operations_last (o ∷ []) op e = rw e
-operations_last (o ∷ p ∷ l) op e = ap (λ (q : List Op). q ++ as_launched o) (operations_last (p ∷ l) op e) ∙ append_assoc (as_launched (Some op)) (operations_in (set_last (p ∷ l) None)) (as_launched o)
+operations_last (o ∷ p ∷ l) op e = ap (λ (q : List Op). q ++ as_launched o) (operations_last (p ∷ l) op e)
+    ∙ append_assoc (as_launched (Some op)) (operations_in (set_last (p ∷ l) None)) (as_launched o)
 
 -- below a siding's launch stage none of its passengers has its operation out
 abbrev pub Below : ℕ → List Item → Type 0

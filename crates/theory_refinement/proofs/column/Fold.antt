@@ -39,18 +39,26 @@ module _ (W : Type 0) (Fits : Item → W → Type 0) (past : Item → W → W) (
   walk_follows [] w v f h = f
   walk_follows (x ∷ xs) w v f h = walk_follows xs (past x w) (past x v) (law.goes_on x w v f h.0) h.1
 
-  pub replaced : (above old new below : List Item) (w : W) → Replaces W Fits past Follows old new (walk past above w) → Everywhere Fits past (above ++ (old ++ below)) w → Everywhere Fits past (above ++ (new ++ below)) w × Follows (walk past (above ++ (old ++ below)) w) (walk past (above ++ (new ++ below)) w)
+  pub replaced : (above old new below : List Item) (w : W) → Replaces W Fits past Follows old new (walk past above w) →
+      Everywhere Fits past (above ++ (old ++ below)) w → Everywhere Fits past (above ++ (new ++ below)) w
+      × Follows (walk past (above ++ (old ++ below)) w) (walk past (above ++ (new ++ below)) w)
   replaced above old new below w r h =
       let v = walk past above w in
       let h1 = fit_back W Fits past above (old ++ below) w h in
       let ha = fit_front W Fits past old below v h1 in
       let hb = fit_back W Fits past old below v h1 in
       let f = r.follows ha in
-      let f' : Follows (walk past (above ++ (old ++ below)) w) (walk past (above ++ (new ++ below)) w) = rw (walk_append past above (old ++ below), walk_append past above (new ++ below), walk_append past old below, walk_append past new below) (walk_follows below (walk past old v) (walk past new v) f hb) in
-      (fit_append W Fits past above (new ++ below) w (fit_front W Fits past above _ w h) (fit_append W Fits past new below v (r.fit ha) (fit_follows below (walk past old v) (walk past new v) f hb)), f')
+      let f' : Follows (walk past (above ++ (old ++ below)) w) (walk past (above ++ (new ++ below)) w) =
+      rw (walk_append past above (old ++ below), walk_append past above (new ++ below), walk_append past old below, walk_append past new below)
+      (walk_follows below (walk past old v) (walk past new v) f hb) in (
+        fit_append W Fits past above (new ++ below) w (fit_front W Fits past above _ w h) (fit_append W Fits past new below v (r.fit ha)
+            (fit_follows below (walk past old v) (walk past new v) f hb)),
+        f',
+      )
 
 -- the old item may first be taken for another that the walk does not distinguish from it
-pub prefaced : (W : Type 0) (Fits : Item → W → Type 0) (past : Item → W → W) (Follows : W → W → Type 0) (a b : Item) (new : List Item) (w : W) → (Fits a w → Fits b w) → past a w ≡ past b w → Replaces W Fits past Follows (b ∷ []) new w → Replaces W Fits past Follows (a ∷ []) new w
+pub prefaced : (W : Type 0) (Fits : Item → W → Type 0) (past : Item → W → W) (Follows : W → W → Type 0) (a b : Item) (new : List Item) (w : W) →
+    (Fits a w → Fits b w) → past a w ≡ past b w → Replaces W Fits past Follows (b ∷ []) new w → Replaces W Fits past Follows (a ∷ []) new w
 prefaced W Fits past Follows a b new w f e r = record {
   fit = λ h. r.fit (f h.0, tt);
   follows = λ h. subst (λ (v : W). Follows v (walk past new w)) (sym e) (r.follows (f h.0, tt));

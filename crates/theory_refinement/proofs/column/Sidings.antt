@@ -64,12 +64,16 @@ plain_last (a ∷ []) op h e = subst IsUnanswered e h.0
 plain_last (a ∷ b ∷ l) op h e = plain_last (b ∷ l) op h.1 e
 
 -- a siding's class and number
-pub berthed : (l : Plan) → Suits l → (s : State) (xs : List Item) (k : ℕ) → IsMoored l s xs → (c : _) → siding_of l c ≡ Some k → (n : ℕ) × (length (siding_at s k) ≡ suc n)
+pub berthed : (l : Plan) → Suits l → (s : State) (xs : List Item) (k : ℕ) → IsMoored l s xs → (c : _) → siding_of l c ≡ Some k →
+    (n : ℕ) × (length (siding_at s k) ≡ suc n)
 berthed l acc s xs k h c e = let b = acc.berth c k e in (b.0, h.berths k ∙ b.1)
 
 -- one siding's cells change, the others stay
-pub rehung : (l : Plan) (s t : State) (xs ys : List Item) (k : ℕ) (q : List (Option Op)) → t.sidings ≡ slice_set s.sidings k q → (n : ℕ) → length (siding_at s k) ≡ suc n → length q ≡ length (siding_at s k) → operations_in q ≡ operations_of l k ys → ((j : ℕ) → j ≢ k → operations_of l j xs ≡ operations_of l j ys) → LastAnswered q → (k ≢ (port l) → AreUnanswered q) → IsMoored l s xs → IsMoored l t ys
-rehung l s t xs ys k q e n b z f g fr pl h = record { operations = λ j. go1 j (j == k) refl; front = λ j. go2 j (j == k) refl; plain = λ j. go3 j (j == k) refl; berths = λ j. go4 j (j == k) refl }
+pub rehung : (l : Plan) (s t : State) (xs ys : List Item) (k : ℕ) (q : List (Option Op)) → t.sidings ≡ slice_set s.sidings k q → (n : ℕ) →
+    length (siding_at s k) ≡ suc n → length q ≡ length (siding_at s k) → operations_in q ≡ operations_of l k ys →
+    ((j : ℕ) → j ≢ k → operations_of l j xs ≡ operations_of l j ys) → LastAnswered q → (k ≢ (port l) → AreUnanswered q) → IsMoored l s xs → IsMoored l t ys
+rehung l s t xs ys k q e n b z f g fr pl h =
+    record { operations = λ j. go1 j (j == k) refl; front = λ j. go2 j (j == k) refl; plain = λ j. go3 j (j == k) refl; berths = λ j. go4 j (j == k) refl }
   where
     same : (j : ℕ) → (j == k) ≡ true → j ≡ k
     same j e = grind arith
@@ -116,7 +120,8 @@ out_range l k i p h n = go p.launched p.recovered (siding_of l (kind p)) refl re
     go true false None e f g = rw (e, f, g) refl
     go true false (Some j) e f g = let w = rw g at (h.out e f) in rw (e, f, g) (apart j w)
 
-pub flown_range : (l : Plan) (k : ℕ) (xs : List Item) → Riders (λ i. (launch_stage l k ≤ i) → (i ≤ recover_stage l k) → ⊥) xs → Each l xs → operations_of l k xs ≡ []
+pub flown_range : (l : Plan) (k : ℕ) (xs : List Item) → Riders (λ i. (launch_stage l k ≤ i) → (i ≤ recover_stage l k) → ⊥) xs → Each l xs →
+    operations_of l k xs ≡ []
 flown_range l k [] f h = refl
 flown_range l k (Up i p ∷ xs) f h = rw (out_range l k i p h.0 f.0) (flown_range l k xs f.1 h.1)
 flown_range l k (Down i q ∷ xs) f h = flown_range l k xs f h
@@ -125,7 +130,8 @@ flown_range l k (Down i q ∷ xs) f h = flown_range l k xs f h
 abbrev pub last_answer : List (Option Op) → Option ℕ
 last_answer l = on (last_op l) None (λ o. o.answer)
 
-pub top_same : (l : Plan) (s t : State) (x : Machine) → t.lane ≡ s.lane → last_answer (siding_at t (port l)) ≡ last_answer (siding_at s (port l)) → dock.top l t x ≡ dock.top l s x
+pub top_same : (l : Plan) (s t : State) (x : Machine) → t.lane ≡ s.lane → last_answer (siding_at t (port l)) ≡ last_answer (siding_at s (port l)) →
+    dock.top l t x ≡ dock.top l s x
 top_same l s t x e f = rw (e, f) refl
 
 pub last_cons : (o : Option Op) (l : List (Option Op)) (n : ℕ) → length l ≡ suc n → last_op (o ∷ l) ≡ last_op l
@@ -141,7 +147,8 @@ some_cells [] c a e = absurd (cc)
 some_cells (b ∷ l) c a e = (length l, refl)
 
 -- where one siding changes, the port's answer stays if that siding's does
-pub answer_here : (l : Plan) (s t : State) (k : ℕ) (q : List (Option Op)) (n : ℕ) → t.sidings ≡ slice_set s.sidings k q → length (siding_at s k) ≡ suc n → (k ≡ (port l) → last_answer q ≡ last_answer (siding_at s k)) → last_answer (siding_at t (port l)) ≡ last_answer (siding_at s (port l))
+pub answer_here : (l : Plan) (s t : State) (k : ℕ) (q : List (Option Op)) (n : ℕ) → t.sidings ≡ slice_set s.sidings k q → length (siding_at s k) ≡ suc n →
+    (k ≡ (port l) → last_answer q ≡ last_answer (siding_at s k)) → last_answer (siding_at t (port l)) ≡ last_answer (siding_at s (port l))
 answer_here l s t k q n e b f = go (k == (port l)) refl
   where
     go : (z : Bool) → (k == (port l)) ≡ z → last_answer (siding_at t (port l)) ≡ last_answer (siding_at s (port l))

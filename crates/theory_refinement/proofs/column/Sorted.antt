@@ -43,11 +43,13 @@ riders_items P i false (Some p) (Some k) h = (h, tt)
 
 riders_column : (P : ℕ → Type 0) (i : ℕ) (cells : List Cell) → ((j : ℕ) → i ≤ j → P j) → Riders P (column_from i cells)
 riders_column P i [] h = tt
-riders_column P i (c ∷ cs) h = riders_append P (column_from (suc i) cs) (items i c) (riders_column P (suc i) cs (λ j e. h j (omega arith))) (riders_items P i c.met c.passenger c.packet (h i (omega arith)))
+riders_column P i (c ∷ cs) h = riders_append P (column_from (suc i) cs) (items i c) (riders_column P (suc i) cs (λ j e. h j (omega arith)))
+    (riders_items P i c.met c.passenger c.packet (h i (omega arith)))
 
 sorted_append : (i : ℕ) (xs ys : List Item) → Sorted xs → Sorted ys → Riders (λ j. i < j) xs → Riders (λ j. j ≤ i) ys → Sorted (xs ++ ys)
 sorted_append i [] ys a b f g = b
-sorted_append i (Up n p ∷ xs) ys a b f g = (riders_append (λ j. j < n) xs ys a.0 (riders_more (λ j. j ≤ i) (λ j. j < n) ys (λ j e. omega (arith, f.0)) g), sorted_append i xs ys a.1 b f.1 g)
+sorted_append i (Up n p ∷ xs) ys a b f g =
+    (riders_append (λ j. j < n) xs ys a.0 (riders_more (λ j. j ≤ i) (λ j. j < n) ys (λ j e. omega (arith, f.0)) g), sorted_append i xs ys a.1 b f.1 g)
 sorted_append i (Down n k ∷ xs) ys a b f g = sorted_append i xs ys a b f g
 
 sorted_items : (i : ℕ) (m : Bool) (p : Option Passenger) (k : Option Packet) → Sorted (in_order m (passenger_in i p) (packet_in i k))
@@ -62,7 +64,8 @@ sorted_items i false (Some p) (Some k) = (tt, tt)
 
 pub sorted : (i : ℕ) (cells : List Cell) → Sorted (column_from i cells)
 sorted i [] = tt
-sorted i (c ∷ cs) = sorted_append i (column_from (suc i) cs) (items i c) (sorted (suc i) cs) (sorted_items i c.met c.passenger c.packet) (riders_column (λ j. i < j) (suc i) cs (λ j e. omega arith)) (riders_items (λ j. j ≤ i) i c.met c.passenger c.packet (omega arith))
+sorted i (c ∷ cs) = sorted_append i (column_from (suc i) cs) (items i c) (sorted (suc i) cs) (sorted_items i c.met c.passenger c.packet)
+    (riders_column (λ j. i < j) (suc i) cs (λ j e. omega arith)) (riders_items (λ j. j ≤ i) i c.met c.passenger c.packet (omega arith))
 
 -- on both sides of a rider
 pub under : (above below : List Item) (i : ℕ) (p : Passenger) → Sorted (above ++ (Up i p ∷ below)) → Riders (λ j. j < i) below
@@ -78,7 +81,8 @@ over (Down n k ∷ above) below i p h = over above below i p h
 -- the stages of all riders
 pub riders_below : (n i : ℕ) (cells : List Cell) → i + length cells ≤ n → Riders (λ j. j < n) (column_from i cells)
 riders_below n i [] h = tt
-riders_below n i (c ∷ cs) h = riders_append (λ j. j < n) (column_from (suc i) cs) (items i c) (riders_below n (suc i) cs (omega arith)) (riders_items (λ j. j < n) i c.met c.passenger c.packet (omega arith))
+riders_below n i (c ∷ cs) h = riders_append (λ j. j < n) (column_from (suc i) cs) (items i c) (riders_below n (suc i) cs (omega arith))
+    (riders_items (λ j. j < n) i c.met c.passenger c.packet (omega arith))
 
 pub riders_front : (P : ℕ → Type 0) (xs ys : List Item) → Riders P (xs ++ ys) → Riders P xs
 riders_front P [] ys a = tt

@@ -30,7 +30,8 @@ below_in : Bool → List Item → List Item
 below_in true ks = ks
 below_in false ks = []
 
-split_items : (m : Bool) (i : ℕ) (p : Passenger) (ks a b : List Item) → a ++ (in_order m (Up i p ∷ []) ks ++ b) ≡ (a ++ above_in m ks) ++ ((Up i p ∷ []) ++ (below_in m ks ++ b))
+split_items : (m : Bool) (i : ℕ) (p : Passenger) (ks a b : List Item) → a ++ (in_order m (Up i p ∷ []) ks ++ b) ≡ (a ++ above_in m ks)
+    ++ ((Up i p ∷ []) ++ (below_in m ks ++ b))
 unfolding above_in below_in
 split_items true i p ks a b = rw (append-nil a)
 split_items false i p ks a b = rw (append_assoc ks (Up i p ∷ []) b, append_assoc a ks (Up i p ∷ b))
@@ -48,7 +49,8 @@ spot s i c p e f =
     let down = column_from 1 q.below in
     let ks = packet_in i c.packet in
     let was : column s ≡ (up ++ above_in c.met ks) ++ ((Up i p ∷ []) ++ (below_in c.met ks ++ down)) =
-    ap (column_from 1) q.split ∙ column_at i q.below q.above c q.number ∙ ap (λ (o : Option Passenger). up ++ (in_order c.met (passenger_in i o) ks ++ down)) f ∙ split_items c.met i p ks up down in
+    ap (column_from 1) q.split ∙ column_at i q.below q.above c q.number ∙ ap (λ (o : Option Passenger). up ++ (in_order c.met (passenger_in i o) ks ++ down)) f
+    ∙ split_items c.met i p ks up down in
     let o = subst Sorted was (sorted 1 s.cells) in
     record {
       above = up ++ above_in c.met ks;

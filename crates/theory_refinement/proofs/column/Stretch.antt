@@ -14,7 +14,8 @@ pub record Stretch (s : State) (cells : List Cell) (old new : List Item) : Type 
   pub size : length cells ≡ length s.cells
 
 -- what stands in one stage
-pub stage_stretch : (s : State) (i : ℕ) (c d : Cell) (old new : List Item) → cell_at s.cells i ≡ Some c → items i c ≡ old → items i d ≡ new → Stretch s (put_cell s.cells i d) old new
+pub stage_stretch : (s : State) (i : ℕ) (c d : Cell) (old new : List Item) → cell_at s.cells i ≡ Some c → items i c ≡ old → items i d ≡ new →
+    Stretch s (put_cell s.cells i d) old new
 stage_stretch s i c d old new at was is =
     let p = place s.cells i c at in
     let up = column_from (suc i) p.above in
@@ -32,14 +33,18 @@ regroup : (a r m k b : List Item) → a ++ ((r ++ (m ++ k)) ++ b) ≡ (a ++ r) +
 regroup a r m k b = rw (append_assoc r (m ++ k) b, append_assoc m k b, append_assoc a r (m ++ (k ++ b)))
 
 -- what stands in two stages, between what stays there before and after it
-pub pair_stretch : (s : State) (i : ℕ) (c d a b : Cell) (p : Pair s.cells i c d) (cells : List Cell) (front old new last : List Item) → cells ≡ p.below ++ a ∷ b ∷ p.above → items (suc i) d ++ items i c ≡ front ++ (old ++ last) → items (suc i) b ++ items i a ≡ front ++ (new ++ last) → Stretch s cells old new
+pub pair_stretch : (s : State) (i : ℕ) (c d a b : Cell) (p : Pair s.cells i c d) (cells : List Cell) (front old new last : List Item) →
+    cells ≡ p.below ++ a ∷ b ∷ p.above → items (suc i) d ++ items i c ≡ front ++ (old ++ last) → items (suc i) b ++ items i a ≡ front ++ (new ++ last) →
+    Stretch s cells old new
 pair_stretch s i c d a b p cells front old new last put was is =
     let up = column_from (suc (suc i)) p.above in
     let under = column_from 1 p.below in
     record {
       above = up ++ front;
       below = last ++ under;
-      was = ap (column_from 1) p.split ∙ column_pair i p.below p.above c d p.number ∙ ap (λ (m : List Item). up ++ (m ++ under)) was ∙ regroup up front old last under;
-      is = ap (column_from 1) put ∙ column_pair i p.below p.above a b p.number ∙ ap (λ (m : List Item). up ++ (m ++ under)) is ∙ regroup up front new last under;
+      was = ap (column_from 1) p.split ∙ column_pair i p.below p.above c d p.number ∙ ap (λ (m : List Item). up ++ (m ++ under)) was
+          ∙ regroup up front old last under;
+      is = ap (column_from 1) put ∙ column_pair i p.below p.above a b p.number ∙ ap (λ (m : List Item). up ++ (m ++ under)) is
+          ∙ regroup up front new last under;
       size = omega (arith, ap length put, ap length p.split, length-append p.below (a ∷ b ∷ p.above), length-append p.below (c ∷ d ∷ p.above));
     }

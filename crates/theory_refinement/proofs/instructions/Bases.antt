@@ -34,7 +34,8 @@ same_step : (x : Machine) (i : Instr) → fetched Rv32i x.hart.mem x.hart.pc ≡
 same_step x i e = step_is Rv32i x x.hart.pc i e ∙ sym (step_is Rv32im x x.hart.pc i (fetched_by_both x i e))
 
 -- and its line says the same, read as of either set
-same_reading : (x : Machine) (i : Instr) (w r : ℕ) (o : outcome.Outcome Machine) → decoded_as Rv32i w ≡ Some i → GivesOwn x w r o → lines_in Rv32i o ≡ lines_in Rv32im o
+same_reading : (x : Machine) (i : Instr) (w r : ℕ) (o : outcome.Outcome Machine) → decoded_as Rv32i w ≡ Some i → GivesOwn x w r o →
+    lines_in Rv32i o ≡ lines_in Rv32im o
 same_reading x i w r (outcome.Next n own) e h =
     let a : decoded_as Rv32i own.word ≡ Some i = ap (decoded_as Rv32i) h.word ∙ e in
     rw (a, read_by_both own.word i a) refl
@@ -103,7 +104,8 @@ alike m (suc n) x e = go (after Rv32i m n) refl e (alike m n)
         }
 
 -- the lines of two machines that start alike are those of one
-pub one_sequence : (isa other : Isa) (m : Machine) (a b : ℕ) (x y : Machine) → after isa m a ≡ Some x → after other m b ≡ Some y → (one : Isa) × (sequence isa m a ≡ sequence one m a) × (sequence other m b ≡ sequence one m b)
+pub one_sequence : (isa other : Isa) (m : Machine) (a b : ℕ) (x y : Machine) → after isa m a ≡ Some x → after other m b ≡ Some y →
+    (one : Isa) × (sequence isa m a ≡ sequence one m a) × (sequence other m b ≡ sequence one m b)
 one_sequence Rv32i Rv32i m a b x y e f = (Rv32i, refl, refl)
 one_sequence Rv32im Rv32im m a b x y e f = (Rv32im, refl, refl)
 one_sequence Rv32i Rv32im m a b x y e f = (Rv32im, (alike m a x e).lines, refl)

@@ -37,7 +37,8 @@ read_base : (w : ℕ) (i : Instr) → decoded_as Rv32i w ≡ Some i → IsTrue (
 unfolding decoded_as
 read_base w i e = decoded-is_base w i e
 
-pub fetched_homed : (l : Plan) → Suits l → (mem : Memory) (pc : ℕ) (i : Instr) → fetched (isa_of l) mem pc ≡ Got i → is_plain (kind_of i) ≡ true → is_homed l (kind_of i) ≡ true
+pub fetched_homed : (l : Plan) → Suits l → (mem : Memory) (pc : ℕ) (i : Instr) → fetched (isa_of l) mem pc ≡ Got i → is_plain (kind_of i) ≡ true →
+    is_homed l (kind_of i) ≡ true
 fetched_homed l acc mem pc i f p = go (has_mul l) (is_extra (kind_of i)) refl refl
   where
     go : (m e : Bool) → has_mul l ≡ m → is_extra (kind_of i) ≡ e → is_homed l (kind_of i) ≡ true

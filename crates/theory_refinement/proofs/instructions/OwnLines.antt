@@ -48,11 +48,13 @@ GivesOwn x word r (outcome.Trap cause pc detail) = Unit {0}
 GivesOwn x word r (outcome.Exit status) = Unit {0}
 
 -- an instruction that retires
-own_retired : (x : Machine) (mem : Memory) (word pc r v : ℕ) (rest out : List ℕ) → GivesOwn x word r (machine.after_output x.output (machine.beside rest out (machine.retire (record x.hart { mem = mem }) word pc r v)))
+own_retired : (x : Machine) (mem : Memory) (word pc r v : ℕ) (rest out : List ℕ) → GivesOwn x word r
+    (machine.after_output x.output (machine.beside rest out (machine.retire (record x.hart { mem = mem }) word pc r v)))
 unfolding machine.retire
 own_retired x mem word pc r v rest out = record { pc = refl; word = refl; reg = refl; got = v; value = refl; regs = refl }
 
-own_computed : (x : Machine) (word : ℕ) (i : Instr) → GivesOwn x word (dest_of i) (machine.after_output x.output (machine.beside x.rest [] (machine.compute x.hart word i)))
+own_computed : (x : Machine) (word : ℕ) (i : Instr) → GivesOwn x word (dest_of i) (machine.after_output x.output
+    (machine.beside x.rest [] (machine.compute x.hart word i)))
 unfolding machine.compute
 own_computed x word i = by (next % 4 == 0)
   where
@@ -65,21 +67,25 @@ own_computed x word i = by (next % 4 == 0)
     next : ℕ
     next = next_pc i x.hart.pc a b
 
-    by : (t : Bool) → GivesOwn x word (dest_of i) (machine.after_output x.output (machine.beside x.rest [] (if t then machine.retire x.hart word next (dest_of i) (value_of i x.hart.pc a b) else outcome.Trap 0 x.hart.pc next)))
+    by : (t : Bool) → GivesOwn x word (dest_of i) (machine.after_output x.output (machine.beside x.rest []
+        (if t then machine.retire x.hart word next (dest_of i) (value_of i x.hart.pc a b) else outcome.Trap 0 x.hart.pc next)))
     by true = own_retired x x.hart.mem word next (dest_of i) (value_of i x.hart.pc a b) x.rest []
     by false = tt
 
-own_loaded : (x : Machine) (word : ℕ) (i : Instr) (addr : ℕ) (r : Result ℕ MemErr) → GivesOwn x word (dest_of i) (machine.after_output x.output (machine.beside x.rest [] (machine.loads x.hart word i addr r)))
+own_loaded : (x : Machine) (word : ℕ) (i : Instr) (addr : ℕ) (r : Result ℕ MemErr) → GivesOwn x word (dest_of i)
+    (machine.after_output x.output (machine.beside x.rest [] (machine.loads x.hart word i addr r)))
 own_loaded x word i addr (Ok raw) = own_retired x x.hart.mem word (word_sum x.hart.pc 4) (dest_of i) (extended i raw) x.rest []
 own_loaded x word i addr (Err Misaligned) = tt
 own_loaded x word i addr (Err NoAccess) = tt
 
-own_stored : (x : Machine) (word : ℕ) (access : Access) (r : Result (Unit {0}) MemErr) → GivesOwn x word 0 (machine.after_output x.output (machine.beside x.rest [] (machine.stores x.hart word access r)))
+own_stored : (x : Machine) (word : ℕ) (access : Access) (r : Result (Unit {0}) MemErr) → GivesOwn x word 0
+    (machine.after_output x.output (machine.beside x.rest [] (machine.stores x.hart word access r)))
 own_stored x word access (Ok done) = own_retired x (stored x.hart.mem access.addr access.width access.value) word (word_sum x.hart.pc 4) 0 0 x.rest []
 own_stored x word access (Err Misaligned) = tt
 own_stored x word access (Err NoAccess) = tt
 
-own_accessed : (x : Machine) (word : ℕ) (i : Instr) → GivesOwn x word (dest_of i) (machine.after_output x.output (machine.beside x.rest [] (machine.access_memory x.hart word i)))
+own_accessed : (x : Machine) (word : ℕ) (i : Instr) → GivesOwn x word (dest_of i) (machine.after_output x.output
+    (machine.beside x.rest [] (machine.access_memory x.hart word i)))
 unfolding machine.access_memory
 own_accessed x word i = by access.write refl
   where
@@ -102,11 +108,13 @@ free_destination : (i : Instr) → kind_of i ≡ Free → dest_of i ≡ 0
 unfolding kind_of
 free_destination i e = grind arith
 
-own_passed : (x : Machine) (word : ℕ) (i : Instr) → kind_of i ≡ Free → GivesOwn x word (dest_of i) (machine.after_output x.output (machine.beside x.rest [] (machine.pass x.hart word i)))
+own_passed : (x : Machine) (word : ℕ) (i : Instr) → kind_of i ≡ Free → GivesOwn x word (dest_of i)
+    (machine.after_output x.output (machine.beside x.rest [] (machine.pass x.hart word i)))
 unfolding machine.pass
 own_passed x word i e = rw (free_destination i e) (by (machine.breaks i))
   where
-    by : (t : Bool) → GivesOwn x word 0 (machine.after_output x.output (machine.beside x.rest [] (if t then outcome.Trap 3 x.hart.pc x.hart.pc else machine.retire x.hart word (word_sum x.hart.pc 4) 0 0)))
+    by : (t : Bool) → GivesOwn x word 0 (machine.after_output x.output (machine.beside x.rest []
+        (if t then outcome.Trap 3 x.hart.pc x.hart.pc else machine.retire x.hart word (word_sum x.hart.pc 4) 0 0)))
     by true = tt
     by false = own_retired x x.hart.mem word (word_sum x.hart.pc 4) 0 0 x.rest []
 
@@ -114,7 +122,8 @@ own_answered : (x : Machine) (word : ℕ) (c : Called) → GivesOwn x word 10 (m
 own_answered x word (called.Value a) = own_retired x a.mem word (word_sum x.hart.pc 4) 10 a.value a.rest a.output
 own_answered x word (called.Exit status) = tt
 
-own_served : (x : Machine) (word : ℕ) (i : Instr) → kind_of i ≡ Serial → GivesOwn x word (dest_of i) (machine.after_output x.output (machine.serial x.hart x.rest word i))
+own_served : (x : Machine) (word : ℕ) (i : Instr) → kind_of i ≡ Serial → GivesOwn x word (dest_of i)
+    (machine.after_output x.output (machine.serial x.hart x.rest word i))
 unfolding machine.serial machine.synchronize
 own_served x word i e = by (machine.synchronizes i) refl
   where
@@ -124,7 +133,8 @@ own_served x word i e = by (machine.synchronizes i) refl
     by true f = rw (serial_destination i e f) (own_retired x (synced x.hart.mem) word (word_sum x.hart.pc 4) 0 0 x.rest [])
     by false f = rw (call_destination i e f) (own_answered x word (call x.hart.regs x.hart.mem x.rest))
 
-own_executed : (c : Class) (x : Machine) (word : ℕ) (i : Instr) → kind_of i ≡ c → GivesOwn x word (dest_of i) (machine.after_output x.output (machine.execute c x.hart x.rest word i))
+own_executed : (c : Class) (x : Machine) (word : ℕ) (i : Instr) → kind_of i ≡ c → GivesOwn x word (dest_of i)
+    (machine.after_output x.output (machine.execute c x.hart x.rest word i))
 unfolding machine.execute
 own_executed Add x word i e = own_computed x word i
 own_executed Logic x word i e = own_computed x word i
@@ -163,21 +173,25 @@ dest_below isa x i e = by (dest_of i == 0) refl
     by true f = grind (arith, nat_tests)
     by false f = dst_below isa x.hart.mem x.hart.pc i e (dest_of i) (rw f refl)
 
-read_own : (isa : Isa) (x n : Machine) (i : Instr) (word : ℕ) (own : Retired) → decoded_as isa word ≡ Some i → dest_of i < length x.hart.regs → IsOwn x word (dest_of i) n own → line_read isa own ≡ row x.hart.pc i (got n.hart.regs (dst_of i))
+read_own : (isa : Isa) (x n : Machine) (i : Instr) (word : ℕ) (own : Retired) → decoded_as isa word ≡ Some i → dest_of i < length x.hart.regs →
+    IsOwn x word (dest_of i) n own → line_read isa own ≡ row x.hart.pc i (got n.hart.regs (dst_of i))
 unfolding dst_of
 read_own isa x n i word own d b h =
     rw (h.pc, h.word, h.reg, h.value, h.regs, d) (ap (λ (q : Option Binding). row x.hart.pc i q) (named_got x.hart.regs (dest_of i) h.got b))
 
 -- of an instruction that retires, the machine's own line is its address, what it is, and its destination with the value after the step
-pub own_line : (isa : Isa) (x y : Machine) (i : Instr) → length x.hart.regs ≡ 32 → fetched isa x.hart.mem x.hart.pc ≡ Got i → step_here isa x ≡ Goes y → lines_at isa x ≡ row x.hart.pc i (got y.hart.regs (dst_of i)) ∷ []
+pub own_line : (isa : Isa) (x y : Machine) (i : Instr) → length x.hart.regs ≡ 32 → fetched isa x.hart.mem x.hart.pc ≡ Got i → step_here isa x ≡ Goes y →
+    lines_at isa x ≡ row x.hart.pc i (got y.hart.regs (dst_of i)) ∷ []
 unfolding step_at
 own_line isa x y i wide e g =
     let f = fetched_is isa x.hart.mem x.hart.pc i e in
     by f.word f.read (machine.step isa x) (own_step isa x i f) g
   where
-    by : (word : ℕ) → decoded_as isa word ≡ Some i → (o : outcome.Outcome Machine) → GivesOwn x word (dest_of i) o → stepped o ≡ Goes y → lines_in isa o ≡ row x.hart.pc i (got y.hart.regs (dst_of i)) ∷ []
+    by : (word : ℕ) → decoded_as isa word ≡ Some i → (o : outcome.Outcome Machine) → GivesOwn x word (dest_of i) o → stepped o ≡ Goes y →
+        lines_in isa o ≡ row x.hart.pc i (got y.hart.regs (dst_of i)) ∷ []
     by word d (outcome.Next n own) h g =
         let same : n ≡ y = cc in
-        ap (λ (l : Line). l ∷ []) (read_own isa x n i word own d (rw wide (dest_below isa x i e)) h ∙ ap (λ (z : Machine). row x.hart.pc i (got z.hart.regs (dst_of i))) same)
+        ap (λ (l : Line). l ∷ []) (read_own isa x n i word own d (rw wide (dest_below isa x i e)) h
+        ∙ ap (λ (z : Machine). row x.hart.pc i (got z.hart.regs (dst_of i))) same)
     by word d (outcome.Trap cause pc detail) h g = absurd (cc)
     by word d (outcome.Exit status) h g = absurd (cc)

@@ -43,7 +43,8 @@ value_named r v got h = by (r == 0) refl
     by false e = rw e refl
 
 -- a line that a step gives, with the word that was fetched
-own_is : (isa : Isa) (x n : Machine) (own : Retired) → step isa x ≡ outcome.Next n own → (i : Instr) × (word : ℕ) × (decoded_as isa word ≡ Some i) × IsOwn x word (dest_of i) n own
+own_is : (isa : Isa) (x n : Machine) (own : Retired) → step isa x ≡ outcome.Next n own → (i : Instr) × (word : ℕ) × (decoded_as isa word ≡ Some i)
+    × IsOwn x word (dest_of i) n own
 unfolding step_at
 own_is isa x n own e = by (fetched isa x.hart.mem x.hart.pc) refl
   where
@@ -74,11 +75,14 @@ same_retired a b e f g h = by e f g h
     by : {p q v w r s x y : ℕ} → p ≡ q → v ≡ w → r ≡ s → x ≡ y → made p v r x ≡ made q w s y
     by e f g h = rw (e, f, g, h) refl
 
-pub shown_own : (isa : Isa) (x n : Machine) (own shown : Retired) → step isa x ≡ outcome.Next n own → own.word < 2 ^ 32 → Shows (line_read isa own) shown → shown ≡ own
+pub shown_own : (isa : Isa) (x n : Machine) (own shown : Retired) → step isa x ≡ outcome.Next n own → own.word < 2 ^ 32 → Shows (line_read isa own) shown →
+    shown ≡ own
 shown_own isa x n own shown e b s =
     let o = own_shown isa x n own e b in
-    same_retired shown own s.pc (Encodes-inj shown.word own.word (line_read isa own).what s.is_word b s.word o.word) (s.register ∙ sym o.register) (s.value ∙ sym o.value)
+    same_retired shown own s.pc (Encodes-inj shown.word own.word (line_read isa own).what s.is_word b s.word o.word) (s.register ∙ sym o.register) (s.value
+    ∙ sym o.value)
 
 -- both
-pub own_alone : (isa : Isa) (x n : Machine) (own shown : Retired) → step isa x ≡ outcome.Next n own → own.word < 2 ^ 32 → Shows (line_read isa own) own × (Shows (line_read isa own) shown → shown ≡ own)
+pub own_alone : (isa : Isa) (x n : Machine) (own shown : Retired) → step isa x ≡ outcome.Next n own → own.word < 2 ^ 32 →
+    Shows (line_read isa own) own × (Shows (line_read isa own) shown → shown ≡ own)
 own_alone isa x n own shown e b = (own_shown isa x n own e b, shown_own isa x n own shown e b)

@@ -197,7 +197,8 @@ kept x word i access (Err Misaligned) w d = rw w refl
 kept x word i access (Err NoAccess) w d = rw w refl
 
 -- what an access asks does not depend on what a store would write
-asked_address : (i : Instr) (a b : ℕ) → ((access_made i a b).addr ≡ (access_made i a 0).addr) × ((access_made i a b).width ≡ (access_made i a 0).width) × ((access_made i a b).write ≡ (access_made i a 0).write)
+asked_address : (i : Instr) (a b : ℕ) → ((access_made i a b).addr ≡ (access_made i a 0).addr) × ((access_made i a b).width ≡ (access_made i a 0).width)
+    × ((access_made i a b).write ≡ (access_made i a 0).write)
 unfolding access_made
 asked_address i a b = grind arith
 
@@ -229,7 +230,8 @@ accesses_as : (x : Machine) (word : ℕ) (i : Instr) (a b : ℕ) (access : Acces
     then machine.stores x.hart word access (permits_at (bounds_of x.hart.mem) access.addr access.width true)
     else machine.loads x.hart word i access.addr (load_at x.hart.mem access.addr access.width))
     ≡ on (refused x.hart.pc access (permits_at (bounds_of x.hart.mem) access.addr access.width w))
-    (Goes (onward x (word_after x.hart.pc) (value_written x.hart.regs (dst_of i) (if w then 0 else extended i (number (load_at x.hart.mem access.addr access.width))))
+    (Goes (onward x (word_after x.hart.pc) (value_written x.hart.regs (dst_of i) (if w then 0 else extended i
+    (number (load_at x.hart.mem access.addr access.width))))
     (if w then stored x.hart.mem access.addr access.width access.value else x.hart.mem))) Stops
 accesses_as x word i a b access true e w =
     kept x word i access (permits_at (bounds_of x.hart.mem) access.addr access.width true) w
@@ -397,7 +399,8 @@ step_keeps isa x pc i e =
     keeps_at (step_at isa x pc) x pc (dst_of i)
     (rw (step_is isa x pc i e) (class_keeps (kind_of i) i (value_read x.hart.regs (src1_of i)) (value_read x.hart.regs (src2_of i)) (at_pc x pc)))
 
-wide_by : (isa : Isa) (f : Fetched) (x : Machine) (pc : ℕ) → fetched isa x.hart.mem pc ≡ f → length (after_step (step_at isa x pc) x).hart.regs ≡ length x.hart.regs
+wide_by : (isa : Isa) (f : Fetched) (x : Machine) (pc : ℕ) → fetched isa x.hart.mem pc ≡ f →
+    length (after_step (step_at isa x pc) x).hart.regs ≡ length x.hart.regs
 wide_by isa (Got i) x pc e = (step_keeps isa x pc i e).wide
 wide_by isa (Bad b) x pc e = rw (bad_stays isa x pc b e) refl
 
@@ -407,7 +410,8 @@ step_wide isa x pc = wide_by isa (fetched isa x.hart.mem pc) x pc refl
 not_reg : (o : Option Binding) (d : Option ℕ) (r : ℕ) → reg_in o ≡ d → has_reg o r ≡ false → d ≢ Some r
 not_reg o d r e f g = grind (arith, nat_tests)
 
-pub sure_keeps : (isa : Isa) (p : Passenger) (x : Machine) (g : Option ℕ) → IsSure isa p x (step_at isa x p.pc) g → (r : ℕ) → has_reg p.dst r ≡ false → slice_index (after_step (step_at isa x p.pc) x).hart.regs r ≡ slice_index x.hart.regs r
+pub sure_keeps : (isa : Isa) (p : Passenger) (x : Machine) (g : Option ℕ) → IsSure isa p x (step_at isa x p.pc) g → (r : ℕ) → has_reg p.dst r ≡ false →
+    slice_index (after_step (step_at isa x p.pc) x).hart.regs r ≡ slice_index x.hart.regs r
 sure_keeps isa p x g h r f = go (fetched isa x.hart.mem p.pc) refl h.reads
   where
     go : (q : Fetched) → fetched isa x.hart.mem p.pc ≡ q → Holds p q → slice_index (after_step (step_at isa x p.pc) x).hart.regs r ≡ slice_index x.hart.regs r
@@ -447,17 +451,20 @@ bounds_after i a b mem = go (access_made i a b)
         by false = refl
 
 -- a call that answers leaves the bounds
-answer_bounds : (mem : Memory) (rest : List ℕ) (value : ℕ) (a : called.CallAnswer) → called.answered value mem rest ≡ called.Value a → bounds_of a.mem ≡ bounds_of mem
+answer_bounds : (mem : Memory) (rest : List ℕ) (value : ℕ) (a : called.CallAnswer) → called.answered value mem rest ≡ called.Value a →
+    bounds_of a.mem ≡ bounds_of mem
 answer_bounds mem rest value a e =
     let g : record { value = value; mem = mem; rest = rest; output = [] } ≡ a = cc in
     ap (λ (z : called.CallAnswer). bounds_of z.mem) (sym g)
 
 -- by the first test that holds
-choice_bounds : (b : Bool) (mem : Memory) (u v : Called) (a : called.CallAnswer) → (u ≡ called.Value a → bounds_of a.mem ≡ bounds_of mem) → (v ≡ called.Value a → bounds_of a.mem ≡ bounds_of mem) → (if b then u else v) ≡ called.Value a → bounds_of a.mem ≡ bounds_of mem
+choice_bounds : (b : Bool) (mem : Memory) (u v : Called) (a : called.CallAnswer) → (u ≡ called.Value a → bounds_of a.mem ≡ bounds_of mem) →
+    (v ≡ called.Value a → bounds_of a.mem ≡ bounds_of mem) → (if b then u else v) ≡ called.Value a → bounds_of a.mem ≡ bounds_of mem
 choice_bounds true mem u v a f g e = f e
 choice_bounds false mem u v a f g e = g e
 
-read_bounds : (fd addr len : ℕ) (mem : Memory) (rest : List ℕ) (a : called.CallAnswer) → called.read fd addr len mem rest ≡ called.Value a → bounds_of a.mem ≡ bounds_of mem
+read_bounds : (fd addr len : ℕ) (mem : Memory) (rest : List ℕ) (a : called.CallAnswer) → called.read fd addr len mem rest ≡ called.Value a →
+    bounds_of a.mem ≡ bounds_of mem
 unfolding called.read
 read_bounds fd addr len mem rest a e =
     choice_bounds (not (fd == 0)) mem _ _ a (answer_bounds mem rest called.bad_file a)
@@ -470,7 +477,8 @@ read_bounds fd addr len mem rest a e =
         let g : record { value = count; mem = memory_with mem addr len (take count rest); rest = drop count rest; output = [] } ≡ a = cc in
         ap (λ (z : called.CallAnswer). bounds_of z.mem) (sym g) ∙ bounds-memory_with mem addr len (take count rest)
 
-write_bounds : (fd addr len : ℕ) (mem : Memory) (rest : List ℕ) (a : called.CallAnswer) → called.write fd addr len mem rest ≡ called.Value a → bounds_of a.mem ≡ bounds_of mem
+write_bounds : (fd addr len : ℕ) (mem : Memory) (rest : List ℕ) (a : called.CallAnswer) → called.write fd addr len mem rest ≡ called.Value a →
+    bounds_of a.mem ≡ bounds_of mem
 unfolding called.write
 write_bounds fd addr len mem rest a e =
     choice_bounds (not (called.is_output fd)) mem _ _ a (answer_bounds mem rest called.bad_file a)
@@ -486,7 +494,8 @@ brk_bounds : (addr : ℕ) (mem : Memory) (rest : List ℕ) (a : called.CallAnswe
 unfolding called.with_break
 brk_bounds addr mem rest a e = by (called.is_break addr) e
   where
-    by : (b : Bool) → (let moved = if b then record mem { program_break = addr } else mem in called.answered moved.program_break moved rest) ≡ called.Value a → bounds_of a.mem ≡ bounds_of mem
+    by : (b : Bool) → (let moved = if b then record mem { program_break = addr } else mem in called.answered moved.program_break moved rest) ≡ called.Value a →
+        bounds_of a.mem ≡ bounds_of mem
     by true f = answer_bounds (record mem { program_break = addr }) rest addr a f ∙ bounds-break mem addr
     by false f = answer_bounds mem rest mem.program_break a f
 
@@ -502,12 +511,15 @@ call_bounds regs mem rest a e =
     (choice_bounds (called.is_exit (called.number_in regs)) mem _ _ a (λ f. absurd (cc))
     (choice_bounds (called.number_in regs == 214) mem _ _ a (brk_bounds x mem rest a) (answer_bounds mem rest called.no_such_call a)))) e
 
-pub served_bounds : (i : Instr) (regs : List ℕ) (mem : Memory) (rest : List ℕ) (a : called.CallAnswer) → serve_of i regs mem rest ≡ called.Value a → bounds_of a.mem ≡ bounds_of mem
+pub served_bounds : (i : Instr) (regs : List ℕ) (mem : Memory) (rest : List ℕ) (a : called.CallAnswer) → serve_of i regs mem rest ≡ called.Value a →
+    bounds_of a.mem ≡ bounds_of mem
 unfolding serve_of
 served_bounds i regs mem rest a e = go (machine.synchronizes i) e
   where
-    go : (b : Bool) → (if b then called.Value (record { value = 0; mem = synced mem; rest = rest; output = [] }) else call regs mem rest) ≡ called.Value a → bounds_of a.mem ≡ bounds_of mem
-    go true f = let g : record { value = 0; mem = synced mem; rest = rest; output = [] } ≡ a = cc in ap (λ (z : called.CallAnswer). bounds_of z.mem) (sym g) ∙ bounds-synced mem
+    go : (b : Bool) → (if b then called.Value (record { value = 0; mem = synced mem; rest = rest; output = [] }) else call regs mem rest) ≡ called.Value a →
+        bounds_of a.mem ≡ bounds_of mem
+    go true f = let g : record { value = 0; mem = synced mem; rest = rest; output = [] } ≡ a = cc in
+        ap (λ (z : called.CallAnswer). bounds_of z.mem) (sym g) ∙ bounds-synced mem
     go false f = call_bounds regs mem rest a f
 
 -- from a region that was written the same code is fetched as before
@@ -549,7 +561,8 @@ leaves_on None n m h = h
 leaves_on (Some e) n m h = record { code = refl; rest = refl; out = refl }
 
 class_leaves : (c : Class) (i : Instr) (a b : ℕ) (m : Machine) → is_serial c ≡ false → Leaves m (after_step (stepped_as c i a b m) m)
-class_leaves MemoryClass i a b m e = leaves_on (access_trap i m.hart.pc a (bounds_of m.hart.mem)) _ m (record { code = code_after i a b m.hart.mem; rest = refl; out = refl })
+class_leaves MemoryClass i a b m e = leaves_on (access_trap i m.hart.pc a (bounds_of m.hart.mem)) _ m
+    (record { code = code_after i a b m.hart.mem; rest = refl; out = refl })
 class_leaves Serial i a b m e = absurd (cc)
 class_leaves Free i a b m e = leaves_on (free_trap i m.hart.pc) _ m (record { code = refl; rest = refl; out = refl })
 class_leaves _ i a b m e = leaves_on (finish_trap i m.hart.pc a b) _ m (record { code = refl; rest = refl; out = refl })
@@ -558,19 +571,23 @@ leaves_at : (s : StepResult) (x : Machine) (pc : ℕ) → Leaves (at_pc x pc) (a
 leaves_at (Goes n) x pc h = record { code = h.code; rest = h.rest; out = h.out }
 leaves_at (Stops e) x pc h = record { code = refl; rest = refl; out = refl }
 
-pub sure_leaves : (isa : Isa) (p : Passenger) (x : Machine) (g : Option ℕ) → IsSure isa p x (step_at isa x p.pc) g → is_serial (kind p) ≡ false → Leaves x (after_step (step_at isa x p.pc) x)
+pub sure_leaves : (isa : Isa) (p : Passenger) (x : Machine) (g : Option ℕ) → IsSure isa p x (step_at isa x p.pc) g → is_serial (kind p) ≡ false →
+    Leaves x (after_step (step_at isa x p.pc) x)
 sure_leaves isa p x g h c = go (fetched isa x.hart.mem p.pc) refl h.reads
   where
     go : (q : Fetched) → fetched isa x.hart.mem p.pc ≡ q → Holds p q → Leaves x (after_step (step_at isa x p.pc) x)
-    go (Got i) e k = leaves_at (step_at isa x p.pc) x p.pc (rw (step_is isa x p.pc i e) (class_leaves (kind_of i) i (value_read x.hart.regs (src1_of i)) (value_read x.hart.regs (src2_of i)) (at_pc x p.pc) (rw (kind_is p i k) at c)))
+    go (Got i) e k = leaves_at (step_at isa x p.pc) x p.pc (rw (step_is isa x p.pc i e) (class_leaves (kind_of i) i (value_read x.hart.regs (src1_of i))
+        (value_read x.hart.regs (src2_of i)) (at_pc x p.pc) (rw (kind_is p i k) at c)))
     go (Bad b) e k = rw (bad_stays isa x p.pc b e) (record { code = refl; rest = refl; out = refl })
 
 -- no step changes bounds and flags
-bounds_on : (o : Option End) (n m : Machine) → bounds_of n.hart.mem ≡ bounds_of m.hart.mem → bounds_of (after_step (on o (Goes n) Stops) m).hart.mem ≡ bounds_of m.hart.mem
+bounds_on : (o : Option End) (n m : Machine) → bounds_of n.hart.mem ≡ bounds_of m.hart.mem →
+    bounds_of (after_step (on o (Goes n) Stops) m).hart.mem ≡ bounds_of m.hart.mem
 bounds_on None n m h = h
 bounds_on (Some e) n m h = refl
 
-bounds_served : (i : Instr) (c : Called) (m : Machine) → serve_of i m.hart.regs m.hart.mem m.rest ≡ c → bounds_of (after_step (served c (dst_of i) m) m).hart.mem ≡ bounds_of m.hart.mem
+bounds_served : (i : Instr) (c : Called) (m : Machine) → serve_of i m.hart.regs m.hart.mem m.rest ≡ c →
+    bounds_of (after_step (served c (dst_of i) m) m).hart.mem ≡ bounds_of m.hart.mem
 bounds_served i (called.Value a) m e = served_bounds i m.hart.regs m.hart.mem m.rest a e
 bounds_served i (called.Exit s) m e = refl
 
@@ -580,7 +597,8 @@ class_bounds Serial i a b m = bounds_served i (serve_of i m.hart.regs m.hart.mem
 class_bounds Free i a b m = bounds_on (free_trap i m.hart.pc) _ m refl
 class_bounds _ i a b m = bounds_on (finish_trap i m.hart.pc a b) _ m refl
 
-bounds_at : (s : StepResult) (x : Machine) (pc : ℕ) → bounds_of (after_step s (at_pc x pc)).hart.mem ≡ bounds_of x.hart.mem → bounds_of (after_step s x).hart.mem ≡ bounds_of x.hart.mem
+bounds_at : (s : StepResult) (x : Machine) (pc : ℕ) → bounds_of (after_step s (at_pc x pc)).hart.mem ≡ bounds_of x.hart.mem →
+    bounds_of (after_step s x).hart.mem ≡ bounds_of x.hart.mem
 bounds_at (Goes n) x pc h = h
 bounds_at (Stops e) x pc h = refl
 
@@ -588,11 +606,13 @@ pub step_bounds : (isa : Isa) (x : Machine) (pc : ℕ) → bounds_of (after_step
 step_bounds isa x pc = go (fetched isa x.hart.mem pc) refl
   where
     go : (q : Fetched) → fetched isa x.hart.mem pc ≡ q → bounds_of (after_step (step_at isa x pc) x).hart.mem ≡ bounds_of x.hart.mem
-    go (Got i) e = bounds_at (step_at isa x pc) x pc (rw (step_is isa x pc i e) (class_bounds (kind_of i) i (value_read x.hart.regs (src1_of i)) (value_read x.hart.regs (src2_of i)) (at_pc x pc)))
+    go (Got i) e = bounds_at (step_at isa x pc) x pc (rw (step_is isa x pc i e) (class_bounds (kind_of i) i (value_read x.hart.regs (src1_of i))
+        (value_read x.hart.regs (src2_of i)) (at_pc x pc)))
     go (Bad b) e = rw (bad_stays isa x pc b e) refl
 
 -- a step that goes on writes only the destination
-writes_on : (o : Option End) (k m : Machine) (d : Option ℕ) (n : Machine) → on o (Goes k) Stops ≡ Goes n → (v : ℕ) × (k.hart.regs ≡ value_written m.hart.regs d v) → (v : ℕ) × (n.hart.regs ≡ value_written m.hart.regs d v)
+writes_on : (o : Option End) (k m : Machine) (d : Option ℕ) (n : Machine) → on o (Goes k) Stops ≡ Goes n →
+    (v : ℕ) × (k.hart.regs ≡ value_written m.hart.regs d v) → (v : ℕ) × (n.hart.regs ≡ value_written m.hart.regs d v)
 writes_on None k m d n e h = let q : k ≡ n = cc in rw (← q) h
 writes_on (Some b) k m d n e h = absurd (cc)
 
@@ -600,17 +620,21 @@ writes_served : (c : Called) (d : Option ℕ) (m n : Machine) → served c d m �
 writes_served (called.Value a) d m n e = writes_on None _ m d n e (a.value, refl)
 writes_served (called.Exit s) d m n e = absurd (cc)
 
-class_writes : (c : Class) (i : Instr) (a b : ℕ) (m n : Machine) → kind_of i ≡ c → stepped_as c i a b m ≡ Goes n → (v : ℕ) × (n.hart.regs ≡ value_written m.hart.regs (dst_of i) v)
+class_writes : (c : Class) (i : Instr) (a b : ℕ) (m n : Machine) → kind_of i ≡ c → stepped_as c i a b m ≡ Goes n →
+    (v : ℕ) × (n.hart.regs ≡ value_written m.hart.regs (dst_of i) v)
 class_writes MemoryClass i a b m n c e = writes_on (access_trap i m.hart.pc a (bounds_of m.hart.mem)) _ m (dst_of i) n e (_, refl)
 class_writes Serial i a b m n c e = writes_served (serve_of i m.hart.regs m.hart.mem m.rest) (dst_of i) m n e
 class_writes Free i a b m n c e = writes_on (free_trap i m.hart.pc) _ m (dst_of i) n e (0, rw (free_bare i c).2 refl)
 class_writes _ i a b m n c e = writes_on (finish_trap i m.hart.pc a b) _ m (dst_of i) n e (_, refl)
 
-pub step_writes : (isa : Isa) (x : Machine) (pc : ℕ) (i : Instr) (n : Machine) → fetched isa x.hart.mem pc ≡ Got i → step_at isa x pc ≡ Goes n → (v : ℕ) × (n.hart.regs ≡ value_written x.hart.regs (dst_of i) v)
-step_writes isa x pc i n f e = class_writes (kind_of i) i (value_read x.hart.regs (src1_of i)) (value_read x.hart.regs (src2_of i)) (at_pc x pc) n refl (sym (step_is isa x pc i f) ∙ e)
+pub step_writes : (isa : Isa) (x : Machine) (pc : ℕ) (i : Instr) (n : Machine) → fetched isa x.hart.mem pc ≡ Got i → step_at isa x pc ≡ Goes n →
+    (v : ℕ) × (n.hart.regs ≡ value_written x.hart.regs (dst_of i) v)
+step_writes isa x pc i n f e = class_writes (kind_of i) i (value_read x.hart.regs (src1_of i)) (value_read x.hart.regs (src2_of i)) (at_pc x pc) n refl
+    (sym (step_is isa x pc i f) ∙ e)
 
 -- the destination of a sure passenger is one of the 32 registers
-pub sure_dst_below : (isa : Isa) (p : Passenger) (x : Machine) (s : StepResult) (g : Option ℕ) (i : Instr) → p.what ≡ Some i → IsSure isa p x s g → (r : ℕ) → dst_of i ≡ Some r → r < 32
+pub sure_dst_below : (isa : Isa) (p : Passenger) (x : Machine) (s : StepResult) (g : Option ℕ) (i : Instr) → p.what ≡ Some i → IsSure isa p x s g → (r : ℕ) →
+    dst_of i ≡ Some r → r < 32
 sure_dst_below isa p x s g i w h = go (fetched isa x.hart.mem p.pc) refl h.reads
   where
     go : (q : Fetched) → fetched isa x.hart.mem p.pc ≡ q → Holds p q → (r : ℕ) → dst_of i ≡ Some r → r < 32

@@ -15,7 +15,8 @@ use Rattle.cf_semantics.specs.claims.Path as path
 use Rattle.cf_semantics.specs.moves.Fetches.{Text, code_of}
 use Rattle.cf_semantics.specs.claims.Soundness.{IsAnswer, may_turn}
 
--- what is known on the way down, besides the path: whether memory may not be touched further down; what has become of memory, code, input and output; and the answer at the end of Memory's siding until its own passenger is passed
+-- what is known on the way down, besides the path: whether memory may not be touched further down; what has become of
+-- memory, code, input and output; and the answer at the end of Memory's siding until its own passenger is passed
 pub record Dock : Type 0 where
   pub path : path.Walk
   pub risky : Bool
@@ -30,7 +31,8 @@ pub record IsDocked (isa : Isa) (p : Passenger) (x : Machine) (risky : Bool) (an
   pub live : is_memory (kind p) ≡ true → (p.launched || p.recovered) ≡ true → p.dead ≡ false
   pub order : is_memory (kind p) ≡ true → (p.launched || p.recovered) ≡ true → risky ≡ false
   pub served : has_served p ≡ true → risky ≡ false
-  pub permitted : is_memory (kind p) ≡ true → (p.launched || p.recovered) ≡ true → access_trap (instruction p) p.pc (value_in p.src1) (bounds_of x.hart.mem) ≡ None
+  pub permitted : is_memory (kind p) ≡ true → (p.launched || p.recovered) ≡ true → access_trap (instruction p) p.pc (value_in p.src1) (bounds_of x.hart.mem)
+      ≡ None
   pub answered : flies p ≡ true → (a : ℕ) → answer ≡ Some a → IsAnswer p.dst (after_step (step_at isa x p.pc) x).hart.regs a
 
 unfoldable pub DockedAt : Isa → Passenger → Dock → Type 0

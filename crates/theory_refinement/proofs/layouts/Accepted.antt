@@ -98,7 +98,9 @@ unit_last plan c e p h = rw (last_is plan c p) (go (none_or_some (stages_of plan
     other : ℕ
     other = recovers_by plan (siding_of plan c)
 
-    go : ((stages_of plan c ≡ []) × (unit_homes (stages_of plan c) ≡ 0) × (last_of (stages_of plan c) other ≡ other)) ⊎ ((unit_homes (stages_of plan c) ≡ 1) × (list_any (nat_eq (last_of (stages_of plan c) other)) (stages_of plan c) ≡ true)) → list_any (nat_eq (last_of (stages_of plan c) other)) (stages_of plan c) ≡ true
+    go : ((stages_of plan c ≡ []) × (unit_homes (stages_of plan c) ≡ 0) × (last_of (stages_of plan c) other ≡ other))
+        ⊎ ((unit_homes (stages_of plan c) ≡ 1) × (list_any (nat_eq (last_of (stages_of plan c) other)) (stages_of plan c) ≡ true)) →
+        list_any (nat_eq (last_of (stages_of plan c) other)) (stages_of plan c) ≡ true
     go (inr q) = q.1
     go (inl q) = let n = counts plan c e in let z : homes plan c ≡ 0 = n ∙ q.1 in absurd (grind (arith, nat_tests))
 
@@ -120,7 +122,9 @@ last_stage_is plan acc c = by c
         other : ℕ
         other = recovers_by plan (siding_of plan c)
 
-        go : ((stages_of plan c ≡ []) × (unit_homes (stages_of plan c) ≡ 0) × (last_of (stages_of plan c) other ≡ other)) ⊎ ((unit_homes (stages_of plan c) ≡ 1) × (list_any (nat_eq (last_of (stages_of plan c) other)) (stages_of plan c) ≡ true)) → IsStage plan (last_of (stages_of plan c) other)
+        go : ((stages_of plan c ≡ []) × (unit_homes (stages_of plan c) ≡ 0) × (last_of (stages_of plan c) other ≡ other))
+            ⊎ ((unit_homes (stages_of plan c) ≡ 1) × (list_any (nat_eq (last_of (stages_of plan c) other)) (stages_of plan c) ≡ true)) →
+            IsStage plan (last_of (stages_of plan c) other)
         go (inl q) = subst (IsStage plan) (sym q.2) (recovers c (siding_of plan c) refl)
         go (inr q) = of_any (IsStage plan) (last_of (stages_of plan c) other) (stages_of plan c) q.1 (unit_stages plan acc c)
 
@@ -141,7 +145,8 @@ last_stage_is plan acc c = by c
 control_low : (plan : Plan) → IsAccepted plan → (c : Class) (i : ℕ) → is_control c ≡ true → unit_at plan c i ≡ true → i ≤ launch_stage plan (port plan)
 control_low plan acc c i t e = subst (λ (m : ℕ). i ≤ m) (launch_is plan) (acc.control_units c i t e)
 
-control_siding : (plan : Plan) → IsAccepted plan → (c : Class) (k : ℕ) → is_control c ≡ true → siding_of plan c ≡ Some k → recover_stage plan k ≤ launch_stage plan (port plan)
+control_siding : (plan : Plan) → IsAccepted plan → (c : Class) (k : ℕ) → is_control c ≡ true → siding_of plan c ≡ Some k →
+    recover_stage plan k ≤ launch_stage plan (port plan)
 unfolding recover_stage
 control_siding plan acc c k t e =
     subst (λ (m : ℕ). (siding_at plan k).recover ≤ m) (launch_is plan)
@@ -194,7 +199,8 @@ pub accepted_suits : (plan : Plan) → IsAccepted plan → Suits plan
 accepted_suits plan acc = record {
   plain = unit_plain plan acc;
   control_low = λ c i t e. not_high plan i (control_low plan acc c i t e);
-  control_last = λ c t e. control_low plan acc c (last_stage plan c) t (unit_last plan c e (control_plain c t) (basic_homed plan acc c (control_plain c t) (control_base c t)));
+  control_last = λ c t e. control_low plan acc c (last_stage plan c) t (unit_last plan c e (control_plain c t)
+      (basic_homed plan acc c (control_plain c t) (control_base c t)));
   control_siding = control_siding plan acc;
   order = λ c k e. let q = (siding_is plan acc c k e).order in unfold launch_stage recover_stage in q;
   memory = memory_sided plan acc;

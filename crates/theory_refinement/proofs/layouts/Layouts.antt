@@ -18,7 +18,8 @@ first_kept : {A : Type 0} (p : A → Bool) (xs : List A) → is_some (position p
 first_kept p [] = refl
 first_kept p (x ∷ xs) = rw (position-cons p x xs) (go (p x) (position p xs) (filter p xs) (first_kept p xs))
   where
-    go : (b : Bool) (o : Option ℕ) (ys : List _) → is_some o ≡ nat_lt 0 (length ys) → is_some (cond b (Some 0) (option_map (λ i. suc i) o)) ≡ nat_lt 0 (length (cond b (x ∷ ys) ys))
+    go : (b : Bool) (o : Option ℕ) (ys : List _) → is_some o ≡ nat_lt 0 (length ys) → is_some (cond b (Some 0) (option_map (λ i. suc i) o))
+        ≡ nat_lt 0 (length (cond b (x ∷ ys) ys))
     go true o ys e = grind (arith, nat_tests)
     go false None ys e = e
     go false (Some k) ys e = e
@@ -54,7 +55,9 @@ pub unit_stages : (plan : Plan) → IsAccepted plan → (c : Class) → All (IsS
 unfolding stages_of
 unit_stages plan acc c = go ((slice_get_cases plan.units (place_of c)).1)
   where
-    go : ((x : List ℕ) × (place_of c < length plan.units) × (slice_get plan.units (place_of c) ≡ Some x) × (get_or plan.units (place_of c) x ≡ x)) ⊎ ((length plan.units ≤ place_of c) × (slice_get plan.units (place_of c) ≡ None)) → All (IsStage plan) (unwrap_or (slice_get plan.units (place_of c)) [])
+    go : ((x : List ℕ) × (place_of c < length plan.units) × (slice_get plan.units (place_of c) ≡ Some x) × (get_or plan.units (place_of c) x ≡ x))
+        ⊎ ((length plan.units ≤ place_of c) × (slice_get plan.units (place_of c) ≡ None)) →
+        All (IsStage plan) (unwrap_or (slice_get plan.units (place_of c)) [])
     go (inl q) = rw (q.2) (subst (All (IsStage plan)) q.3 (All-get_or (All (IsStage plan)) plan.units (place_of c) q.0 q.1 acc.unit_stages))
     go (inr q) = rw (q.1) (All-nil (IsStage plan))
 
@@ -87,7 +90,8 @@ unit_home [] i e = absurd (cc)
 unit_home (x ∷ xs) i e = refl
 
 -- there are no stages, or some
-pub none_or_some : (xs : List ℕ) (other : ℕ) → ((xs ≡ []) × (unit_homes xs ≡ 0) × (last_of xs other ≡ other)) ⊎ ((unit_homes xs ≡ 1) × (list_any (nat_eq (last_of xs other)) xs ≡ true))
+pub none_or_some : (xs : List ℕ) (other : ℕ) → ((xs ≡ []) × (unit_homes xs ≡ 0) × (last_of xs other ≡ other))
+    ⊎ ((unit_homes xs ≡ 1) × (list_any (nat_eq (last_of xs other)) xs ≡ true))
 none_or_some [] other = inl (refl, refl, refl)
 none_or_some (x ∷ xs) other = inr (refl, last_among x xs)
 
@@ -104,6 +108,7 @@ pub computed : (classes : List Class) (c : Class) → All (λ d. place_of d < 9)
 computed [] c h e = absurd (cc)
 computed (d ∷ classes) c h e = go (same_class c d) refl e (λ g. computed classes c (λ k b n. h (suc k) b (omega arith)) g)
   where
-    go : (b : Bool) → same_class c d ≡ b → (b || list_any (same_class c) classes) ≡ true → (list_any (same_class c) classes ≡ true → place_of c < 9) → place_of c < 9
+    go : (b : Bool) → same_class c d ≡ b → (b || list_any (same_class c) classes) ≡ true → (list_any (same_class c) classes ≡ true → place_of c < 9) →
+        place_of c < 9
     go true f g r = let s : place_of c ≡ place_of d = grind (arith, nat_tests) in let n = h 0 d (omega arith) in omega arith
     go false f g r = r g

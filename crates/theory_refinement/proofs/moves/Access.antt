@@ -87,11 +87,41 @@ first_out l k (Up i p ∷ xs) o os e = go (in_siding l k p) refl (λ z. first_ou
     heads a b u v e = cc
 
     go : (b : Bool) → in_siding l k p ≡ b → (operations_of l k xs ≡ o ∷ os → First l k xs o) → First l k (Up i p ∷ xs) o
-    go true f w = record { above = []; below = xs; stage = i; who = p; was = refl; out = f; op = heads (operation p) o (operations_of l k xs) os (rw f at e); none = refl }
-    go false f w = let r = w (rw f at e) in record { above = Up i p ∷ r.above; below = r.below; stage = r.stage; who = r.who; was = ap (λ (z : List Item). Up i p ∷ z) r.was; out = r.out; op = r.op; none = rw f r.none }
+    go true f w = record {
+      above = [];
+      below = xs;
+      stage = i;
+      who = p;
+      was = refl;
+      out = f;
+      op = heads (operation p) o (operations_of l k xs) os (rw f at e);
+      none = refl;
+    }
+    go false f w = let r = w (rw f at e) in
+        record {
+          above = Up i p ∷ r.above;
+          below = r.below;
+          stage = r.stage;
+          who = r.who;
+          was = ap (λ (z : List Item). Up i p ∷ z) r.was;
+          out = r.out;
+          op =
+              r.op;
+          none = rw f r.none;
+        }
 first_out l k (Down i q ∷ xs) o os e =
     let r = first_out l k xs o os e in
-    record { above = Down i q ∷ r.above; below = r.below; stage = r.stage; who = r.who; was = ap (λ (z : List Item). Down i q ∷ z) r.was; out = r.out; op = r.op; none = r.none }
+    record {
+      above = Down i q ∷ r.above;
+      below = r.below;
+      stage = r.stage;
+      who = r.who;
+      was = ap (λ (z : List Item). Down i q ∷ z) r.was;
+      out = r.out;
+      op =
+          r.op;
+      none = r.none;
+    }
 
 -- it is a launched memory operation between the port's two stages
 pub out_is : (l : Plan) (p : Passenger) → in_siding l (port l) p ≡ true → (p.launched ≡ true) × (p.recovered ≡ false)
@@ -100,7 +130,8 @@ out_is l p e = (grind arith, grind arith)
 port_siding : (l : Plan) (p : Passenger) → Suits l → is_memory (kind p) ≡ true → siding_of l (kind p) ≡ Some (port l)
 port_siding l p acc m = rw (memory_is (kind p) m) acc.memory
 
-pub between : (l : Plan) (i : ℕ) (p : Passenger) → Suits l → is_memory (kind p) ≡ true → p.launched ≡ true → p.recovered ≡ false → Stands l i p → (launch_stage l (port l) ≤ i) × (i ≤ recover_stage l (port l))
+pub between : (l : Plan) (i : ℕ) (p : Passenger) → Suits l → is_memory (kind p) ≡ true → p.launched ≡ true → p.recovered ≡ false → Stands l i p →
+    (launch_stage l (port l) ≤ i) × (i ≤ recover_stage l (port l))
 between l i p acc m a b h = rw (port_siding l p acc m) at (h.out a b)
 
 -- below it nothing has passed the port
@@ -119,7 +150,8 @@ waiting l i (Up j p ∷ xs) acc e r h = (unported l i j p acc e r.0 h.0, waiting
 waiting l i (Down j k ∷ xs) acc e r h = waiting l i xs acc e r h
 
 -- above it every memory operation has come back or has a trap
-settled_one : (l : Plan) (i j : ℕ) (p : Passenger) → Suits l → launch_stage l (port l) ≤ i → i < j → ahead.flies p ≡ false → Stands l j p → p.dead ≡ false → is_memory (kind p) ≡ true → p.recovered ≡ false → is_some p.ending ≡ true
+settled_one : (l : Plan) (i j : ℕ) (p : Passenger) → Suits l → launch_stage l (port l) ≤ i → i < j → ahead.flies p ≡ false → Stands l j p → p.dead ≡ false →
+    is_memory (kind p) ≡ true → p.recovered ≡ false → is_some p.ending ≡ true
 settled_one l i j p acc e f g h d m n = go p.launched p.done refl refl
   where
     go : (a b : Bool) → p.launched ≡ a → p.done ≡ b → is_some p.ending ≡ true
@@ -133,16 +165,26 @@ settled l i (Up j p ∷ xs) acc e r g h = (settled_one l i j p acc e r.0 g.0 h.0
 settled l i (Down j k ∷ xs) acc e r g h = settled l i xs acc e r g h
 
 -- the answer is the destination's value after the step
-write_answers : (o : Option Binding) (d : Option ℕ) (v : ℕ) (regs : List ℕ) → length regs ≡ 32 → ((r : ℕ) → d ≡ Some r → r < 32) → reg_in o ≡ d → IsAnswer o (value_written regs d v) v
+write_answers : (o : Option Binding) (d : Option ℕ) (v : ℕ) (regs : List ℕ) → length regs ≡ 32 → ((r : ℕ) → d ≡ Some r → r < 32) → reg_in o ≡ d →
+    IsAnswer o (value_written regs d v) v
 write_answers None d v regs l b e = tt
 write_answers (Some q) d v regs l b e = rw (← e) (get_or-set_same regs q.reg v 0 (rw l (b q.reg (sym e))))
 
-made : (isa : Isa) (p : Passenger) (w : trail.Walk) → length w.machine.hart.regs ≡ 32 → is_memory (kind p) ≡ true → missing p.src1 ≡ None → missing p.src2 ≡ None → access_trap (instruction p) p.pc (value_in p.src1) (bounds_of w.machine.hart.mem) ≡ None → sure.SureAt isa p w → (step_at isa w.machine p.pc ≡ Goes (after_step (step_at isa w.machine p.pc) w.machine)) × ((after_step (step_at isa w.machine p.pc) w.machine).hart.mem ≡ mem_after (instruction p) (value_in p.src1) (value_in p.src2) w.machine.hart.mem) × IsAnswer p.dst (after_step (step_at isa w.machine p.pc) w.machine).hart.regs (answer_of (instruction p) (value_in p.src1) (value_in p.src2) w.machine.hart.mem)
+made : (isa : Isa) (p : Passenger) (w : trail.Walk) → length w.machine.hart.regs ≡ 32 → is_memory (kind p) ≡ true → missing p.src1 ≡ None →
+    missing p.src2 ≡ None → access_trap (instruction p) p.pc (value_in p.src1) (bounds_of w.machine.hart.mem) ≡ None → sure.SureAt isa p w →
+    (step_at isa w.machine p.pc ≡ Goes (after_step (step_at isa w.machine p.pc) w.machine))
+    × ((after_step (step_at isa w.machine p.pc) w.machine).hart.mem ≡ mem_after (instruction p) (value_in p.src1) (value_in p.src2) w.machine.hart.mem)
+    × IsAnswer p.dst (after_step (step_at isa w.machine p.pc) w.machine).hart.regs (answer_of (instruction p) (value_in p.src1)
+    (value_in p.src2) w.machine.hart.mem)
 unfolding sure.SureAt
 made isa p w l m m1 m2 t h =
     let q = memory_steps isa p w.machine w.goto m m1 m2 h.0 in
-    let s : step_at isa w.machine p.pc ≡ Goes (after_access w.machine (instruction p) p.pc (value_in p.src1) (value_in p.src2)) = rw t at q.1 in
-    (s ∙ ap (λ (z : StepResult). Goes (after_step z w.machine)) (sym s), rw s refl, rw s (write_answers p.dst (dst_of (instruction p)) _ w.machine.hart.regs l (sure_dst_below isa p w.machine (step_at isa w.machine p.pc) w.goto (instruction p) q.0 h.0) (h.0.shape (instruction p) q.0).three))
+    let s : step_at isa w.machine p.pc ≡ Goes (after_access w.machine (instruction p) p.pc (value_in p.src1) (value_in p.src2)) = rw t at q.1 in (
+      s ∙ ap (λ (z : StepResult). Goes (after_step z w.machine)) (sym s),
+      rw s refl,
+      rw s (write_answers p.dst (dst_of (instruction p)) _ w.machine.hart.regs l
+          (sure_dst_below isa p w.machine (step_at isa w.machine p.pc) w.goto (instruction p) q.0 h.0) (h.0.shape (instruction p) q.0).three),
+    )
 
 unanswered : (p : Passenger) (o : Option ℕ) → o ≡ None → is_memory (kind p) ≡ true → p.recovered ≡ false → ahead.has_ported p o ≡ false
 unanswered p o e m n = grind arith
@@ -161,11 +203,15 @@ set_twice (a ∷ []) o = refl
 set_twice (a ∷ b ∷ []) o = refl
 set_twice (a ∷ b ∷ c ∷ q) o = ap (λ (z : List (Option Op)). a ∷ z) (set_twice (b ∷ c ∷ q) o)
 
-answered_operations : (q : List (Option Op)) (n : ℕ) (op : Op) (a : Option ℕ) → length q ≡ suc n → last_op q ≡ Some op → operations_in (set_last q (Some (record op { answer = a }))) ≡ operations_in q
+answered_operations : (q : List (Option Op)) (n : ℕ) (op : Op) (a : Option ℕ) → length q ≡ suc n → last_op q ≡ Some op →
+    operations_in (set_last q (Some (record op { answer = a }))) ≡ operations_in q
 answered_operations q n op a e f =
-    operations_last (set_last q (Some (record op { answer = a }))) (record op { answer = a }) (last_set q n (Some (record op { answer = a })) e) ∙ ap (λ (z : List (Option Op)). (record op { answer = None } ∷ []) ++ operations_in z) (set_twice q (Some (record op { answer = a }))) ∙ sym (operations_last q op f)
+    operations_last (set_last q (Some (record op { answer = a }))) (record op { answer = a }) (last_set q n (Some (record op { answer = a })) e)
+    ∙ ap (λ (z : List (Option Op)). (record op { answer = None } ∷ []) ++ operations_in z) (set_twice q (Some (record op { answer = a })))
+    ∙ sym (operations_last q op f)
 
-access_alike : {A : Type 0} → (f : Instr → ℕ → ℕ → memory.Memory → A) → {i j : Instr} {a c b d : ℕ} {m n : memory.Memory} → i ≡ j → a ≡ c → b ≡ d → m ≡ n → f i a b m ≡ f j c d n
+access_alike : {A : Type 0} → (f : Instr → ℕ → ℕ → memory.Memory → A) → {i j : Instr} {a c b d : ℕ} {m n : memory.Memory} → i ≡ j → a ≡ c → b ≡ d → m ≡ n →
+    f i a b m ≡ f j c d n
 access_alike f e g h k = rw (e, g, h, k) refl
 
 -- the scene of an access: the operation, its passenger, which is the topmost whose operation is out, and the machine where that stands
@@ -182,16 +228,22 @@ pub record Scene (l : Plan) (s : State) (x : Machine) : Type 0 where
   pub range : (launch_stage l (port l) ≤ first.stage) × (first.stage ≤ recover_stage l (port l))
   pub certain : sure.SureAt (isa_of l) first.who (walk (dock.past (isa_of l)) first.above (dock.top l s x)).path
   pub before : s.mem ≡ (walk (dock.past (isa_of l)) first.above (dock.top l s x)).path.machine.hart.mem
-  pub goes : step_at (isa_of l) (walk (dock.past (isa_of l)) first.above (dock.top l s x)).path.machine first.who.pc ≡ Goes (after_step (step_at (isa_of l) (walk (dock.past (isa_of l)) first.above (dock.top l s x)).path.machine first.who.pc) (walk (dock.past (isa_of l)) first.above (dock.top l s x)).path.machine)
-  pub stored : mem_after ready.what.instr ready.what.a ready.what.b s.mem ≡ (after_step (step_at (isa_of l) (walk (dock.past (isa_of l)) first.above (dock.top l s x)).path.machine first.who.pc) (walk (dock.past (isa_of l)) first.above (dock.top l s x)).path.machine).hart.mem
-  pub answers : IsAnswer first.who.dst (after_step (step_at (isa_of l) (walk (dock.past (isa_of l)) first.above (dock.top l s x)).path.machine first.who.pc) (walk (dock.past (isa_of l)) first.above (dock.top l s x)).path.machine).hart.regs (answer_of ready.what.instr ready.what.a ready.what.b s.mem)
+  pub goes : step_at (isa_of l) (walk (dock.past (isa_of l)) first.above (dock.top l s x)).path.machine first.who.pc
+      ≡ Goes (after_step (step_at (isa_of l) (walk (dock.past (isa_of l)) first.above (dock.top l s x)).path.machine first.who.pc)
+      (walk (dock.past (isa_of l)) first.above (dock.top l s x)).path.machine)
+  pub stored : mem_after ready.what.instr ready.what.a ready.what.b s.mem ≡ (after_step (step_at (isa_of l)
+      (walk (dock.past (isa_of l)) first.above (dock.top l s x)).path.machine first.who.pc)
+      (walk (dock.past (isa_of l)) first.above (dock.top l s x)).path.machine).hart.mem
+  pub answers : IsAnswer first.who.dst (after_step (step_at (isa_of l) (walk (dock.past (isa_of l)) first.above (dock.top l s x)).path.machine first.who.pc)
+      (walk (dock.past (isa_of l)) first.above (dock.top l s x)).path.machine).hart.regs (answer_of ready.what.instr ready.what.a ready.what.b s.mem)
 
 pub access_scene : {rest out : List ℕ} (l : Plan) (s : State) (x : Machine) → Suits l → bar l s Access ≡ None → Sound l s rest out x → Scene l s x
 access_scene {rest} {out} l s x acc e h =
     let r = access_ready l s (bar_row l s Access e) in
     let k = (port l) in
     let q = siding_at s k in
-    let f = first_out l k (column s) (record r.what { answer = None }) (operations_in (set_last q None)) (sym (h.moored.operations k) ∙ operations_last q r.what r.lies) in
+    let f = first_out l k (column s) (record r.what { answer = None }) (operations_in (set_last q None)) (sym (h.moored.operations k)
+    ∙ operations_last q r.what r.lies) in
     let p = f.who in
     let i = f.stage in
     let was : column s ≡ f.above ++ ((Up i p ∷ []) ++ f.below) = f.was in
@@ -206,16 +258,22 @@ access_scene {rest} {out} l s x acc e h =
     let w0 = dock.top l s x in
     let u = walk (dock.past (isa_of l)) f.above w0 in
     let land = landed l acc f.above f.none in
-    let none : u.answer ≡ None = ap (λ (z : dock.Dock). z.answer) (walk_landed (isa_of l) f.above w0 w0.answer land) ∙ ap (λ (z : Option Op). on z None (λ z. z.answer)) r.lies ∙ r.unanswered in
-    let wait = waiting l i f.below acc range.1 (under f.above f.below i p order) (each_back l (Up i p ∷ []) f.below (each_back l f.above ((Up i p ∷ []) ++ f.below) each)) in
+    let none : u.answer ≡ None = ap (λ (z : dock.Dock). z.answer) (walk_landed (isa_of l) f.above w0 w0.answer land)
+    ∙ ap (λ (z : Option Op). on z None (λ z. z.answer)) r.lies ∙ r.unanswered in
+    let wait = waiting l i f.below acc range.1 (under f.above f.below i p order) (each_back l (Up i p ∷ []) f.below
+    (each_back l f.above ((Up i p ∷ []) ++ f.below) each)) in
     let settle = settled l i f.above acc range.0 (over f.above f.below i p order) land (each_front l f.above ((Up i p ∷ []) ++ f.below) each) in
-    let fresh = fresh_above (isa_of l) f.above w0 settle (fit_front _ (sure.Fits (isa_of l)) (trail.past (isa_of l)) f.above ((Up i p ∷ []) ++ f.below) _ (rw was at h.path_fit)) (λ b. absurd (cc)) known.1 refl in
+    let fresh = fresh_above (isa_of l) f.above w0 settle (fit_front _ (sure.Fits (isa_of l)) (trail.past (isa_of l)) f.above ((Up i p ∷ []) ++ f.below) _
+    (rw was at h.path_fit)) (λ b. absurd (cc)) known.1 refl in
     let unbarred = open_of u y.safe known.1 in
-    let certain : sure.SureAt (isa_of l) p u.path = sure_at (isa_of l) i p u.path known.0 unbarred (subst (λ (z : trail.Walk). sure.Fits (isa_of l) (Up i p) z) (sym y.same) y.path_fit.0) in
+    let certain : sure.SureAt (isa_of l) p u.path = sure_at (isa_of l) i p u.path known.0 unbarred
+    (subst (λ (z : trail.Walk). sure.Fits (isa_of l) (Up i p) z) (sym y.same) y.path_fit.0) in
     let wide : length u.path.machine.hart.regs ≡ 32 = subst (λ (z : trail.Walk). length z.machine.hart.regs ≡ 32) (sym y.same) y.wide in
     let did = made (isa_of l) p u.path wide m (y.stands.0.sourced1 o.0) (y.stands.0.sourced2 o.0) known.2 certain in
     let past = waiting_mem (isa_of l) f.below (dock.past (isa_of l) (Up i p) u) wait (past_none (isa_of l) (Up i p) u none) in
-    let mem : s.mem ≡ u.path.machine.hart.mem = h.port_ends.is_mem ∙ ap (λ (z : List Item). (walk (dock.past (isa_of l)) z w0).mem) was ∙ ap (λ (z : dock.Dock). z.mem) (walk_append (dock.past (isa_of l)) f.above ((Up i p ∷ []) ++ f.below) w0) ∙ past ∙ past_unported (isa_of l) i p u (unanswered p u.answer none m o.1) ∙ fresh in
+    let mem : s.mem ≡ u.path.machine.hart.mem = h.port_ends.is_mem ∙ ap (λ (z : List Item). (walk (dock.past (isa_of l)) z w0).mem) was
+    ∙ ap (λ (z : dock.Dock). z.mem) (walk_append (dock.past (isa_of l)) f.above ((Up i p ∷ []) ++ f.below) w0) ∙ past
+    ∙ past_unported (isa_of l) i p u (unanswered p u.answer none m o.1) ∙ fresh in
     let code = ap (λ (z : Op). z.instr) (sym f.op) in
     let a1 = ap (λ (z : Op). z.a) (sym f.op) in
     let a2 = ap (λ (z : Op). z.b) (sym f.op) in
@@ -234,10 +292,12 @@ access_scene {rest} {out} l s x acc e h =
       before = mem;
       goes = did.0;
       stored = access_alike mem_after code a1 a2 mem ∙ sym did.1;
-      answers = subst (λ (v : ℕ). IsAnswer p.dst (after_step (step_at (isa_of l) u.path.machine p.pc) u.path.machine).hart.regs v) (sym (access_alike answer_of code a1 a2 mem)) did.2;
+      answers = subst (λ (v : ℕ). IsAnswer p.dst (after_step (step_at (isa_of l) u.path.machine p.pc) u.path.machine).hart.regs v)
+          (sym (access_alike answer_of code a1 a2 mem)) did.2;
     }
 
-pub access_kept : {rest out : List ℕ} (l : Plan) (s : State) (x : Machine) → Suits l → bar l s Access ≡ None → Sound l s rest out x → Sound l (moved l s Access) rest out x
+pub access_kept : {rest out : List ℕ} (l : Plan) (s : State) (x : Machine) → Suits l → bar l s Access ≡ None → Sound l s rest out x →
+    Sound l (moved l s Access) rest out x
 access_kept {rest} {out} l s x acc e h =
     let z = access_scene l s x acc e h in
     let r = z.ready in
@@ -255,14 +315,23 @@ access_kept {rest} {out} l s x acc e h =
     let all = access_fits (isa_of l) i p f.above f.below w0 a z.landed z.waiting z.live z.flies z.unanswered z.answers fits in
     let op : Op = record r.what { answer = Some a } in
     let t : State = accessed l s r.what in
-    let cell : last_answer (siding_at t k) ≡ Some a = ap last_answer (put_here s.sidings k (set_last q (Some op)) n.0 n.1) ∙ ap (λ (z : Option Op). on z None (λ z. z.answer)) (last_set q n.0 (Some op) n.1) in
+    let cell : last_answer (siding_at t k) ≡ Some a = ap last_answer (put_here s.sidings k (set_last q (Some op)) n.0 n.1)
+    ∙ ap (λ (z : Option Op). on z None (λ z. z.answer)) (last_set q n.0 (Some op) n.1) in
     let top : dock.top l t x ≡ record w0 { answer = Some a } = ap (λ (z : Option ℕ). record w0 { answer = z }) cell in
     rw (next_access l s r.what r.lies) (beside l s x t.sidings t.mem (record {
-      fit = subst (λ (z : dock.Dock). Everywhere (dock.Fits (isa_of l)) (dock.past (isa_of l)) (column s) z) (sym top) (subst (λ (z : List Item). Everywhere (dock.Fits (isa_of l)) (dock.past (isa_of l)) z (record w0 { answer = Some a })) (sym was) all.0);
-      ends = subst (λ (z : dock.Dock). dock.Ends z (mem_after r.what.instr r.what.a r.what.b s.mem) rest out) (sym (ap (λ (z : dock.Dock). walk (dock.past (isa_of l)) (column s) z) top ∙ ap (λ (z : List Item). walk (dock.past (isa_of l)) z (record w0 { answer = Some a })) was ∙ all.1)) (stored_ends l s x f.above f.below i p was z.stored (code_after r.what.instr r.what.a r.what.b s.mem) h);
-    }) (rehung l s t (column s) (column s) k (set_last q (Some op)) refl n.0 n.1 (set_last_size q (Some op)) (answered_operations q n.0 r.what (Some a) n.1 r.lies ∙ h.moored.operations k) (λ j z. refl) (front_set_last q (Some op) (h.moored.front k)) (λ z. absurd (z refl)) h.moored) h)
+      fit = subst (λ (z : dock.Dock). Everywhere (dock.Fits (isa_of l)) (dock.past (isa_of l)) (column s) z) (sym top)
+          (subst (λ (z : List Item). Everywhere (dock.Fits (isa_of l)) (dock.past (isa_of l)) z (record w0 { answer = Some a })) (sym was) all.0);
+      ends = subst (λ (z : dock.Dock). dock.Ends z (mem_after r.what.instr r.what.a r.what.b s.mem) rest out)
+          (sym (ap (λ (z : dock.Dock). walk (dock.past (isa_of l)) (column s) z) top ∙ ap (λ (z : List Item). walk (dock.past (isa_of l)) z
+          (record w0 { answer = Some a })) was ∙ all.1)) (stored_ends l s x f.above f.below i p was z.stored
+          (code_after r.what.instr r.what.a r.what.b s.mem) h);
+    }) (rehung l s t (column s) (column s) k (set_last q (Some op)) refl n.0 n.1 (set_last_size q (Some op))
+    (answered_operations q n.0 r.what (Some a) n.1 r.lies ∙ h.moored.operations k) (λ j z. refl) (front_set_last q (Some op) (h.moored.front k))
+    (λ z. absurd (z refl)) h.moored) h)
   where
-    stored_ends : (l : Plan) (s : State) (x : Machine) (above below : List Item) (i : ℕ) (p : Passenger) → column s ≡ above ++ ((Up i p ∷ []) ++ below) → {m n : memory.Memory} → m ≡ n → code_of m ≡ code_of s.mem → Sound l s rest out x → dock.Ends (record (walk (dock.past (isa_of l)) (above ++ (Up i p ∷ below)) (dock.top l s x)) { mem = n }) m rest out
+    stored_ends : (l : Plan) (s : State) (x : Machine) (above below : List Item) (i : ℕ) (p : Passenger) → column s ≡ above ++ ((Up i p ∷ []) ++ below) →
+        {m n : memory.Memory} → m ≡ n → code_of m ≡ code_of s.mem → Sound l s rest out x →
+        dock.Ends (record (walk (dock.past (isa_of l)) (above ++ (Up i p ∷ below)) (dock.top l s x)) { mem = n }) m rest out
     stored_ends l s x above below i p was e c h =
         let z = rw was at h.port_ends in
         record { is_mem = e; is_code = c ∙ z.is_code; is_rest = z.is_rest; is_out = z.is_out }

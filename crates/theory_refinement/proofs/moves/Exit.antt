@@ -48,7 +48,8 @@ exit_ready l s e = go s.cells refl e
     go [] f e = absurd (cc)
     go (c ∷ cs) f e = inner c cs c.packet f refl e
 
-pub next_exit : (l : Plan) (s : State) (c : Cell) (cs : List Cell) (k : Packet) → s.cells ≡ c ∷ cs → c.packet ≡ Some k → moved l s Exit ≡ record s { cells = without_packet c ∷ cs; fetch = turned s.fetch k; cache = keeps l.cache s.cache k }
+pub next_exit : (l : Plan) (s : State) (c : Cell) (cs : List Cell) (k : Packet) → s.cells ≡ c ∷ cs → c.packet ≡ Some k →
+    moved l s Exit ≡ record s { cells = without_packet c ∷ cs; fetch = turned s.fetch k; cache = keeps l.cache s.cache k }
 unfolding moved
 next_exit l s c cs k e f = rw (e, f)
 
@@ -62,20 +63,24 @@ above_exit r = column_from 2 r.others ++ passenger_in 1 r.here.passenger
 pub exit_was : (s : State) (r : Exits s) → column s ≡ above_exit r ++ Down 1 r.what ∷ []
 exit_was s r =
     let up = column_from 2 r.others in
-    ap (column_from 1) r.cells ∙ ap (λ (m : List Item). up ++ m) (exit_items r.here r.what r.lies r.clear) ∙ sym (append_assoc up (passenger_in 1 r.here.passenger) (Down 1 r.what ∷ []))
+    ap (column_from 1) r.cells ∙ ap (λ (m : List Item). up ++ m) (exit_items r.here r.what r.lies r.clear)
+    ∙ sym (append_assoc up (passenger_in 1 r.here.passenger) (Down 1 r.what ∷ []))
 
 left_items : (c : Cell) → items 1 (without_packet c) ≡ passenger_in 1 c.passenger
 left_items c = refl
 
-exit_ends : (isa : Isa) (w : trail.Walk) (k : Packet) (f : Fetch) → sure.Fits isa (Down 1 k) w → sure.Ends (trail.past isa (Down 1 k) w) f → sure.Ends w (turned f k)
+exit_ends : (isa : Isa) (w : trail.Walk) (k : Packet) (f : Fetch) → sure.Fits isa (Down 1 k) w → sure.Ends (trail.past isa (Down 1 k) w) f →
+    sure.Ends w (turned f k)
 unfolding sure.Fits trail.past
 exit_ends isa w k f h e = grind arith
 
-exit_cache : (isa : Isa) (w : trail.Walk) (k : Packet) (b : Bool) (c : List (Option ℕ)) → sure.Fits isa (Down 1 k) w → sure.Keeps (trail.past isa (Down 1 k) w) c → sure.Keeps w (keeps b c k)
+exit_cache : (isa : Isa) (w : trail.Walk) (k : Packet) (b : Bool) (c : List (Option ℕ)) → sure.Fits isa (Down 1 k) w →
+    sure.Keeps (trail.past isa (Down 1 k) w) c → sure.Keeps w (keeps b c k)
 unfolding sure.Fits trail.past
 exit_cache isa w k b c h e = go w.barred k b h e
   where
-    go : (a : Bool) (k : Packet) (b : Bool) → When (not a) (sure.PacketFits k w) → sure.Keeps (trail.past_packet k (record w { barred = a })) c → When (not a) (sure.AreRegisters (keeps b c k) w.machine.hart.regs)
+    go : (a : Bool) (k : Packet) (b : Bool) → When (not a) (sure.PacketFits k w) → sure.Keeps (trail.past_packet k (record w { barred = a })) c →
+        When (not a) (sure.AreRegisters (keeps b c k) w.machine.hart.regs)
     go true k b h e = tt
     go false (Value r v) true h e = keep_holds c w.machine.hart.regs r v h e
     go false (Value r v) false h e = e
@@ -91,7 +96,14 @@ unfolding dock.past
 exit_port isa w k m r o e = record { is_mem = e.is_mem; is_code = e.is_code; is_rest = e.is_rest; is_out = e.is_out }
 
 exit_moored : (l : Plan) (s t : State) (rest : List Item) (k : Packet) → t.sidings ≡ s.sidings → IsMoored l s (rest ++ Down 1 k ∷ []) → IsMoored l t rest
-exit_moored l s t rest k e h = rw e (record { operations = λ n. h.operations n ∙ flown_append l n rest (Down 1 k ∷ []) ∙ append-nil (operations_of l n rest); front = h.front; plain = h.plain; berths = h.berths })
+exit_moored l s t rest k e h =
+    rw e (record {
+      operations = λ n. h.operations n ∙ flown_append l n rest (Down 1 k ∷ []) ∙ append-nil (operations_of l n rest);
+      front = h.front;
+      plain =
+          h.plain;
+      berths = h.berths;
+    })
 
 pub exit_kept : {rest out : List ℕ} (l : Plan) (s : State) (x : Machine) → bar l s Exit ≡ None → Sound l s rest out x → Sound l (moved l s Exit) rest out x
 exit_kept {rest} {out} l s x e h =
@@ -107,10 +119,13 @@ exit_kept {rest} {out} l s x e h =
       wide = h.wide;
       size = rw r.cells at h.size;
       path_fit = fit_front _ (sure.Fits (isa_of l)) (trail.past (isa_of l)) upper (Down 1 k ∷ []) _ fit;
-      path_ends = exit_ends (isa_of l) _ k s.fetch (fit_back _ (sure.Fits (isa_of l)) (trail.past (isa_of l)) upper (Down 1 k ∷ []) _ fit).0 (rw (was, walk_append (trail.past (isa_of l)) upper (Down 1 k ∷ []) (trail.top s x)) at h.path_ends);
-      cache = exit_cache (isa_of l) _ k l.cache s.cache (fit_back _ (sure.Fits (isa_of l)) (trail.past (isa_of l)) upper (Down 1 k ∷ []) _ fit).0 (rw (was, walk_append (trail.past (isa_of l)) upper (Down 1 k ∷ []) (trail.top s x)) at h.cache);
+      path_ends = exit_ends (isa_of l) _ k s.fetch (fit_back _ (sure.Fits (isa_of l)) (trail.past (isa_of l)) upper (Down 1 k ∷ []) _ fit).0
+          (rw (was, walk_append (trail.past (isa_of l)) upper (Down 1 k ∷ []) (trail.top s x)) at h.path_ends);
+      cache = exit_cache (isa_of l) _ k l.cache s.cache (fit_back _ (sure.Fits (isa_of l)) (trail.past (isa_of l)) upper (Down 1 k ∷ []) _ fit).0
+          (rw (was, walk_append (trail.past (isa_of l)) upper (Down 1 k ∷ []) (trail.top s x)) at h.cache);
       lone_fit = fit_front _ lone.Fits (lone.past l) upper (Down 1 k ∷ []) _ shut;
-      lone_ends = exit_lone l _ k s.fetch (fit_back _ lone.Fits (lone.past l) upper (Down 1 k ∷ []) _ shut).0 (rw (was, walk_append (lone.past l) upper (Down 1 k ∷ []) false) at h.lone_ends);
+      lone_ends = exit_lone l _ k s.fetch (fit_back _ lone.Fits (lone.past l) upper (Down 1 k ∷ []) _ shut).0
+          (rw (was, walk_append (lone.past l) upper (Down 1 k ∷ []) false) at h.lone_ends);
       stands = each_front l upper (Down 1 k ∷ []) (rw was at h.stands);
       port_fit = fit_front _ (dock.Fits (isa_of l)) (dock.past (isa_of l)) upper (Down 1 k ∷ []) _ (rw was at h.port_fit);
       port_ends = exit_port (isa_of l) _ k s.mem rest out (rw (was, walk_append (dock.past (isa_of l)) upper (Down 1 k ∷ []) (dock.top l s x)) at h.port_ends);

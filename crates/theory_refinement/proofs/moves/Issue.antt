@@ -67,12 +67,21 @@ pub record Issues (l : Plan) (s : State) (g : Guess) : Type 0 where
 pub issue_ready : (l : Plan) (s : State) (g : Guess) → row_bar l s (Issue g) ≡ None → Issues l s g
 issue_ready l s g e = go s.cells s.fetch refl refl e
   where
-    go : (q : List Cell) (f : Fetch) → s.cells ≡ q → s.fetch ≡ f → on (cell_at q 1) (Some NoSuchSite) (issue_bar l (record s { fetch = f }) g) ≡ None → Issues l s g
+    go : (q : List Cell) (f : Fetch) → s.cells ≡ q → s.fetch ≡ f → on (cell_at q 1) (Some NoSuchSite) (issue_bar l (record s { fetch = f }) g) ≡ None →
+        Issues l s g
     go [] f h k e = absurd (cc)
     go (c ∷ cs) Waiting h k e = absurd (cc)
     go (c ∷ cs) (Running pc) h k e = record { here = c; others = cs; pc = pc; cells = h; runs = k; free = grind arith; guess = grind arith }
 
-pub next_issue : (l : Plan) (s : State) (g : Guess) (c : Cell) (cs : List Cell) (pc : ℕ) (p : Passenger) → s.cells ≡ c ∷ cs → s.fetch ≡ Running pc → p ≡ fresh s.cache (fetched (isa_of l) s.mem pc) pc g → moved l s (Issue g) ≡ record s { cells = record c { passenger = Some p; met = false } ∷ cs; lane = s.lane ++ requests p; fetch = fetch_at (goto p); cache = forgets (reg_in p.dst) s.cache }
+pub next_issue : (l : Plan) (s : State) (g : Guess) (c : Cell) (cs : List Cell) (pc : ℕ) (p : Passenger) → s.cells ≡ c ∷ cs → s.fetch ≡ Running pc →
+    p ≡ fresh s.cache (fetched (isa_of l) s.mem pc) pc g → moved l s (Issue g)
+    ≡ record s {
+      cells = record c { passenger = Some p; met = false } ∷ cs;
+      lane = s.lane ++ requests p;
+      fetch = fetch_at (goto p);
+      cache =
+          forgets (reg_in p.dst) s.cache;
+    }
 unfolding moved
 next_issue l s g c cs pc p e f h = rw (e, f, h)
 
@@ -96,9 +105,19 @@ walk_coming isa [] w r e = e
 walk_coming isa (i ∷ xs) w r e = walk_coming isa xs (trail.past isa i w) r (past_coming isa i w r e)
 
 lane_follows : (s t : State) (x : Machine) (more : List ℕ) → t.lane ≡ s.lane ++ more → paths.Follows (trail.top s x) (trail.top t x)
-lane_follows s t x more e = record { barred = λ b. b; machine = λ _. refl; goto = λ _. refl; settled = λ _ a. a; trapped = λ _ a. a; coming = λ _ r c. rw e (among_front r s.lane more c) }
+lane_follows s t x more e =
+    record {
+      barred = λ b. b;
+      machine = λ _. refl;
+      goto = λ _. refl;
+      settled = λ _ a. a;
+      trapped = λ _ a. a;
+      coming =
+          λ _ r c. rw e (among_front r s.lane more c);
+    }
 
-lane_port : (l : Plan) (s t : State) (x : Machine) → t.sidings ≡ s.sidings → paths.Follows (trail.top s x) (trail.top t x) → ports.Follows (dock.top l s x) (dock.top l t x)
+lane_port : (l : Plan) (s t : State) (x : Machine) → t.sidings ≡ s.sidings → paths.Follows (trail.top s x) (trail.top t x) →
+    ports.Follows (dock.top l s x) (dock.top l t x)
 lane_port l s t x e f = record { path = f; safe = λ b. absurd (cc); risky = λ b. b; mem = refl; code = refl; rest = refl; out = refl; answer = rw e }
 
 -- at the bottom: the path
@@ -122,7 +141,8 @@ below_ends isa p w d = subst (λ (z : Bool). sure.Ends (trail.past_passenger isa
         turn true = tt
         turn false = refl
 
-keeps_reg : (isa : Isa) (p : Passenger) (w : trail.Walk) → sure.SureAt isa p w → (r : ℕ) → reg_in p.dst ≢ Some r → slice_index (after_step (step_at isa w.machine p.pc) w.machine).hart.regs r ≡ slice_index w.machine.hart.regs r
+keeps_reg : (isa : Isa) (p : Passenger) (w : trail.Walk) → sure.SureAt isa p w → (r : ℕ) → reg_in p.dst ≢ Some r →
+    slice_index (after_step (step_at isa w.machine p.pc) w.machine).hart.regs r ≡ slice_index w.machine.hart.regs r
 unfolding sure.SureAt
 keeps_reg isa p w h r f = sure_keeps isa p w.machine w.goto h.0 r (no_reg p.dst f)
   where
@@ -134,11 +154,14 @@ keeps_reg isa p w h r f = sure_keeps isa p w.machine w.goto h.0 r (no_reg p.dst 
         go false e = e
         go true e = absurd (f (ap Some (grind arith)))
 
-below_keeps : (isa : Isa) (p : Passenger) (w : trail.Walk) (c : List (Option ℕ)) → p.dead ≡ false → (w.barred ≡ false → sure.SureAt isa p w) → sure.Keeps w c → sure.Keeps (trail.past isa (Up 1 p) w) (forgets (reg_in p.dst) c)
+below_keeps : (isa : Isa) (p : Passenger) (w : trail.Walk) (c : List (Option ℕ)) → p.dead ≡ false → (w.barred ≡ false → sure.SureAt isa p w) → sure.Keeps w c →
+    sure.Keeps (trail.past isa (Up 1 p) w) (forgets (reg_in p.dst) c)
 unfolding trail.past
-below_keeps isa p w c d f k = subst (λ (z : Bool). sure.Keeps (trail.past_passenger isa (not z && not w.barred) p w) (forgets (reg_in p.dst) c)) (sym d) (go w.barred refl k)
+below_keeps isa p w c d f k = subst (λ (z : Bool). sure.Keeps (trail.past_passenger isa (not z && not w.barred) p w) (forgets (reg_in p.dst) c)) (sym d)
+    (go w.barred refl k)
   where
-    go : (b : Bool) → w.barred ≡ b → When (not b) (sure.AreRegisters c w.machine.hart.regs) → sure.Keeps (trail.past_passenger isa (not false && not b) p w) (forgets (reg_in p.dst) c)
+    go : (b : Bool) → w.barred ≡ b → When (not b) (sure.AreRegisters c w.machine.hart.regs) →
+        sure.Keeps (trail.past_passenger isa (not false && not b) p w) (forgets (reg_in p.dst) c)
     go true e k = subst (λ (z : Bool). When (not z) (sure.AreRegisters (forgets (reg_in p.dst) c) w.machine.hart.regs)) (sym e) tt
     go false e k = turn (trail.turns p.owes)
       where
@@ -167,7 +190,8 @@ lone_ends l p g b n e = λ h. rw (go p.done (is_some p.ending) refl refl h)
 free_is : (p : Passenger) (g : Guess) → IsFresh p g → is_free (kind p) ≡ true → p.done ≡ true
 free_is p g n e = n.free e
 
-stands_first : (l : Plan) (p : Passenger) (g : Guess) → Suits l → IsFresh p g → may_guess g p ≡ true → (is_plain (kind p) ≡ true → is_homed l (kind p) ≡ true) → Stands l 1 p
+stands_first : (l : Plan) (p : Passenger) (g : Guess) → Suits l → IsFresh p g → may_guess g p ≡ true → (is_plain (kind p) ≡ true → is_homed l (kind p) ≡ true) →
+    Stands l 1 p
 stands_first l p g acc n m home =
     let live = n.live in
     let owes = n.owes in
@@ -229,9 +253,16 @@ port_fits isa p g w n =
     let here = n.here in
     let never = n.never in
     let s = not_served p g n in
-    record { live = λ a b. absurd (grind arith); order = λ a b. absurd (grind arith); served = λ a. absurd (cc); permitted = λ a b. absurd (grind arith); answered = λ a. absurd (grind arith) }
+    record {
+      live = λ a b. absurd (grind arith);
+      order = λ a b. absurd (grind arith);
+      served = λ a. absurd (cc);
+      permitted = λ a b. absurd (grind arith);
+      answered = λ a. absurd (grind arith);
+    }
 
-port_ends : (isa : Isa) (p : Passenger) (g : Guess) (w : dock.Dock) (m : Memory) (r o : List ℕ) → IsFresh p g → dock.Ends w m r o → dock.Ends (dock.past isa (Up 1 p) w) m r o
+port_ends : (isa : Isa) (p : Passenger) (g : Guess) (w : dock.Dock) (m : Memory) (r o : List ℕ) → IsFresh p g → dock.Ends w m r o →
+    dock.Ends (dock.past isa (Up 1 p) w) m r o
 unfolding dock.past
 port_ends isa p g w m r o n e =
     let here = n.here in
@@ -243,11 +274,20 @@ port_ends isa p g w m r o n e =
 not_flown : (l : Plan) (k : ℕ) (p : Passenger) → p.launched ≡ false → operations_of l k (Up 1 p ∷ []) ≡ []
 not_flown l k p e = rw e
 
-moored : (l : Plan) (s t : State) (col : List Item) (p : Passenger) → t.sidings ≡ s.sidings → p.launched ≡ false → IsMoored l s col → IsMoored l t (col ++ Up 1 p ∷ [])
-moored l s t col p e f h = rw e (record { operations = λ k. h.operations k ∙ sym (flown_append l k col (Up 1 p ∷ []) ∙ ap (λ q. operations_of l k col ++ q) (not_flown l k p f) ∙ append-nil (operations_of l k col)); front = h.front; plain = h.plain; berths = h.berths })
+moored : (l : Plan) (s t : State) (col : List Item) (p : Passenger) → t.sidings ≡ s.sidings → p.launched ≡ false → IsMoored l s col →
+    IsMoored l t (col ++ Up 1 p ∷ [])
+moored l s t col p e f h =
+    rw e (record {
+      operations = λ k. h.operations k ∙ sym (flown_append l k col (Up 1 p ∷ []) ∙ ap (λ q. operations_of l k col ++ q) (not_flown l k p f)
+          ∙ append-nil (operations_of l k col));
+      front = h.front;
+      plain = h.plain;
+      berths = h.berths;
+    })
 
 -- units or a siding are there for it
-fresh_homed : (l : Plan) → Suits l → (mem : Memory) (c : List (Option ℕ)) (pc : ℕ) (g : Guess) → is_plain (kind (fresh c (fetched (isa_of l) mem pc) pc g)) ≡ true → is_homed l (kind (fresh c (fetched (isa_of l) mem pc) pc g)) ≡ true
+fresh_homed : (l : Plan) → Suits l → (mem : Memory) (c : List (Option ℕ)) (pc : ℕ) (g : Guess) →
+    is_plain (kind (fresh c (fetched (isa_of l) mem pc) pc g)) ≡ true → is_homed l (kind (fresh c (fetched (isa_of l) mem pc) pc g)) ≡ true
 fresh_homed l acc mem c pc g e = go (fetched (isa_of l) mem pc) refl e
   where
     go : (q : Fetched) → fetched (isa_of l) mem pc ≡ q → is_plain (kind (fresh c q pc g)) ≡ true → is_homed l (kind (fresh c q pc g)) ≡ true
@@ -258,7 +298,8 @@ fresh_homed l acc mem c pc g e = go (fetched (isa_of l) mem pc) refl e
         let y : kind (fresh c (Bad b) pc g) ≡ Free = ap (λ (o : Option Instr). on o Free kind_of) (fresh_nothing b c pc g) in
         absurd (let z = rw y at k in cc)
 
-pub issue_kept : {rest out : List ℕ} (l : Plan) (s : State) (x : Machine) (g : Guess) → Suits l → bar l s (Issue g) ≡ None → Sound l s rest out x → Sound l (moved l s (Issue g)) rest out x
+pub issue_kept : {rest out : List ℕ} (l : Plan) (s : State) (x : Machine) (g : Guess) → Suits l → bar l s (Issue g) ≡ None → Sound l s rest out x →
+    Sound l (moved l s (Issue g)) rest out x
 issue_kept {rest} {out} l s x g acc e h =
     let r = issue_ready l s g (bar_row l s (Issue g) e) in
     let p : Passenger = fresh s.cache (fetched (isa_of l) s.mem r.pc) r.pc g in
@@ -267,7 +308,8 @@ issue_kept {rest} {out} l s x g acc e h =
     let c : Cell = record r.here { passenger = Some p; met = false } in
     let t : State = record s { cells = c ∷ r.others; lane = s.lane ++ requests p; fetch = fetch_at (goto p); cache = forgets (reg_in p.dst) s.cache } in
     let was : column s ≡ column_from 2 r.others ++ items 1 r.here = ap (column_from 1) r.cells in
-    let is : column t ≡ column s ++ new = ap (λ (q : List Item). column_from 2 r.others ++ q) (issue_items r.here p r.free) ∙ sym (append_assoc (column_from 2 r.others) (items 1 r.here) new) ∙ ap (λ (q : List Item). q ++ new) (sym was) in
+    let is : column t ≡ column s ++ new = ap (λ (q : List Item). column_from 2 r.others ++ q) (issue_items r.here p r.free)
+    ∙ sym (append_assoc (column_from 2 r.others) (items 1 r.here) new) ∙ ap (λ (q : List Item). q ++ new) (sym was) in
     let f = lane_follows s t x (requests p) refl in
     let fp = lane_port l s t x refl f in
     let w = walk (trail.past (isa_of l)) (column s) (trail.top t x) in
@@ -280,8 +322,11 @@ issue_kept {rest} {out} l s x g acc e h =
     let docks = fit_follows _ (dock.Fits (isa_of l)) (dock.past (isa_of l)) ports.Follows (ports.port_walk (isa_of l)) (column s) _ _ fp h.port_fit in
     let path_fit = fit_follows _ (sure.Fits (isa_of l)) (trail.past (isa_of l)) paths.Follows (paths.path_walk (isa_of l)) (column s) _ _ f h.path_fit in
     let ended = ends_port _ _ s.mem rest out df h.port_ends in
-    let same : code_of s.mem ≡ code_of w.machine.hart.mem = ended.is_code ∙ code_fresh l (column s) (dock.top l t x) false shut path_fit docks (λ b. absurd (cc)) refl ∙ ap (λ (q : trail.Walk). code_of q.machine.hart.mem) (walk_path (isa_of l) (column s) (dock.top l t x)) in
-    let certain : w.barred ≡ false → sure.SureAt (isa_of l) p w = λ b. sure_new s.cache (fetched (isa_of l) s.mem r.pc) r.pc g s.fetch w r.runs (fetched_alike (isa_of l) s.mem w.machine.hart.mem r.pc same) (λ a i. walk_coming (isa_of l) (column s) (trail.top t x) a (among_back a s.lane (requests p) i)) b ends keeps in
+    let same : code_of s.mem ≡ code_of w.machine.hart.mem = ended.is_code ∙ code_fresh l (column s) (dock.top l t x) false shut path_fit docks
+    (λ b. absurd (cc)) refl ∙ ap (λ (q : trail.Walk). code_of q.machine.hart.mem) (walk_path (isa_of l) (column s) (dock.top l t x)) in
+    let certain : w.barred ≡ false → sure.SureAt (isa_of l) p w = λ b. sure_new s.cache (fetched (isa_of l) s.mem r.pc) r.pc g s.fetch w r.runs
+    (fetched_alike (isa_of l) s.mem w.machine.hart.mem r.pc same) (λ a i. walk_coming (isa_of l) (column s) (trail.top t x) a
+    (among_back a s.lane (requests p) i)) b ends keeps in
     rw (next_issue l s g r.here r.others r.pc p r.cells r.runs refl) (record {
       regs = h.regs;
       wide = h.wide;
@@ -297,8 +342,11 @@ issue_kept {rest} {out} l s x g acc e h =
       moored = rw is (moored l s t (column s) p refl n.here h.moored);
     })
   where
-    sure_new : (c : List (Option ℕ)) (q : Fetched) (pc : ℕ) (g : Guess) (f : Fetch) (w : trail.Walk) → f ≡ Running pc → q ≡ fetched (isa_of l) w.machine.hart.mem pc → ((r : ℕ) → trail.among r (requests (fresh c q pc g)) ≡ true → w.coming r ≡ true) → w.barred ≡ false → sure.Ends w f → sure.Keeps w c → sure.SureAt (isa_of l) (fresh c q pc g) w
+    sure_new : (c : List (Option ℕ)) (q : Fetched) (pc : ℕ) (g : Guess) (f : Fetch) (w : trail.Walk) → f ≡ Running pc →
+        q ≡ fetched (isa_of l) w.machine.hart.mem pc → ((r : ℕ) → trail.among r (requests (fresh c q pc g)) ≡ true → w.coming r ≡ true) → w.barred ≡ false →
+        sure.Ends w f → sure.Keeps w c → sure.SureAt (isa_of l) (fresh c q pc g) w
     sure_new c q pc g f w e y a b n k =
         let n' : f ≡ fetch_at w.goto = subst (λ (z : Bool). When (not z) (f ≡ fetch_at w.goto)) b n in
         let k' : sure.AreRegisters c w.machine.hart.regs = subst (λ (z : Bool). When (not z) (sure.AreRegisters c w.machine.hart.regs)) b k in
-        subst (λ (z : Fetched). sure.SureAt (isa_of l) (fresh c z pc g) w) (sym y) (fresh_at (isa_of l) w c pc g k' (running_goto w.goto pc (sym e ∙ n')) (subst (λ (z : Fetched). (r : ℕ) → trail.among r (requests (fresh c z pc g)) ≡ true → w.coming r ≡ true) y a))
+        subst (λ (z : Fetched). sure.SureAt (isa_of l) (fresh c z pc g) w) (sym y) (fresh_at (isa_of l) w c pc g k' (running_goto w.goto pc (sym e ∙ n'))
+        (subst (λ (z : Fetched). (r : ℕ) → trail.among r (requests (fresh c z pc g)) ≡ true → w.coming r ≡ true) y a))

@@ -87,7 +87,10 @@ siding_there l p i e = go (siding_of l (kind p)) refl
 pub launch_ready : (l : Plan) (s : State) (i : ℕ) → row_bar l s (Launch i) ≡ None → Launches l s i
 launch_ready l s i e = go (cell_at s.cells i) refl e
   where
-    inner : (c : Cell) (o : Option Passenger) → cell_at s.cells i ≡ Some c → c.passenger ≡ o → on o (Some NoPassenger) (λ p. first p.dead Dead (first (p.done || p.launched) AlreadyDone (first (not (launches l (kind p) i)) NoUnit (first (is_memory (kind p) && is_full c) NotMet (source_bar p (on (siding_of l (kind p)) None (λ k. first (is_taken (slice_get (siding_at s k) 0)) Occupied None))))))) ≡ None → Launches l s i
+    inner : (c : Cell) (o : Option Passenger) → cell_at s.cells i ≡ Some c → c.passenger ≡ o →
+        on o (Some NoPassenger) (λ p. first p.dead Dead (first (p.done || p.launched) AlreadyDone
+        (first (not (launches l (kind p) i)) NoUnit (first (is_memory (kind p) && is_full c) NotMet
+        (source_bar p (on (siding_of l (kind p)) None (λ k. first (is_taken (slice_get (siding_at s k) 0)) Occupied None))))))) ≡ None → Launches l s i
     inner c None f h e = absurd (cc)
     inner c (Some p) f h e =
         let e1 = first_none _ _ _ e in
@@ -97,7 +100,24 @@ launch_ready l s i e = go (cell_at s.cells i) refl e
         let e5 = source_none p _ e4.1 in
         let k = siding_there l p i e3.0 in
         let free : first (is_taken (slice_get (siding_at s k.0) 0)) Occupied None ≡ None = rw k.1 at e5.2 in
-        record { here = c; who = p; number = k.0; at_here = f; sits = h; live = e1.0; undone = (either p.done p.launched e2.0).0; aboard = (either p.done p.launched e2.0).1; siding = k.1; at_stage = k.2; clear = λ m. both (is_memory (kind p)) (is_full c) e4.0 m; has1 = e5.0; has2 = e5.1; free = (first_none _ _ _ free).0 }
+        record {
+          here = c;
+          who = p;
+          number = k.0;
+          at_here = f;
+          sits = h;
+          live = e1.0;
+          undone = (either p.done p.launched e2.0).0;
+          aboard =
+              (either p.done p.launched e2.0).1;
+          siding = k.1;
+          at_stage = k.2;
+          clear = λ m. both (is_memory (kind p)) (is_full c) e4.0 m;
+          has1 = e5.0;
+          has2 =
+              e5.1;
+          free = (first_none _ _ _ free).0;
+        }
       where
         either : (a b : Bool) → (a || b) ≡ false → (a ≡ false) × (b ≡ false)
         either a b e = grind arith
@@ -109,14 +129,17 @@ launch_ready l s i e = go (cell_at s.cells i) refl e
     go None f e = absurd (cc)
     go (Some c) f e = inner c c.passenger f refl e
 
-pub next_launch : (l : Plan) (s : State) (i : ℕ) (c : Cell) (p : Passenger) → cell_at s.cells i ≡ Some c → c.passenger ≡ Some p → moved l s (Launch i) ≡ launched l s i c p
+pub next_launch : (l : Plan) (s : State) (i : ℕ) (c : Cell) (p : Passenger) → cell_at s.cells i ≡ Some c → c.passenger ≡ Some p →
+    moved l s (Launch i) ≡ launched l s i c p
 unfolding moved
 next_launch l s i c p e f = rw (e, f)
 
-pub launched_out : (l : Plan) (s : State) (i : ℕ) (c : Cell) (p : Passenger) (k : ℕ) → launch_trap s p ≡ None → siding_of l (kind p) ≡ Some k → launched l s i c p ≡ with_siding (with_cell s i (with_passenger c (sent_out p))) k (slice_set (siding_at s k) 0 (Some (operation p)))
+pub launched_out : (l : Plan) (s : State) (i : ℕ) (c : Cell) (p : Passenger) (k : ℕ) → launch_trap s p ≡ None → siding_of l (kind p) ≡ Some k →
+    launched l s i c p ≡ with_siding (with_cell s i (with_passenger c (sent_out p))) k (slice_set (siding_at s k) 0 (Some (operation p)))
 launched_out l s i c p k e f = rw (e, f)
 
-pub launched_trap : (l : Plan) (s : State) (i : ℕ) (c : Cell) (p : Passenger) (b : End) → launch_trap s p ≡ Some b → launched l s i c p ≡ with_cell s i (with_passenger c (trapped p b))
+pub launched_trap : (l : Plan) (s : State) (i : ℕ) (c : Cell) (p : Passenger) (b : End) → launch_trap s p ≡ Some b →
+    launched l s i c p ≡ with_cell s i (with_passenger c (trapped p b))
 launched_trap l s i c p b e = rw e
 
 pub first_free : (q : List (Option Op)) (n : ℕ) → length q ≡ suc n → is_taken (slice_get q 0) ≡ false → (r : List (Option Op)) × (q ≡ None ∷ r)
@@ -133,7 +156,8 @@ unfolding trail.past
 packet_open isa i k w t e = grind arith
 
 -- above a memory operation that is to be launched
-unbarred : (l : Plan) (xs : List Item) (w : trail.Walk) (b : Bool) → From (suc (launch_stage l (port l))) xs → walk (lone.past l) xs b ≡ false → w.barred ≡ false → (walk (trail.past (isa_of l)) xs w).barred ≡ false
+unbarred : (l : Plan) (xs : List Item) (w : trail.Walk) (b : Bool) → From (suc (launch_stage l (port l))) xs → walk (lone.past l) xs b ≡ false →
+    w.barred ≡ false → (walk (trail.past (isa_of l)) xs w).barred ≡ false
 unbarred l [] w b f o e = e
 unbarred l (Up i p ∷ xs) w b f o e =
     let t = open_rider l i p b f.0 (walk_open l xs _ o) in
@@ -155,14 +179,22 @@ pub record Calm (isa : Isa) (s : State) (w : dock.Dock) (p : Passenger) : Type 0
   pub risky : w.risky ≡ false
   pub bounded : bounds_of s.mem ≡ bounds_of w.path.machine.hart.mem
 
-memory_calm : {rest out : List ℕ} (l : Plan) (s : State) (x : Machine) (i : ℕ) (c : Cell) (p : Passenger) (q : Spot s i c p) → Suits l → i ≡ launch_stage l (port l) → is_full c ≡ false → p.dead ≡ false → Here l s x q.above (Up i p ∷ []) → Each l q.above → Everywhere (sure.Fits (isa_of l)) (trail.past (isa_of l)) q.above (trail.top s x) → Sound l s rest out x → Calm (isa_of l) s (walk (dock.past (isa_of l)) q.above (dock.top l s x)) p
+memory_calm : {rest out : List ℕ} (l : Plan) (s : State) (x : Machine) (i : ℕ) (c : Cell) (p : Passenger) (q : Spot s i c p) → Suits l →
+    i ≡ launch_stage l (port l) → is_full c ≡ false → p.dead ≡ false → Here l s x q.above (Up i p ∷ []) → Each l q.above →
+    Everywhere (sure.Fits (isa_of l)) (trail.past (isa_of l)) q.above (trail.top s x) → Sound l s rest out x →
+    Calm (isa_of l) s (walk (dock.past (isa_of l)) q.above (dock.top l s x)) p
 memory_calm {rest} {out} l s x i c p q acc n f d k each fit h =
     let from : From (suc (launch_stage l (port l))) q.above = subst (λ (m : ℕ). From (suc m) q.above) n (q.from f) in
     let o = lone_open i p _ k.lone_fit.0 in
     let b = unbarred l q.above (trail.top s x) false from o refl in
     let certain = sure_at (isa_of l) i p (walk (trail.past (isa_of l)) q.above (trail.top s x)) d b k.path_fit.0 in
     let z = calm l q.above (dock.top l s x) false p.pc acc from each fit o (sure_goto (isa_of l) p _ certain) refl refl in
-    record { sure = subst (λ (w : trail.Walk). sure.SureAt (isa_of l) p w) (sym k.same) certain; risky = z.1; bounded = core_bounds l s x q.above h ∙ ap (λ (w : trail.Walk). bounds_of w.machine.hart.mem) (sym k.same) }
+    record {
+      sure = subst (λ (w : trail.Walk). sure.SureAt (isa_of l) p w) (sym k.same) certain;
+      risky = z.1;
+      bounded = core_bounds l s x q.above h
+          ∙ ap (λ (w : trail.Walk). bounds_of w.machine.hart.mem) (sym k.same);
+    }
 
 -- the cells of its siding
 launch_answer : (r : List (Option Op)) (p : Passenger) → last_answer (Some (operation p) ∷ r) ≡ last_answer (None ∷ r)
@@ -179,7 +211,8 @@ out_here l k p e f = rw (e, f) same
     same : (k == k) ≡ true
     same = grind arith
 
-out_other : (l : Plan) (k j i : ℕ) (p : Passenger) → siding_of l (kind p) ≡ Some k → j ≢ k → operations_of l j (Up i p ∷ []) ≡ operations_of l j (Up i (sent_out p) ∷ [])
+out_other : (l : Plan) (k j i : ℕ) (p : Passenger) → siding_of l (kind p) ≡ Some k → j ≢ k →
+    operations_of l j (Up i p ∷ []) ≡ operations_of l j (Up i (sent_out p) ∷ [])
 out_other l k j i p e n = go (k == j) refl
   where
     go : (b : Bool) → (k == j) ≡ b → operations_of l j (Up i p ∷ []) ≡ operations_of l j (Up i (sent_out p) ∷ [])
@@ -199,14 +232,18 @@ in_port l p k acc e m = let z : siding_of l (kind p) ≡ Some (port l) = rw (mem
     same : Some k ≡ Some (port l) → k ≡ (port l)
     same e = cc
 
-permitted : (s : State) (p : Passenger) → launch_trap s p ≡ None → is_memory (kind p) ≡ true → access_trap (instruction p) p.pc (value_in p.src1) (bounds_of s.mem) ≡ None
+permitted : (s : State) (p : Passenger) → launch_trap s p ≡ None → is_memory (kind p) ≡ true →
+    access_trap (instruction p) p.pc (value_in p.src1) (bounds_of s.mem) ≡ None
 permitted s p e m = grind arith
 
-pub refused : (s : State) (p : Passenger) (b : End) → launch_trap s p ≡ Some b → (is_memory (kind p) ≡ true) × (access_trap (instruction p) p.pc (value_in p.src1) (bounds_of s.mem) ≡ Some b)
+pub refused : (s : State) (p : Passenger) (b : End) → launch_trap s p ≡ Some b → (is_memory (kind p) ≡ true)
+    × (access_trap (instruction p) p.pc (value_in p.src1) (bounds_of s.mem) ≡ Some b)
 refused s p b e = (grind arith, grind arith)
 
 -- Launch of a passenger that memory permits
-out_kept : {rest out : List ℕ} (l : Plan) (s : State) (x : Machine) (i : ℕ) → Suits l → (r : Launches l s i) → launch_trap s r.who ≡ None → Sound l s rest out x → Sound l (with_siding (with_cell s i (with_passenger r.here (sent_out r.who))) r.number (slice_set (siding_at s r.number) 0 (Some (operation r.who)))) rest out x
+out_kept : {rest out : List ℕ} (l : Plan) (s : State) (x : Machine) (i : ℕ) → Suits l → (r : Launches l s i) → launch_trap s r.who ≡ None →
+    Sound l s rest out x → Sound l (with_siding (with_cell s i (with_passenger r.here (sent_out r.who))) r.number
+    (slice_set (siding_at s r.number) 0 (Some (operation r.who)))) rest out x
 out_kept {rest} {out} l s x i acc r e h =
     let p = r.who in
     let k = r.number in
@@ -217,52 +254,90 @@ out_kept {rest} {out} l s x i acc r e h =
     let is : column t ≡ q.above ++ (new ++ q.below) = q.is (sent_out p) in
     let n = berthed l acc s (column s) k h.moored (kind p) r.siding in
     let f = first_free (siding_at s k) n.0 n.1 r.free in
-    let set : slice_set (siding_at s k) 0 (Some (operation p)) ≡ Some (operation p) ∷ f.0 = ap (λ (z : List (Option Op)). slice_set z 0 (Some (operation p))) f.1 in
+    let set : slice_set (siding_at s k) 0 (Some (operation p)) ≡ Some (operation p) ∷ f.0 =
+    ap (λ (z : List (Option Op)). slice_set z 0 (Some (operation p))) f.1 in
     let k' = here l s x q.above old q.below q.was h in
     let each = rw q.was at h.stands in
     let never = not_back l i p r.aboard k'.stands.0 in
-    let none = flown_range l k q.below (riders_more (λ j. j < i) (λ j. (launch_stage l k ≤ j) → (j ≤ recover_stage l k) → ⊥) q.below (λ j a b c. omega (arith, r.at_stage)) q.under) (each_back l old q.below (each_back l q.above (old ++ q.below) each)) in
-    let was_flown : operations_of l k (column s) ≡ operations_of l k q.above = ap (operations_of l k) q.was ∙ flown_append l k q.above (old ++ q.below) ∙ ap (λ (z : List Op). operations_of l k q.above ++ z) (ashore l k i p q.below r.aboard ∙ none) ∙ append-nil (operations_of l k q.above) in
-    let is_flown : operations_of l k (column t) ≡ operations_of l k q.above ++ (operation p ∷ []) = ap (operations_of l k) is ∙ flown_append l k q.above (new ++ q.below) ∙ ap (λ (z : List Op). operations_of l k q.above ++ z) (aboard l k i p q.below (out_here l k p r.siding never) ∙ ap (λ (z : List Op). operation p ∷ z) none) in
+    let none = flown_range l k q.below (riders_more (λ j. j < i) (λ j. (launch_stage l k ≤ j) → (j ≤ recover_stage l k) →
+    ⊥) q.below (λ j a b c. omega (arith, r.at_stage)) q.under) (each_back l old q.below (each_back l q.above (old ++ q.below) each)) in
+    let was_flown : operations_of l k (column s) ≡ operations_of l k q.above = ap (operations_of l k) q.was ∙ flown_append l k q.above (old ++ q.below)
+    ∙ ap (λ (z : List Op). operations_of l k q.above ++ z) (ashore l k i p q.below r.aboard ∙ none) ∙ append-nil (operations_of l k q.above) in
+    let is_flown : operations_of l k (column t) ≡ operations_of l k q.above ++ (operation p ∷ []) = ap (operations_of l k) is
+    ∙ flown_append l k q.above (new ++ q.below) ∙ ap (λ (z : List Op). operations_of l k q.above ++ z)
+    (aboard l k i p q.below (out_here l k p r.siding never) ∙ ap (λ (z : List Op). operation p ∷ z) none) in
     let ops : operations_in (slice_set (siding_at s k) 0 (Some (operation p))) ≡ operations_of l k (column t) =
-    ap operations_in set ∙ operations_launch f.0 (operation p) ∙ ap (λ (z : List Op). z ++ (operation p ∷ [])) (ap operations_in (sym f.1) ∙ h.moored.operations k ∙ was_flown) ∙ sym is_flown in
-    let top = top_same l s t x refl (answer_here l s t k (slice_set (siding_at s k) 0 (Some (operation p))) n.0 refl n.1 (λ _. ap last_answer set ∙ launch_answer f.0 p ∙ ap last_answer (sym f.1))) in
-    let calm' : is_memory (kind p) ≡ true → ((walk (dock.past (isa_of l)) q.above (dock.top l s x)).risky ≡ false) × ((walk (dock.past (isa_of l)) q.above (dock.top l s x)).answer ≡ None) × (access_trap (instruction p) p.pc (value_in p.src1) (bounds_of (walk (dock.past (isa_of l)) q.above (dock.top l s x)).path.machine.hart.mem) ≡ None) = λ m.
+    ap operations_in set ∙ operations_launch f.0 (operation p) ∙ ap (λ (z : List Op). z ++ (operation p ∷ [])) (ap operations_in (sym f.1)
+    ∙ h.moored.operations k ∙ was_flown) ∙ sym is_flown in
+    let top = top_same l s t x refl (answer_here l s t k (slice_set (siding_at s k) 0 (Some (operation p))) n.0 refl n.1 (λ _. ap last_answer set
+    ∙ launch_answer f.0 p ∙ ap last_answer (sym f.1))) in
+    let calm' : is_memory (kind p) ≡ true → ((walk (dock.past (isa_of l)) q.above (dock.top l s x)).risky ≡ false)
+    × ((walk (dock.past (isa_of l)) q.above (dock.top l s x)).answer ≡ None) × (access_trap (instruction p) p.pc (value_in p.src1)
+    (bounds_of (walk (dock.past (isa_of l)) q.above (dock.top l s x)).path.machine.hart.mem) ≡ None) = λ m.
     let w = in_port l p k acc r.siding m in
-    let c = memory_calm l s x i r.here p q acc (sym r.at_stage ∙ ap (launch_stage l) w) (r.clear m) r.live k' (each_front l q.above (old ++ q.below) each) (fit_front _ (sure.Fits (isa_of l)) (trail.past (isa_of l)) q.above (old ++ q.below) _ (rw q.was at h.path_fit)) h in
-    (c.risky, answer_none l acc q.above (dock.top l s x) (siding_at s (port l)) (rw w at (h.moored.operations k ∙ was_flown)) refl, subst (λ (b : List Bounds). access_trap (instruction p) p.pc (value_in p.src1) b ≡ None) c.bounded (permitted s p e m)) in
-    reshaped l s t x q.above old new q.below q.was is (record { regs = refl; lane = refl; fetch = refl; cache = refl; size = put_size s.cells i (with_passenger r.here (sent_out p)) })
+    let c = memory_calm l s x i r.here p q acc (sym r.at_stage ∙ ap (launch_stage l) w) (r.clear m) r.live k' (each_front l q.above (old ++ q.below) each)
+    (fit_front _ (sure.Fits (isa_of l)) (trail.past (isa_of l)) q.above (old ++ q.below) _ (rw q.was at h.path_fit)) h in (
+      c.risky,
+      answer_none l acc q.above (dock.top l s x) (siding_at s (port l)) (rw w at (h.moored.operations k ∙ was_flown)) refl,
+      subst (λ (b : List Bounds). access_trap (instruction p) p.pc (value_in p.src1) b ≡ None) c.bounded (permitted s p e m),
+    ) in
+    reshaped l s t x q.above old new q.below q.was is (record
+    { regs = refl; lane = refl; fetch = refl; cache = refl; size = put_size s.cells i (with_passenger r.here (sent_out p)) })
     (launch_path (isa_of l) i p _) (launch_lone l i p _)
     (launch_stands l acc i p (launches_at l p k i r.siding r.at_stage) r.live r.undone r.aboard r.has1 r.has2 k'.stands.0, tt)
     (docked l s t x q.above old new q.below q.was is top refl (launch_port (isa_of l) i p _ r.live r.undone never r.aboard k'.safe calm') h)
-    (rehung l s t (column s) (column t) k (slice_set (siding_at s k) 0 (Some (operation p))) refl n.0 n.1 (ap length set ∙ ap length (sym f.1)) ops (λ j a. ap (operations_of l j) q.was ∙ flown_changed l j q.above old new q.below (out_other l k j i p r.siding a) ∙ ap (operations_of l j) (sym is)) (subst LastAnswered (sym set) (launch_front f.0 p (subst LastAnswered f.1 (h.moored.front k)))) (λ a. subst AreUnanswered (sym set) (let z = subst AreUnanswered f.1 (h.moored.plain k a) in (refl, z.1))) h.moored)
+    (rehung l s t (column s) (column t) k (slice_set (siding_at s k) 0 (Some (operation p))) refl n.0 n.1 (ap length set ∙ ap length (sym f.1)) ops
+    (λ j a. ap (operations_of l j) q.was ∙ flown_changed l j q.above old new q.below (out_other l k j i p r.siding a) ∙ ap (operations_of l j) (sym is))
+    (subst LastAnswered (sym set) (launch_front f.0 p (subst LastAnswered f.1 (h.moored.front k))))
+    (λ a. subst AreUnanswered (sym set) (let z = subst AreUnanswered f.1 (h.moored.plain k a) in (refl, z.1))) h.moored)
     h
   where
     ashore : (l : Plan) (k i : ℕ) (p : Passenger) (xs : List Item) → p.launched ≡ false → operations_of l k ((Up i p ∷ []) ++ xs) ≡ operations_of l k xs
     ashore l k i p xs e = rw e refl
 
-    aboard : (l : Plan) (k i : ℕ) (p : Passenger) (xs : List Item) → in_siding l k (sent_out p) ≡ true → operations_of l k ((Up i (sent_out p) ∷ []) ++ xs) ≡ operation p ∷ operations_of l k xs
+    aboard : (l : Plan) (k i : ℕ) (p : Passenger) (xs : List Item) → in_siding l k (sent_out p) ≡ true →
+        operations_of l k ((Up i (sent_out p) ∷ []) ++ xs) ≡ operation p ∷ operations_of l k xs
     aboard l k i p xs e = rw e refl
 
     launches_at : (l : Plan) (p : Passenger) (k i : ℕ) → siding_of l (kind p) ≡ Some k → launch_stage l k ≡ i → launches l (kind p) i ≡ true
     launches_at l p k i e f = rw e (grind (arith, f))
 
 -- Launch of a passenger that it does not permit
-pub trap_at : (isa : Isa) (p : Passenger) (w : trail.Walk) (e : End) → p.done ≡ false → is_memory (kind p) ≡ true → missing p.src1 ≡ None → missing p.src2 ≡ None → access_trap (instruction p) p.pc (value_in p.src1) (bounds_of w.machine.hart.mem) ≡ Some e → sure.SureAt isa p w → sure.SureAt isa (trapped p e) w
+pub trap_at : (isa : Isa) (p : Passenger) (w : trail.Walk) (e : End) → p.done ≡ false → is_memory (kind p) ≡ true → missing p.src1 ≡ None →
+    missing p.src2 ≡ None → access_trap (instruction p) p.pc (value_in p.src1) (bounds_of w.machine.hart.mem) ≡ Some e → sure.SureAt isa p w →
+    sure.SureAt isa (trapped p e) w
 unfolding sure.SureAt
 trap_at isa p w e d m m1 m2 t h =
-    let q = memory_steps isa p w.machine w.goto m m1 m2 h.0 in
-    (trapped_sure isa p w.machine (step_at isa w.machine p.pc) w.goto e d (instruction p) q.0 (rw t at q.1) (access_traps (instruction p) p.pc (value_in p.src1) (bounds_of w.machine.hart.mem) e t) h.0, record { source1 = h.1.source1; source2 = h.1.source2 })
+    let q = memory_steps isa p w.machine w.goto m m1 m2 h.0 in (
+      trapped_sure isa p w.machine (step_at isa w.machine p.pc) w.goto e d (instruction p) q.0 (rw t at q.1)
+          (access_traps (instruction p) p.pc (value_in p.src1) (bounds_of w.machine.hart.mem) e t) h.0,
+      record { source1 = h.1.source1; source2 = h.1.source2 },
+    )
 
-pub trap_path : (isa : Isa) (i : ℕ) (p : Passenger) (w : trail.Walk) (e : End) → p.dead ≡ false → (sure.SureAt isa p w → sure.SureAt isa (trapped p e) w) → Replaces trail.Walk (sure.Fits isa) (trail.past isa) paths.Follows (Up i p ∷ []) (Up i (trapped p e) ∷ []) w
+pub trap_path : (isa : Isa) (i : ℕ) (p : Passenger) (w : trail.Walk) (e : End) → p.dead ≡ false → (sure.SureAt isa p w → sure.SureAt isa (trapped p e) w) →
+    Replaces trail.Walk (sure.Fits isa) (trail.past isa) paths.Follows (Up i p ∷ []) (Up i (trapped p e) ∷ []) w
 unfolding sure.Fits trail.past
-trap_path isa i p w e d f = record { fit = λ h. grind (arith, f); follows = λ h. record { barred = λ _. grind arith; machine = λ z. absurd (grind arith); goto = λ z. absurd (grind arith); settled = λ z. absurd (grind arith); trapped = λ z. absurd (grind arith); coming = λ z. absurd (grind arith) } }
+trap_path isa i p w e d f =
+    record {
+      fit = λ h. grind (arith, f);
+      follows = λ h. record {
+        barred = λ _. grind arith;
+        machine = λ z. absurd (grind arith);
+        goto =
+            λ z. absurd (grind arith);
+        settled = λ z. absurd (grind arith);
+        trapped = λ z. absurd (grind arith);
+        coming = λ z. absurd (grind arith);
+      };
+    }
 
-trap_lone : (l : Plan) (i : ℕ) (p : Passenger) (e : End) (w : Bool) → is_memory (kind p) ≡ true → lone.is_high l i ≡ false → Replaces Bool lone.Fits (lone.past l) lones.Follows (Up i p ∷ []) (Up i (trapped p e) ∷ []) w
+trap_lone : (l : Plan) (i : ℕ) (p : Passenger) (e : End) (w : Bool) → is_memory (kind p) ≡ true → lone.is_high l i ≡ false →
+    Replaces Bool lone.Fits (lone.past l) lones.Follows (Up i p ∷ []) (Up i (trapped p e) ∷ []) w
 unfolding lone.Fits lone.past
 trap_lone l i p e w m n = record { fit = λ h. h; follows = λ h. record { shut = λ z. grind arith } }
 
-trap_stands : (l : Plan) (i : ℕ) (p : Passenger) (e : End) → p.dead ≡ false → p.launched ≡ false → is_memory (kind p) ≡ true → Stands l i p → Stands l i (trapped p e)
+trap_stands : (l : Plan) (i : ℕ) (p : Passenger) (e : End) → p.dead ≡ false → p.launched ≡ false → is_memory (kind p) ≡ true → Stands l i p →
+    Stands l i (trapped p e)
 trap_stands l i p e d a m h = record {
   low = λ _ b. absurd (cc);
   out = h.out;
@@ -284,11 +359,23 @@ trap_stands l i p e d a m h = record {
   homed = h.homed;
 }
 
-trap_fits : (isa : Isa) (i : ℕ) (p : Passenger) (e : End) (w : dock.Dock) → is_memory (kind p) ≡ true → p.launched ≡ false → p.recovered ≡ false → dock.Fits isa (Up i (trapped p e)) w
+trap_fits : (isa : Isa) (i : ℕ) (p : Passenger) (e : End) (w : dock.Dock) → is_memory (kind p) ≡ true → p.launched ≡ false → p.recovered ≡ false →
+    dock.Fits isa (Up i (trapped p e)) w
 unfolding dock.Fits dock.DockedAt
-trap_fits isa i p e w m a b = record { live = λ _ z. absurd (grind arith); order = λ _ z. absurd (grind arith); served = λ z. absurd (grind arith); permitted = λ _ z. absurd (grind arith); answered = λ z. absurd (grind arith) }
+trap_fits isa i p e w m a b =
+    record {
+      live = λ _ z. absurd (grind arith);
+      order = λ _ z. absurd (grind arith);
+      served = λ z. absurd (grind arith);
+      permitted =
+          λ _ z. absurd (grind arith);
+      answered = λ z. absurd (grind arith);
+    }
 
-trap_loose : (isa : Isa) (i : ℕ) (p : Passenger) (e : End) (w : dock.Dock) → is_memory (kind p) ≡ true → p.launched ≡ false → p.recovered ≡ false → paths.Follows (trail.past isa (Up i p) w.path) (trail.past isa (Up i (trapped p e)) w.path) → ((dock.past isa (Up i (trapped p e)) w).path.barred ≡ true → (dock.past isa (Up i (trapped p e)) w).risky ≡ true) → Loose (dock.past isa (Up i p) w) (dock.past isa (Up i (trapped p e)) w)
+trap_loose : (isa : Isa) (i : ℕ) (p : Passenger) (e : End) (w : dock.Dock) → is_memory (kind p) ≡ true → p.launched ≡ false → p.recovered ≡ false →
+    paths.Follows (trail.past isa (Up i p) w.path) (trail.past isa (Up i (trapped p e)) w.path) →
+    ((dock.past isa (Up i (trapped p e)) w).path.barred ≡ true → (dock.past isa (Up i (trapped p e)) w).risky ≡ true) →
+    Loose (dock.past isa (Up i p) w) (dock.past isa (Up i (trapped p e)) w)
 unfolding dock.past
 trap_loose isa i p e w m a b f s =
     let c : ahead.has_ported p w.answer ≡ false = grind arith in
@@ -299,7 +386,8 @@ trap_loose isa i p e w m a b f s =
     record { path = f; safe = s; mem = rw (c, d) refl; code = rw (x, y) refl; rest = rw (x, y) refl; out = rw (x, y) refl; answer = rw u refl }
 
 loose_ends : (w v : dock.Dock) (m : Memory) (r o : List ℕ) → Loose w v → dock.Ends w m r o → dock.Ends v m r o
-loose_ends w v m r o h e = record { is_mem = e.is_mem ∙ sym h.mem; is_code = e.is_code ∙ sym h.code; is_rest = e.is_rest ∙ sym h.rest; is_out = e.is_out ∙ sym h.out }
+loose_ends w v m r o h e =
+    record { is_mem = e.is_mem ∙ sym h.mem; is_code = e.is_code ∙ sym h.code; is_rest = e.is_rest ∙ sym h.rest; is_out = e.is_out ∙ sym h.out }
 
 trap_flown : (l : Plan) (k i : ℕ) (p : Passenger) (e : End) → p.launched ≡ false → operations_of l k (Up i p ∷ []) ≡ operations_of l k (Up i (trapped p e) ∷ [])
 trap_flown l k i p e a = let b : in_siding l k p ≡ false = grind arith in rw b refl
@@ -307,7 +395,8 @@ trap_flown l k i p e a = let b : in_siding l k p ≡ false = grind arith in rw b
 not_high : (l : Plan) (i : ℕ) → i ≡ launch_stage l (port l) → lone.is_high l i ≡ false
 not_high l i e = grind arith
 
-trap_kept : {rest out : List ℕ} (l : Plan) (s : State) (x : Machine) (i : ℕ) (b : End) → Suits l → (r : Launches l s i) → launch_trap s r.who ≡ Some b → Sound l s rest out x → Sound l (with_cell s i (with_passenger r.here (trapped r.who b))) rest out x
+trap_kept : {rest out : List ℕ} (l : Plan) (s : State) (x : Machine) (i : ℕ) (b : End) → Suits l → (r : Launches l s i) → launch_trap s r.who ≡ Some b →
+    Sound l s rest out x → Sound l (with_cell s i (with_passenger r.here (trapped r.who b))) rest out x
 trap_kept {rest} {out} l s x i b acc r e h =
     let p = r.who in
     let q = spot s i r.here p r.at_here r.sits in
@@ -319,26 +408,41 @@ trap_kept {rest} {out} l s x i b acc r e h =
     let each = rw q.was at h.stands in
     let no = refused s p b e in
     let n : i ≡ launch_stage l (port l) = sym r.at_stage ∙ ap (launch_stage l) (in_port l p r.number acc r.siding no.0) in
-    let c = memory_calm l s x i r.here p q acc n (r.clear no.0) r.live k (each_front l q.above (old ++ q.below) each) (fit_front _ (sure.Fits (isa_of l)) (trail.past (isa_of l)) q.above (old ++ q.below) _ (rw q.was at h.path_fit)) h in
+    let c = memory_calm l s x i r.here p q acc n (r.clear no.0) r.live k (each_front l q.above (old ++ q.below) each)
+    (fit_front _ (sure.Fits (isa_of l)) (trail.past (isa_of l)) q.above (old ++ q.below) _ (rw q.was at h.path_fit)) h in
     let w = walk (dock.past (isa_of l)) q.above (dock.top l s x) in
     let never = not_back l i p r.aboard k.stands.0 in
-    let trap : access_trap (instruction p) p.pc (value_in p.src1) (bounds_of (walk (trail.past (isa_of l)) q.above (trail.top s x)).machine.hart.mem) ≡ Some b = subst (λ (z : List Bounds). access_trap (instruction p) p.pc (value_in p.src1) z ≡ Some b) (core_bounds l s x q.above h) no.1 in
-    let rp = trap_path (isa_of l) i p (walk (trail.past (isa_of l)) q.above (trail.top s x)) b r.live (trap_at (isa_of l) p _ b r.undone no.0 r.has1 r.has2 trap) in
-    let fw = subst (λ (z : trail.Walk). paths.Follows (trail.past (isa_of l) (Up i p) z) (trail.past (isa_of l) (Up i (trapped p b)) z)) (sym k.same) (rp.follows k.path_fit) in
+    let trap : access_trap (instruction p) p.pc (value_in p.src1) (bounds_of (walk (trail.past (isa_of l)) q.above (trail.top s x)).machine.hart.mem) ≡ Some b =
+    subst (λ (z : List Bounds). access_trap (instruction p) p.pc (value_in p.src1) z ≡ Some b) (core_bounds l s x q.above h) no.1 in
+    let rp = trap_path (isa_of l) i p (walk (trail.past (isa_of l)) q.above (trail.top s x)) b r.live
+    (trap_at (isa_of l) p _ b r.undone no.0 r.has1 r.has2 trap) in
+    let fw = subst (λ (z : trail.Walk). paths.Follows (trail.past (isa_of l) (Up i p) z) (trail.past (isa_of l) (Up i (trapped p b)) z)) (sym k.same)
+    (rp.follows k.path_fit) in
     let lo = trap_loose (isa_of l) i p b w no.0 r.aboard never fw (walk_safe (isa_of l) new w k.safe) in
-    let wait = waiting l i q.below acc (omega arith) (omega (arith, q.inside, h.size)) q.under (each_back l old q.below (each_back l q.above (old ++ q.below) each)) in
+    let wait = waiting l i q.below acc (omega arith) (omega (arith, q.inside, h.size)) q.under
+    (each_back l old q.below (each_back l q.above (old ++ q.below) each)) in
     let lf = loose_fit (isa_of l) q.below _ _ wait lo in
     let ends = rw (q.was, walk_append (dock.past (isa_of l)) q.above (old ++ q.below) (dock.top l s x)) at h.port_ends in
-    reshaped l s t x q.above old new q.below q.was is (record { regs = refl; lane = refl; fetch = refl; cache = refl; size = put_size s.cells i (with_passenger r.here (trapped p b)) })
+    reshaped l s t x q.above old new q.below q.was is (record
+    { regs = refl; lane = refl; fetch = refl; cache = refl; size = put_size s.cells i (with_passenger r.here (trapped p b)) })
     rp (trap_lone l i p b _ no.0 (not_high l i n)) (trap_stands l i p b r.live r.aboard no.0 k.stands.0, tt)
     (record {
-      fit = rw is (fit_append _ (dock.Fits (isa_of l)) (dock.past (isa_of l)) q.above (new ++ q.below) _ (fit_front _ (dock.Fits (isa_of l)) (dock.past (isa_of l)) q.above (old ++ q.below) _ (rw q.was at h.port_fit)) (trap_fits (isa_of l) i p b w no.0 r.aboard never, lf.0));
+      fit = rw is (fit_append _ (dock.Fits (isa_of l)) (dock.past (isa_of l)) q.above (new ++ q.below) _
+          (fit_front _ (dock.Fits (isa_of l)) (dock.past (isa_of l)) q.above (old ++ q.below) _ (rw q.was at h.port_fit))
+          (trap_fits (isa_of l) i p b w no.0 r.aboard never, lf.0));
       ends = rw (is, walk_append (dock.past (isa_of l)) q.above (new ++ q.below) (dock.top l s x)) (loose_ends _ _ s.mem rest out lf.1 ends);
     })
-    (record { operations = λ j. h.moored.operations j ∙ ap (operations_of l j) q.was ∙ flown_changed l j q.above old new q.below (trap_flown l j i p b r.aboard) ∙ ap (operations_of l j) (sym is); front = h.moored.front; plain = h.moored.plain; berths = h.moored.berths })
+    (record {
+      operations = λ j. h.moored.operations j ∙ ap (operations_of l j) q.was ∙ flown_changed l j q.above old new q.below (trap_flown l j i p b r.aboard)
+          ∙ ap (operations_of l j) (sym is);
+      front = h.moored.front;
+      plain = h.moored.plain;
+      berths = h.moored.berths;
+    })
     h
 
-pub launch_kept : {rest out : List ℕ} (l : Plan) (s : State) (x : Machine) (i : ℕ) → Suits l → bar l s (Launch i) ≡ None → Sound l s rest out x → Sound l (moved l s (Launch i)) rest out x
+pub launch_kept : {rest out : List ℕ} (l : Plan) (s : State) (x : Machine) (i : ℕ) → Suits l → bar l s (Launch i) ≡ None → Sound l s rest out x →
+    Sound l (moved l s (Launch i)) rest out x
 launch_kept {rest} {out} l s x i acc e h =
     let r = launch_ready l s i (bar_row l s (Launch i) e) in
     rw (next_launch l s i r.here r.who r.at_here r.sits) (go r (launch_trap s r.who) refl)

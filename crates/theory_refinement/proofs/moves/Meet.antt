@@ -54,7 +54,8 @@ meet_ready l s i e = go (cell_at s.cells i) refl e
     go None f e = absurd (cc)
     go (Some c) f e = inner c c.passenger c.packet f refl refl e
 
-pub next_meet : (l : Plan) (s : State) (i : ℕ) (c : Cell) (p : Passenger) (k : Packet) → cell_at s.cells i ≡ Some c → c.passenger ≡ Some p → c.packet ≡ Some k → moved l s (Meet i) ≡ with_cell s i (cell_met c p k)
+pub next_meet : (l : Plan) (s : State) (i : ℕ) (c : Cell) (p : Passenger) (k : Packet) → cell_at s.cells i ≡ Some c → c.passenger ≡ Some p → c.packet ≡ Some k →
+    moved l s (Meet i) ≡ with_cell s i (cell_met c p k)
 unfolding moved
 next_meet l s i c p k e f g = rw (e, f, g)
 
@@ -62,11 +63,15 @@ pub items_met : (i : ℕ) (p : Passenger) (o : Option Packet) → in_order (is_s
 items_met i p None = refl
 items_met i p (Some k) = refl
 
-meet_port : (isa : Isa) (i : ℕ) (p : Passenger) (k : Packet) (w : dock.Dock) → (w.path.barred ≡ true → w.risky ≡ true) → Everywhere (sure.Fits isa) (trail.past isa) (Down i k ∷ Up i p ∷ []) w.path → ((p.launched || p.recovered) ≡ true → missing p.src1 ≡ None) → Replaces dock.Dock (dock.Fits isa) (dock.past isa) ports.Follows (Down i k ∷ Up i p ∷ []) (pathmeet.met_items i (meeting p k).passenger (meeting p k).packet) w
+meet_port : (isa : Isa) (i : ℕ) (p : Passenger) (k : Packet) (w : dock.Dock) → (w.path.barred ≡ true → w.risky ≡ true) →
+    Everywhere (sure.Fits isa) (trail.past isa) (Down i k ∷ Up i p ∷ []) w.path → ((p.launched || p.recovered) ≡ true → missing p.src1 ≡ None) →
+    Replaces dock.Dock (dock.Fits isa) (dock.past isa) ports.Follows (Down i k ∷ Up i p ∷ [])
+    (pathmeet.met_items i (meeting p k).passenger (meeting p k).packet) w
 meet_port isa i p k w s f m = record {
   fit = portmoves.meet_fits isa i p k w m;
   follows = λ h. record {
-    path = rw (walk_path isa (Down i k ∷ Up i p ∷ []) w, walk_path isa (pathmeet.met_items i (meeting p k).passenger (meeting p k).packet) w) (pathmeet.meet_walk isa i p k w.path f);
+    path = rw (walk_path isa (Down i k ∷ Up i p ∷ []) w, walk_path isa (pathmeet.met_items i (meeting p k).passenger (meeting p k).packet) w)
+        (pathmeet.meet_walk isa i p k w.path f);
     safe = walk_safe isa (pathmeet.met_items i (meeting p k).passenger (meeting p k).packet) w s;
     risky = portmoves.meet_risky isa i p k w;
     mem = portmoves.meet_mem isa i p k w h;
@@ -86,7 +91,8 @@ met_flown l n i q None = refl
 met_flown l n i q (Some k) = refl
 
 -- what is launched has its sources, so that a meeting leaves its operation
-meet_out : (l : Plan) (n i : ℕ) (p : Passenger) (k : Packet) → (p.launched ≡ true → (missing p.src1 ≡ None) × (missing p.src2 ≡ None)) → operations_of l n (Up i p ∷ []) ≡ operations_of l n (Up i (meeting p k).passenger ∷ [])
+meet_out : (l : Plan) (n i : ℕ) (p : Passenger) (k : Packet) → (p.launched ≡ true → (missing p.src1 ≡ None) × (missing p.src2 ≡ None)) →
+    operations_of l n (Up i p ∷ []) ≡ operations_of l n (Up i (meeting p k).passenger ∷ [])
 unfolding meeting
 meet_out l n i p k h = grind arith
 
@@ -98,19 +104,23 @@ sources_out l i p h e = go p.launched refl
     go false f = h.sourced1 (h.back_launched (rw f at e))
 
 -- the packet stands above the passenger, and what is left of it below
-pub meet_stretch : (s : State) (i : ℕ) (r : Meets s i) → Stretch s (put_cell s.cells i (cell_met r.here r.who r.what)) (Down i r.what ∷ Up i r.who ∷ []) (pathmeet.met_items i (meeting r.who r.what).passenger (meeting r.who r.what).packet)
+pub meet_stretch : (s : State) (i : ℕ) (r : Meets s i) → Stretch s (put_cell s.cells i (cell_met r.here r.who r.what)) (Down i r.what ∷ Up i r.who ∷ [])
+    (pathmeet.met_items i (meeting r.who r.what).passenger (meeting r.who r.what).packet)
 meet_stretch s i r =
     let q = (meeting r.who r.what).passenger in
     let o = (meeting r.who r.what).packet in
-    stage_stretch s i r.here (cell_met r.here r.who r.what) (Down i r.what ∷ Up i r.who ∷ []) (pathmeet.met_items i q o) r.at_here (rw (r.sits, r.lies, r.apart) refl) (items_met i q o)
+    stage_stretch s i r.here (cell_met r.here r.who r.what) (Down i r.what ∷ Up i r.who ∷ []) (pathmeet.met_items i q o) r.at_here
+    (rw (r.sits, r.lies, r.apart) refl) (items_met i q o)
 
-pub meet_kept : {rest out : List ℕ} (l : Plan) (s : State) (x : Machine) (i : ℕ) → bar l s (Meet i) ≡ None → Sound l s rest out x → Sound l (moved l s (Meet i)) rest out x
+pub meet_kept : {rest out : List ℕ} (l : Plan) (s : State) (x : Machine) (i : ℕ) → bar l s (Meet i) ≡ None → Sound l s rest out x →
+    Sound l (moved l s (Meet i)) rest out x
 meet_kept {rest} {out} l s x i e h =
     let r = meet_ready l s i (bar_row l s (Meet i) e) in
     let q = (meeting r.who r.what).passenger in
     let o = (meeting r.who r.what).packet in
     let p = meet_stretch s i r in
-    rw (next_meet l s i r.here r.who r.what r.at_here r.sits r.lies) (changed l s x (put_cell s.cells i (cell_met r.here r.who r.what)) p.above (Down i r.what ∷ Up i r.who ∷ []) (pathmeet.met_items i q o) p.below p.was p.is p.size (λ k. record {
+    rw (next_meet l s i r.here r.who r.what r.at_here r.sits r.lies) (changed l s x (put_cell s.cells i (cell_met r.here r.who r.what)) p.above (Down i r.what
+    ∷ Up i r.who ∷ []) (pathmeet.met_items i q o) p.below p.was p.is p.size (λ k. record {
       path = record { fit = pathmeet.meet_fits (isa_of l) i r.who r.what _; follows = pathmeet.meet_walk (isa_of l) i r.who r.what _ };
       lone = lones.meet_lone l i r.who r.what _ k.stands.0;
       stands = met_stands l i q o (meet_rider l i r.who r.what k.stands.0);

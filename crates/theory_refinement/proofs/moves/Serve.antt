@@ -58,13 +58,25 @@ serve_ready l s e = go (cell_at s.cells l.stages) refl e
   where
     inner : (c : Cell) (o : Option Passenger) → cell_at s.cells l.stages ≡ Some c → c.passenger ≡ o → serve_bar c ≡ None → Serves l s
     inner c None f h e = absurd (grind arith)
-    inner c (Some p) f h e = record { here = c; who = p; at_here = f; sits = h; live = grind arith; undone = grind arith; serial = serial_is (kind p) (grind arith); clear = grind arith }
+    inner c (Some p) f h e =
+        record {
+          here = c;
+          who = p;
+          at_here = f;
+          sits = h;
+          live = grind arith;
+          undone = grind arith;
+          serial = serial_is (kind p) (grind arith);
+          clear =
+              grind arith;
+        }
 
     go : (a : Option Cell) → cell_at s.cells l.stages ≡ a → on a (Some NoSuchSite) serve_bar ≡ None → Serves l s
     go None f e = absurd (cc)
     go (Some c) f e = inner c c.passenger f refl e
 
-pub next_serve : (l : Plan) (m : Moment) (c : Cell) (p : Passenger) (a : Called) → cell_at m.state.cells l.stages ≡ Some c → c.passenger ≡ Some p → serve_of (instruction p) m.state.regs m.state.mem m.rest ≡ a → next l m Serve ≡ served m l.stages c p a
+pub next_serve : (l : Plan) (m : Moment) (c : Cell) (p : Passenger) (a : Called) → cell_at m.state.cells l.stages ≡ Some c → c.passenger ≡ Some p →
+    serve_of (instruction p) m.state.regs m.state.mem m.rest ≡ a → next l m Serve ≡ served m l.stages c p a
 unfolding next
 next_serve l m c p a e f g = rw (e, f, g) refl
 
@@ -72,11 +84,14 @@ abbrev pub quit : Passenger → ℕ → Passenger
 quit p e = record p { done = true; ending = Some (Exit e) }
 
 -- on the path
-pub gave_at : (isa : Isa) (p : Passenger) (w : trail.Walk) (a : CallAnswer) → length w.machine.hart.regs ≡ 32 → kind p ≡ Serial → p.done ≡ false → serve_of (instruction p) w.machine.hart.regs w.machine.hart.mem w.machine.rest ≡ called.Value a → sure.SureAt isa p w → sure.SureAt isa (answered p a.value) w
+pub gave_at : (isa : Isa) (p : Passenger) (w : trail.Walk) (a : CallAnswer) → length w.machine.hart.regs ≡ 32 → kind p ≡ Serial → p.done ≡ false →
+    serve_of (instruction p) w.machine.hart.regs w.machine.hart.mem w.machine.rest ≡ called.Value a → sure.SureAt isa p w →
+    sure.SureAt isa (answered p a.value) w
 unfolding sure.SureAt
 gave_at isa p w a l k d e h = (served_sure isa p w.machine w.goto a l k d e h.0, record { source1 = h.1.source1; source2 = h.1.source2 })
 
-pub quit_at : (isa : Isa) (p : Passenger) (w : trail.Walk) (e : ℕ) → kind p ≡ Serial → p.done ≡ false → serve_of (instruction p) w.machine.hart.regs w.machine.hart.mem w.machine.rest ≡ called.Exit e → sure.SureAt isa p w → sure.SureAt isa (quit p e) w
+pub quit_at : (isa : Isa) (p : Passenger) (w : trail.Walk) (e : ℕ) → kind p ≡ Serial → p.done ≡ false →
+    serve_of (instruction p) w.machine.hart.regs w.machine.hart.mem w.machine.rest ≡ called.Exit e → sure.SureAt isa p w → sure.SureAt isa (quit p e) w
 unfolding sure.SureAt
 quit_at isa p w e k d q h =
     let s = quit_sure isa p w.machine w.goto e k d q h.0 in
@@ -106,18 +121,45 @@ quit_at isa p w e k d q h =
     reads (Got j) a = a
     reads (Bad b) a = absurd (let u = h.0.unended d in let y = a.1 in cc)
 
-pub gave_path : (isa : Isa) (n : ℕ) (p : Passenger) (w : trail.Walk) (v : ℕ) → p.dead ≡ false → w.barred ≡ false → (sure.SureAt isa p w → sure.SureAt isa (answered p v) w) → Replaces trail.Walk (sure.Fits isa) (trail.past isa) paths.Follows (Up n p ∷ []) (Up n (answered p v) ∷ []) w
+pub gave_path : (isa : Isa) (n : ℕ) (p : Passenger) (w : trail.Walk) (v : ℕ) → p.dead ≡ false → w.barred ≡ false →
+    (sure.SureAt isa p w → sure.SureAt isa (answered p v) w) → Replaces trail.Walk (sure.Fits isa) (trail.past isa) paths.Follows (Up n p ∷ [])
+    (Up n (answered p v) ∷ []) w
 unfolding sure.Fits trail.past
-gave_path isa n p w v d b f = record { fit = λ h. grind (arith, f); follows = λ h. record { barred = λ _. grind arith; machine = λ e. absurd (grind arith); goto = λ e. absurd (grind arith); settled = λ e. absurd (grind arith); trapped = λ e. absurd (grind arith); coming = λ e. absurd (grind arith) } }
+gave_path isa n p w v d b f =
+    record {
+      fit = λ h. grind (arith, f);
+      follows = λ h. record {
+        barred = λ _. grind arith;
+        machine = λ e. absurd (grind arith);
+        goto =
+            λ e. absurd (grind arith);
+        settled = λ e. absurd (grind arith);
+        trapped = λ e. absurd (grind arith);
+        coming = λ e. absurd (grind arith);
+      };
+    }
 
 pub serial_nowhere : (p : Passenger) → kind p ≡ Serial → p.done ≡ false → goto p ≡ None
 serial_nowhere p k d = grind arith
 
-pub quit_path : (isa : Isa) (n : ℕ) (p : Passenger) (w : trail.Walk) (e : ℕ) → p.dead ≡ false → w.barred ≡ false → p.done ≡ false → kind p ≡ Serial → p.ending ≡ None → (sure.SureAt isa p w → sure.SureAt isa (quit p e) w) → Replaces trail.Walk (sure.Fits isa) (trail.past isa) paths.Follows (Up n p ∷ []) (Up n (quit p e) ∷ []) w
+pub quit_path : (isa : Isa) (n : ℕ) (p : Passenger) (w : trail.Walk) (e : ℕ) → p.dead ≡ false → w.barred ≡ false → p.done ≡ false → kind p ≡ Serial →
+    p.ending ≡ None → (sure.SureAt isa p w → sure.SureAt isa (quit p e) w) → Replaces trail.Walk (sure.Fits isa) (trail.past isa) paths.Follows (Up n p ∷ [])
+    (Up n (quit p e) ∷ []) w
 unfolding sure.Fits trail.past
 quit_path isa n p w e d b u k o f =
     let g = serial_nowhere p k u in
-    record { fit = λ h. grind (arith, f); follows = λ h. record { barred = λ z. grind arith; machine = λ z. grind arith; goto = λ z. grind arith; settled = λ z. grind arith; trapped = λ z. grind arith; coming = λ z. grind arith } }
+    record {
+      fit = λ h. grind (arith, f);
+      follows = λ h. record {
+        barred = λ z. grind arith;
+        machine = λ z. grind arith;
+        goto = λ z. grind arith;
+        settled =
+            λ z. grind arith;
+        trapped = λ z. grind arith;
+        coming = λ z. grind arith;
+      };
+    }
 
 -- nothing stands below it
 serve_lone : (l : Plan) (n : ℕ) (p q : Passenger) → is_lone p ≡ true → Replaces Bool lone.Fits (lone.past l) lones.Follows (Up n p ∷ []) (Up n q ∷ []) false
@@ -157,7 +199,15 @@ fit_idle isa (Down i k ∷ xs) w h = (result_fits isa i k w, fit_idle isa xs (do
 
 pub serial_docked : (isa : Isa) (n : ℕ) (q : Passenger) (w : dock.Dock) → kind q ≡ Serial → w.risky ≡ false → dock.Fits isa (Up n q) w
 unfolding dock.Fits dock.DockedAt
-serial_docked isa n q w k r = record { live = λ a b. absurd (grind arith); order = λ a b. absurd (grind arith); served = λ a. r; permitted = λ a b. absurd (grind arith); answered = λ a. absurd (grind arith) }
+serial_docked isa n q w k r =
+    record {
+      live = λ a b. absurd (grind arith);
+      order = λ a b. absurd (grind arith);
+      served = λ a. r;
+      permitted = λ a b. absurd (grind arith);
+      answered =
+          λ a. absurd (grind arith);
+    }
 
 pub not_yet : (isa : Isa) (n : ℕ) (q : Passenger) (w : dock.Dock) → kind q ≡ Serial → ahead.has_served q ≡ false → Unchanged w (dock.past isa (Up n q) w)
 unfolding dock.past
@@ -165,7 +215,8 @@ not_yet isa n q w k s =
     let z : ahead.has_ported q w.answer ≡ false = grind arith in
     record { mem = rw z refl; code = rw s refl; rest = rw s refl; out = rw s refl }
 
-served_past : (isa : Isa) (n : ℕ) (q : Passenger) (w : dock.Dock) (m : Machine) → ahead.has_served q ≡ true → step_at isa w.path.machine q.pc ≡ Goes m → dock.Ends (dock.past isa (Up n q) w) m.hart.mem m.rest m.output
+served_past : (isa : Isa) (n : ℕ) (q : Passenger) (w : dock.Dock) (m : Machine) → ahead.has_served q ≡ true → step_at isa w.path.machine q.pc ≡ Goes m →
+    dock.Ends (dock.past isa (Up n q) w) m.hart.mem m.rest m.output
 unfolding dock.past
 served_past isa n q w m s e =
     let z : ahead.has_ported q w.answer ≡ true = grind arith in
@@ -179,7 +230,8 @@ serial_aboard l acc p k b = go (siding_of l (kind p)) refl b
     go None e h = h
     go (Some j) e h = let z = acc.sided (kind p) j e in grind arith
 
-gave_stands : (l : Plan) → Suits l → (p : Passenger) (v : ℕ) → p.dead ≡ false → p.done ≡ false → kind p ≡ Serial → Stands l l.stages p → Stands l l.stages (answered p v)
+gave_stands : (l : Plan) → Suits l → (p : Passenger) (v : ℕ) → p.dead ≡ false → p.done ≡ false → kind p ≡ Serial → Stands l l.stages p →
+    Stands l l.stages (answered p v)
 gave_stands l acc p v d u k h = record {
   low = λ a b c. absurd (cc);
   out = h.out;
@@ -269,14 +321,17 @@ scene {rest} {out} l s x r h =
       output = ends.is_out ∙ under.out ∙ same.out;
     }
 
-pub sure_step : (isa : Isa) (p : Passenger) (w : trail.Walk) (a : CallAnswer) → kind p ≡ Serial → serve_of (instruction p) w.machine.hart.regs w.machine.hart.mem w.machine.rest ≡ called.Value a → sure.SureAt isa p w → step_at isa w.machine p.pc ≡ Goes (after_call w.machine (instruction p) p.pc a)
+pub sure_step : (isa : Isa) (p : Passenger) (w : trail.Walk) (a : CallAnswer) → kind p ≡ Serial →
+    serve_of (instruction p) w.machine.hart.regs w.machine.hart.mem w.machine.rest ≡ called.Value a → sure.SureAt isa p w →
+    step_at isa w.machine p.pc ≡ Goes (after_call w.machine (instruction p) p.pc a)
 unfolding sure.SureAt
 sure_step isa p w a k e h = served_steps isa p w.machine w.goto a k e h.0
 
 abbrev SoundAt : Plan → Moment → Machine → Type 0
 SoundAt l m x = Sound l m.state m.rest m.output x
 
-serve_by : (l : Plan) → Suits l → (m : Moment) (x : Machine) (r : Serves l m.state) (a : Called) → Scene l m.state m.rest m.output x r → serve_of (instruction r.who) x.hart.regs x.hart.mem x.rest ≡ a → SoundAt l m x → SoundAt l (served m l.stages r.here r.who a) x
+serve_by : (l : Plan) → Suits l → (m : Moment) (x : Machine) (r : Serves l m.state) (a : Called) → Scene l m.state m.rest m.output x r →
+    serve_of (instruction r.who) x.hart.regs x.hart.mem x.rest ≡ a → SoundAt l m x → SoundAt l (served m l.stages r.here r.who a) x
 serve_by l acc m x r (called.Value a) c f h =
     let s = m.state in
     let n = l.stages in
@@ -288,12 +343,29 @@ serve_by l acc m x r (called.Value a) c f h =
     let now : ahead.has_served q ≡ true = let u = r.live in let b = r.serial in let z = c.stands.unended r.undone in grind arith in
     let e = served_past (isa_of l) n q (dock.top l s x) _ now y in
     let b = walk_idle (isa_of l) c.below (dock.past (isa_of l) (Up n q) (dock.top l s x)) c.idle in
-    reshaped l s t x [] (Up n p ∷ []) (Up n q ∷ []) c.below c.was (c.is q) (record { regs = refl; lane = refl; fetch = refl; cache = refl; size = put_size s.cells n (with_passenger r.here q) })
+    reshaped l s t x [] (Up n p ∷ []) (Up n q ∷ []) c.below c.was (c.is q)
+    (record { regs = refl; lane = refl; fetch = refl; cache = refl; size = put_size s.cells n (with_passenger r.here q) })
     (gave_path (isa_of l) n p (trail.top s x) a.value r.live refl (gave_at (isa_of l) p (trail.top s x) a h.wide r.serial r.undone f))
     (serve_lone l n p q c.holds)
     (gave_stands l acc p a.value r.live r.undone r.serial c.stands, tt)
-    (record { fit = rw (c.is q) (d, fit_idle (isa_of l) c.below _ c.idle); ends = rw (c.is q) (record { is_mem = e.is_mem ∙ sym b.mem; is_code = e.is_code ∙ sym b.code; is_rest = e.is_rest ∙ sym b.rest; is_out = ap (λ (o : List ℕ). o ++ a.output) c.output ∙ e.is_out ∙ sym b.out }) })
-    (record { operations = λ k. h.moored.operations k ∙ ap (operations_of l k) c.was ∙ flown_changed l k [] (Up n p ∷ []) (Up n q ∷ []) c.below refl ∙ ap (operations_of l k) (sym (c.is q)); front = h.moored.front; plain = h.moored.plain; berths = h.moored.berths })
+    (record {
+      fit = rw (c.is q) (d, fit_idle (isa_of l) c.below _ c.idle);
+      ends = rw (c.is q)
+          (record {
+            is_mem = e.is_mem ∙ sym b.mem;
+            is_code = e.is_code ∙ sym b.code;
+            is_rest = e.is_rest ∙ sym b.rest;
+            is_out =
+                ap (λ (o : List ℕ). o ++ a.output) c.output ∙ e.is_out ∙ sym b.out;
+          });
+    })
+    (record {
+      operations = λ k. h.moored.operations k ∙ ap (operations_of l k) c.was ∙ flown_changed l k [] (Up n p ∷ []) (Up n q ∷ []) c.below refl
+          ∙ ap (operations_of l k) (sym (c.is q));
+      front = h.moored.front;
+      plain = h.moored.plain;
+      berths = h.moored.berths;
+    })
     h
 serve_by l acc m x r (called.Exit z) c f h =
     let s = m.state in
@@ -305,12 +377,29 @@ serve_by l acc m x r (called.Exit z) c f h =
     let never : ahead.has_served q ≡ false = let a = r.serial in grind arith in
     let e = not_yet (isa_of l) n q (dock.top l s x) r.serial never in
     let b = walk_idle (isa_of l) c.below (dock.past (isa_of l) (Up n q) (dock.top l s x)) c.idle in
-    reshaped l s t x [] (Up n p ∷ []) (Up n q ∷ []) c.below c.was (c.is q) (record { regs = refl; lane = refl; fetch = refl; cache = refl; size = put_size s.cells n (with_passenger r.here q) })
-    (quit_path (isa_of l) n p (trail.top s x) z r.live refl r.undone r.serial (c.stands.unended r.undone) (quit_at (isa_of l) p (trail.top s x) z r.serial r.undone f))
+    reshaped l s t x [] (Up n p ∷ []) (Up n q ∷ []) c.below c.was (c.is q)
+    (record { regs = refl; lane = refl; fetch = refl; cache = refl; size = put_size s.cells n (with_passenger r.here q) })
+    (quit_path (isa_of l) n p (trail.top s x) z r.live refl r.undone r.serial (c.stands.unended r.undone)
+    (quit_at (isa_of l) p (trail.top s x) z r.serial r.undone f))
     (serve_lone l n p q c.holds)
     (quit_stands l acc p z r.undone r.serial c.stands, tt)
-    (record { fit = rw (c.is q) (d, fit_idle (isa_of l) c.below _ c.idle); ends = rw (c.is q) (record { is_mem = c.mem ∙ sym e.mem ∙ sym b.mem; is_code = ap code_of c.mem ∙ sym e.code ∙ sym b.code; is_rest = c.input ∙ sym e.rest ∙ sym b.rest; is_out = c.output ∙ sym e.out ∙ sym b.out }) })
-    (record { operations = λ k. h.moored.operations k ∙ ap (operations_of l k) c.was ∙ flown_changed l k [] (Up n p ∷ []) (Up n q ∷ []) c.below refl ∙ ap (operations_of l k) (sym (c.is q)); front = h.moored.front; plain = h.moored.plain; berths = h.moored.berths })
+    (record {
+      fit = rw (c.is q) (d, fit_idle (isa_of l) c.below _ c.idle);
+      ends = rw (c.is q)
+          (record {
+            is_mem = c.mem ∙ sym e.mem ∙ sym b.mem;
+            is_code = ap code_of c.mem ∙ sym e.code ∙ sym b.code;
+            is_rest = c.input ∙ sym e.rest ∙ sym b.rest;
+            is_out = c.output ∙ sym e.out ∙ sym b.out;
+          });
+    })
+    (record {
+      operations = λ k. h.moored.operations k ∙ ap (operations_of l k) c.was ∙ flown_changed l k [] (Up n p ∷ []) (Up n q ∷ []) c.below refl
+          ∙ ap (operations_of l k) (sym (c.is q));
+      front = h.moored.front;
+      plain = h.moored.plain;
+      berths = h.moored.berths;
+    })
     h
 
 pub serve_kept : (l : Plan) (m : Moment) (x : Machine) → Suits l → bar l m.state Serve ≡ None → SoundAt l m x → SoundAt l (next l m Serve) x

@@ -31,25 +31,30 @@ Landed (Down i k ∷ xs) = Landed xs
 ported_landed : (p : Passenger) (a b : Option ℕ) → flies p ≡ false → has_ported p a ≡ has_ported p b
 ported_landed p a b e = grind arith
 
-pub past_landed : (isa : Isa) (i : ℕ) (p : Passenger) (w : Dock) (b : Option ℕ) → flies p ≡ false → past isa (Up i p) (record w { answer = b }) ≡ record (past isa (Up i p) w) { answer = b }
+pub past_landed : (isa : Isa) (i : ℕ) (p : Passenger) (w : Dock) (b : Option ℕ) → flies p ≡ false →
+    past isa (Up i p) (record w { answer = b }) ≡ record (past isa (Up i p) w) { answer = b }
 unfolding past
 past_landed isa i p w b e = rw (ported_landed p b w.answer e, e)
 
-past_result : (isa : Isa) (i : ℕ) (k : Packet) (w : Dock) (b : Option ℕ) → past isa (Down i k) (record w { answer = b }) ≡ record (past isa (Down i k) w) { answer = b }
+past_result : (isa : Isa) (i : ℕ) (k : Packet) (w : Dock) (b : Option ℕ) → past isa (Down i k) (record w { answer = b })
+    ≡ record (past isa (Down i k) w) { answer = b }
 unfolding past
 past_result isa i k w b = refl
 
 -- above the first passenger that flies the answer is not looked at
-pub walk_landed : (isa : Isa) (xs : List Item) (w : Dock) (b : Option ℕ) → Landed xs → walk (past isa) xs (record w { answer = b }) ≡ record (walk (past isa) xs w) { answer = b }
+pub walk_landed : (isa : Isa) (xs : List Item) (w : Dock) (b : Option ℕ) → Landed xs → walk (past isa) xs (record w { answer = b })
+    ≡ record (walk (past isa) xs w) { answer = b }
 walk_landed isa [] w b h = refl
 walk_landed isa (Up i p ∷ xs) w b h = rw (past_landed isa i p w b h.0) (walk_landed isa xs (past isa (Up i p) w) b h.1)
 walk_landed isa (Down i k ∷ xs) w b h = rw (past_result isa i k w b) (walk_landed isa xs (past isa (Down i k) w) b h)
 
-fits_landed : (isa : Isa) (i : ℕ) (p : Passenger) (w : Dock) (b : Option ℕ) → flies p ≡ false → Fits isa (Up i p) w → Fits isa (Up i p) (record w { answer = b })
+fits_landed : (isa : Isa) (i : ℕ) (p : Passenger) (w : Dock) (b : Option ℕ) → flies p ≡ false → Fits isa (Up i p) w →
+    Fits isa (Up i p) (record w { answer = b })
 unfolding Fits DockedAt
 fits_landed isa i p w b e h = record { live = h.live; order = h.order; served = h.served; permitted = h.permitted; answered = λ f. absurd (cc) }
 
-pub fit_landed : (isa : Isa) (xs : List Item) (w : Dock) (b : Option ℕ) → Landed xs → Everywhere (Fits isa) (past isa) xs w → Everywhere (Fits isa) (past isa) xs (record w { answer = b })
+pub fit_landed : (isa : Isa) (xs : List Item) (w : Dock) (b : Option ℕ) → Landed xs → Everywhere (Fits isa) (past isa) xs w →
+    Everywhere (Fits isa) (past isa) xs (record w { answer = b })
 fit_landed isa [] w b h f = tt
 fit_landed isa (Up i p ∷ xs) w b h f = (fits_landed isa i p w b h.0 f.0, rw (past_landed isa i p w b h.0) (fit_landed isa xs (past isa (Up i p) w) b h.1 f.1))
 fit_landed isa (Down i k ∷ xs) w b h f = (tt', rw (past_result isa i k w b) (fit_landed isa xs (past isa (Down i k) w) b h f.1))
@@ -63,7 +68,8 @@ Unported [] = Unit {0}
 Unported (Up i p ∷ xs) = (has_ported p None ≡ false) × (flies p ≡ false ⊎ flies p ≡ true) × Unported xs
 Unported (Down i k ∷ xs) = Unported xs
 
-pub past_mem : (isa : Isa) (i : ℕ) (p : Passenger) (w : Dock) (m : memory.Memory) → w.answer ≡ None → has_ported p None ≡ false → past isa (Up i p) (record w { mem = m }) ≡ record (past isa (Up i p) w) { mem = m }
+pub past_mem : (isa : Isa) (i : ℕ) (p : Passenger) (w : Dock) (m : memory.Memory) → w.answer ≡ None → has_ported p None ≡ false →
+    past isa (Up i p) (record w { mem = m }) ≡ record (past isa (Up i p) w) { mem = m }
 unfolding past
 past_mem isa i p w m a e = rw (a, e)
 
@@ -72,7 +78,8 @@ mem_on : (o : Option End) (n m : Machine) → n.hart.mem ≡ m.hart.mem → (aft
 mem_on None n m e = e
 mem_on (Some b) n m e = refl
 
-class_mem : (c : Class) (i : Instr) (a b : ℕ) (m : Machine) → is_memory c ≡ false → is_serial c ≡ false → (after_step (stepped_as c i a b m) m).hart.mem ≡ m.hart.mem
+class_mem : (c : Class) (i : Instr) (a b : ℕ) (m : Machine) → is_memory c ≡ false → is_serial c ≡ false →
+    (after_step (stepped_as c i a b m) m).hart.mem ≡ m.hart.mem
 class_mem Memory i a b m e f = absurd (cc)
 class_mem Serial i a b m e f = absurd (cc)
 class_mem Free i a b m e f = mem_on (free_trap i m.hart.pc) _ m refl
@@ -82,13 +89,15 @@ mem_at : (s : StepResult) (x : Machine) (pc : ℕ) → (after_step s (at_pc x pc
 mem_at (Goes n) x pc e = e
 mem_at (Stops b) x pc e = refl
 
-step_mem : (isa : Isa) (p : Passenger) (x : Machine) (g : Option ℕ) → sure.IsSure isa p x (step_at isa x p.pc) g → is_memory (kind p) ≡ false → is_serial (kind p) ≡ false → (after_step (step_at isa x p.pc) x).hart.mem ≡ x.hart.mem
+step_mem : (isa : Isa) (p : Passenger) (x : Machine) (g : Option ℕ) → sure.IsSure isa p x (step_at isa x p.pc) g → is_memory (kind p) ≡ false →
+    is_serial (kind p) ≡ false → (after_step (step_at isa x p.pc) x).hart.mem ≡ x.hart.mem
 step_mem isa p x g h e f = go (fetched isa x.hart.mem p.pc) refl h.reads
   where
     go : (q : Fetched) → fetched isa x.hart.mem p.pc ≡ q → Holds p q → (after_step (step_at isa x p.pc) x).hart.mem ≡ x.hart.mem
     go (Got i) a k =
         let c : kind p ≡ kind_of i = ap (λ (o : Option Instr). on o Free kind_of) k in
-        mem_at (step_at isa x p.pc) x p.pc (rw (step_is isa x p.pc i a) (class_mem (kind_of i) i (value_read x.hart.regs (src1_of i)) (value_read x.hart.regs (src2_of i)) (at_pc x p.pc) (rw c at e) (rw c at f)))
+        mem_at (step_at isa x p.pc) x p.pc (rw (step_is isa x p.pc i a) (class_mem (kind_of i) i (value_read x.hart.regs (src1_of i))
+        (value_read x.hart.regs (src2_of i)) (at_pc x p.pc) (rw c at e) (rw c at f)))
     go (Bad b) a k = rw (h.values.ends b k.1)
 
 -- a live memory operation has come back, or has not been launched and has a trap
@@ -105,15 +114,19 @@ pub walk_risky : (isa : Isa) (xs : List Item) (w : Dock) → (walk (past isa) xs
 walk_risky isa [] w e = e
 walk_risky isa (i ∷ xs) w e = past_risky isa i w (walk_risky isa xs (past isa i w) e)
 
-pub sure_mem : (isa : Isa) (p : Passenger) (w : trail.Walk) → sure.SureAt isa p w → is_memory (kind p) ≡ false → is_serial (kind p) ≡ false → (after_step (step_at isa w.machine p.pc) w.machine).hart.mem ≡ w.machine.hart.mem
+pub sure_mem : (isa : Isa) (p : Passenger) (w : trail.Walk) → sure.SureAt isa p w → is_memory (kind p) ≡ false → is_serial (kind p) ≡ false →
+    (after_step (step_at isa w.machine p.pc) w.machine).hart.mem ≡ w.machine.hart.mem
 unfolding sure.SureAt
 sure_mem isa p w h e f = step_mem isa p w.machine w.goto h.0 e f
 
-fresh_rider : (isa : Isa) (i : ℕ) (p : Passenger) (w : Dock) → (p.dead ≡ false → is_memory (kind p) ≡ true → p.recovered ≡ false → is_some p.ending ≡ true) → sure.Fits isa (Up i p) w.path → w.path.barred ≡ false → (past isa (Up i p) w).risky ≡ false → w.mem ≡ w.path.machine.hart.mem → (past isa (Up i p) w).mem ≡ (past isa (Up i p) w).path.machine.hart.mem
+fresh_rider : (isa : Isa) (i : ℕ) (p : Passenger) (w : Dock) → (p.dead ≡ false → is_memory (kind p) ≡ true → p.recovered ≡ false → is_some p.ending ≡ true) →
+    sure.Fits isa (Up i p) w.path → w.path.barred ≡ false → (past isa (Up i p) w).risky ≡ false → w.mem ≡ w.path.machine.hart.mem →
+    (past isa (Up i p) w).mem ≡ (past isa (Up i p) w).path.machine.hart.mem
 unfolding past trail.past sure.Fits
 fresh_rider isa i p w s h b r e = grind (arith, sure_mem)
 
-fresh_result : (isa : Isa) (i : ℕ) (k : Packet) (w : Dock) → w.mem ≡ w.path.machine.hart.mem → (past isa (Down i k) w).mem ≡ (past isa (Down i k) w).path.machine.hart.mem
+fresh_result : (isa : Isa) (i : ℕ) (k : Packet) (w : Dock) → w.mem ≡ w.path.machine.hart.mem →
+    (past isa (Down i k) w).mem ≡ (past isa (Down i k) w).path.machine.hart.mem
 unfolding past trail.past
 fresh_result isa i k w e = grind arith
 
@@ -127,7 +140,9 @@ path_past isa (Up i p) w = refl
 path_past isa (Down i k) w = refl
 
 -- where nothing above is still to touch memory, the port's memory is that of the path
-pub fresh_above : (isa : Isa) (xs : List Item) (w : Dock) → Settled xs → Everywhere (sure.Fits isa) (trail.past isa) xs w.path → (w.path.barred ≡ true → w.risky ≡ true) → (walk (past isa) xs w).risky ≡ false → w.mem ≡ w.path.machine.hart.mem → (walk (past isa) xs w).mem ≡ (walk (past isa) xs w).path.machine.hart.mem
+pub fresh_above : (isa : Isa) (xs : List Item) (w : Dock) → Settled xs → Everywhere (sure.Fits isa) (trail.past isa) xs w.path →
+    (w.path.barred ≡ true → w.risky ≡ true) → (walk (past isa) xs w).risky ≡ false → w.mem ≡ w.path.machine.hart.mem →
+    (walk (past isa) xs w).mem ≡ (walk (past isa) xs w).path.machine.hart.mem
 fresh_above isa [] w s f b r e = e
 fresh_above isa (Up i p ∷ xs) w s f b r e =
     let r1 = walk_risky isa xs (past isa (Up i p) w) r in

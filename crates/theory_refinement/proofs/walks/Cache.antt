@@ -5,7 +5,8 @@ use Rattle.theory_refinement.proofs.invariant.Sure.{AreRegisters}
 use Rattle.cf_semantics.specs.state.Passengers.{cached, cleared, forgets}
 
 -- what is kept of q once r was set
-pub set_cached : (c : List (Option ℕ)) (r q v : ℕ) (o : Option ℕ) → cached (slice_set c r o) q ≡ Some v → ((q ≡ r) × (o ≡ Some v)) ⊎ ((q ≢ r) × (cached c q ≡ Some v))
+pub set_cached : (c : List (Option ℕ)) (r q v : ℕ) (o : Option ℕ) → cached (slice_set c r o) q ≡ Some v →
+    ((q ≡ r) × (o ≡ Some v)) ⊎ ((q ≢ r) × (cached c q ≡ Some v))
 set_cached [] r q v o e = absurd (grind arith)
 set_cached (a ∷ c) zero zero v o e = inl (refl, e)
 set_cached (a ∷ c) zero (suc q) v o e = inr (λ z. absurd (omega arith), e)
@@ -32,7 +33,8 @@ pub clear_holds : (c : List (Option ℕ)) (regs : List ℕ) → AreRegisters (cl
 clear_holds c regs r v e = let z = cached_cleared c r in absurd (cc)
 
 -- a new destination is forgotten, and the other registers stay
-pub forget_holds : (c : List (Option ℕ)) (d : Option ℕ) (regs news : List ℕ) → ((r : ℕ) → d ≢ Some r → slice_index news r ≡ slice_index regs r) → AreRegisters c regs → AreRegisters (forgets d c) news
+pub forget_holds : (c : List (Option ℕ)) (d : Option ℕ) (regs news : List ℕ) → ((r : ℕ) → d ≢ Some r → slice_index news r ≡ slice_index regs r) →
+    AreRegisters c regs → AreRegisters (forgets d c) news
 forget_holds c None regs news k h r v e = h r v e ∙ sym (k r (λ z. absurd (cc)))
 forget_holds c (Some d) regs news k h r v e = go (set_cached c d r v None e)
   where

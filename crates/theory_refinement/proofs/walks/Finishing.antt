@@ -35,7 +35,8 @@ use Rattle.theory_refinement.proofs.invariant.Sure as sure
 use Rattle.cf_semantics.specs.claims.Path as trail
 use Rattle.cf_semantics.specs.claims.Soundness.{Holds, is_lone, operations_of, steers, may_turn}
 
-pub execute_finishes : (isa : Isa) (p : Passenger) (x : Machine) (g : Option ℕ) → p.done ≡ false → missing p.src1 ≡ None → missing p.src2 ≡ None → is_plain (kind p) ≡ true → sure.IsSure isa p x (step_at isa x p.pc) g → Finishes p x (step_at isa x p.pc) None
+pub execute_finishes : (isa : Isa) (p : Passenger) (x : Machine) (g : Option ℕ) → p.done ≡ false → missing p.src1 ≡ None → missing p.src2 ≡ None →
+    is_plain (kind p) ≡ true → sure.IsSure isa p x (step_at isa x p.pc) g → Finishes p x (step_at isa x p.pc) None
 execute_finishes isa p x g d m1 m2 c h = go (fetched isa x.hart.mem p.pc) refl h.reads
   where
     got : (i : Instr) → fetched isa x.hart.mem p.pc ≡ Got i → p.what ≡ Some i → Finishes p x (step_at isa x p.pc) None
@@ -44,10 +45,18 @@ execute_finishes isa p x g d m1 m2 c h = go (fetched isa x.hart.mem p.pc) refl h
         let k : kind p ≡ kind_of i = ap (λ (o : Option Instr). on o Free kind_of) w in
         let a = source_read p.src1 (src1_of i) x.hart.regs (h.shape i w).one h.values.first m1 in
         let b = source_read p.src2 (src2_of i) x.hart.regs (h.shape i w).two h.values.second m2 in
-        let s : step_at isa x p.pc ≡ on (finish_trap (instruction p) p.pc (value_in p.src1) (value_in p.src2)) (Goes (onward (at_pc x p.pc) (next_pc (instruction p) p.pc (value_in p.src1) (value_in p.src2)) (value_written x.hart.regs (dst_of (instruction p)) (value_of (instruction p) p.pc (value_in p.src1) (value_in p.src2))) x.hart.mem)) Stops = rw (is, a, b) (plain_steps isa x p.pc i f (rw k at c)) in
+        let s : step_at isa x p.pc ≡ on (finish_trap (instruction p) p.pc (value_in p.src1) (value_in p.src2))
+        (Goes (onward (at_pc x p.pc) (next_pc (instruction p) p.pc (value_in p.src1) (value_in p.src2))
+        (value_written x.hart.regs (dst_of (instruction p)) (value_of (instruction p) p.pc (value_in p.src1) (value_in p.src2))) x.hart.mem)) Stops =
+        rw (is, a, b) (plain_steps isa x p.pc i f (rw k at c)) in
         record {
           what = w ∙ ap Some (sym is);
-          goes = λ e. (onward (at_pc x p.pc) (next_pc (instruction p) p.pc (value_in p.src1) (value_in p.src2)) (value_written x.hart.regs (dst_of (instruction p)) (value_of (instruction p) p.pc (value_in p.src1) (value_in p.src2))) x.hart.mem, s ∙ rw e, record { pc = refl; regs = refl });
+          goes = λ e. (
+            onward (at_pc x p.pc) (next_pc (instruction p) p.pc (value_in p.src1) (value_in p.src2))
+                (value_written x.hart.regs (dst_of (instruction p)) (value_of (instruction p) p.pc (value_in p.src1) (value_in p.src2))) x.hart.mem,
+            s ∙ rw e,
+            record { pc = refl; regs = refl },
+          );
           stops = λ z e. s ∙ rw e;
         }
 
@@ -78,7 +87,8 @@ plain_quiet c e = grind arith
 finish_holds : (p : Passenger) → is_plain (kind p) ≡ true → is_lone (finish p None) ≡ false
 finish_holds p c = let k = plain_quiet (kind p) c in rw (finish_kind p None, finish_done p None) (grind arith)
 
-pub finish_shuts : (l : Plan) (i : ℕ) (p : Passenger) → is_plain (kind p) ≡ true → (is_control (kind p) ≡ true → lone.is_high l i ≡ false) → (is_control (kind p) ≡ false → p.guess ≡ Next) → lone.shuts l i (finish p None) ≡ false
+pub finish_shuts : (l : Plan) (i : ℕ) (p : Passenger) → is_plain (kind p) ≡ true → (is_control (kind p) ≡ true → lone.is_high l i ≡ false) →
+    (is_control (kind p) ≡ false → p.guess ≡ Next) → lone.shuts l i (finish p None) ≡ false
 finish_shuts l i p c n g = rw (finish_holds p c) (go (is_control (kind p)) refl)
   where
     go : (b : Bool) → is_control (kind p) ≡ b → (trail.turns (finish p None).owes && lone.is_high l i) ≡ false
@@ -89,7 +99,8 @@ finish_shuts l i p c n g = rw (finish_holds p c) (go (is_control (kind p)) refl)
         and_false false = refl
     go false e = rw (finish_turns p c e (g e))
 
-pub finish_lone : (l : Plan) (i : ℕ) (p : Passenger) (w : Bool) → lone.shuts l i (finish p None) ≡ false → Replaces Bool lone.Fits (lone.past l) lones.Follows (Up i p ∷ []) (Up i (finish p None) ∷ []) w
+pub finish_lone : (l : Plan) (i : ℕ) (p : Passenger) (w : Bool) → lone.shuts l i (finish p None) ≡ false →
+    Replaces Bool lone.Fits (lone.past l) lones.Follows (Up i p ∷ []) (Up i (finish p None) ∷ []) w
 unfolding lone.Fits lone.past
 finish_lone l i p w s = record { fit = λ h. h; follows = λ h. record { shut = rw s (λ e. grind arith) } }
 
@@ -105,7 +116,8 @@ unfolding finish
 finish_trapless p c n e = grind (arith, straight_trap)
 
 -- what may turn the program afterwards might do so before
-pub finish_turned : (i : ℕ) (p : Passenger) → p.dead ≡ false → p.done ≡ false → is_plain (kind p) ≡ true → p.ending ≡ None → (is_control (kind p) ≡ false → p.guess ≡ Next) → may_turn (Up i (finish p None)) ≡ true → may_turn (Up i p) ≡ true
+pub finish_turned : (i : ℕ) (p : Passenger) → p.dead ≡ false → p.done ≡ false → is_plain (kind p) ≡ true → p.ending ≡ None →
+    (is_control (kind p) ≡ false → p.guess ≡ Next) → may_turn (Up i (finish p None)) ≡ true → may_turn (Up i p) ≡ true
 finish_turned i p d u c e g r = go (is_control (kind p)) refl
   where
     go : (b : Bool) → is_control (kind p) ≡ b → may_turn (Up i p) ≡ true
@@ -132,7 +144,11 @@ finish_docked isa p w c =
 finish_risky : (a b c : Bool) → (b ≡ true → c ≡ true) → (a || b) ≡ true → (a || c) ≡ true
 finish_risky a b c f e = grind (arith, f)
 
-pub finish_port : (isa : Isa) (i : ℕ) (p : Passenger) (w : dock.Dock) → is_plain (kind p) ≡ true → (w.path.barred ≡ true → w.risky ≡ true) → (may_turn (Up i (finish p None)) ≡ true → may_turn (Up i p) ≡ true) → (Everywhere (sure.Fits isa) (trail.past isa) (Up i p ∷ []) w.path → paths.Follows (walk (trail.past isa) (Up i p ∷ []) w.path) (walk (trail.past isa) (Up i (finish p None) ∷ []) w.path)) → Everywhere (sure.Fits isa) (trail.past isa) (Up i p ∷ []) w.path → Replaces dock.Dock (dock.Fits isa) (dock.past isa) ports.Follows (Up i p ∷ []) (Up i (finish p None) ∷ []) w
+pub finish_port : (isa : Isa) (i : ℕ) (p : Passenger) (w : dock.Dock) → is_plain (kind p) ≡ true → (w.path.barred ≡ true → w.risky ≡ true) →
+    (may_turn (Up i (finish p None)) ≡ true → may_turn (Up i p) ≡ true) → (Everywhere (sure.Fits isa) (trail.past isa) (Up i p ∷ []) w.path →
+    paths.Follows (walk (trail.past isa) (Up i p ∷ []) w.path) (walk (trail.past isa) (Up i (finish p None) ∷ []) w.path)) →
+    Everywhere (sure.Fits isa) (trail.past isa) (Up i p ∷ []) w.path → Replaces dock.Dock (dock.Fits isa) (dock.past isa) ports.Follows (Up i p ∷ [])
+    (Up i (finish p None) ∷ []) w
 finish_port isa i p w c s r f g = record {
   fit = λ h. (unfold dock.Fits in finish_docked isa p w c, tt);
   follows = λ h. record {
@@ -150,11 +166,13 @@ finish_port isa i p w c s r f g = record {
     k : is_plain (kind (finish p None)) ≡ true
     k = rw (finish_kind p None) c
 
-pub finish_flags : (p : Passenger) (a : Option ℕ) → ((finish p a).launched ≡ p.launched) × ((finish p a).recovered ≡ p.recovered) × ((finish p a).guess ≡ p.guess) × ((finish p a).src1 ≡ p.src1) × ((finish p a).src2 ≡ p.src2)
+pub finish_flags : (p : Passenger) (a : Option ℕ) → ((finish p a).launched ≡ p.launched) × ((finish p a).recovered ≡ p.recovered)
+    × ((finish p a).guess ≡ p.guess) × ((finish p a).src1 ≡ p.src1) × ((finish p a).src2 ≡ p.src2)
 unfolding finish
 finish_flags p a = grind arith
 
-pub finish_stands : (l : Plan) (i : ℕ) (p : Passenger) → p.dead ≡ false → p.done ≡ false → is_plain (kind p) ≡ true → p.launched ≡ false → Stands l i p → Stands l i (finish p None)
+pub finish_stands : (l : Plan) (i : ℕ) (p : Passenger) → p.dead ≡ false → p.done ≡ false → is_plain (kind p) ≡ true → p.launched ≡ false → Stands l i p →
+    Stands l i (finish p None)
 finish_stands l i p d u c ashore h =
     let k = finish_kind p None in
     let e = finish_done p None in

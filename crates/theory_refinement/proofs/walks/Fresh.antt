@@ -50,7 +50,9 @@ bound_agrees : (o : Option ℕ) (regs : List ℕ) → HasValue (destination o) r
 bound_agrees o regs = grind arith
 
 -- the three kinds of new passengers
-end_sure : (isa : Isa) (x : Machine) (pc : ℕ) (g : Guess) (w : Option Instr) (e : End) (t : Option ℕ) → t ≡ Some pc → Holds (fresh_end w pc g e) (fetched isa x.hart.mem pc) → ((i : Instr) → w ≡ Some i → kind_of i ≡ Free) → step_at isa x pc ≡ Stops e → IsSure isa (fresh_end w pc g e) x (step_at isa x pc) t
+end_sure : (isa : Isa) (x : Machine) (pc : ℕ) (g : Guess) (w : Option Instr) (e : End) (t : Option ℕ) → t ≡ Some pc →
+    Holds (fresh_end w pc g e) (fetched isa x.hart.mem pc) → ((i : Instr) → w ≡ Some i → kind_of i ≡ Free) → step_at isa x pc ≡ Stops e →
+    IsSure isa (fresh_end w pc g e) x (step_at isa x pc) t
 end_sure isa x pc g w e t p r c s = record {
   path = p;
   reads = r;
@@ -70,7 +72,9 @@ end_sure isa x pc g w e t p r c s = record {
   owed = tt;
 }
 
-fence_sure : (isa : Isa) (x : Machine) (pc : ℕ) (g : Guess) (i : Instr) (t : Option ℕ) → t ≡ Some pc → Holds (fresh_fence i pc g) (fetched isa x.hart.mem pc) → kind_of i ≡ Free → step_at isa x pc ≡ Goes (onward (at_pc x pc) (word_after pc) x.hart.regs x.hart.mem) → IsSure isa (fresh_fence i pc g) x (step_at isa x pc) t
+fence_sure : (isa : Isa) (x : Machine) (pc : ℕ) (g : Guess) (i : Instr) (t : Option ℕ) → t ≡ Some pc → Holds (fresh_fence i pc g) (fetched isa x.hart.mem pc) →
+    kind_of i ≡ Free → step_at isa x pc ≡ Goes (onward (at_pc x pc) (word_after pc) x.hart.regs x.hart.mem) →
+    IsSure isa (fresh_fence i pc g) x (step_at isa x pc) t
 fence_sure isa x pc g i t p r c s = record {
   path = p;
   reads = r;
@@ -90,7 +94,8 @@ fence_sure isa x pc g i t p r c s = record {
   owed = tt;
 }
 
-undone_sure : (isa : Isa) (c : List (Option ℕ)) (x : Machine) (pc : ℕ) (g : Guess) (i : Instr) (t : Option ℕ) → AreRegisters c x.hart.regs → t ≡ Some pc → Holds (fresh_undone c i pc g) (fetched isa x.hart.mem pc) → IsSure isa (fresh_undone c i pc g) x (step_at isa x pc) t
+undone_sure : (isa : Isa) (c : List (Option ℕ)) (x : Machine) (pc : ℕ) (g : Guess) (i : Instr) (t : Option ℕ) → AreRegisters c x.hart.regs → t ≡ Some pc →
+    Holds (fresh_undone c i pc g) (fetched isa x.hart.mem pc) → IsSure isa (fresh_undone c i pc g) x (step_at isa x pc) t
 undone_sure isa c x pc g i t h p r = record {
   path = p;
   reads = r;
@@ -115,18 +120,22 @@ pub fresh_usual : (k : Class) (c : List (Option ℕ)) (i : Instr) (pc : ℕ) (g 
 fresh_usual Free c i pc g e = absurd (cc)
 fresh_usual _ c i pc g e = refl
 
-class_sure : (isa : Isa) (k : Class) (c : List (Option ℕ)) (x : Machine) (pc : ℕ) (g : Guess) (i : Instr) (t : Option ℕ) → kind_of i ≡ k → AreRegisters c x.hart.regs → t ≡ Some pc → fetched isa x.hart.mem pc ≡ Got i → IsSure isa (fresh_as k c i pc g) x (step_at isa x pc) t
+class_sure : (isa : Isa) (k : Class) (c : List (Option ℕ)) (x : Machine) (pc : ℕ) (g : Guess) (i : Instr) (t : Option ℕ) → kind_of i ≡ k →
+    AreRegisters c x.hart.regs → t ≡ Some pc → fetched isa x.hart.mem pc ≡ Got i → IsSure isa (fresh_as k c i pc g) x (step_at isa x pc) t
 class_sure isa Free c x pc g i t e h p f = go (free_trap i pc) refl
   where
     s : step_at isa x pc ≡ on (free_trap i pc) (Goes (onward (at_pc x pc) (word_after pc) x.hart.regs x.hart.mem)) Stops
     s = step_is isa x pc i f ∙ ap (λ (z : Class). stepped_as z i (value_read x.hart.regs (src1_of i)) (value_read x.hart.regs (src2_of i)) (at_pc x pc)) e
 
     go : (o : Option End) → free_trap i pc ≡ o → IsSure isa (on o (fresh_fence i pc g) (fresh_end (Some i) pc g)) x (step_at isa x pc) t
-    go None q = fence_sure isa x pc g i t p (rw f refl) e (s ∙ ap (λ (o : Option End). on o (Goes (onward (at_pc x pc) (word_after pc) x.hart.regs x.hart.mem)) Stops) q)
-    go (Some b) q = end_sure isa x pc g (Some i) b t p (rw f refl) (λ j k. let z : i ≡ j = cc in rw (← z) e) (s ∙ ap (λ (o : Option End). on o (Goes (onward (at_pc x pc) (word_after pc) x.hart.regs x.hart.mem)) Stops) q)
+    go None q = fence_sure isa x pc g i t p (rw f refl) e (s ∙ ap (λ (o : Option End). on o
+        (Goes (onward (at_pc x pc) (word_after pc) x.hart.regs x.hart.mem)) Stops) q)
+    go (Some b) q = end_sure isa x pc g (Some i) b t p (rw f refl) (λ j k. let z : i ≡ j = cc in
+        rw (← z) e) (s ∙ ap (λ (o : Option End). on o (Goes (onward (at_pc x pc) (word_after pc) x.hart.regs x.hart.mem)) Stops) q)
 class_sure isa _ c x pc g i t e h p f = undone_sure isa c x pc g i t h p (rw f refl)
 
-fetched_sure : (isa : Isa) (q : Fetched) (c : List (Option ℕ)) (x : Machine) (pc : ℕ) (g : Guess) (t : Option ℕ) → AreRegisters c x.hart.regs → t ≡ Some pc → fetched isa x.hart.mem pc ≡ q → IsSure isa (fresh c q pc g) x (step_at isa x pc) t
+fetched_sure : (isa : Isa) (q : Fetched) (c : List (Option ℕ)) (x : Machine) (pc : ℕ) (g : Guess) (t : Option ℕ) → AreRegisters c x.hart.regs → t ≡ Some pc →
+    fetched isa x.hart.mem pc ≡ q → IsSure isa (fresh c q pc g) x (step_at isa x pc) t
 unfolding fresh
 fetched_sure isa (Got i) c x pc g t h p f = class_sure isa (kind_of i) c x pc g i t refl h p f
 fetched_sure isa (Bad b) c x pc g t h p f = end_sure isa x pc g None b t p (rw f (refl, refl)) (λ i k. absurd (cc)) (bad_step isa x pc b f)
@@ -144,13 +153,21 @@ unfolding fresh
 fresh_pc (Got i) c pc g = class_pc (kind_of i) c i pc g
 fresh_pc (Bad b) c pc g = refl
 
-pub fresh_at : (isa : Isa) (w : Walk) (c : List (Option ℕ)) (pc : ℕ) (g : Guess) → AreRegisters c w.machine.hart.regs → w.goto ≡ Some pc → ((r : ℕ) → among r (requests (fresh c (fetched isa w.machine.hart.mem pc) pc g)) ≡ true → w.coming r ≡ true) → SureAt isa (fresh c (fetched isa w.machine.hart.mem pc) pc g) w
+pub fresh_at : (isa : Isa) (w : Walk) (c : List (Option ℕ)) (pc : ℕ) (g : Guess) → AreRegisters c w.machine.hart.regs → w.goto ≡ Some pc →
+    ((r : ℕ) → among r (requests (fresh c (fetched isa w.machine.hart.mem pc) pc g)) ≡ true → w.coming r ≡ true) →
+    SureAt isa (fresh c (fetched isa w.machine.hart.mem pc) pc g) w
 unfolding SureAt
 fresh_at isa w c pc g h p a =
     let q = fetched isa w.machine.hart.mem pc in
     let n = fresh c q pc g in
-    let s = fetched_sure isa q c w.machine pc g w.goto h p refl in
-    (subst (λ (a : ℕ). IsSure isa n w.machine (step_at isa w.machine a) w.goto) (sym (fresh_pc q c pc g)) s, record { source1 = λ r e. a r (asked_first (missing n.src1) (missing n.src2) r e); source2 = λ r e. a r (asked_second (missing n.src1) (missing n.src2) r e) })
+    let s = fetched_sure isa q c w.machine pc g w.goto h p refl in (
+      subst (λ (a : ℕ). IsSure isa n w.machine (step_at isa w.machine a) w.goto) (sym (fresh_pc q c pc g)) s,
+      record {
+        source1 = λ r e. a r (asked_first (missing n.src1) (missing n.src2) r e);
+        source2 =
+            λ r e. a r (asked_second (missing n.src1) (missing n.src2) r e);
+      },
+    )
 
 class_what : (k : Class) (c : List (Option ℕ)) (i : Instr) (pc : ℕ) (g : Guess) → (fresh_as k c i pc g).what ≡ Some i
 class_what Free c i pc g = go (free_trap i pc)
@@ -184,11 +201,56 @@ class_fresh : (k : Class) (c : List (Option ℕ)) (i : Instr) (pc : ℕ) (g : Gu
 class_fresh Free c i pc g e = go (free_trap i pc)
   where
     go : (o : Option End) → IsFresh (on o (fresh_fence i pc g) (fresh_end (Some i) pc g)) g
-    go None = record { live = refl; owes = refl; here = refl; never = refl; guess = refl; undone = λ k. absurd (cc); done = λ _. rw e refl; free = λ _. refl; waits = λ _ k. absurd (cc) }
-    go (Some b) = record { live = refl; owes = refl; here = refl; never = refl; guess = refl; undone = λ k. absurd (cc); done = λ _. rw e refl; free = λ _. refl; waits = λ _ _. refl }
-class_fresh _ c i pc g e = record { live = refl; owes = refl; here = refl; never = refl; guess = refl; undone = λ _. (refl, refl); done = λ k. absurd (cc); free = λ k. absurd (let z = rw e at k in cc); waits = λ k. absurd (cc) }
+    go None = record {
+      live = refl;
+      owes = refl;
+      here = refl;
+      never = refl;
+      guess = refl;
+      undone = λ k. absurd (cc);
+      done = λ _. rw e refl;
+      free = λ _. refl;
+      waits = λ _ k. absurd (cc);
+    }
+    go (Some b) = record {
+      live = refl;
+      owes = refl;
+      here = refl;
+      never = refl;
+      guess = refl;
+      undone = λ k. absurd (cc);
+      done = λ _. rw e refl;
+      free =
+          λ _. refl;
+      waits = λ _ _. refl;
+    }
+class_fresh _ c i pc g e =
+    record {
+      live = refl;
+      owes = refl;
+      here = refl;
+      never = refl;
+      guess = refl;
+      undone = λ _. (refl, refl);
+      done = λ k. absurd (cc);
+      free =
+          λ k. absurd (let z = rw e at k in cc);
+      waits = λ k. absurd (cc);
+    }
 
 pub fresh_is : (q : Fetched) (c : List (Option ℕ)) (pc : ℕ) (g : Guess) → IsFresh (fresh c q pc g) g
 unfolding fresh
 fresh_is (Got i) c pc g = class_fresh (kind_of i) c i pc g refl
-fresh_is (Bad b) c pc g = record { live = refl; owes = refl; here = refl; never = refl; guess = refl; undone = λ k. absurd (cc); done = λ _. refl; free = λ _. refl; waits = λ _ _. refl }
+fresh_is (Bad b) c pc g =
+    record {
+      live = refl;
+      owes = refl;
+      here = refl;
+      never = refl;
+      guess = refl;
+      undone = λ k. absurd (cc);
+      done = λ _. refl;
+      free = λ _. refl;
+      waits =
+          λ _ _. refl;
+    }

@@ -33,7 +33,8 @@ pub record On (s : StepResult) (x : Machine) (g : Option ℕ) : Type 0 where
   pub next : g ≡ Some (after_step s x).hart.pc
 
 -- once it is done
-done_on : (isa : Isa) (p : Passenger) (w : trail.Walk) → p.done ≡ true → p.ending ≡ None → sure.SureAt isa p w → On (step_at isa w.machine p.pc) w.machine (goto p)
+done_on : (isa : Isa) (p : Passenger) (w : trail.Walk) → p.done ≡ true → p.ending ≡ None → sure.SureAt isa p w →
+    On (step_at isa w.machine p.pc) w.machine (goto p)
 unfolding sure.SureAt
 done_on isa p w d e h = record { goes = h.0.values.goes d e; next = at (h.0.values.next d e) }
   where
@@ -41,7 +42,9 @@ done_on isa p w d e h = record { goes = h.0.values.goes d e; next = at (h.0.valu
     at n = grind (arith, n)
 
 -- a memory operation that memory permits
-memory_step : (isa : Isa) (p : Passenger) (w : trail.Walk) → is_memory (kind p) ≡ true → missing p.src1 ≡ None → missing p.src2 ≡ None → access_trap (instruction p) p.pc (value_in p.src1) (bounds_of w.machine.hart.mem) ≡ None → sure.SureAt isa p w → step_at isa w.machine p.pc ≡ Goes (after_access w.machine (instruction p) p.pc (value_in p.src1) (value_in p.src2))
+memory_step : (isa : Isa) (p : Passenger) (w : trail.Walk) → is_memory (kind p) ≡ true → missing p.src1 ≡ None → missing p.src2 ≡ None →
+    access_trap (instruction p) p.pc (value_in p.src1) (bounds_of w.machine.hart.mem) ≡ None → sure.SureAt isa p w →
+    step_at isa w.machine p.pc ≡ Goes (after_access w.machine (instruction p) p.pc (value_in p.src1) (value_in p.src2))
 unfolding sure.SureAt
 memory_step isa p w m m1 m2 t h = let q = memory_steps isa p w.machine w.goto m m1 m2 h.0 in rw t at q.1
 
@@ -52,7 +55,8 @@ step_on : (s : StepResult) (x y : Machine) (g : Option ℕ) → s ≡ Goes y →
 step_on s x y g e f = record { goes = rw e refl; next = rw e f }
 
 -- a plain passenger that is neither a branch nor a jump
-plain_on : (isa : Isa) (p : Passenger) (w : trail.Walk) → is_plain (kind p) ≡ true → is_control (kind p) ≡ false → p.done ≡ false → p.guess ≡ Next → sure.SureAt isa p w → On (step_at isa w.machine p.pc) w.machine (goto p)
+plain_on : (isa : Isa) (p : Passenger) (w : trail.Walk) → is_plain (kind p) ≡ true → is_control (kind p) ≡ false → p.done ≡ false → p.guess ≡ Next →
+    sure.SureAt isa p w → On (step_at isa w.machine p.pc) w.machine (goto p)
 unfolding sure.SureAt
 plain_on isa p w c k d g h = go (fetched isa w.machine.hart.mem p.pc) refl h.0.reads
   where
@@ -65,16 +69,22 @@ plain_on isa p w c k d g h = go (fetched isa w.machine.hart.mem p.pc) refl h.0.r
         let k' : is_control (kind_of i) ≡ false = rw (kind_is p i r) at k in
         let a = value_read w.machine.hart.regs (src1_of i) in
         let b = value_read w.machine.hart.regs (src2_of i) in
-        let s = plain_steps isa w.machine p.pc i f c' ∙ ap (λ (o : Option End). on o (Goes (onward (at_pc w.machine p.pc) (next_pc i p.pc a b) (value_written w.machine.hart.regs (dst_of i) (value_of i p.pc a b)) w.machine.hart.mem)) Stops) (straight_trap i p.pc a b k') in
-        step_on (step_at isa w.machine p.pc) w.machine (onward (at_pc w.machine p.pc) (next_pc i p.pc a b) (value_written w.machine.hart.regs (dst_of i) (value_of i p.pc a b)) w.machine.hart.mem) (goto p) s (straight ∙ ap Some (sym (straight_next i p.pc a b k')))
+        let s = plain_steps isa w.machine p.pc i f c' ∙ ap (λ (o : Option End). on o (Goes
+        (onward (at_pc w.machine p.pc) (next_pc i p.pc a b) (value_written w.machine.hart.regs (dst_of i) (value_of i p.pc a b)) w.machine.hart.mem)) Stops)
+        (straight_trap i p.pc a b k') in
+        step_on (step_at isa w.machine p.pc) w.machine (onward (at_pc w.machine p.pc) (next_pc i p.pc a b)
+        (value_written w.machine.hart.regs (dst_of i) (value_of i p.pc a b)) w.machine.hart.mem) (goto p) s (straight
+        ∙ ap Some (sym (straight_next i p.pc a b k')))
     go (Bad b) f r = absurd (let z = h.0.unended d in let y = r.1 in cc)
 
 -- a passenger that has passed the port
-pub ported_on : (l : Plan) (i : ℕ) (p : Passenger) (w : dock.Dock) → Stands l i p → sure.SureAt (isa_of l) p w.path → dock.DockedAt (isa_of l) p w → ahead.has_ported p w.answer ≡ true → step_at (isa_of l) w.path.machine p.pc ≡ Goes (after_step (step_at (isa_of l) w.path.machine p.pc) w.path.machine)
+pub ported_on : (l : Plan) (i : ℕ) (p : Passenger) (w : dock.Dock) → Stands l i p → sure.SureAt (isa_of l) p w.path → dock.DockedAt (isa_of l) p w →
+    ahead.has_ported p w.answer ≡ true → step_at (isa_of l) w.path.machine p.pc ≡ Goes (after_step (step_at (isa_of l) w.path.machine p.pc) w.path.machine)
 unfolding dock.DockedAt
 ported_on l i p w s h k e = go (ahead.has_served p) refl
   where
-    go : (b : Bool) → ahead.has_served p ≡ b → step_at (isa_of l) w.path.machine p.pc ≡ Goes (after_step (step_at (isa_of l) w.path.machine p.pc) w.path.machine)
+    go : (b : Bool) → ahead.has_served p ≡ b → step_at (isa_of l) w.path.machine p.pc ≡ Goes
+        (after_step (step_at (isa_of l) w.path.machine p.pc) w.path.machine)
     go true f = (done_on (isa_of l) p w.path (grind arith) (ending p.ending refl) h).goes
       where
         ending : (o : Option End) → p.ending ≡ o → p.ending ≡ None
@@ -93,7 +103,9 @@ ported_on l i p w s h k e = go (ahead.has_served p) refl
         out false false x y z = absurd (grind arith)
 
 -- a passenger that may not turn the program, and is not a memory operation that is still to be launched
-pub quiet_on : (l : Plan) (i : ℕ) (p : Passenger) (w : dock.Dock) → Stands l i p → sure.SureAt (isa_of l) p w.path → dock.DockedAt (isa_of l) p w → p.dead ≡ false → may_turn (Up i p) ≡ false → (is_memory (kind p) && not p.done && not p.launched) ≡ false → On (step_at (isa_of l) w.path.machine p.pc) w.path.machine (goto p)
+pub quiet_on : (l : Plan) (i : ℕ) (p : Passenger) (w : dock.Dock) → Stands l i p → sure.SureAt (isa_of l) p w.path → dock.DockedAt (isa_of l) p w →
+    p.dead ≡ false → may_turn (Up i p) ≡ false → (is_memory (kind p) && not p.done && not p.launched) ≡ false →
+    On (step_at (isa_of l) w.path.machine p.pc) w.path.machine (goto p)
 unfolding dock.DockedAt
 quiet_on l i p w s h k d r b = go p.done (is_memory (kind p)) (is_plain (kind p)) refl refl refl
   where
@@ -129,7 +141,8 @@ quiet_on l i p w s h k d r b = go p.done (is_memory (kind p)) (is_plain (kind p)
         kinds false true e f q = let j = s.free_done f in cc
         kinds false false e f q = cc
 
-pub done_goes : (isa : Isa) (p : Passenger) (w : trail.Walk) → ahead.has_served p ≡ true → sure.SureAt isa p w → step_at isa w.machine p.pc ≡ Goes (after_step (step_at isa w.machine p.pc) w.machine)
+pub done_goes : (isa : Isa) (p : Passenger) (w : trail.Walk) → ahead.has_served p ≡ true → sure.SureAt isa p w →
+    step_at isa w.machine p.pc ≡ Goes (after_step (step_at isa w.machine p.pc) w.machine)
 done_goes isa p w f h = (done_on isa p w (grind arith) (ending p.ending refl) h).goes
   where
     ending : (o : Option End) → p.ending ≡ o → p.ending ≡ None

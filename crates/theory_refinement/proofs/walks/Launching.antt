@@ -38,11 +38,21 @@ sent_out p = record p { launched = true }
 out_at : (isa : Isa) (p : Passenger) (w : trail.Walk) → sure.SureAt isa p w → sure.SureAt isa (sent_out p) w
 out_at isa p w h = marked_at isa true p.recovered p w h
 
-launch_follows : (isa : Isa) (i : ℕ) (p : Passenger) (w : trail.Walk) → paths.Follows (walk (trail.past isa) (Up i p ∷ []) w) (walk (trail.past isa) (Up i (sent_out p) ∷ []) w)
+launch_follows : (isa : Isa) (i : ℕ) (p : Passenger) (w : trail.Walk) → paths.Follows (walk (trail.past isa) (Up i p ∷ []) w)
+    (walk (trail.past isa) (Up i (sent_out p) ∷ []) w)
 unfolding trail.past
-launch_follows isa i p w = record { barred = λ b. grind arith; machine = λ b. grind arith; goto = λ b. grind arith; settled = λ b e. grind arith; trapped = λ b e. grind arith; coming = λ b r c. grind arith }
+launch_follows isa i p w =
+    record {
+      barred = λ b. grind arith;
+      machine = λ b. grind arith;
+      goto = λ b. grind arith;
+      settled = λ b e. grind arith;
+      trapped = λ b e. grind arith;
+      coming = λ b r c. grind arith;
+    }
 
-pub launch_path : (isa : Isa) (i : ℕ) (p : Passenger) (w : trail.Walk) → Replaces trail.Walk (sure.Fits isa) (trail.past isa) paths.Follows (Up i p ∷ []) (Up i (sent_out p) ∷ []) w
+pub launch_path : (isa : Isa) (i : ℕ) (p : Passenger) (w : trail.Walk) → Replaces trail.Walk (sure.Fits isa) (trail.past isa) paths.Follows (Up i p ∷ [])
+    (Up i (sent_out p) ∷ []) w
 unfolding sure.Fits trail.past
 launch_path isa i p w = record { fit = λ h. fits h; follows = λ h. launch_follows isa i p w }
   where
@@ -63,7 +73,8 @@ launch_between l acc i c e = go (siding_of l c) refl
         let r = acc.order c k f in
         rw f (omega arith, omega arith)
 
-pub launch_stands : (l : Plan) (acc : Suits l) (i : ℕ) (p : Passenger) → launches l (kind p) i ≡ true → p.dead ≡ false → p.done ≡ false → p.launched ≡ false → missing p.src1 ≡ None → missing p.src2 ≡ None → Stands l i p → Stands l i (sent_out p)
+pub launch_stands : (l : Plan) (acc : Suits l) (i : ℕ) (p : Passenger) → launches l (kind p) i ≡ true → p.dead ≡ false → p.done ≡ false → p.launched ≡ false →
+    missing p.src1 ≡ None → missing p.src2 ≡ None → Stands l i p → Stands l i (sent_out p)
 launch_stands l acc i p e d u n m1 m2 h = record {
   low = λ a b c. absurd (cc);
   out = λ a b. launch_between l acc i (kind p) e;
@@ -86,7 +97,10 @@ launch_stands l acc i p e d u n m1 m2 h = record {
 }
 
 -- at the port: with nothing risky above and the answer taken
-pub launch_port : (isa : Isa) (i : ℕ) (p : Passenger) (w : dock.Dock) → p.dead ≡ false → p.done ≡ false → p.recovered ≡ false → p.launched ≡ false → (w.path.barred ≡ true → w.risky ≡ true) → (is_memory (kind p) ≡ true → (w.risky ≡ false) × (w.answer ≡ None) × (access_trap (instruction p) p.pc (value_in p.src1) (bounds_of w.path.machine.hart.mem) ≡ None)) → Replaces dock.Dock (dock.Fits isa) (dock.past isa) ports.Follows (Up i p ∷ []) (Up i (sent_out p) ∷ []) w
+pub launch_port : (isa : Isa) (i : ℕ) (p : Passenger) (w : dock.Dock) → p.dead ≡ false → p.done ≡ false → p.recovered ≡ false → p.launched ≡ false →
+    (w.path.barred ≡ true → w.risky ≡ true) → (is_memory (kind p) ≡ true → (w.risky ≡ false) × (w.answer ≡ None)
+    × (access_trap (instruction p) p.pc (value_in p.src1) (bounds_of w.path.machine.hart.mem) ≡ None)) →
+    Replaces dock.Dock (dock.Fits isa) (dock.past isa) ports.Follows (Up i p ∷ []) (Up i (sent_out p) ∷ []) w
 launch_port isa i p w d u r n s m = record {
   fit = λ h. (fits, tt);
   follows = λ h. record {
@@ -102,7 +116,15 @@ launch_port isa i p w d u r n s m = record {
 }
   where
     fits : dock.Fits isa (Up i (sent_out p)) w
-    fits = unfold dock.Fits dock.DockedAt in record { live = λ a b. d; order = λ a b. (m a).0; served = λ a. absurd (grind arith); permitted = λ a b. (m a).2; answered = λ f a e. absurd (grind (arith, m)) }
+    fits = unfold dock.Fits dock.DockedAt in
+        record {
+          live = λ a b. d;
+          order = λ a b. (m a).0;
+          served = λ a. absurd (grind arith);
+          permitted = λ a b. (m a).2;
+          answered =
+              λ f a e. absurd (grind (arith, m));
+        }
 
     same : (q : trail.Walk) → paths.Follows (walk (trail.past isa) (Up i p ∷ []) q) (walk (trail.past isa) (Up i (sent_out p) ∷ []) q)
     same q = launch_follows isa i p q
@@ -113,7 +135,8 @@ launch_port isa i p w d u r n s m = record {
     mem : (if ahead.has_ported (sent_out p) w.answer then y.hart.mem else w.mem) ≡ (if ahead.has_ported p w.answer then y.hart.mem else w.mem)
     mem = go (is_memory (kind p)) refl
       where
-        go : (b : Bool) → is_memory (kind p) ≡ b → (if ahead.has_ported (sent_out p) w.answer then y.hart.mem else w.mem) ≡ (if ahead.has_ported p w.answer then y.hart.mem else w.mem)
+        go : (b : Bool) → is_memory (kind p) ≡ b → (if ahead.has_ported (sent_out p) w.answer then y.hart.mem else w.mem)
+            ≡ (if ahead.has_ported p w.answer then y.hart.mem else w.mem)
         go true e = let a = (m e).1 in grind arith
         go false e = grind arith
 
@@ -151,7 +174,8 @@ pub taken : (l : Plan) (acc : Suits l) (xs : List Item) (w : dock.Dock) → oper
 taken l acc [] w n = absurd (n refl)
 taken l acc (Up i p ∷ xs) w n = go (in_siding l (port l) p) refl (taken l acc xs (dock.past (isa_of l) (Up i p) w))
   where
-    go : (b : Bool) → in_siding l (port l) p ≡ b → (operations_of l (port l) xs ≢ [] → (walk (dock.past (isa_of l)) xs (dock.past (isa_of l) (Up i p) w)).answer ≡ None) → (walk (dock.past (isa_of l)) xs (dock.past (isa_of l) (Up i p) w)).answer ≡ None
+    go : (b : Bool) → in_siding l (port l) p ≡ b → (operations_of l (port l) xs ≢ [] → (walk (dock.past (isa_of l)) xs (dock.past (isa_of l) (Up i p) w)).answer
+        ≡ None) → (walk (dock.past (isa_of l)) xs (dock.past (isa_of l) (Up i p) w)).answer ≡ None
     go true e f = walk_none (isa_of l) xs (dock.past (isa_of l) (Up i p) w) (past_taken (isa_of l) i p w (flies_out l acc p e))
     go false e f = f (rw e at n)
 taken l acc (Down i k ∷ xs) w n = taken l acc xs (dock.past (isa_of l) (Down i k) w) n
@@ -167,7 +191,8 @@ no_operation (o ∷ p ∷ l) e = no_operation (p ∷ l) (front (operations_in (p
     front (x ∷ a) b e = absurd (cc)
 
 -- what reaches a launch: no answer, for it is taken above or there is no operation
-pub answer_none : (l : Plan) (acc : Suits l) (xs : List Item) (w : dock.Dock) (q : List (Option Op)) → operations_in q ≡ operations_of l (port l) xs → w.answer ≡ on (last_op q) None (λ o. o.answer) → (walk (dock.past (isa_of l)) xs w).answer ≡ None
+pub answer_none : (l : Plan) (acc : Suits l) (xs : List Item) (w : dock.Dock) (q : List (Option Op)) → operations_in q ≡ operations_of l (port l) xs →
+    w.answer ≡ on (last_op q) None (λ o. o.answer) → (walk (dock.past (isa_of l)) xs w).answer ≡ None
 answer_none l acc xs w q e f = go (operations_of l (port l) xs) refl
   where
     go : (r : List Op) → operations_of l (port l) xs ≡ r → (walk (dock.past (isa_of l)) xs w).answer ≡ None

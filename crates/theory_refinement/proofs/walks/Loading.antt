@@ -25,14 +25,17 @@ use Rattle.cf_semantics.specs.claims.Soundness.{IsAnswer, may_turn}
 memory_straight : (p : Passenger) → is_memory (kind p) ≡ true → is_control (kind p) ≡ false
 memory_straight p m = grind arith
 
-answers_write : (o : Option Binding) (d : Option ℕ) (v a : ℕ) (regs : List ℕ) → length regs ≡ 32 → ((r : ℕ) → d ≡ Some r → r < 32) → reg_in o ≡ d → IsAnswer o (value_written regs d v) a → value_written regs d v ≡ value_written regs d a
+answers_write : (o : Option Binding) (d : Option ℕ) (v a : ℕ) (regs : List ℕ) → length regs ≡ 32 → ((r : ℕ) → d ≡ Some r → r < 32) → reg_in o ≡ d →
+    IsAnswer o (value_written regs d v) a → value_written regs d v ≡ value_written regs d a
 answers_write None d v a regs l b e h = rw (← e) refl
 answers_write (Some q) d v a regs l b e h =
     let h' : slice_index (value_written regs (Some q.reg) v) q.reg ≡ a = rw (← e) at h in
     let s : v ≡ a = sym (get_or-set_same regs q.reg v 0 (rw l (b q.reg (sym e)))) ∙ h' in
     rw s refl
 
-pub memory_finishes : (isa : Isa) (p : Passenger) (x : Machine) (g : Option ℕ) (a : ℕ) → length x.hart.regs ≡ 32 → is_memory (kind p) ≡ true → missing p.src1 ≡ None → missing p.src2 ≡ None → access_trap (instruction p) p.pc (value_in p.src1) (bounds_of x.hart.mem) ≡ None → IsAnswer p.dst (after_step (step_at isa x p.pc) x).hart.regs a → sure.IsSure isa p x (step_at isa x p.pc) g → Finishes p x (step_at isa x p.pc) (Some a)
+pub memory_finishes : (isa : Isa) (p : Passenger) (x : Machine) (g : Option ℕ) (a : ℕ) → length x.hart.regs ≡ 32 → is_memory (kind p) ≡ true →
+    missing p.src1 ≡ None → missing p.src2 ≡ None → access_trap (instruction p) p.pc (value_in p.src1) (bounds_of x.hart.mem) ≡ None →
+    IsAnswer p.dst (after_step (step_at isa x p.pc) x).hart.regs a → sure.IsSure isa p x (step_at isa x p.pc) g → Finishes p x (step_at isa x p.pc) (Some a)
 memory_finishes isa p x g a l m m1 m2 t n h =
     let q = memory_steps isa p x g m m1 m2 h in
     let s : step_at isa x p.pc ≡ Goes (after_access x (instruction p) p.pc (value_in p.src1) (value_in p.src2)) = rw t at q.1 in
@@ -40,7 +43,16 @@ memory_finishes isa p x g a l m m1 m2 t n h =
     let y : IsAnswer p.dst (after_access x (instruction p) p.pc (value_in p.src1) (value_in p.src2)).hart.regs a = rw s at n in
     record {
       what = q.0;
-      goes = λ _. (after_access x (instruction p) p.pc (value_in p.src1) (value_in p.src2), s, record { pc = sym (straight_next (instruction p) p.pc (value_in p.src1) (value_in p.src2) k); regs = answers_write p.dst (dst_of (instruction p)) _ a x.hart.regs l (sure_dst_below isa p x (step_at isa x p.pc) g (instruction p) q.0 h) (h.shape (instruction p) q.0).three y });
+      goes = λ _. (
+        after_access x (instruction p) p.pc (value_in p.src1) (value_in p.src2),
+        s,
+        record {
+          pc = sym (straight_next (instruction p) p.pc (value_in p.src1) (value_in p.src2) k);
+          regs =
+              answers_write p.dst (dst_of (instruction p)) _ a x.hart.regs l (sure_dst_below isa p x (step_at isa x p.pc) g (instruction p) q.0 h)
+              (h.shape (instruction p) q.0).three y;
+        },
+      );
       stops = λ e f. absurd (let z = sym (straight_trap (instruction p) p.pc (value_in p.src1) (value_in p.src2) k) ∙ f in cc);
     }
 

@@ -33,11 +33,13 @@ pub fall_lone : (l : Plan) (i : ℕ) (k : Packet) (w : Bool) → Replaces Bool F
 unfolding Fits past
 fall_lone l i k w = record { fit = λ h. grind arith; follows = λ h. grind arith }
 
-pub send_lone : (l : Plan) (i : ℕ) (p : Passenger) (k : Packet) (w : Bool) → p.owes ≡ Some k → Stands l i p → Replaces Bool Fits (past l) Follows (Up i p ∷ []) (Up i (record p { owes = None }) ∷ Down i k ∷ []) w
+pub send_lone : (l : Plan) (i : ℕ) (p : Passenger) (k : Packet) (w : Bool) → p.owes ≡ Some k → Stands l i p →
+    Replaces Bool Fits (past l) Follows (Up i p ∷ []) (Up i (record p { owes = None }) ∷ Down i k ∷ []) w
 unfolding Fits past
 send_lone l i p k w e s = record { fit = λ h. grind arith; follows = λ h. grind arith }
 
-pub meet_lone : (l : Plan) (i : ℕ) (p : Passenger) (k : Packet) (w : Bool) → Stands l i p → Replaces Bool Fits (past l) Follows (Down i k ∷ Up i p ∷ []) (met_items i (meeting p k).passenger (meeting p k).packet) w
+pub meet_lone : (l : Plan) (i : ℕ) (p : Passenger) (k : Packet) (w : Bool) → Stands l i p →
+    Replaces Bool Fits (past l) Follows (Down i k ∷ Up i p ∷ []) (met_items i (meeting p k).passenger (meeting p k).packet) w
 unfolding Fits past meeting
 meet_lone l i p k w s = record { fit = λ h. grind arith; follows = λ h. grind arith }
 

@@ -54,7 +54,9 @@ pub record Loose (w v : dock.Dock) : Type 0 where
   pub out : v.out ≡ w.out
   pub answer : v.answer ≡ w.answer
 
-rider_loose : (isa : Isa) (i : ℕ) (p : Passenger) (w v : dock.Dock) → (is_memory (kind p) && (p.launched || p.recovered)) ≡ false → ahead.has_served p ≡ false → paths.Follows (dock.past isa (Up i p) w).path (dock.past isa (Up i p) v).path → ((dock.past isa (Up i p) v).path.barred ≡ true → (dock.past isa (Up i p) v).risky ≡ true) → Loose w v → Loose (dock.past isa (Up i p) w) (dock.past isa (Up i p) v)
+rider_loose : (isa : Isa) (i : ℕ) (p : Passenger) (w v : dock.Dock) → (is_memory (kind p) && (p.launched || p.recovered)) ≡ false → ahead.has_served p ≡ false →
+    paths.Follows (dock.past isa (Up i p) w).path (dock.past isa (Up i p) v).path → ((dock.past isa (Up i p) v).path.barred ≡ true →
+    (dock.past isa (Up i p) v).risky ≡ true) → Loose w v → Loose (dock.past isa (Up i p) w) (dock.past isa (Up i p) v)
 unfolding dock.past
 rider_loose isa i p w v a b q s f =
     let c : ahead.has_ported p w.answer ≡ false = grind arith in
@@ -62,13 +64,23 @@ rider_loose isa i p w v a b q s f =
     let e : ahead.flies p ≡ false = grind arith in
     record { path = q; safe = s; mem = rw (c, d) f.mem; code = rw b f.code; rest = rw b f.rest; out = rw b f.out; answer = rw e f.answer }
 
-result_loose : (isa : Isa) (i : ℕ) (k : _) (w v : dock.Dock) → paths.Follows (dock.past isa (Down i k) w).path (dock.past isa (Down i k) v).path → ((dock.past isa (Down i k) v).path.barred ≡ true → (dock.past isa (Down i k) v).risky ≡ true) → Loose w v → Loose (dock.past isa (Down i k) w) (dock.past isa (Down i k) v)
+result_loose : (isa : Isa) (i : ℕ) (k : _) (w v : dock.Dock) → paths.Follows (dock.past isa (Down i k) w).path (dock.past isa (Down i k) v).path →
+    ((dock.past isa (Down i k) v).path.barred ≡ true → (dock.past isa (Down i k) v).risky ≡ true) → Loose w v →
+    Loose (dock.past isa (Down i k) w) (dock.past isa (Down i k) v)
 unfolding dock.past
 result_loose isa i k w v q s f = record { path = q; safe = s; mem = f.mem; code = f.code; rest = f.rest; out = f.out; answer = f.answer }
 
-rider_fits : (isa : Isa) (i : ℕ) (p : Passenger) (v : dock.Dock) → (is_memory (kind p) && (p.launched || p.recovered)) ≡ false → ahead.has_served p ≡ false → dock.Fits isa (Up i p) v
+rider_fits : (isa : Isa) (i : ℕ) (p : Passenger) (v : dock.Dock) → (is_memory (kind p) && (p.launched || p.recovered)) ≡ false → ahead.has_served p ≡ false →
+    dock.Fits isa (Up i p) v
 unfolding dock.Fits dock.DockedAt
-rider_fits isa i p v a b = record { live = λ c d. absurd (grind arith); order = λ c d. absurd (grind arith); served = λ c. absurd (cc); permitted = λ c d. absurd (grind arith); answered = λ c. absurd (grind arith) }
+rider_fits isa i p v a b =
+    record {
+      live = λ c d. absurd (grind arith);
+      order = λ c d. absurd (grind arith);
+      served = λ c. absurd (cc);
+      permitted = λ c d. absurd (grind arith);
+      answered = λ c. absurd (grind arith);
+    }
 
 pub result_fits : (isa : Isa) (i : ℕ) (k : _) (w : dock.Dock) → dock.Fits isa (Down i k) w
 unfolding dock.Fits
@@ -77,11 +89,14 @@ result_fits isa i k w = tt
 followed : (isa : Isa) (i : Item) (w v : dock.Dock) → Loose w v → paths.Follows (dock.past isa i w).path (dock.past isa i v).path
 followed isa i w v f = rw (past_path isa i w, past_path isa i v) (paths.past_on isa i w.path v.path f.path)
 
-pub loose_fit : (isa : Isa) (xs : List Item) (w v : dock.Dock) → Waiting xs → Loose w v → Everywhere (dock.Fits isa) (dock.past isa) xs v × Loose (walk (dock.past isa) xs w) (walk (dock.past isa) xs v)
+pub loose_fit : (isa : Isa) (xs : List Item) (w v : dock.Dock) → Waiting xs → Loose w v → Everywhere (dock.Fits isa) (dock.past isa) xs v
+    × Loose (walk (dock.past isa) xs w) (walk (dock.past isa) xs v)
 loose_fit isa [] w v h f = (tt, f)
 loose_fit isa (Up i p ∷ xs) w v h f =
-    let a = loose_fit isa xs (dock.past isa (Up i p) w) (dock.past isa (Up i p) v) h.2 (rider_loose isa i p w v h.0 h.1 (followed isa (Up i p) w v f) (past_safe isa (Up i p) v f.safe) f) in
+    let a = loose_fit isa xs (dock.past isa (Up i p) w) (dock.past isa (Up i p) v) h.2 (rider_loose isa i p w v h.0 h.1 (followed isa (Up i p) w v f)
+    (past_safe isa (Up i p) v f.safe) f) in
     ((rider_fits isa i p v h.0 h.1, a.0), a.1)
 loose_fit isa (Down i k ∷ xs) w v h f =
-    let a = loose_fit isa xs (dock.past isa (Down i k) w) (dock.past isa (Down i k) v) h (result_loose isa i k w v (followed isa (Down i k) w v f) (past_safe isa (Down i k) v f.safe) f) in
+    let a = loose_fit isa xs (dock.past isa (Down i k) w) (dock.past isa (Down i k) v) h (result_loose isa i k w v (followed isa (Down i k) w v f)
+    (past_safe isa (Down i k) v f.safe) f) in
     ((result_fits isa i k v, a.0), a.1)

@@ -43,7 +43,8 @@ from_items n i false (Some p) (Some k) h = (h, (h, tt))
 
 pub from_column : (n i : ℕ) (cells : List Cell) → n ≤ i → From n (column_from i cells)
 from_column n i [] h = tt
-from_column n i (c ∷ cs) h = from_append n (column_from (suc i) cs) (items i c) (from_column n (suc i) cs (omega arith)) (from_items n i c.met c.passenger c.packet h)
+from_column n i (c ∷ cs) h = from_append n (column_from (suc i) cs) (items i c) (from_column n (suc i) cs (omega arith))
+    (from_items n i c.met c.passenger c.packet h)
 
 pub past_open : (l : Plan) (i : Item) (b : Bool) → lone.past l i b ≡ false → b ≡ false
 unfolding lone.past
@@ -53,7 +54,8 @@ pub walk_open : (l : Plan) (xs : List Item) (b : Bool) → walk (lone.past l) xs
 walk_open l [] b e = e
 walk_open l (i ∷ xs) b e = past_open l i b (walk_open l xs (lone.past l i b) e)
 
-pub open_rider : (l : Plan) (i : ℕ) (p : Passenger) (b : Bool) → launch_stage l (port l) < i → lone.past l (Up i p) b ≡ false → (is_lone p ≡ false) × (trail.turns p.owes ≡ false)
+pub open_rider : (l : Plan) (i : ℕ) (p : Passenger) (b : Bool) → launch_stage l (port l) < i → lone.past l (Up i p) b ≡ false →
+    (is_lone p ≡ false) × (trail.turns p.owes ≡ false)
 unfolding lone.past
 open_rider l i p b n e = grind arith
 
@@ -62,25 +64,31 @@ unfolding lone.past
 open_packet l i k b n e = grind arith
 
 -- after the point from which the program goes nowhere, no passenger is sure
-pub nowhere_rider : (isa : Isa) (i : ℕ) (p : Passenger) (w : trail.Walk) → w.barred ≡ false → w.goto ≡ None → sure.Fits isa (Up i p) w → trail.past isa (Up i p) w ≡ w
+pub nowhere_rider : (isa : Isa) (i : ℕ) (p : Passenger) (w : trail.Walk) → w.barred ≡ false → w.goto ≡ None → sure.Fits isa (Up i p) w →
+    trail.past isa (Up i p) w ≡ w
 unfolding sure.Fits trail.past sure.SureAt
 nowhere_rider isa i p w b g h = grind arith
 
-pub nowhere_packet : (isa : Isa) (i : ℕ) (k : Packet) (w : trail.Walk) → trail.turns (Some k) ≡ false → ((trail.past isa (Down i k) w).barred ≡ w.barred) × ((trail.past isa (Down i k) w).goto ≡ w.goto)
+pub nowhere_packet : (isa : Isa) (i : ℕ) (k : Packet) (w : trail.Walk) → trail.turns (Some k) ≡ false →
+    ((trail.past isa (Down i k) w).barred ≡ w.barred) × ((trail.past isa (Down i k) w).goto ≡ w.goto)
 unfolding trail.past
 nowhere_packet isa i k w e = grind arith
 
-nowhere : (l : Plan) (xs : List Item) (w : trail.Walk) (b : Bool) → From (suc (launch_stage l (port l))) xs → Everywhere (sure.Fits (isa_of l)) (trail.past (isa_of l)) xs w → walk (lone.past l) xs b ≡ false → w.barred ≡ false → w.goto ≡ None → (walk (trail.past (isa_of l)) xs w).goto ≡ None
+nowhere : (l : Plan) (xs : List Item) (w : trail.Walk) (b : Bool) → From (suc (launch_stage l (port l))) xs →
+    Everywhere (sure.Fits (isa_of l)) (trail.past (isa_of l)) xs w → walk (lone.past l) xs b ≡ false → w.barred ≡ false → w.goto ≡ None →
+    (walk (trail.past (isa_of l)) xs w).goto ≡ None
 nowhere l [] w b f h o c g = g
 nowhere l (Up i p ∷ xs) w b f h o c g =
     let e = nowhere_rider (isa_of l) i p w c g h.0 in
-    subst (λ (v : trail.Walk). (walk (trail.past (isa_of l)) xs v).goto ≡ None) (sym e) (nowhere l xs w (lone.past l (Up i p) b) f.1 (subst (λ (v : trail.Walk). Everywhere (sure.Fits (isa_of l)) (trail.past (isa_of l)) xs v) e h.1) o c g)
+    subst (λ (v : trail.Walk). (walk (trail.past (isa_of l)) xs v).goto ≡ None) (sym e) (nowhere l xs w (lone.past l (Up i p) b) f.1
+    (subst (λ (v : trail.Walk). Everywhere (sure.Fits (isa_of l)) (trail.past (isa_of l)) xs v) e h.1) o c g)
 nowhere l (Down i k ∷ xs) w b f h o c g =
     let e = nowhere_packet (isa_of l) i k w (open_packet l i k b f.0 (walk_open l xs _ o)) in
     nowhere l xs (trail.past (isa_of l) (Down i k) w) (lone.past l (Down i k) b) f.1 h.1 o (e.0 ∙ c) (e.1 ∙ g)
 
 -- no live branch, jump or environment call that is not done stands above Memory's launch stage
-steady : (l : Plan) (i : ℕ) (p : Passenger) → Suits l → launch_stage l (port l) < i → Stands l i p → is_lone p ≡ false → p.dead ≡ false → p.done ≡ false → steers (kind p) ≡ false
+steady : (l : Plan) (i : ℕ) (p : Passenger) → Suits l → launch_stage l (port l) < i → Stands l i p → is_lone p ≡ false → p.dead ≡ false → p.done ≡ false →
+    steers (kind p) ≡ false
 steady l i p acc n h o d u = go (is_control (kind p)) (is_serial (kind p)) refl refl
   where
     far : (k : Option ℕ) → siding_of l (kind p) ≡ k → is_control (kind p) ≡ true → (b c : Bool) → p.launched ≡ b → p.recovered ≡ c → ⊥
@@ -96,11 +104,14 @@ steady l i p acc n h o d u = go (is_control (kind p)) (is_serial (kind p)) refl 
     go false false e f = grind arith
 
 -- what is known once a rider is passed
-calm_rider : (isa : Isa) (i : ℕ) (p : Passenger) (w : dock.Dock) → w.path.barred ≡ false → w.risky ≡ false → trail.turns p.owes ≡ false → (p.dead ≡ false → p.done ≡ false → steers (kind p) ≡ false) → (p.dead ≡ false → is_some p.ending ≡ false) → ((dock.past isa (Up i p) w).path.barred ≡ false) × ((dock.past isa (Up i p) w).risky ≡ false)
+calm_rider : (isa : Isa) (i : ℕ) (p : Passenger) (w : dock.Dock) → w.path.barred ≡ false → w.risky ≡ false → trail.turns p.owes ≡ false →
+    (p.dead ≡ false → p.done ≡ false → steers (kind p) ≡ false) → (p.dead ≡ false → is_some p.ending ≡ false) →
+    ((dock.past isa (Up i p) w).path.barred ≡ false) × ((dock.past isa (Up i p) w).risky ≡ false)
 unfolding dock.past trail.past
 calm_rider isa i p w b r t s e = grind arith
 
-ended_goto : (isa : Isa) (i : ℕ) (p : Passenger) (w : trail.Walk) → p.dead ≡ false → w.barred ≡ false → p.done ≡ true → is_some p.ending ≡ true → trail.turns p.owes ≡ false → ((trail.past isa (Up i p) w).goto ≡ None) × ((trail.past isa (Up i p) w).barred ≡ false)
+ended_goto : (isa : Isa) (i : ℕ) (p : Passenger) (w : trail.Walk) → p.dead ≡ false → w.barred ≡ false → p.done ≡ true → is_some p.ending ≡ true →
+    trail.turns p.owes ≡ false → ((trail.past isa (Up i p) w).goto ≡ None) × ((trail.past isa (Up i p) w).barred ≡ false)
 unfolding trail.past
 ended_goto isa i p w d b u e t = grind arith
 
@@ -116,12 +127,16 @@ unfolding dock.past
 past_path isa (Up i p) w = refl
 past_path isa (Down i k) w = refl
 
-calm_packet : (isa : Isa) (i : ℕ) (k : Packet) (w : dock.Dock) → w.path.barred ≡ false → w.risky ≡ false → trail.turns (Some k) ≡ false → ((dock.past isa (Down i k) w).path.barred ≡ false) × ((dock.past isa (Down i k) w).risky ≡ false)
+calm_packet : (isa : Isa) (i : ℕ) (k : Packet) (w : dock.Dock) → w.path.barred ≡ false → w.risky ≡ false → trail.turns (Some k) ≡ false →
+    ((dock.past isa (Down i k) w).path.barred ≡ false) × ((dock.past isa (Down i k) w).risky ≡ false)
 unfolding dock.past trail.past
 calm_packet isa i k w b r t = grind arith
 
 -- part (j), at Launch: above a live passenger with nothing shut above it, nothing is risky
-pub calm : (l : Plan) (xs : List Item) (w : dock.Dock) (b : Bool) (pc : ℕ) → Suits l → From (suc (launch_stage l (port l))) xs → Each l xs → Everywhere (sure.Fits (isa_of l)) (trail.past (isa_of l)) xs w.path → walk (lone.past l) xs b ≡ false → (walk (trail.past (isa_of l)) xs w.path).goto ≡ Some pc → w.path.barred ≡ false → w.risky ≡ false → ((walk (dock.past (isa_of l)) xs w).path.barred ≡ false) × ((walk (dock.past (isa_of l)) xs w).risky ≡ false)
+pub calm : (l : Plan) (xs : List Item) (w : dock.Dock) (b : Bool) (pc : ℕ) → Suits l → From (suc (launch_stage l (port l))) xs → Each l xs →
+    Everywhere (sure.Fits (isa_of l)) (trail.past (isa_of l)) xs w.path → walk (lone.past l) xs b ≡ false →
+    (walk (trail.past (isa_of l)) xs w.path).goto ≡ Some pc → w.path.barred ≡ false → w.risky ≡ false →
+    ((walk (dock.past (isa_of l)) xs w).path.barred ≡ false) × ((walk (dock.past (isa_of l)) xs w).risky ≡ false)
 calm l [] w b pc acc f s h o g c r = (c, r)
 calm l (Up i p ∷ xs) w b pc acc f s h o g c r =
     let op = open_rider l i p b f.0 (walk_open l xs _ o) in

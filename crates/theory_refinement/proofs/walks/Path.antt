@@ -35,7 +35,8 @@ rider_follows isa i p w v f h = grind (arith, sure_follows)
 past_packet_follows : (k : Packet) (w v : Walk) → Follows w v → Follows (past_packet k w) (past_packet k v)
 past_packet_follows k w v f = grind arith
 
-past_rider_follows : (isa : Isa) (p : Passenger) (w v : Walk) → Follows w v → Follows (past_passenger isa (is_sure p w) p w) (past_passenger isa (is_sure p v) p v)
+past_rider_follows : (isa : Isa) (p : Passenger) (w v : Walk) → Follows w v → Follows (past_passenger isa (is_sure p w) p w)
+    (past_passenger isa (is_sure p v) p v)
 past_rider_follows isa p w v f = grind arith
 
 item_follows : (isa : Isa) (i : Item) (w v : Walk) → Follows w v → Fits isa i w → Fits isa i v
@@ -56,11 +57,13 @@ pub path_walk : (isa : Isa) → IsWalk Walk (Fits isa) (past isa) Follows
 path_walk isa = record { stays = item_follows isa; goes_on = past_follows isa }
 
 -- Send
-pub send_fits : (isa : Isa) (i : ℕ) (p : Passenger) (k : Packet) (w : Walk) → p.owes ≡ Some k → Everywhere (Fits isa) (past isa) (Up i p ∷ []) w → Everywhere (Fits isa) (past isa) (Up i (record p { owes = None }) ∷ Down i k ∷ []) w
+pub send_fits : (isa : Isa) (i : ℕ) (p : Passenger) (k : Packet) (w : Walk) → p.owes ≡ Some k → Everywhere (Fits isa) (past isa) (Up i p ∷ []) w →
+    Everywhere (Fits isa) (past isa) (Up i (record p { owes = None }) ∷ Down i k ∷ []) w
 unfolding Fits past SureAt
 send_fits isa i p k w e h = grind arith
 
-pub send_walk : (isa : Isa) (i : ℕ) (p : Passenger) (k : Packet) (w : Walk) → p.owes ≡ Some k → Everywhere (Fits isa) (past isa) (Up i p ∷ []) w → Follows (walk (past isa) (Up i p ∷ []) w) (walk (past isa) (Up i (record p { owes = None }) ∷ Down i k ∷ []) w)
+pub send_walk : (isa : Isa) (i : ℕ) (p : Passenger) (k : Packet) (w : Walk) → p.owes ≡ Some k → Everywhere (Fits isa) (past isa) (Up i p ∷ []) w →
+    Follows (walk (past isa) (Up i p ∷ []) w) (walk (past isa) (Up i (record p { owes = None }) ∷ Down i k ∷ []) w)
 unfolding Fits past SureAt
 send_walk isa i p k w e h = grind arith
 

@@ -21,14 +21,21 @@ use Rattle.rv_machine.specs.Machine.{Machine}
 use Rattle.theory_refinement.proofs.invariant.Sure as sure
 
 -- the step of a passenger of class Serial
-pub serial_steps : (isa : Isa) (p : Passenger) (x : Machine) (g : Option ℕ) → kind p ≡ Serial → sure.IsSure isa p x (step_at isa x p.pc) g → (i : Instr) × (p.what ≡ Some i) × (kind_of i ≡ Serial) × (step_at isa x p.pc ≡ served (serve_of i x.hart.regs x.hart.mem x.rest) (dst_of i) (at_pc x p.pc))
+pub serial_steps : (isa : Isa) (p : Passenger) (x : Machine) (g : Option ℕ) → kind p ≡ Serial → sure.IsSure isa p x (step_at isa x p.pc) g →
+    (i : Instr) × (p.what ≡ Some i) × (kind_of i ≡ Serial) × (step_at isa x p.pc ≡ served (serve_of i x.hart.regs x.hart.mem x.rest) (dst_of i) (at_pc x p.pc))
 serial_steps isa p x g c h = go (fetched isa x.hart.mem p.pc) refl h.reads
   where
-    go : (q : Fetched) → fetched isa x.hart.mem p.pc ≡ q → Holds p q → (i : Instr) × (p.what ≡ Some i) × (kind_of i ≡ Serial) × (step_at isa x p.pc ≡ served (serve_of i x.hart.regs x.hart.mem x.rest) (dst_of i) (at_pc x p.pc))
+    go : (q : Fetched) → fetched isa x.hart.mem p.pc ≡ q → Holds p q → (i : Instr) × (p.what ≡ Some i) × (kind_of i ≡ Serial)
+        × (step_at isa x p.pc ≡ served (serve_of i x.hart.regs x.hart.mem x.rest) (dst_of i) (at_pc x p.pc))
     go (Got i) f k =
         let e : kind p ≡ kind_of i = ap (λ (o : Option Instr). on o Free kind_of) k in
-        let d : kind_of i ≡ Serial = sym e ∙ c in
-        (i, k, d, step_is isa x p.pc i f ∙ ap (λ (z : Class). stepped_as z i (value_read x.hart.regs (src1_of i)) (value_read x.hart.regs (src2_of i)) (at_pc x p.pc)) d)
+        let d : kind_of i ≡ Serial = sym e ∙ c in (
+          i,
+          k,
+          d,
+          step_is isa x p.pc i f ∙ ap (λ (z : Class). stepped_as z i (value_read x.hart.regs (src1_of i)) (value_read x.hart.regs (src2_of i))
+              (at_pc x p.pc)) d,
+        )
     go (Bad b) f k = let e : kind p ≡ Free = ap (λ (o : Option Instr). on o Free kind_of) k.0 in absurd (cc)
 
 -- the machine after a call that was answered
@@ -39,13 +46,17 @@ after_call x i pc a = record {
   output = x.output ++ a.output;
 }
 
-pub served_steps : (isa : Isa) (p : Passenger) (x : Machine) (g : Option ℕ) (a : CallAnswer) → kind p ≡ Serial → serve_of (instruction p) x.hart.regs x.hart.mem x.rest ≡ called.Value a → sure.IsSure isa p x (step_at isa x p.pc) g → step_at isa x p.pc ≡ Goes (after_call x (instruction p) p.pc a)
+pub served_steps : (isa : Isa) (p : Passenger) (x : Machine) (g : Option ℕ) (a : CallAnswer) → kind p ≡ Serial →
+    serve_of (instruction p) x.hart.regs x.hart.mem x.rest ≡ called.Value a → sure.IsSure isa p x (step_at isa x p.pc) g →
+    step_at isa x p.pc ≡ Goes (after_call x (instruction p) p.pc a)
 served_steps isa p x g a c e h =
     let q = serial_steps isa p x g c h in
     let i : instruction p ≡ q.0 = ap (λ (o : Option Instr). on o Ebreak (λ j. j)) q.1 in
     rw i (q.3 ∙ ap (λ (z : Called). served z (dst_of q.0) (at_pc x p.pc)) (rw i at e))
 
-pub served_sure : (isa : Isa) (p : Passenger) (x : Machine) (g : Option ℕ) (a : CallAnswer) → length x.hart.regs ≡ 32 → kind p ≡ Serial → p.done ≡ false → serve_of (instruction p) x.hart.regs x.hart.mem x.rest ≡ called.Value a → sure.IsSure isa p x (step_at isa x p.pc) g → sure.IsSure isa (answered p a.value) x (step_at isa x p.pc) g
+pub served_sure : (isa : Isa) (p : Passenger) (x : Machine) (g : Option ℕ) (a : CallAnswer) → length x.hart.regs ≡ 32 → kind p ≡ Serial → p.done ≡ false →
+    serve_of (instruction p) x.hart.regs x.hart.mem x.rest ≡ called.Value a → sure.IsSure isa p x (step_at isa x p.pc) g →
+    sure.IsSure isa (answered p a.value) x (step_at isa x p.pc) g
 served_sure isa p x g a l c d e h =
     let q = serial_steps isa p x g c h in
     let i : instruction p ≡ q.0 = ap (λ (o : Option Instr). on o Ebreak (λ j. j)) q.1 in
@@ -57,7 +68,8 @@ served_sure isa p x g a l c d e h =
       values = record {
         first = h.values.first;
         second = h.values.second;
-        destination = rw y (set_agrees p.dst (dst_of q.0) a.value x.hart.regs l (sure_dst_below isa p x (step_at isa x p.pc) g q.0 q.1 h) (h.shape q.0 q.1).three);
+        destination = rw y (set_agrees p.dst (dst_of q.0) a.value x.hart.regs l (sure_dst_below isa p x (step_at isa x p.pc) g q.0 q.1 h)
+            (h.shape q.0 q.1).three);
         owed = tt;
         goes = λ _ _. rw y refl;
         next = λ _ _. rw y refl;
@@ -73,7 +85,8 @@ served_sure isa p x g a l c d e h =
     reads (Got j) k = k
     reads (Bad b) k = k
 
-pub quit_sure : (isa : Isa) (p : Passenger) (x : Machine) (g : Option ℕ) (s : ℕ) → kind p ≡ Serial → p.done ≡ false → serve_of (instruction p) x.hart.regs x.hart.mem x.rest ≡ called.Exit s → sure.IsSure isa p x (step_at isa x p.pc) g → step_at isa x p.pc ≡ Stops (Exit s)
+pub quit_sure : (isa : Isa) (p : Passenger) (x : Machine) (g : Option ℕ) (s : ℕ) → kind p ≡ Serial → p.done ≡ false →
+    serve_of (instruction p) x.hart.regs x.hart.mem x.rest ≡ called.Exit s → sure.IsSure isa p x (step_at isa x p.pc) g → step_at isa x p.pc ≡ Stops (Exit s)
 quit_sure isa p x g s c d e h = let q = serial_steps isa p x g c h in
     let i : instruction p ≡ q.0 = ap (λ (o : Option Instr). on o Ebreak (λ j. j)) q.1 in
     q.3 ∙ ap (λ (z : Called). served z (dst_of q.0) (at_pc x p.pc)) (rw i at e)

@@ -32,7 +32,8 @@ not_risky w v f e = let a : v.risky ≡ false = grind (arith, f.risky) in let b 
 flown : (p : Passenger) → flies p ≡ true → (is_memory (kind p) ≡ true) × ((p.launched || p.recovered) ≡ true)
 flown p e = grind arith
 
-ported_by : (p : Passenger) (answer : Option ℕ) → has_ported p answer ≡ true → has_served p ≡ false → (is_memory (kind p) ≡ true) × ((p.launched || p.recovered) ≡ true)
+ported_by : (p : Passenger) (answer : Option ℕ) → has_ported p answer ≡ true → has_served p ≡ false →
+    (is_memory (kind p) ≡ true) × ((p.launched || p.recovered) ≡ true)
 ported_by p answer e f = grind arith
 
 docked_follows : (isa : Isa) (p : Passenger) (w v : Dock) → Follows w v → DockedAt isa p w → DockedAt isa p v
@@ -58,7 +59,8 @@ unfolding DockedAt
 served_calm isa p w h e = h.served e
 
 -- where the test holds the machines are the same
-either : {A : Type 0} (isa : Isa) (b : Bool) (x y : Machine) (pc : ℕ) (part : Machine → A) (o o' : A) → (b ≡ true → x ≡ y) → o ≡ o' → (if b then part (after_step (step_at isa x pc) x) else o) ≡ (if b then part (after_step (step_at isa y pc) y) else o')
+either : {A : Type 0} (isa : Isa) (b : Bool) (x y : Machine) (pc : ℕ) (part : Machine → A) (o o' : A) → (b ≡ true → x ≡ y) → o ≡ o' →
+    (if b then part (after_step (step_at isa x pc) x) else o) ≡ (if b then part (after_step (step_at isa y pc) y) else o')
 either isa true x y pc part o o' f e = rw (f refl)
 either isa false x y pc part o o' f e = e
 
@@ -67,21 +69,27 @@ unfolding Fits
 item_follows isa (Up i p) w v f h = docked_follows isa p w v f h
 item_follows isa (Down i k) w v f h = tt
 
-safe_rider : (isa : Isa) (i : ℕ) (p : Passenger) (v : trail.Walk) (risky : Bool) → (v.barred ≡ true → risky ≡ true) → (trail.past isa (Up i p) v).barred ≡ true → (risky || may_turn (Up i p)) ≡ true
+safe_rider : (isa : Isa) (i : ℕ) (p : Passenger) (v : trail.Walk) (risky : Bool) → (v.barred ≡ true → risky ≡ true) →
+    (trail.past isa (Up i p) v).barred ≡ true → (risky || may_turn (Up i p)) ≡ true
 unfolding trail.past
 safe_rider isa i p v risky f e = grind arith
 
-safe_packet : (isa : Isa) (i : ℕ) (k : Packet) (v : trail.Walk) (risky : Bool) → (v.barred ≡ true → risky ≡ true) → (trail.past isa (Down i k) v).barred ≡ true → (risky || may_turn (Down i k)) ≡ true
+safe_packet : (isa : Isa) (i : ℕ) (k : Packet) (v : trail.Walk) (risky : Bool) → (v.barred ≡ true → risky ≡ true) →
+    (trail.past isa (Down i k) v).barred ≡ true → (risky || may_turn (Down i k)) ≡ true
 unfolding trail.past
 safe_packet isa i k v risky f e = grind arith
 
-past_rider_follows : (isa : Isa) (i : ℕ) (p : Passenger) (w v : Dock) → Follows w v → DockedAt isa p w → paths.Follows (trail.past isa (Up i p) w.path) (trail.past isa (Up i p) v.path) → Follows (past_passenger isa i p (trail.past isa (Up i p) w.path) w) (past_passenger isa i p (trail.past isa (Up i p) v.path) v)
+past_rider_follows : (isa : Isa) (i : ℕ) (p : Passenger) (w v : Dock) → Follows w v → DockedAt isa p w →
+    paths.Follows (trail.past isa (Up i p) w.path) (trail.past isa (Up i p) v.path) → Follows (past_passenger isa i p (trail.past isa (Up i p) w.path) w)
+    (past_passenger isa i p (trail.past isa (Up i p) v.path) v)
 past_rider_follows isa i p w v f h q = record {
   path = q;
   safe = safe_rider isa i p v.path v.risky f.safe;
   risky = more (may_turn (Up i p));
-  mem = rw f.answer (either isa (has_ported p w.answer) v.path.machine w.path.machine p.pc (λ m. m.hart.mem) v.mem w.mem (λ e. (not_risky w v f (ported_calm isa p w h e)).2) f.mem);
-  code = either isa (has_served p) v.path.machine w.path.machine p.pc (λ m. code_of m.hart.mem) v.code w.code (λ e. (not_risky w v f (served_calm isa p w h e)).2) f.code;
+  mem = rw f.answer (either isa (has_ported p w.answer) v.path.machine w.path.machine p.pc (λ m. m.hart.mem) v.mem w.mem
+      (λ e. (not_risky w v f (ported_calm isa p w h e)).2) f.mem);
+  code = either isa (has_served p) v.path.machine w.path.machine p.pc (λ m. code_of m.hart.mem) v.code w.code
+      (λ e. (not_risky w v f (served_calm isa p w h e)).2) f.code;
   rest = either isa (has_served p) v.path.machine w.path.machine p.pc (λ m. m.rest) v.rest w.rest (λ e. (not_risky w v f (served_calm isa p w h e)).2) f.rest;
   out = either isa (has_served p) v.path.machine w.path.machine p.pc (λ m. m.output) v.out w.out (λ e. (not_risky w v f (served_calm isa p w h e)).2) f.out;
   answer = rw f.answer;
@@ -90,7 +98,9 @@ past_rider_follows isa i p w v f h q = record {
     more : (b : Bool) → (v.risky || b) ≡ true → (w.risky || b) ≡ true
     more b e = grind (arith, f.risky)
 
-past_packet_follows : (isa : Isa) (i : ℕ) (k : Packet) (w v : Dock) → Follows w v → paths.Follows (trail.past isa (Down i k) w.path) (trail.past isa (Down i k) v.path) → Follows (record w { path = trail.past isa (Down i k) w.path; risky = w.risky || trail.turns (Some k) }) (record v { path = trail.past isa (Down i k) v.path; risky = v.risky || trail.turns (Some k) })
+past_packet_follows : (isa : Isa) (i : ℕ) (k : Packet) (w v : Dock) → Follows w v → paths.Follows (trail.past isa (Down i k) w.path)
+    (trail.past isa (Down i k) v.path) → Follows (record w { path = trail.past isa (Down i k) w.path; risky = w.risky || trail.turns (Some k) })
+    (record v { path = trail.past isa (Down i k) v.path; risky = v.risky || trail.turns (Some k) })
 past_packet_follows isa i k w v f q = record {
   path = q;
   safe = safe_packet isa i k v.path v.risky f.safe;

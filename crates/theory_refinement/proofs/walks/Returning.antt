@@ -54,9 +54,11 @@ unfolding lone.past
 back_lone l i p w = refl
 
 -- at the port, of another class than Memory
-pub back_port_fits : (isa : Isa) (i : ℕ) (p : Passenger) (w : dock.Dock) → is_memory (kind p) ≡ false → dock.Fits isa (Up i p) w → dock.Fits isa (Up i (back p)) w
+pub back_port_fits : (isa : Isa) (i : ℕ) (p : Passenger) (w : dock.Dock) → is_memory (kind p) ≡ false → dock.Fits isa (Up i p) w →
+    dock.Fits isa (Up i (back p)) w
 unfolding dock.Fits dock.DockedAt
-back_port_fits isa i p w m h = record { live = λ a. absurd (cc); order = λ a. absurd (cc); served = h.served; permitted = λ a. absurd (cc); answered = λ a. absurd (grind arith) }
+back_port_fits isa i p w m h =
+    record { live = λ a. absurd (cc); order = λ a. absurd (cc); served = h.served; permitted = λ a. absurd (cc); answered = λ a. absurd (grind arith) }
 
 pub back_port : (isa : Isa) (i : ℕ) (p : Passenger) (w : dock.Dock) → is_memory (kind p) ≡ false → dock.past isa (Up i p) w ≡ dock.past isa (Up i (back p)) w
 unfolding dock.past
@@ -88,7 +90,8 @@ back_dead l i p d o b h = record {
   homed = h.homed;
 }
 
-pub back_finished : (l : Plan) (i : ℕ) (p : Passenger) (a : Option ℕ) → p.dead ≡ false → p.launched ≡ true → Behind l (kind p) i → (is_free (kind p) || is_serial (kind p)) ≡ false → Stands l i p → Stands l i (finish (back p) a)
+pub back_finished : (l : Plan) (i : ℕ) (p : Passenger) (a : Option ℕ) → p.dead ≡ false → p.launched ≡ true → Behind l (kind p) i →
+    (is_free (kind p) || is_serial (kind p)) ≡ false → Stands l i p → Stands l i (finish (back p) a)
 back_finished l i p a d o b n h =
     let q = back p in
     let k = finish_kind q a in

@@ -24,10 +24,12 @@ each_back l [] ys a = a
 each_back l (Up i p ∷ xs) ys a = each_back l xs ys a.1
 each_back l (Down i k ∷ xs) ys a = each_back l xs ys a
 
-climb_low : (l : Plan) (p : Passenger) (i : ℕ) → stops_at l p i ≡ false → p.dead ≡ false → p.done ≡ false → p.launched ≡ false → Low l (kind p) i → Low l (kind p) (suc i)
+climb_low : (l : Plan) (p : Passenger) (i : ℕ) → stops_at l p i ≡ false → p.dead ≡ false → p.done ≡ false → p.launched ≡ false → Low l (kind p) i →
+    Low l (kind p) (suc i)
 climb_low l p i e d u n h = grind arith
 
-climb_out : (l : Plan) (p : Passenger) (i : ℕ) → stops_at l p i ≡ false → p.launched ≡ true → p.recovered ≡ false → Between l (kind p) i → Between l (kind p) (suc i)
+climb_out : (l : Plan) (p : Passenger) (i : ℕ) → stops_at l p i ≡ false → p.launched ≡ true → p.recovered ≡ false → Between l (kind p) i →
+    Between l (kind p) (suc i)
 climb_out l p i e u n h = grind arith
 
 climb_back : (l : Plan) (p : Passenger) (i : ℕ) → Behind l (kind p) i → Behind l (kind p) (suc i)

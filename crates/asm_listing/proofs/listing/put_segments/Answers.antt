@@ -9,7 +9,8 @@ use Rattle.asm_listing.proofs.listing.put_segments.Goals as goal
 pub returns-in_err-put_segment-clause-err : goal.returns-in_err-put_segment-clause-err
 returns-in_err-put_segment-clause-err g c =
     err-owes _ _ _ _ _ _ _ _ _ _ c.in_err-put_segment.was c.loop-segment.invariant.owes
-    (ap (λ (segments : List LoadSegment). flat_map (segment_lines (map shown_lazy c.args.symbols.now)) segments) c.in-Some.ensures.steps) c.put_segment.ensures.err
+    (ap (λ (segments : List LoadSegment). flat_map (segment_lines (map shown_lazy c.args.symbols.now)) segments) c.in-Some.ensures.steps)
+    c.put_segment.ensures.err
 
 pub loop-segment-preserved : goal.loop-segment-preserved
 loop-segment-preserved g c = record {

@@ -36,8 +36,10 @@ pub returns-in-Some-clause-audits : goal.returns-in-Some-clause-audits
 returns-in-Some-clause-audits g c = audited _ _ _ _ _ c.requires.size refl (refl, refl) c.loop-answer.invariant.comes c.in-Some.ensures.tests
 
 pub returns-in-Some-clause-agrees : goal.returns-in-Some-clause-agrees
-returns-in-Some-clause-agrees g c = agrees-with-all _ _ _ _ _ _ (audited _ _ _ _ _ c.requires.size refl (refl, refl) c.loop-answer.invariant.comes c.in-Some.ensures.tests)
+returns-in-Some-clause-agrees g c = agrees-with-all _ _ _ _ _ _ (audited _ _ _ _ _ c.requires.size refl
+    (refl, refl) c.loop-answer.invariant.comes c.in-Some.ensures.tests)
 
 pub returns-in-Some-clause-sequential : goal.returns-in-Some-clause-sequential
 returns-in-Some-clause-sequential g c =
-    retires-sequentially _ _ _ _ _ _ c.known.ensures.accepted c.known.ensures.registers (audited _ _ _ _ _ c.requires.size refl (refl, refl) c.loop-answer.invariant.comes c.in-Some.ensures.tests)
+    retires-sequentially _ _ _ _ _ _ c.known.ensures.accepted c.known.ensures.registers (audited _ _ _ _ _ c.requires.size refl
+    (refl, refl) c.loop-answer.invariant.comes c.in-Some.ensures.tests)

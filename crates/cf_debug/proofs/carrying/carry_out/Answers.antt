@@ -17,16 +17,20 @@ returns-in-Move-clause-carries g c = as-command _ _ _ _ _ _ _ c.in-Move.is c.car
 
 pub returns-in-Show-clause-carries : goal.returns-in-Show-clause-carries
 unfolding CommandAnswers CommandAnswersPart
-returns-in-Show-clause-carries g c = as-command _ _ _ _ _ _ _ c.in-Show.is (as-told _ _ _ _ _ _ _ c.told.ensures (carries-told _ _ _ _ _ _ _ _ _ (refl, refl) (refl, refl) c.show.ensures))
+returns-in-Show-clause-carries g c = as-command _ _ _ _ _ _ _ c.in-Show.is (as-told _ _ _ _ _ _ _ c.told.ensures
+    (carries-told _ _ _ _ _ _ _ _ _ (refl, refl) (refl, refl) c.show.ensures))
 
 pub returns-in-Break-clause-carries : goal.returns-in-Break-clause-carries
 unfolding CommandAnswers CommandAnswersPart
 returns-in-Break-clause-carries g c =
-    let set = ap (debugger_state (processor_state c.args.debugger.core.now c.args.debugger.ring.now (g.K.Sink.written c.args.output.now))) c.carry_break.ensures.stop in
-    as-command _ _ _ _ _ _ _ c.in-Break.is (as-told _ _ _ _ _ _ _ c.told-in-Break.ensures (carries-told _ _ _ _ _ _ _ _ _ (set, refl) (set, refl) c.carry_break.ensures.puts))
+    let set = ap (debugger_state (processor_state c.args.debugger.core.now c.args.debugger.ring.now (g.K.Sink.written c.args.output.now)))
+    c.carry_break.ensures.stop in
+    as-command _ _ _ _ _ _ _ c.in-Break.is (as-told _ _ _ _ _ _ _ c.told-in-Break.ensures (carries-told _ _ _ _ _ _ _ _ _ (set, refl)
+    (set, refl) c.carry_break.ensures.puts))
 
 pub returns-in-Back-clause-carries : goal.returns-in-Back-clause-carries
-returns-in-Back-clause-carries g c = as-command _ _ _ _ _ _ _ c.in-Back.is (as-told _ _ _ _ _ _ _ c.told-in-Back.ensures (carries-back _ _ _ _ _ _ _ _ _ _ _ c.carry_back.ensures))
+returns-in-Back-clause-carries g c = as-command _ _ _ _ _ _ _ c.in-Back.is (as-told _ _ _ _ _ _ _ c.told-in-Back.ensures
+    (carries-back _ _ _ _ _ _ _ _ _ _ _ c.carry_back.ensures))
 
 pub returns-in-End-clause-carries : goal.returns-in-End-clause-carries
 unfolding CommandAnswers

@@ -7,7 +7,8 @@ use Rattle.cf_debug.proofs.driving.drive.Goals as goal
 
 pub loop-made-init : goal.loop-made-init
 loop-made-init g c = record {
-  comes = comes-first _ _ _ _ _ _ c.new-round.ensures c.new-pace.ensures.1 (c.stages.ensures.stages ∙ ap (λ (plan : Plan). plan.stages) c.layout.ensures.layout);
+  comes = comes-first _ _ _ _ _ _ c.new-round.ensures c.new-pace.ensures.1 (c.stages.ensures.stages
+      ∙ ap (λ (plan : Plan). plan.stages) c.layout.ensures.layout);
   stages = c.new-pace.ensures.0 ∙ c.stages.ensures.stages ∙ ap (λ (plan : Plan). plan.stages) c.layout.ensures.layout;
   accepted = c.known.ensures.accepted;
   stands = c.requires.stands;
@@ -16,13 +17,16 @@ loop-made-init g c = record {
 }
 
 pub returns-then-not-goes_on-clause-drives : goal.returns-then-not-goes_on-clause-drives
-returns-then-not-goes_on-clause-drives g c = drives-over _ _ _ _ _ _ _ _ c.loop-made.auto.made-end c.loop-made.invariant.comes (inr (c.goes_on.ensures.no c.if-not-goes_on.true))
+returns-then-not-goes_on-clause-drives g c = drives-over _ _ _ _ _ _ _ _ c.loop-made.auto.made-end c.loop-made.invariant.comes
+    (inr (c.goes_on.ensures.no c.if-not-goes_on.true))
 
 pub advance-requires-clause-some : goal.advance-requires-clause-some
-advance-requires-clause-some g c = stands-offered c.loop-made.invariant.stands.0 _ _ _ c.loop-made.invariant.stands.1 c.loop-made.invariant.accepted (c.goes_on.ensures.yes c.if-not-goes_on.false).unended
+advance-requires-clause-some g c = stands-offered c.loop-made.invariant.stands.0 _ _ _ c.loop-made.invariant.stands.1 c.loop-made.invariant.accepted
+    (c.goes_on.ensures.yes c.if-not-goes_on.false).unended
 
 pub returns-in-Ok-true-clause-drives : goal.returns-in-Ok-true-clause-drives
-returns-in-Ok-true-clause-drives g c = drives-break _ _ _ _ _ _ _ _ _ _ _ _ c.in-Ok-true.field-0-test c.loop-made-test.true c.loop-made.invariant.comes c.in-Ok-true.ensures.steers
+returns-in-Ok-true-clause-drives g c = drives-break _ _ _ _ _ _ _ _ _ _ _ _ c.in-Ok-true.field-0-test c.loop-made-test.true c.loop-made.invariant.comes
+    c.in-Ok-true.ensures.steers
 
 pub returns-in-Err-clause-drives : goal.returns-in-Err-clause-drives
 returns-in-Err-clause-drives g c = drives-broken _ _ _ _ _ _ _ _ _ _ _ _ c.loop-made-test.true c.loop-made.invariant.comes c.in-Err.ensures.steers

@@ -13,10 +13,12 @@ pub returns-in_err-put-2 : goal.returns-in_err-put-2
 unfolding back_text
 returns-in_err-put-2 g c =
     puts-again (back_text c.args.mv) c.in_ok-put.was refl c.put.ensures
-    (puts-stopped newline (line (move_line c.args.mv)) c.in_err-put-2.was (ap (λ (text : List ℕ). text ++ newline) (c.bytes.ensures ∙ c.move_text.ensures)) c.from_residual-in_err-put-2.ensures.0 c.put-2.ensures)
+    (puts-stopped newline (line (move_line c.args.mv)) c.in_err-put-2.was (ap (λ (text : List ℕ). text ++ newline) (c.bytes.ensures ∙ c.move_text.ensures))
+    c.from_residual-in_err-put-2.ensures.0 c.put-2.ensures)
 
 pub returns : goal.returns
 unfolding back_text
 returns g c =
     puts-again (back_text c.args.mv) c.in_ok-put.was refl c.put.ensures
-    (puts-again (line (move_line c.args.mv)) c.in_ok-put-2.was (ap (λ (text : List ℕ). text ++ newline) (c.bytes.ensures ∙ c.move_text.ensures)) c.put-2.ensures c.put-3.ensures)
+    (puts-again (line (move_line c.args.mv)) c.in_ok-put-2.was (ap (λ (text : List ℕ). text ++ newline) (c.bytes.ensures ∙ c.move_text.ensures)) c.put-2.ensures
+    c.put-3.ensures)

@@ -13,7 +13,9 @@ pub carry_out-requires-clause-few : goal.carry_out-requires-clause-few
 carry_out-requires-clause-few g c = few-told _ _ (sym c.read_command.ensures ∙ c.in-Ok.is)
 
 pub returns-else-is_end-clause-ends : goal.returns-else-is_end-clause-ends
-returns-else-is_end-clause-ends g c = ends-told _ _ _ _ _ _ _ _ c.ended.ensures (sym c.read_command.ensures ∙ c.in-Ok.is) (c.is_end.ensures.no c.if-is_end.false) c.carry_out.ensures.carries
+returns-else-is_end-clause-ends g c = ends-told _ _ _ _ _ _ _ _ c.ended.ensures (sym c.read_command.ensures ∙ c.in-Ok.is)
+    (c.is_end.ensures.no c.if-is_end.false) c.carry_out.ensures.carries
 
 pub returns-in-Err-clause-ends : goal.returns-in-Err-clause-ends
-returns-in-Err-clause-ends g c = ends-refusal _ _ _ _ _ _ _ _ _ _ c.ended-in-Err.ensures c.told.ensures (sym c.read_command.ensures ∙ c.in-Err.is) c.refuse_line.ensures
+returns-in-Err-clause-ends g c = ends-refusal _ _ _ _ _ _ _ _ _ _ c.ended-in-Err.ensures c.told.ensures (sym c.read_command.ensures
+    ∙ c.in-Err.is) c.refuse_line.ensures

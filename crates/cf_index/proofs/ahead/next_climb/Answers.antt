@@ -19,4 +19,5 @@ returns-in-None c =
     let plan = c.args.core.now.plan in
     let s = c.args.core.now.state in
     let beyond = λ (j : ℕ). c.after.ensures j ∙ ap (λ (w : ℕ). has_bit w j && is_past c.args.last (Climb (j + 1))) c.climbs.ensures in
-    c.next_fall.ensures ∙ word_gone c.args.last Climb (passing_of plan s).climb c.after.result (fall_on plan s) beyond (sym c.in-None.is ∙ c.lowest.ensures.number)
+    c.next_fall.ensures ∙ word_gone c.args.last Climb (passing_of plan s).climb c.after.result (fall_on plan s) beyond (sym c.in-None.is
+    ∙ c.lowest.ensures.number)

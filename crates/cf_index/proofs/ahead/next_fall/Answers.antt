@@ -19,4 +19,5 @@ returns-in-None c =
     let plan = c.args.core.now.plan in
     let s = c.args.core.now.state in
     let beyond = λ (j : ℕ). c.after.ensures j ∙ ap (λ (w : ℕ). has_bit w j && is_past c.args.last (Fall (j + 1))) c.falls.ensures in
-    c.next_meet.ensures ∙ word_gone c.args.last Fall (passing_of plan s).fall c.after.result (meet_on plan s) beyond (sym c.in-None.is ∙ c.lowest.ensures.number)
+    c.next_meet.ensures ∙ word_gone c.args.last Fall (passing_of plan s).fall c.after.result (meet_on plan s) beyond (sym c.in-None.is
+    ∙ c.lowest.ensures.number)

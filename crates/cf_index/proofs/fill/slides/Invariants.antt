@@ -8,4 +8,5 @@ use Rattle.cf_index.proofs.fill.slides.Given as goal
 
 -- the word has the cells of the sidings that were visited
 abbrev pub invariant-loop-k : goal.invariant-loop-k
-invariant-loop-k l = (j : ℕ) → has_bit l.word j ≡ (nat_lt (j / 8) l.k && (nat_lt (j % 8) (cells_of l.core.plan (j / 8) - 1) && is_allowed l.core.plan l.core.state (slide_at j)))
+invariant-loop-k l = (j : ℕ) → has_bit l.word j ≡ (nat_lt (j / 8) l.k && (nat_lt (j % 8) (cells_of l.core.plan (j / 8) - 1)
+    && is_allowed l.core.plan l.core.state (slide_at j)))

@@ -19,8 +19,10 @@ returns-in-Some c =
     let ends = Leave ∷ Exit ∷ Serve ∷ [] in
     let few : plan.stages ≤ 32 = omega (arith, c.stages-stages.ensures.few, c.stages-stages.ensures.stages) in
     let chosen = stages_chosen plan s Recover c.args.masks.now.recover few (recover-stages plan s c.args.masks.now c.requires) in
-    word_here c.args.last Recover c.args.masks.now.recover c.after.result c.in-Some.k (filter q ends) c.after.ensures (sym c.in-Some.is ∙ c.lowest.ensures.number)
-    ∙ ap (λ (l : List Move). find (is_past c.args.last) (l ++ filter q ends)) chosen ∙ ap (find (is_past c.args.last)) (sym (filter-append q (at_stages plan Recover) ends))
+    word_here c.args.last Recover c.args.masks.now.recover c.after.result c.in-Some.k (filter q ends) c.after.ensures (sym c.in-Some.is
+    ∙ c.lowest.ensures.number)
+    ∙ ap (λ (l : List Move). find (is_past c.args.last) (l ++ filter q ends)) chosen ∙ ap (find (is_past c.args.last))
+    (sym (filter-append q (at_stages plan Recover) ends))
 
 pub returns-in-None : goal.returns-in-None
 returns-in-None c =
@@ -30,5 +32,7 @@ returns-in-None c =
     let ends = Leave ∷ Exit ∷ Serve ∷ [] in
     let few : plan.stages ≤ 32 = omega (arith, c.stages-stages.ensures.few, c.stages-stages.ensures.stages) in
     let chosen = stages_chosen plan s Recover c.args.masks.now.recover few (recover-stages plan s c.args.masks.now c.requires) in
-    c.next_leave.ensures ∙ word_gone c.args.last Recover c.args.masks.now.recover c.after.result (filter q ends) c.after.ensures (sym c.in-None.is ∙ c.lowest.ensures.number)
-    ∙ ap (λ (l : List Move). find (is_past c.args.last) (l ++ filter q ends)) chosen ∙ ap (find (is_past c.args.last)) (sym (filter-append q (at_stages plan Recover) ends))
+    c.next_leave.ensures ∙ word_gone c.args.last Recover c.args.masks.now.recover c.after.result (filter q ends) c.after.ensures (sym c.in-None.is
+    ∙ c.lowest.ensures.number)
+    ∙ ap (λ (l : List Move). find (is_past c.args.last) (l ++ filter q ends)) chosen ∙ ap (find (is_past c.args.last))
+    (sym (filter-append q (at_stages plan Recover) ends))

@@ -13,4 +13,5 @@ returns-else-may_emit c =
     let plan = c.args.core.now.plan in
     let s = c.args.core.now.state in
     let one : c.of.result.kind ≡ 1 = ap (λ (r : Rank). r.kind) c.of.ensures in
-    emit_barred plan s c.next.result (sym c.may_emit.ensures ∙ c.if-may_emit.false) (c.next.ensures (λ eight. absurd (omega (arith, one, eight))) ∙ all_others c.of.result (is_allowed plan s) plan (omega (arith, one)))
+    emit_barred plan s c.next.result (sym c.may_emit.ensures ∙ c.if-may_emit.false) (c.next.ensures (λ eight. absurd (omega (arith, one, eight)))
+    ∙ all_others c.of.result (is_allowed plan s) plan (omega (arith, one)))

@@ -18,4 +18,5 @@ returns-in-None c = λ other.
     let plan = c.args.core.now.plan in
     let q = is_allowed plan c.args.core.now.state in
     let rest = filter q (slides_from 0 plan.sidings) ++ filter q (all_leaving plan) in
-    found_there (is_past c.args.last) (filter q (all_passing plan)) rest c.next_passing.result c.next_outward.result c.next_passing.ensures c.in-None.is (c.next_outward.ensures other)
+    found_there (is_past c.args.last) (filter q (all_passing plan)) rest c.next_passing.result c.next_outward.result c.next_passing.ensures c.in-None.is
+    (c.next_outward.ensures other)

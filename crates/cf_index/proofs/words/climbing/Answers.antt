@@ -8,5 +8,14 @@ use Rattle.cf_index.proofs.words.climbing.Goals as goal
 pub returns : goal.returns
 returns c = λ k.
     let m = c.args.masks.now in
-    rw (c.common.ensures k, c.without-clear.ensures k, c.without-done.ensures k, c.without.ensures k, c.without-met.ensures k, c.full.ensures k, c.above.ensures k, c.lowest.ensures k)
+    rw (
+      c.common.ensures k,
+      c.without-clear.ensures k,
+      c.without-done.ensures k,
+      c.without.ensures k,
+      c.without-met.ensures k,
+      c.full.ensures k,
+      c.above.ensures k,
+      c.lowest.ensures k,
+    )
     (climb_tests k c.args.stages (has_bit m.passengers k) (full_bit m k) (has_bit m.owes k) (has_bit m.stops k) (has_bit m.passengers (k + 1)) c.requires.some)

@@ -9,4 +9,5 @@ pub returns : goal.returns
 returns c = λ k.
     let m = c.args.masks.now in
     rw (c.without.ensures k, c.without-clear.ensures k, c.without-met.ensures k, c.full.ensures k, c.below.ensures k, c.lowest.ensures k)
-    (fall_tests k (has_bit m.packets k) (full_bit m k) (has_bit m.packets (k - 1)) (λ high. sym (c.without-met.ensures k ∙ ap (λ (b : Bool). has_bit m.packets k && not b) (c.full.ensures k)) ∙ no_high c.without-met.result k (omega arith) high))
+    (fall_tests k (has_bit m.packets k) (full_bit m k) (has_bit m.packets (k - 1)) (λ high. sym (c.without-met.ensures k
+    ∙ ap (λ (b : Bool). has_bit m.packets k && not b) (c.full.ensures k)) ∙ no_high c.without-met.result k (omega arith) high))

@@ -9,7 +9,8 @@ pub take-requires-clause-few : goal.take-requires-clause-few
 take-requires-clause-few c = taken_few _ _ _ _ _ c.layout.ensures.facts c.loop-place.invariant
 
 pub loop-place-preserved : goal.loop-place-preserved
-loop-place-preserved c = taken_next _ _ _ _ _ _ c.loop-place.invariant c.pick.ensures (candidate_there _ _ _ _ _ c.layout.ensures.facts c.requires.candidates c.pick.ensures) c.take.ensures
+loop-place-preserved c = taken_next _ _ _ _ _ _ c.loop-place.invariant c.pick.ensures (candidate_there _ _ _ _ _ c.layout.ensures.facts c.requires.candidates
+    c.pick.ensures) c.take.ensures
 
 pub returns : goal.returns
 returns c = taken_last _ _ _ _ c.loop-place.invariant (omega (arith, c.loop-place-test.false, c.len-place-end.ensures))

@@ -36,7 +36,8 @@ unreachable-requires-in-Err-Limit g c = rw c.in-Err-Limit.field-0-is at c.in-Err
 
 pub loop-place-preserved : goal.loop-place-preserved
 loop-place-preserved g c = record {
-  fired = fired-more _ _ _ _ _ _ _ _ _ _ _ _ _ _ c.loop-place.invariant.fired c.get-mv.ensures c.in-Ok.ensures.does c.drained.ensures c.saw.ensures.counted c.with_event-fired.ensures;
+  fired = fired-more _ _ _ _ _ _ _ _ _ _ _ _ _ _ c.loop-place.invariant.fired c.get-mv.ensures c.in-Ok.ensures.does c.drained.ensures c.saw.ensures.counted
+      c.with_event-fired.ensures;
   input = c.in-Ok.ensures.input.still ∙ c.loop-place.invariant.input;
   output = c.in-Ok.ensures.output.still ∙ c.loop-place.invariant.output;
 }

@@ -9,14 +9,17 @@ pub returns-in-Some-clause-turns : goal.returns-in-Some-clause-turns
 returns-in-Some-clause-turns g c = turned-over _ _ _ _ c.in-Some.ensures
 
 pub returns-in-Some-clause-input : goal.returns-in-Some-clause-input
-returns-in-Some-clause-input g c = rw (over-read c.args.limit c.args.core.now.state c.in-Some.clocked c.in-Some.ensures) (record { never_falls = omega arith; rose = tt; still = refl })
+returns-in-Some-clause-input g c = rw (over-read c.args.limit c.args.core.now.state c.in-Some.clocked c.in-Some.ensures)
+    (record { never_falls = omega arith; rose = tt; still = refl })
 
 pub returns-in-Some-clause-output : goal.returns-in-Some-clause-output
-returns-in-Some-clause-output g c = rw (over-written c.args.limit c.args.core.now.state c.in-Some.clocked c.in-Some.ensures) (record { never_falls = omega arith; rose = tt; still = refl })
+returns-in-Some-clause-output g c = rw (over-written c.args.limit c.args.core.now.state c.in-Some.clocked c.in-Some.ensures)
+    (record { never_falls = omega arith; rose = tt; still = refl })
 
 pub returns-clause-turns : goal.returns-clause-turns
 returns-clause-turns g c =
-    turned _ _ _ _ _ _ _ _ _ c.in_default.ensures (offers _ _ _ _ c.layout.ensures.facts c.offer.ensures.offered c.choose.ensures.round c.choose.ensures.is_round c.choose.ensures.some) c.fire.ensures.fires c.finish_with.ensures
+    turned _ _ _ _ _ _ _ _ _ c.in_default.ensures (offers _ _ _ _ c.layout.ensures.facts c.offer.ensures.offered c.choose.ensures.round
+    c.choose.ensures.is_round c.choose.ensures.some) c.fire.ensures.fires c.finish_with.ensures
 
 pub returns-clause-input : goal.returns-clause-input
 returns-clause-input g c = rw (c.finish_with.ensures, turned-read c.fire.result) c.fire.ensures.input

@@ -10,8 +10,10 @@ use Rattle.cf_rounds.proofs.running.run_rounds.Goals as goal
 pub loop-clocked-init : goal.loop-clocked-init
 loop-clocked-init g c = record {
   comes = comes-first _ _ _ _ c.requires.tally
-      (subst (λ (stages : ℕ). HasCounted stages 0 c.new-pace.result) (c.stages.ensures.stages ∙ ap (λ (plan : Plan). plan.stages) c.layout.ensures.layout) c.new-pace.ensures)
-      c.requires.rounds c.requires.retired (over-opened _ _ c.requires.opened.hart c.known.ensures.accepted (opened_wide _ c.requires.opened c.known.ensures.registers) c.requires.opened.is);
+      (subst (λ (stages : ℕ). HasCounted stages 0 c.new-pace.result) (c.stages.ensures.stages
+      ∙ ap (λ (plan : Plan). plan.stages) c.layout.ensures.layout) c.new-pace.ensures)
+      c.requires.rounds c.requires.retired (over-opened _ _ c.requires.opened.hart c.known.ensures.accepted
+      (opened_wide _ c.requires.opened c.known.ensures.registers) c.requires.opened.is);
   input = refl;
   output = refl;
 }
@@ -20,7 +22,8 @@ pub advance-end-requires-clause-counted : goal.advance-end-requires-clause-count
 advance-end-requires-clause-counted g c = comes-counted _ _ _ _ _ c.loop-clocked.invariant.comes
 
 pub advance-end-requires-clause-some : goal.advance-end-requires-clause-some
-advance-end-requires-clause-some g c = comes-offered _ _ _ _ _ c.known.ensures.accepted c.known.ensures.registers c.requires.opened c.loop-clocked.invariant.comes
+advance-end-requires-clause-some g c = comes-offered _ _ _ _ _ c.known.ensures.accepted c.known.ensures.registers c.requires.opened
+    c.loop-clocked.invariant.comes
 
 pub advance-end-requires-clause-moves : goal.advance-end-requires-clause-moves
 advance-end-requires-clause-moves g c =
@@ -51,13 +54,16 @@ returns-in-Some-clause-run g c =
     record { runs = runs; sequential = rounds-sequential _ _ _ _ _ c.known.ensures.accepted c.known.ensures.registers runs }
 
 pub returns-in-Some-clause-ends : goal.returns-in-Some-clause-ends
-returns-in-Some-clause-ends g c = rounds-end _ _ _ _ _ _ _ _ c.known.ensures.accepted c.known.ensures.registers c.loop-clocked.invariant.comes c.in-Some.ensures.turns
+returns-in-Some-clause-ends g c = rounds-end _ _ _ _ _ _ _ _ c.known.ensures.accepted c.known.ensures.registers c.loop-clocked.invariant.comes
+    c.in-Some.ensures.turns
 
 pub returns-in-Some-clause-bounded : goal.returns-in-Some-clause-bounded
-returns-in-Some-clause-bounded g c = end-bounded _ _ _ _ _ _ _ _ c.known.ensures.accepted c.known.ensures.registers c.requires.opened c.loop-clocked.invariant.comes c.in-Some.ensures.turns
+returns-in-Some-clause-bounded g c = end-bounded _ _ _ _ _ _ _ _ c.known.ensures.accepted c.known.ensures.registers c.requires.opened
+    c.loop-clocked.invariant.comes c.in-Some.ensures.turns
 
 pub loop-clocked-smaller : goal.loop-clocked-smaller
-loop-clocked-smaller g c = comes-closer _ _ _ _ _ _ _ c.known.ensures.accepted c.known.ensures.registers c.requires.opened c.loop-clocked.invariant.comes c.in_default.ensures.turns
+loop-clocked-smaller g c = comes-closer _ _ _ _ _ _ _ c.known.ensures.accepted c.known.ensures.registers c.requires.opened c.loop-clocked.invariant.comes
+    c.in_default.ensures.turns
 
 pub loop-clocked-preserved : goal.loop-clocked-preserved
 loop-clocked-preserved g c = record {

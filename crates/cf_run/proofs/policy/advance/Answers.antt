@@ -12,13 +12,16 @@ pub returns-in-Some-clause-turns : goal.returns-in-Some-clause-turns
 returns-in-Some-clause-turns g c = over-stops _ _ _ _ _ _ _ c.in-Some.ensures
 
 pub returns-in-Some-clause-input : goal.returns-in-Some-clause-input
-returns-in-Some-clause-input g c = rw (over-read c.args.limit c.args.core.now.state c.in-Some.ran c.in-Some.ensures) (record { never_falls = omega arith; rose = tt; still = refl })
+returns-in-Some-clause-input g c = rw (over-read c.args.limit c.args.core.now.state c.in-Some.ran c.in-Some.ensures)
+    (record { never_falls = omega arith; rose = tt; still = refl })
 
 pub returns-in-Some-clause-output : goal.returns-in-Some-clause-output
-returns-in-Some-clause-output g c = rw (over-written c.args.limit c.args.core.now.state c.in-Some.ran c.in-Some.ensures) (record { never_falls = omega arith; rose = tt; still = refl })
+returns-in-Some-clause-output g c = rw (over-written c.args.limit c.args.core.now.state c.in-Some.ran c.in-Some.ensures)
+    (record { never_falls = omega arith; rose = tt; still = refl })
 
 pub returns-in-Some-clause-report : goal.returns-in-Some-clause-report
-returns-in-Some-clause-report g c = rw (over-reported c.args.limit c.args.core.now.state c.in-Some.ran c.in-Some.ensures) (record { never_falls = omega arith; rose = tt; still = refl })
+returns-in-Some-clause-report g c = rw (over-reported c.args.limit c.args.core.now.state c.in-Some.ran c.in-Some.ensures)
+    (record { never_falls = omega arith; rose = tt; still = refl })
 
 pub returns-in-Ok-clause-turns : goal.returns-in-Ok-clause-turns
 returns-in-Ok-clause-turns g c = record {
@@ -29,14 +32,17 @@ returns-in-Ok-clause-turns g c = record {
 
 pub returns-in-Ok-clause-input_asked : goal.returns-in-Ok-clause-input_asked
 returns-in-Ok-clause-input_asked g c = λ unasked.
-    c.make_and_show.ensures.input_asked (λ asked. unasked (record { goes = c.in_default.ensures; move = _; choice_is = sym c.choose-mv.ensures.choice; asked = asked }))
+    c.make_and_show.ensures.input_asked
+    (λ asked. unasked (record { goes = c.in_default.ensures; move = _; choice_is = sym c.choose-mv.ensures.choice; asked = asked }))
 
 pub returns-in-Ok-clause-output_asked : goal.returns-in-Ok-clause-output_asked
 returns-in-Ok-clause-output_asked g c = λ unasked.
-    c.make_and_show.ensures.output_asked (λ asked. unasked (record { goes = c.in_default.ensures; move = _; choice_is = sym c.choose-mv.ensures.choice; asked = asked }))
+    c.make_and_show.ensures.output_asked
+    (λ asked. unasked (record { goes = c.in_default.ensures; move = _; choice_is = sym c.choose-mv.ensures.choice; asked = asked }))
 
 pub returns-in-Err-clause-turns : goal.returns-in-Err-clause-turns
-returns-in-Err-clause-turns g c = chosen-stops _ _ _ _ _ _ _ _ _ _ c.in_default.ensures (sym c.choose-mv.ensures.choice) c.choose-mv.ensures.onward c.in-Err.ensures.does
+returns-in-Err-clause-turns g c = chosen-stops _ _ _ _ _ _ _ _ _ _ c.in_default.ensures (sym c.choose-mv.ensures.choice) c.choose-mv.ensures.onward
+    c.in-Err.ensures.does
 
 pub returns-in-Err-clause-input : goal.returns-in-Err-clause-input
 returns-in-Err-clause-input g c = rw (stopped-read c.in-Err.ran) c.in-Err.ensures.input
@@ -49,8 +55,10 @@ returns-in-Err-clause-report g c = rw (stopped-reported c.in-Err.ran) c.in-Err.e
 
 pub returns-in-Err-clause-input_asked : goal.returns-in-Err-clause-input_asked
 returns-in-Err-clause-input_asked g c = λ unasked.
-    c.in-Err.ensures.input_asked (λ asked. unasked (record { goes = c.in_default.ensures; move = _; choice_is = sym c.choose-mv.ensures.choice; asked = asked }))
+    c.in-Err.ensures.input_asked
+    (λ asked. unasked (record { goes = c.in_default.ensures; move = _; choice_is = sym c.choose-mv.ensures.choice; asked = asked }))
 
 pub returns-in-Err-clause-output_asked : goal.returns-in-Err-clause-output_asked
 returns-in-Err-clause-output_asked g c = λ unasked.
-    c.in-Err.ensures.output_asked (λ asked. unasked (record { goes = c.in_default.ensures; move = _; choice_is = sym c.choose-mv.ensures.choice; asked = asked }))
+    c.in-Err.ensures.output_asked
+    (λ asked. unasked (record { goes = c.in_default.ensures; move = _; choice_is = sym c.choose-mv.ensures.choice; asked = asked }))

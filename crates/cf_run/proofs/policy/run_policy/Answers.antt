@@ -9,7 +9,8 @@ use Rattle.cf_run.proofs.policy.run_policy.Goals as goal
 
 pub loop-ran-init : goal.loop-ran-init
 loop-ran-init g c = record {
-  comes = comes-first _ _ _ _ _ _ _ _ c.requires.tally (c.stages.ensures.stages ∙ ap (λ (plan : Plan). plan.stages) c.layout.ensures.layout) c.new-pace.ensures.1;
+  comes = comes-first _ _ _ _ _ _ _ _ c.requires.tally (c.stages.ensures.stages ∙ ap (λ (plan : Plan). plan.stages) c.layout.ensures.layout)
+      c.new-pace.ensures.1;
   stages = c.new-pace.ensures.0 ∙ c.stages.ensures.stages ∙ ap (λ (plan : Plan). plan.stages) c.layout.ensures.layout;
   input_asked = λ unasked. refl;
   output_asked = λ unasked. refl;
@@ -20,11 +21,13 @@ loop-ran-init g c = record {
 }
 
 pub advance-end-requires-clause-some : goal.advance-end-requires-clause-some
-advance-end-requires-clause-some g c = comes-offered _ _ _ _ _ _ _ _ _ c.known.ensures.accepted c.known.ensures.registers c.requires.begins.is_opened c.loop-ran.invariant.comes
+advance-end-requires-clause-some g c = comes-offered _ _ _ _ _ _ _ _ _ c.known.ensures.accepted c.known.ensures.registers c.requires.begins.is_opened
+    c.loop-ran.invariant.comes
 
 pub advance-end-requires-clause-counts : goal.advance-end-requires-clause-counts
 advance-end-requires-clause-counts g c =
-    let few = comes-counted _ _ _ _ _ _ _ _ _ c.known.ensures.accepted c.known.ensures.registers c.requires.begins.is_opened c.loop-ran.invariant.comes c.loop-ran.invariant.within c.requires.begins.limit_allowed in
+    let few = comes-counted _ _ _ _ _ _ _ _ _ c.known.ensures.accepted c.known.ensures.registers c.requires.begins.is_opened c.loop-ran.invariant.comes
+    c.loop-ran.invariant.within c.requires.begins.limit_allowed in
     can-count _ _ _ _ c.loop-ran.invariant.comes.reached (omega (arith, few))
 
 pub returns-in-Some-clause-run : goal.returns-in-Some-clause-run
@@ -43,14 +46,18 @@ returns-in-Some-clause-asked g c =
     c.loop-ran.invariant.input_asked c.in-Some.ensures.input_asked c.loop-ran.invariant.output_asked c.in-Some.ensures.output_asked
 
 pub loop-ran-smaller : goal.loop-ran-smaller
-loop-ran-smaller g c = comes-nearer _ _ _ _ _ _ _ _ _ _ _ c.known.ensures.accepted c.known.ensures.registers c.requires.begins.is_opened c.loop-ran.invariant.comes c.in_default.ensures.turns
+loop-ran-smaller g c = comes-nearer _ _ _ _ _ _ _ _ _ _ _ c.known.ensures.accepted c.known.ensures.registers c.requires.begins.is_opened
+    c.loop-ran.invariant.comes c.in_default.ensures.turns
 
 pub loop-ran-preserved : goal.loop-ran-preserved
 loop-ran-preserved g c = record {
   comes = comes-more _ _ _ _ _ _ _ _ _ _ _ c.loop-ran.invariant.comes c.in_default.ensures.turns;
-  stages = c.in_default.ensures.stages ∙ c.loop-ran.invariant.stages ∙ ap (λ (plan : Plan). plan.stages) (sym (turned-plan _ _ _ _ _ _ _ _ c.in_default.ensures.turns));
-  input_asked = unasked-comes _ _ AsksInput _ _ _ _ _ _ _ _ _ c.loop-ran.invariant.comes c.in_default.ensures.turns _ _ _ c.loop-ran.invariant.input_asked c.in_default.ensures.input_asked;
-  output_asked = unasked-comes _ _ AsksOutput _ _ _ _ _ _ _ _ _ c.loop-ran.invariant.comes c.in_default.ensures.turns _ _ _ c.loop-ran.invariant.output_asked c.in_default.ensures.output_asked;
+  stages = c.in_default.ensures.stages ∙ c.loop-ran.invariant.stages ∙ ap (λ (plan : Plan). plan.stages)
+      (sym (turned-plan _ _ _ _ _ _ _ _ c.in_default.ensures.turns));
+  input_asked = unasked-comes _ _ AsksInput _ _ _ _ _ _ _ _ _ c.loop-ran.invariant.comes c.in_default.ensures.turns _ _ _ c.loop-ran.invariant.input_asked
+      c.in_default.ensures.input_asked;
+  output_asked = unasked-comes _ _ AsksOutput _ _ _ _ _ _ _ _ _ c.loop-ran.invariant.comes c.in_default.ensures.turns _ _ _ c.loop-ran.invariant.output_asked
+      c.in_default.ensures.output_asked;
   within = turned-within _ _ _ _ _ _ _ _ c.in_default.ensures.turns;
   input = c.in_default.ensures.input.still ∙ c.loop-ran.invariant.input;
   output = c.in_default.ensures.output.still ∙ c.loop-ran.invariant.output;

@@ -8,20 +8,27 @@ returns-in-Ok-clause-turns g c =
 
 pub returns-in-Ok-clause-input_asked : goal.returns-in-Ok-clause-input_asked
 returns-in-Ok-clause-input_asked g c = λ unasked.
-    c.in-Ok.ensures.input_asked (λ asked. unasked (record { goes = c.in_default.ensures; line = _; move = _; next = sym (rw c.in-Ok-Some.field-0-is at c.in-Ok-Some.ensures.next); asked = asked }))
+    c.in-Ok.ensures.input_asked
+    (λ asked. unasked (record
+    { goes = c.in_default.ensures; line = _; move = _; next = sym (rw c.in-Ok-Some.field-0-is at c.in-Ok-Some.ensures.next); asked = asked }))
 
 pub returns-in-Ok-clause-output_asked : goal.returns-in-Ok-clause-output_asked
 returns-in-Ok-clause-output_asked g c = λ unasked.
-    c.in-Ok.ensures.output_asked (λ asked. unasked (record { goes = c.in_default.ensures; line = _; move = _; next = sym (rw c.in-Ok-Some.field-0-is at c.in-Ok-Some.ensures.next); asked = asked }))
+    c.in-Ok.ensures.output_asked
+    (λ asked. unasked (record
+    { goes = c.in_default.ensures; line = _; move = _; next = sym (rw c.in-Ok-Some.field-0-is at c.in-Ok-Some.ensures.next); asked = asked }))
 
 pub returns-in-Err-make_and_show-clause-turns : goal.returns-in-Err-make_and_show-clause-turns
 returns-in-Err-make_and_show-clause-turns g c =
-    turned-stopped _ _ _ _ _ _ _ c.in_default.ensures (sym (rw c.in-Ok-Some.field-0-is at c.in-Ok-Some.ensures.next)) c.next.ensures.left c.in-Err-make_and_show.ensures.does
+    turned-stopped _ _ _ _ _ _ _ c.in_default.ensures (sym (rw c.in-Ok-Some.field-0-is at c.in-Ok-Some.ensures.next)) c.next.ensures.left
+    c.in-Err-make_and_show.ensures.does
 
 pub returns-in-Err-make_and_show-clause-input_asked : goal.returns-in-Err-make_and_show-clause-input_asked
 returns-in-Err-make_and_show-clause-input_asked g c = λ unasked.
-    c.in-Err-make_and_show.ensures.input_asked (λ asked. unasked (record { goes = c.in_default.ensures; line = _; move = _; next = sym (rw c.in-Ok-Some.field-0-is at c.in-Ok-Some.ensures.next); asked = asked }))
+    c.in-Err-make_and_show.ensures.input_asked (λ asked. unasked
+    (record { goes = c.in_default.ensures; line = _; move = _; next = sym (rw c.in-Ok-Some.field-0-is at c.in-Ok-Some.ensures.next); asked = asked }))
 
 pub returns-in-Err-make_and_show-clause-output_asked : goal.returns-in-Err-make_and_show-clause-output_asked
 returns-in-Err-make_and_show-clause-output_asked g c = λ unasked.
-    c.in-Err-make_and_show.ensures.output_asked (λ asked. unasked (record { goes = c.in_default.ensures; line = _; move = _; next = sym (rw c.in-Ok-Some.field-0-is at c.in-Ok-Some.ensures.next); asked = asked }))
+    c.in-Err-make_and_show.ensures.output_asked (λ asked. unasked
+    (record { goes = c.in_default.ensures; line = _; move = _; next = sym (rw c.in-Ok-Some.field-0-is at c.in-Ok-Some.ensures.next); asked = asked }))

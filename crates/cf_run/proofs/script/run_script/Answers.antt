@@ -27,8 +27,10 @@ loop-end-preserved g c =
     let tries = c.in_default.ensures.turns in
     record {
       followed = followed-more _ _ _ _ _ c.loop-end.invariant.followed tries;
-      input_asked = unasked-more AsksInput _ _ _ _ _ c.loop-end.invariant.followed c.in_default.ensures.turns _ _ _ c.loop-end.invariant.input_asked c.in_default.ensures.input_asked;
-      output_asked = unasked-more AsksOutput _ _ _ _ _ c.loop-end.invariant.followed c.in_default.ensures.turns _ _ _ c.loop-end.invariant.output_asked c.in_default.ensures.output_asked;
+      input_asked = unasked-more AsksInput _ _ _ _ _ c.loop-end.invariant.followed c.in_default.ensures.turns _ _ _ c.loop-end.invariant.input_asked
+          c.in_default.ensures.input_asked;
+      output_asked = unasked-more AsksOutput _ _ _ _ _ c.loop-end.invariant.followed c.in_default.ensures.turns _ _ _ c.loop-end.invariant.output_asked
+          c.in_default.ensures.output_asked;
       within = tried-within _ _ _ _ tries;
       few = λ some. few-more _ _ _ _ c.loop-end.invariant.few (c.in_default.ensures.few refl) (tried-left _ _ _ _ tries) (tried-counted _ _ _ _ tries);
       input = c.in_default.ensures.input.still ∙ c.loop-end.invariant.input;
@@ -45,8 +47,10 @@ returns-in-Some-clause-asked g c = record {
 
 pub returns-in-Some-clause-sequential : goal.returns-in-Some-clause-sequential
 returns-in-Some-clause-sequential g c =
-    runs-sequentially _ _ _ _ _ c.known.ensures.accepted c.known.ensures.registers (record { now = _; follows = c.loop-end.invariant.followed; stops = c.in-Some.ensures.turns })
+    runs-sequentially _ _ _ _ _ c.known.ensures.accepted c.known.ensures.registers (record
+    { now = _; follows = c.loop-end.invariant.followed; stops = c.in-Some.ensures.turns })
 
 pub returns-in-Some-clause-ends : goal.returns-in-Some-clause-ends
 returns-in-Some-clause-ends g c =
-    script-ends-sequentially _ _ _ _ _ c.known.ensures.accepted c.known.ensures.registers (record { now = _; follows = c.loop-end.invariant.followed; stops = c.in-Some.ensures.turns })
+    script-ends-sequentially _ _ _ _ _ c.known.ensures.accepted c.known.ensures.registers (record
+    { now = _; follows = c.loop-end.invariant.followed; stops = c.in-Some.ensures.turns })

@@ -8,7 +8,8 @@ unfolding shown
 returns-in_err-put_retirement-in-Moves g c =
     let bad = c.from_residual-in_err-put_retirement-in-Moves.ensures.0 in
     let moved = has-more c.in_ok-put_move-in-Moves.was (put-nothing _ _) c.put_move.ensures in
-    rw c.in-Moves.is (failed-more _ _ bad (has-last moved (has-failed _ c.in_err-put_retirement-in-Moves.was bad (rw c.retired-in-Moves.ensures at c.put_retirement-in-Moves.ensures))))
+    rw c.in-Moves.is (failed-more _ _ bad (has-last moved (has-failed _ c.in_err-put_retirement-in-Moves.was bad
+    (rw c.retired-in-Moves.ensures at c.put_retirement-in-Moves.ensures))))
 
 pub returns-in_ok-put_retirement-in-Moves : goal.returns-in_ok-put_retirement-in-Moves
 unfolding shown

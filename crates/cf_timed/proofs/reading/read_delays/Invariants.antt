@@ -8,7 +8,8 @@ use Rattle.cf_timed.proofs.reading.read_delays.Given as goal
 
 -- the lines that are left give, besides what was given, what the text gives
 abbrev pub invariant-loop-rest : goal.invariant-loop-rest
-invariant-loop-rest l = (l.above + length l.rest ≤ most_delays) × (lines_told l.above l.named (text_lines l.rest) ≡ lines_told 0 unnamed (text_lines l.text)) × All (λ told. IfSome told IsDelay) l.named
+invariant-loop-rest l = (l.above + length l.rest ≤ most_delays) × (lines_told l.above l.named (text_lines l.rest) ≡ lines_told 0 unnamed (text_lines l.text))
+    × All (λ told. IfSome told IsDelay) l.named
 
 abbrev pub decreases-loop-rest : goal.decreases-loop-rest
 decreases-loop-rest l = length l.rest

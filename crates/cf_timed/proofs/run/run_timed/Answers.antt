@@ -7,8 +7,10 @@ use Rattle.cf_timed.proofs.run.run_timed.Goals as goal
 pub returns-clause-run : goal.returns-clause-run
 returns-clause-run g c =
     let ran = c.run_unreported-ran.ensures.run in
-    rw (← ran.counted) (runs-timed c.args.clock.now.delays c.args.limit c.args.core.now c.run_unreported-ran.new.core _ _ ran.tally c.new-timing.result c.run_unreported-ran.new.policy c.run_unreported-ran.result c.timed.result c.clock_after.result
-    c.known.ensures.accepted c.known.ensures.registers c.requires.begins.can_run.is_opened c.known-2.ensures c.requires.begins.can_run.limit_allowed c.requires.begins.can_run.within ran.reports
+    rw (← ran.counted) (runs-timed c.args.clock.now.delays c.args.limit c.args.core.now c.run_unreported-ran.new.core _ _ ran.tally c.new-timing.result
+    c.run_unreported-ran.new.policy c.run_unreported-ran.result c.timed.result c.clock_after.result
+    c.known.ensures.accepted c.known.ensures.registers c.requires.begins.can_run.is_opened c.known-2.ensures c.requires.begins.can_run.limit_allowed
+    c.requires.begins.can_run.within ran.reports
     (c.new-timing.ensures ∙ ap (λ (k : SiteTimes). let p : PendingMove = record { clock = k; last = None } in p) c.requires.begins.clock_is)
     ran.right ran.ends (c.timed.ensures ran.reports) c.clock_after.ensures)
 

@@ -52,7 +52,12 @@ returns-in-Ok-Asm-clause-decided g c =
     record {
       reading = Ok (asm c.in-Ok-Asm.source.now);
       reads = rw c.in-Ok-Asm.field-0-is at c.in-Ok-Asm.ensures.answers;
-      comes = ([], _, rw c.put_answer-in-Ok-Asm.ensures.status (c.assemble_program-answer.ensures.answers, refl), shows-none _ _ _ _ c.put_answer-in-Ok-Asm.ensures.puts);
+      comes = (
+        [],
+        _,
+        rw c.put_answer-in-Ok-Asm.ensures.status (c.assemble_program-answer.ensures.answers, refl),
+        shows-none _ _ _ _ c.put_answer-in-Ok-Asm.ensures.puts,
+      );
     }
 
 pub returns-in-Ok-List-clause-decided : goal.returns-in-Ok-List-clause-decided
@@ -60,7 +65,12 @@ returns-in-Ok-List-clause-decided g c =
     record {
       reading = Ok (listing c.in-Ok-List.program.now);
       reads = rw c.in-Ok-List.field-0-is at c.in-Ok-List.ensures.answers;
-      comes = ([], _, rw c.put_answer-in-Ok-List.ensures.status (c.list_program-answer.ensures.answers, refl), shows-none _ _ _ _ c.put_answer-in-Ok-List.ensures.puts);
+      comes = (
+        [],
+        _,
+        rw c.put_answer-in-Ok-List.ensures.status (c.list_program-answer.ensures.answers, refl),
+        shows-none _ _ _ _ c.put_answer-in-Ok-List.ensures.puts,
+      );
     }
 
 pub returns-in-Ok-Gen-default-false-clause-decided : goal.returns-in-Ok-Gen-default-false-clause-decided
@@ -69,7 +79,12 @@ returns-in-Ok-Gen-default-false-clause-decided g c =
       reading = Ok (gen c.in-Ok-Gen-default-false.number false);
       reads = rw (c.in-Ok-Gen-default-false.field-0-is, c.in-Ok-Gen-default-false.field-0-1-test) at
           c.in-Ok-Gen-default-false.ensures.answers;
-      comes = ([], _, rw c.put_answer-in-Ok-Gen-default-false.ensures.status (record { put = c.put_drawn-answer.ensures.comes; files = refl; input = refl }), shows-none _ _ _ _ c.put_answer-in-Ok-Gen-default-false.ensures.puts);
+      comes = (
+        [],
+        _,
+        rw c.put_answer-in-Ok-Gen-default-false.ensures.status (record { put = c.put_drawn-answer.ensures.comes; files = refl; input = refl }),
+        shows-none _ _ _ _ c.put_answer-in-Ok-Gen-default-false.ensures.puts,
+      );
     }
 
 pub returns-in-Ok-Help-clause-decided : goal.returns-in-Ok-Help-clause-decided
@@ -77,7 +92,12 @@ returns-in-Ok-Help-clause-decided g c =
     record {
       reading = Ok help;
       reads = rw c.in-Ok-Help.field-0-is at c.in-Ok-Help.ensures.answers;
-      comes = ([], _, rw c.put_answer-in-Ok-Help.ensures.status (record { put = c.put_text-answer.ensures.comes; files = refl; input = refl }), shows-none _ _ _ _ c.put_answer-in-Ok-Help.ensures.puts);
+      comes = (
+        [],
+        _,
+        rw c.put_answer-in-Ok-Help.ensures.status (record { put = c.put_text-answer.ensures.comes; files = refl; input = refl }),
+        shows-none _ _ _ _ c.put_answer-in-Ok-Help.ensures.puts,
+      );
     }
 
 pub returns-in-Ok-Version-clause-decided : goal.returns-in-Ok-Version-clause-decided
@@ -85,7 +105,12 @@ returns-in-Ok-Version-clause-decided g c =
     record {
       reading = Ok version;
       reads = rw c.in-Ok-Version.field-0-is at c.in-Ok-Version.ensures.answers;
-      comes = ([], _, rw c.put_answer-in-Ok-Version.ensures.status (record { put = c.put_text-answer-in-Ok-Version.ensures.comes; files = refl; input = refl }), shows-none _ _ _ _ c.put_answer-in-Ok-Version.ensures.puts);
+      comes = (
+        [],
+        _,
+        rw c.put_answer-in-Ok-Version.ensures.status (record { put = c.put_text-answer-in-Ok-Version.ensures.comes; files = refl; input = refl }),
+        shows-none _ _ _ _ c.put_answer-in-Ok-Version.ensures.puts,
+      );
     }
 
 pub returns-in-Ok-Audit-clause-decided : goal.returns-in-Ok-Audit-clause-decided
@@ -93,7 +118,12 @@ returns-in-Ok-Audit-clause-decided g c =
     record {
       reading = Ok (audit (layout_of c.in-Ok-Audit.layout) c.in-Ok-Audit.program.now c.in-Ok-Audit.trace.now);
       reads = rw c.in-Ok-Audit.field-0-is at c.in-Ok-Audit.ensures.answers;
-      comes = ([], _, rw c.put_answer-in-Ok-Audit.ensures.status (c.audit_trace-answer.ensures.answers, refl), shows-none _ _ _ _ c.put_answer-in-Ok-Audit.ensures.puts);
+      comes = (
+        [],
+        _,
+        rw c.put_answer-in-Ok-Audit.ensures.status (c.audit_trace-answer.ensures.answers, refl),
+        shows-none _ _ _ _ c.put_answer-in-Ok-Audit.ensures.puts,
+      );
     }
 
 pub returns-in-Err-clause-decided : goal.returns-in-Err-clause-decided
@@ -101,7 +131,12 @@ returns-in-Err-clause-decided g c =
     record {
       reading = Err c.in-Err.index;
       reads = c.in-Err.ensures.answers;
-      comes = ([], _, rw c.put_answer-in-Err.ensures.status (record { status_is = refl; files = refl; reports = c.bad_words.ensures; streams = refl }), shows-none _ _ _ _ c.put_answer-in-Err.ensures.puts);
+      comes = (
+        [],
+        _,
+        rw c.put_answer-in-Err.ensures.status (record { status_is = refl; files = refl; reports = c.bad_words.ensures; streams = refl }),
+        shows-none _ _ _ _ c.put_answer-in-Err.ensures.puts,
+      );
     }
 
 pub returns-in-Ok-Gen-default-true-clause-decided : goal.returns-in-Ok-Gen-default-true-clause-decided

@@ -20,7 +20,8 @@ pub loop-place-preserved : goal.loop-place-preserved
 loop-place-preserved g c =
     let after = pushed c.push.result c.is_err.result _ c.push.new.self.items c.in-Ok.layout c.push.ensures.items c.is_err.ensures.value c.if-is_err.false in
     let words = map layout_in (map string_bytes c.args.words.now) in (
-      subst (λ (plans : List Plan). AreLayoutsAt (take (c.loop-place.place + 1) words) (g.F.Files.told c.args.files.now) (g.F.Files.told c.layout_at.new.files) plans)
+      subst (λ (plans : List Plan). AreLayoutsAt (take (c.loop-place.place + 1) words) (g.F.Files.told c.args.files.now)
+          (g.F.Files.told c.layout_at.new.files) plans)
           (sym after) (read-next words _ c.loop-place.place _ c.in-Ok.layout _ _ _ c.word_at.ensures c.loop-place.invariant.0 c.in-Ok.ensures.ok),
       c.in-Ok.ensures.faults.still ∙ c.loop-place.invariant.1,
     )

@@ -7,7 +7,8 @@ use Rattle.cli_time.proofs.measuring.take_sites.Goals as goal
 
 pub returns-clause-takes : goal.returns-clause-takes
 returns-clause-takes c =
-    subst (λ (m : Measured). MeasuresRun c.args.clock.delays (record { limit = c.args.limit; sites = true }) c.args.core.now.plan c.args.core.now m) (sym c.measurement.ensures)
+    subst (λ (m : Measured). MeasuresRun c.args.clock.delays (record { limit = c.args.limit; sites = true }) c.args.core.now.plan c.args.core.now m)
+    (sym c.measurement.ensures)
     (takes-sites c.args.clock.delays c.args.limit c.args.core.now _ _ _ _ c.breakdown.result c.run_noted-answer.ensures.run refl refl refl c.breakdown.ensures)
 
 pub returns-clause-causes : goal.returns-clause-causes

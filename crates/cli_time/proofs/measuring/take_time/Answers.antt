@@ -7,7 +7,8 @@ use Rattle.cli_time.proofs.measuring.take_time.Goals as goal
 
 pub returns-clause-takes : goal.returns-clause-takes
 returns-clause-takes c =
-    subst (λ (m : Measured). MeasuresRun c.args.clock.delays (record { limit = c.args.limit; sites = false }) c.args.core.now.plan c.args.core.now m) (sym c.measurement.ensures)
+    subst (λ (m : Measured). MeasuresRun c.args.clock.delays (record { limit = c.args.limit; sites = false }) c.args.core.now.plan c.args.core.now m)
+    (sym c.measurement.ensures)
     (takes c.args.clock.delays (record { limit = c.args.limit; sites = false }) c.args.core.now _ _ _ c.run_timed-answer.ensures.run refl refl refl)
 
 pub returns-clause-causes : goal.returns-clause-causes

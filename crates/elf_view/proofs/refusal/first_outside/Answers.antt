@@ -8,7 +8,8 @@ use Rattle.elf_view.proofs.Tables.{length-entries, position_within}
 use Rattle.elf_view.proofs.refusal.first_outside.Goals as goal
 
 pub position-requires-clause-fits : goal.position-requires-clause-fits
-position-requires-clause-fits c = inl (let few = length-entries program_header 32 c.programs.result.file.now c.programs.result.at c.programs.result.left in omega (arith, few))
+position-requires-clause-fits c = inl (let few = length-entries program_header 32 c.programs.result.file.now c.programs.result.at c.programs.result.left in
+    omega (arith, few))
 
 pub returns-clause-index : goal.returns-clause-index
 returns-clause-index c =

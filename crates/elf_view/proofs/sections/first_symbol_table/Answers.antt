@@ -8,7 +8,8 @@ use Rattle.elf_view.proofs.Tables.{length-entries, position_within}
 use Rattle.elf_view.proofs.sections.first_symbol_table.Goals as goal
 
 pub position-requires-clause-fits : goal.position-requires-clause-fits
-position-requires-clause-fits c = inl (let few = length-entries section_header 40 c.sections.result.file.now c.sections.result.at c.sections.result.left in omega (arith, few))
+position-requires-clause-fits c = inl (let few = length-entries section_header 40 c.sections.result.file.now c.sections.result.at c.sections.result.left in
+    omega (arith, few))
 
 pub returns-clause-index : goal.returns-clause-index
 returns-clause-index c =

@@ -3,4 +3,5 @@ use Rattle.layout_file.specs.Text.{rest_text, quoted_name}
 use Rattle.layout_file.proofs.writing.push_more_names.Given as goal
 
 abbrev pub invariant-loop-class : goal.invariant-loop-class
-invariant-loop-class l = string_bytes l.text ++ rest_text (map quoted_name (drop l.class-index l.classes)) ≡ string_bytes l.initial.text ++ rest_text (map quoted_name l.classes)
+invariant-loop-class l = string_bytes l.text ++ rest_text (map quoted_name (drop l.class-index l.classes)) ≡ string_bytes l.initial.text
+    ++ rest_text (map quoted_name l.classes)

@@ -10,7 +10,8 @@ returns-in_err-put_line g c =
     let count : c.stages-below-end.result ≡ c.args.core.now.plan.stages =
     rw c.layout.ensures.layout at c.stages-below-end.ensures.stages in
     has-front _ c.in_err-put_line.was c.from_residual.ensures.0
-    (line-after c.args.core.now.plan c.args.core.now.state (move_at c.args.kind) 1 (c.loop-below.below + 1) c.loop-below.below _ (omega arith) (omega (arith, count)))
+    (line-after c.args.core.now.plan c.args.core.now.state (move_at c.args.kind) 1 (c.loop-below.below + 1) c.loop-below.below _ (omega arith)
+    (omega (arith, count)))
     c.loop-below.invariant (rw c.at.ensures at c.put_line.ensures)
 
 pub loop-below-preserved : goal.loop-below-preserved

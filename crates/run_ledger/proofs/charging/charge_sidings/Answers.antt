@@ -14,6 +14,7 @@ loop-k-preserved c =
           c.loop-k.charged c.loop-k.k c.plus_if.result c.loop-k.invariant.charged (omega (arith, size, c.loop-k-test.true))
           (c.plus_if.ensures
           ∙ ap (λ (b : Bool). plus_if b (get_or c.args.busy.now c.loop-k.k 0) c.args.ticks) c.uses_siding.ensures
-          ∙ ap (λ (n : ℕ). plus_if (uses_siding c.args.layout.now c.loop-k.k c.args.mv) n c.args.ticks) (sym (unwrap_or-slice_get c.args.busy.now c.loop-k.k 0)));
+          ∙ ap (λ (n : ℕ). plus_if (uses_siding c.args.layout.now c.loop-k.k c.args.mv) n c.args.ticks)
+          (sym (unwrap_or-slice_get c.args.busy.now c.loop-k.k 0)));
       size = set_length c.loop-k.charged c.loop-k.k c.plus_if.result ∙ size;
     }

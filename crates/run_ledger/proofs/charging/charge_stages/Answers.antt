@@ -14,6 +14,7 @@ loop-i-preserved c =
           c.loop-i.charged c.loop-i.i c.plus_if.result c.loop-i.invariant.charged (omega (arith, size, c.loop-i-test.true))
           (c.plus_if.ensures
           ∙ ap (λ (b : Bool). plus_if b (get_or c.args.busy.now c.loop-i.i 0) c.args.ticks) c.uses_stage.ensures
-          ∙ ap (λ (n : ℕ). plus_if (uses_stage c.args.layout.now c.loop-i.i c.args.mv) n c.args.ticks) (sym (unwrap_or-slice_get c.args.busy.now c.loop-i.i 0)));
+          ∙ ap (λ (n : ℕ). plus_if (uses_stage c.args.layout.now c.loop-i.i c.args.mv) n c.args.ticks)
+          (sym (unwrap_or-slice_get c.args.busy.now c.loop-i.i 0)));
       size = set_length c.loop-i.charged c.loop-i.i c.plus_if.result ∙ size;
     }

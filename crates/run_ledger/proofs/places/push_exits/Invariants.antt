@@ -9,6 +9,7 @@ use Rattle.run_ledger.proofs.places.push_exits.Given as goal
 -- those of the sidings that were gone over are there
 abbrev pub invariant-loop-k : goal.invariant-loop-k
 invariant-loop-k l = record {
-  places : l.places.items ≡ l.initial.places.items ++ map place_number (map (way_out l.layout) (filter (λ k. recover_stage l.layout k == l.i) (counted_from 0 l.k)));
+  places : l.places.items ≡ l.initial.places.items ++ map place_number (map (way_out l.layout)
+      (filter (λ k. recover_stage l.layout k == l.i) (counted_from 0 l.k)));
   few : length l.places.items ≤ length l.initial.places.items + l.k;
 }

@@ -11,14 +11,16 @@ pub returns-in-Err-clause-err : goal.returns-in-Err-clause-err
 returns-in-Err-clause-err c =
     refused c.loop-rest.above c.loop-rest.out c.cut_line.result.0.now (text_lines c.cut_line.result.1.now)
     (sections_from 0 (empty c.args.labels) (text_lines c.args.source.now)) c.in-Err.kind
-    (subst (λ lines. IsReached c.loop-rest.above c.loop-rest.out lines (sections_from 0 (empty c.args.labels) (text_lines c.args.source.now))) c.cut_line.ensures.lines c.loop-rest.invariant.reached)
+    (subst (λ lines. IsReached c.loop-rest.above c.loop-rest.out lines (sections_from 0 (empty c.args.labels) (text_lines c.args.source.now)))
+    c.cut_line.ensures.lines c.loop-rest.invariant.reached)
     (subst (λ text. IsRefusal c.in-Err.kind (line_pieces c.loop-rest.out.labels c.loop-rest.out.place text)) c.said.ensures.text c.in-Err.ensures.err)
 
 pub loop-rest-preserved : goal.loop-rest-preserved
 loop-rest-preserved c = record {
   reached = next-reached c.loop-rest.above c.loop-rest.out c.read.new.self c.cut_line.result.0.now (text_lines c.cut_line.result.1.now)
       (sections_from 0 (empty c.args.labels) (text_lines c.args.source.now))
-      (subst (λ lines. IsReached c.loop-rest.above c.loop-rest.out lines (sections_from 0 (empty c.args.labels) (text_lines c.args.source.now))) c.cut_line.ensures.lines c.loop-rest.invariant.reached)
+      (subst (λ lines. IsReached c.loop-rest.above c.loop-rest.out lines (sections_from 0 (empty c.args.labels) (text_lines c.args.source.now)))
+      c.cut_line.ensures.lines c.loop-rest.invariant.reached)
       (subst (λ text. IsFilled c.loop-rest.out text c.read.new.self) c.said.ensures.text c.in-Ok.ensures.ok);
   place = c.in-Ok.ensures.place;
   counted = omega (arith, c.loop-rest.invariant.counted, c.cut_line.ensures.shorter);

@@ -8,8 +8,10 @@ returns-then-is_some-clause-bytes c = refused _ _ _ _ _ _ _ _ c.self.view_is (gr
 
 pub invariant_of-self-2 : goal.invariant_of-self-2
 invariant_of-self-2 c =
-    compared-more _ _ _ _ _ _ _ _ _ c.self.view_is c.self.invariant (sym c.is_some.ensures ∙ c.if-is_some.false) c.rest.ensures c.common-same.ensures.within_one c.common-same.ensures.apart c.byte_at-self-inside.ensures
+    compared-more _ _ _ _ _ _ _ _ _ c.self.view_is c.self.invariant (sym c.is_some.ensures
+    ∙ c.if-is_some.false) c.rest.ensures c.common-same.ensures.within_one c.common-same.ensures.apart c.byte_at-self-inside.ensures
 
 pub returns-clause-bytes : goal.returns-clause-bytes
 returns-clause-bytes c =
-    taken _ _ _ _ _ _ _ _ _ _ c.self.view_is (sym c.is_some.ensures ∙ c.if-is_some.false) c.rest.ensures (grind (arith, nat_tests)) c.common-same.ensures.within_other c.common-same.ensures.same c.byte_at-self-inside.ensures c.min.ensures
+    taken _ _ _ _ _ _ _ _ _ _ c.self.view_is (sym c.is_some.ensures ∙ c.if-is_some.false) c.rest.ensures
+    (grind (arith, nat_tests)) c.common-same.ensures.within_other c.common-same.ensures.same c.byte_at-self-inside.ensures c.min.ensures

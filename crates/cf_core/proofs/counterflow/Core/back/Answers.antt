@@ -10,7 +10,8 @@ use Rattle.cf_core.proofs.counterflow.Core.back.Goals as goal
 
 pub put_back-requires : goal.put_back-requires
 put_back-requires c =
-    can-return c.self.inside.processor c.args.undo c.self.invariant.0 (subst (λ (p : Processor). HasJustMade p (kept_by c.args.undo)) (sym c.self.view_is) c.requires)
+    can-return c.self.inside.processor c.args.undo c.self.invariant.0 (subst (λ (p : Processor). HasJustMade p (kept_by c.args.undo))
+    (sym c.self.view_is) c.requires)
 
 pub touched-touched-requires-clause-facts : goal.touched-touched-requires-clause-facts
 touched-touched-requires-clause-facts c =
@@ -20,14 +21,17 @@ touched-touched-requires-clause-facts c =
 pub touched-touched-requires-clause-allowed : goal.touched-touched-requires-clause-allowed
 touched-touched-requires-clause-allowed c =
     let after = subst (λ (p : Processor). HasJustMade p (kept_by c.args.undo)) (sym c.self.view_is) c.requires in
-    rw c.moved.ensures (subst (λ (p : Processor). row_bar p.plan p.state (kept_by c.args.undo).move ≡ None) (sym c.put_back.ensures) (back-free c.self.inside.processor (kept_by c.args.undo) after))
+    rw c.moved.ensures (subst (λ (p : Processor). row_bar p.plan p.state (kept_by c.args.undo).move ≡ None) (sym c.put_back.ensures)
+    (back-free c.self.inside.processor (kept_by c.args.undo) after))
 
 pub remarked-self-inside-requires-clause-within : goal.remarked-self-inside-requires-clause-within
 remarked-self-inside-requires-clause-within c =
     let after = subst (λ (p : Processor). HasJustMade p (kept_by c.args.undo)) (sym c.self.view_is) c.requires in
     let p = c.self.inside.processor in
-    let at = c.touched-touched.ensures ∙ ap (λ (q : Processor). touched q.plan q.state c.moved.result) c.put_back.ensures ∙ ap (touched p.plan _) c.moved.ensures in
-    subst (λ (q : Processor). Within q.plan c.touched-touched.result) (sym c.put_back.ensures) (back-within p (kept_by c.args.undo) c.touched-touched.result after at)
+    let at = c.touched-touched.ensures ∙ ap (λ (q : Processor). touched q.plan q.state c.moved.result) c.put_back.ensures
+    ∙ ap (touched p.plan _) c.moved.ensures in
+    subst (λ (q : Processor). Within q.plan c.touched-touched.result) (sym c.put_back.ensures)
+    (back-within p (kept_by c.args.undo) c.touched-touched.result after at)
 
 pub remarked-self-inside-requires-clause-facts : goal.remarked-self-inside-requires-clause-facts
 remarked-self-inside-requires-clause-facts c =
@@ -38,7 +42,8 @@ pub invariant_of-self : goal.invariant_of-self
 invariant_of-self c =
     let after = subst (λ (p : Processor). HasJustMade p (kept_by c.args.undo)) (sym c.self.view_is) c.requires in
     let p = c.self.inside.processor in
-    let at = c.touched-touched.ensures ∙ ap (λ (q : Processor). touched q.plan q.state c.moved.result) c.put_back.ensures ∙ ap (touched p.plan _) c.moved.ensures in
+    let at = c.touched-touched.ensures ∙ ap (λ (q : Processor). touched q.plan q.state c.moved.result) c.put_back.ensures
+    ∙ ap (touched p.plan _) c.moved.ensures in
     let marks = back-marks p (kept_by c.args.undo) c.self.inside.marks c.touched-touched.result after c.self.invariant.1 at in (
       subst (λ (q : Processor). IsProcessor q.plan q.state) (sym c.put_back.ensures) (back-facts p (kept_by c.args.undo) after),
       c.remarked-self-inside.ensures

@@ -6,4 +6,5 @@ use Rattle.cf_core.proofs.counterflow.Core.before.Goals as goal
 
 pub undo_of-requires-clause-allowed : goal.undo_of-requires-clause-allowed
 undo_of-requires-clause-allowed c =
-    unbarred c.self.inside.processor.plan c.self.inside.processor.state c.args.m (subst (λ (p : Processor). bar p.plan p.state c.args.m ≡ None) (sym c.self.view_is) c.requires.allowed)
+    unbarred c.self.inside.processor.plan c.self.inside.processor.state c.args.m (subst (λ (p : Processor). bar p.plan p.state c.args.m ≡ None)
+    (sym c.self.view_is) c.requires.allowed)

@@ -9,11 +9,13 @@ use Rattle.cf_core.proofs.counterflow.Core.make.Goals as goal
 
 pub keeps_marks-keeps-requires-clause-allowed : goal.keeps_marks-keeps-requires-clause-allowed
 keeps_marks-keeps-requires-clause-allowed g c =
-    unbarred c.self.inside.processor.plan c.self.inside.processor.state c.args.m (subst (λ (p : Processor). bar p.plan p.state c.args.m ≡ None) (sym c.self.view_is) c.requires.allowed)
+    unbarred c.self.inside.processor.plan c.self.inside.processor.state c.args.m (subst (λ (p : Processor). bar p.plan p.state c.args.m ≡ None)
+    (sym c.self.view_is) c.requires.allowed)
 
 pub touched-touched-requires-clause-allowed : goal.touched-touched-requires-clause-allowed
 touched-touched-requires-clause-allowed g c =
-    unbarred c.self.inside.processor.plan c.self.inside.processor.state c.args.m (subst (λ (p : Processor). bar p.plan p.state c.args.m ≡ None) (sym c.self.view_is) c.requires.allowed)
+    unbarred c.self.inside.processor.plan c.self.inside.processor.state c.args.m (subst (λ (p : Processor). bar p.plan p.state c.args.m ≡ None)
+    (sym c.self.view_is) c.requires.allowed)
 
 pub remarked-self-inside-requires-clause-within : goal.remarked-self-inside-requires-clause-within
 remarked-self-inside-requires-clause-within g c =
@@ -28,7 +30,8 @@ invariant_of-self g c =
     let after = streams_of (g.S.Source.left c.make-made.new.input) (g.K.Sink.written c.make-made.new.output) in
     let free = subst (λ (p : Processor). bar p.plan p.state c.args.m ≡ None) (sym c.self.view_is) c.requires.allowed in (
       made-kept c.self.inside.processor c.make-made.new.self c.args.m before after c.make-made.result free c.make-made.ensures.makes c.self.invariant.0,
-      kept-marks c.self.inside.processor c.make-made.new.self c.self.inside.marks c.args.m before after c.make-made.result free c.make-made.ensures.makes c.self.invariant.1 (sym c.keeps_marks-keeps.ensures ∙ c.if-keeps.true),
+      kept-marks c.self.inside.processor c.make-made.new.self c.self.inside.marks c.args.m before after c.make-made.result free c.make-made.ensures.makes
+          c.self.invariant.1 (sym c.keeps_marks-keeps.ensures ∙ c.if-keeps.true),
     )
 
 pub invariant_of-self-2 : goal.invariant_of-self-2
@@ -37,5 +40,6 @@ invariant_of-self-2 g c =
     let after = streams_of (g.S.Source.left c.make-made.new.input) (g.K.Sink.written c.make-made.new.output) in
     let free = subst (λ (p : Processor). bar p.plan p.state c.args.m ≡ None) (sym c.self.view_is) c.requires.allowed in (
       made-kept c.self.inside.processor c.make-made.new.self c.args.m before after c.make-made.result free c.make-made.ensures.makes c.self.invariant.0,
-      c.remarked-self-inside.ensures ∙ made-marks c.self.inside.processor c.make-made.new.self c.self.inside.marks c.args.m before after c.make-made.result c.touched-touched.result c.self.invariant.0 free c.make-made.ensures.makes c.self.invariant.1 c.touched-touched.ensures,
+      c.remarked-self-inside.ensures ∙ made-marks c.self.inside.processor c.make-made.new.self c.self.inside.marks c.args.m before after c.make-made.result
+          c.touched-touched.result c.self.invariant.0 free c.make-made.ensures.makes c.self.invariant.1 c.touched-touched.ensures,
     )

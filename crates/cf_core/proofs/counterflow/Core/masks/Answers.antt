@@ -7,6 +7,7 @@ use Rattle.cf_core.proofs.counterflow.Core.masks.Goals as goal
 
 pub returns : goal.returns
 returns c =
-    masks-seen c.self.inside.processor c.processor.inside.stages c.self.inside.marks c.goes_on-goes_on.result _ _ _ _ _ _ c.self.invariant.1 c.goes_on-goes_on.ensures (ap (λ (p : Processor). p.state.cells) c.processor.view_is)
+    masks-seen c.self.inside.processor c.processor.inside.stages c.self.inside.marks c.goes_on-goes_on.result _ _ _ _ _ _ c.self.invariant.1
+    c.goes_on-goes_on.ensures (ap (λ (p : Processor). p.state.cells) c.processor.view_is)
     c.passengers.ensures c.packets.ensures c.met.ensures c.where_on.ensures c.where_on-2.ensures c.where_on-3.ensures
     ∙ ap (λ (p : Processor). masks_of p.plan p.state) c.self.view_is

@@ -12,23 +12,49 @@ returns-then-lane-lane_len-clause-taken c =
     let q = c.args.self.now in
     let p = c.issued_at-passenger.result in
     let full : q.plan.lane < length q.state.lane + length (requests p) =
-    omega (arith, c.lane.ensures, c.lane_len.ensures.count, c.count.ensures, ap length c.requests.ensures.requests, ap (λ (x : Processor). x.plan.lane) c.self.view_is, ap (λ (x : Processor). length x.state.lane) c.self.view_is) in
-    ap (λ (x : Issuable). x.taken) c.never.ensures ∙ issue-full q.plan q.state c.args.pc guess.Taken p c.requires.facts c.requires.runs c.requires.free c.issued_at-passenger.ensures.passenger full
+    omega (
+      arith,
+      c.lane.ensures,
+      c.lane_len.ensures.count,
+      c.count.ensures,
+      ap length c.requests.ensures.requests,
+      ap (λ (x : Processor). x.plan.lane) c.self.view_is,
+      ap (λ (x : Processor). length x.state.lane) c.self.view_is,
+    ) in
+    ap (λ (x : Issuable). x.taken) c.never.ensures ∙ issue-full q.plan q.state c.args.pc guess.Taken p c.requires.facts c.requires.runs c.requires.free
+    c.issued_at-passenger.ensures.passenger full
 
 pub returns-then-lane-lane_len-clause-wait : goal.returns-then-lane-lane_len-clause-wait
 returns-then-lane-lane_len-clause-wait c =
     let q = c.args.self.now in
     let p = c.issued_at-passenger.result in
     let full : q.plan.lane < length q.state.lane + length (requests p) =
-    omega (arith, c.lane.ensures, c.lane_len.ensures.count, c.count.ensures, ap length c.requests.ensures.requests, ap (λ (x : Processor). x.plan.lane) c.self.view_is, ap (λ (x : Processor). length x.state.lane) c.self.view_is) in
-    ap (λ (x : Issuable). x.wait) c.never.ensures ∙ issue-full q.plan q.state c.args.pc guess.Wait p c.requires.facts c.requires.runs c.requires.free c.issued_at-passenger.ensures.passenger full
+    omega (
+      arith,
+      c.lane.ensures,
+      c.lane_len.ensures.count,
+      c.count.ensures,
+      ap length c.requests.ensures.requests,
+      ap (λ (x : Processor). x.plan.lane) c.self.view_is,
+      ap (λ (x : Processor). length x.state.lane) c.self.view_is,
+    ) in
+    ap (λ (x : Issuable). x.wait) c.never.ensures ∙ issue-full q.plan q.state c.args.pc guess.Wait p c.requires.facts c.requires.runs c.requires.free
+    c.issued_at-passenger.ensures.passenger full
 
 pub returns-clause-next : goal.returns-clause-next
 returns-clause-next c =
     let q = c.args.self.now in
     let p = c.issued_at-passenger.result in
     let fits : length q.state.lane + length (requests p) ≤ q.plan.lane =
-    omega (arith, c.lane.ensures, c.lane_len.ensures.count, c.count.ensures, ap length c.requests.ensures.requests, ap (λ (x : Processor). x.plan.lane) c.self.view_is, ap (λ (x : Processor). length x.state.lane) c.self.view_is) in
+    omega (
+      arith,
+      c.lane.ensures,
+      c.lane_len.ensures.count,
+      c.count.ensures,
+      ap length c.requests.ensures.requests,
+      ap (λ (x : Processor). x.plan.lane) c.self.view_is,
+      ap (λ (x : Processor). length x.state.lane) c.self.view_is,
+    ) in
     issue-fits q.plan q.state c.args.pc guess.Next p c.requires.facts c.requires.runs c.requires.free c.issued_at-passenger.ensures.passenger fits
 
 pub returns-clause-taken : goal.returns-clause-taken
@@ -36,13 +62,31 @@ returns-clause-taken c =
     let q = c.args.self.now in
     let p = c.issued_at-passenger.result in
     let fits : length q.state.lane + length (requests p) ≤ q.plan.lane =
-    omega (arith, c.lane.ensures, c.lane_len.ensures.count, c.count.ensures, ap length c.requests.ensures.requests, ap (λ (x : Processor). x.plan.lane) c.self.view_is, ap (λ (x : Processor). length x.state.lane) c.self.view_is) in
-    c.may_guess.ensures ∙ issue-fits q.plan q.state c.args.pc guess.Taken p c.requires.facts c.requires.runs c.requires.free c.issued_at-passenger.ensures.passenger fits
+    omega (
+      arith,
+      c.lane.ensures,
+      c.lane_len.ensures.count,
+      c.count.ensures,
+      ap length c.requests.ensures.requests,
+      ap (λ (x : Processor). x.plan.lane) c.self.view_is,
+      ap (λ (x : Processor). length x.state.lane) c.self.view_is,
+    ) in
+    c.may_guess.ensures ∙ issue-fits q.plan q.state c.args.pc guess.Taken p c.requires.facts c.requires.runs c.requires.free
+    c.issued_at-passenger.ensures.passenger fits
 
 pub returns-clause-wait : goal.returns-clause-wait
 returns-clause-wait c =
     let q = c.args.self.now in
     let p = c.issued_at-passenger.result in
     let fits : length q.state.lane + length (requests p) ≤ q.plan.lane =
-    omega (arith, c.lane.ensures, c.lane_len.ensures.count, c.count.ensures, ap length c.requests.ensures.requests, ap (λ (x : Processor). x.plan.lane) c.self.view_is, ap (λ (x : Processor). length x.state.lane) c.self.view_is) in
-    c.may_guess-2.ensures ∙ issue-fits q.plan q.state c.args.pc guess.Wait p c.requires.facts c.requires.runs c.requires.free c.issued_at-passenger.ensures.passenger fits
+    omega (
+      arith,
+      c.lane.ensures,
+      c.lane_len.ensures.count,
+      c.count.ensures,
+      ap length c.requests.ensures.requests,
+      ap (λ (x : Processor). x.plan.lane) c.self.view_is,
+      ap (λ (x : Processor). length x.state.lane) c.self.view_is,
+    ) in
+    c.may_guess-2.ensures ∙ issue-fits q.plan q.state c.args.pc guess.Wait p c.requires.facts c.requires.runs c.requires.free
+    c.issued_at-passenger.ensures.passenger fits

@@ -27,11 +27,13 @@ pub old_op-requires-clause-cell : goal.old_op-requires-clause-cell
 old_op-requires-clause-cell c = there-cells _ _ _ _ c.requires.facts (sym c.in-Some.is ∙ c.siding_there.ensures)
 
 pub old_op-requires-in-Slide-clause-siding : goal.old_op-requires-in-Slide-clause-siding
-old_op-requires-in-Slide-clause-siding c = slide-number _ _ c.in-Slide.k c.in-Slide.c c.requires.facts (free_here c.args.self.now _ _ c.in-Slide.is c.requires.allowed)
+old_op-requires-in-Slide-clause-siding c = slide-number _ _ c.in-Slide.k c.in-Slide.c c.requires.facts
+    (free_here c.args.self.now _ _ c.in-Slide.is c.requires.allowed)
 
 pub old_op-requires-in-Slide-clause-cell : goal.old_op-requires-in-Slide-clause-cell
 old_op-requires-in-Slide-clause-cell c =
-    let within = slide-cells c.args.self.now.plan c.args.self.now.state c.in-Slide.k c.in-Slide.c (free_here c.args.self.now _ _ c.in-Slide.is c.requires.allowed) in
+    let within = slide-cells c.args.self.now.plan c.args.self.now.state c.in-Slide.k c.in-Slide.c
+    (free_here c.args.self.now _ _ c.in-Slide.is c.requires.allowed) in
     omega (arith, within)
 
 pub overflow_add-c : goal.overflow_add-c
@@ -40,10 +42,12 @@ overflow_add-c c =
     omega (arith, few)
 
 pub old_op-requires-in-Slide-2-clause-siding : goal.old_op-requires-in-Slide-2-clause-siding
-old_op-requires-in-Slide-2-clause-siding c = slide-number _ _ c.in-Slide.k c.in-Slide.c c.requires.facts (free_here c.args.self.now _ _ c.in-Slide.is c.requires.allowed)
+old_op-requires-in-Slide-2-clause-siding c = slide-number _ _ c.in-Slide.k c.in-Slide.c c.requires.facts
+    (free_here c.args.self.now _ _ c.in-Slide.is c.requires.allowed)
 
 pub old_op-requires-in-Slide-2-clause-cell : goal.old_op-requires-in-Slide-2-clause-cell
-old_op-requires-in-Slide-2-clause-cell c = slide-cells c.args.self.now.plan c.args.self.now.state c.in-Slide.k c.in-Slide.c (free_here c.args.self.now _ _ c.in-Slide.is c.requires.allowed)
+old_op-requires-in-Slide-2-clause-cell c = slide-cells c.args.self.now.plan c.args.self.now.state c.in-Slide.k c.in-Slide.c
+    (free_here c.args.self.now _ _ c.in-Slide.is c.requires.allowed)
 
 pub old_op-requires-in-Access-clause-siding : goal.old_op-requires-in-Access-clause-siding
 old_op-requires-in-Access-clause-siding c = rw c.port.ensures (port-number _ _ c.requires.facts)
@@ -54,7 +58,8 @@ old_op-requires-in-Access-clause-cell c =
     rw (c.cells_in.ensures, c.port.ensures, c.port-in-Access.ensures) (omega (arith, some))
 
 pub siding_there-requires-in-Recover-clause-above : goal.siding_there-requires-in-Recover-clause-above
-siding_there-requires-in-Recover-clause-above c = recover-low _ _ c.in-Recover.i c.requires.facts (free_here c.args.self.now _ _ c.in-Recover.is c.requires.allowed)
+siding_there-requires-in-Recover-clause-above c = recover-low _ _ c.in-Recover.i c.requires.facts
+    (free_here c.args.self.now _ _ c.in-Recover.is c.requires.allowed)
 
 pub siding_there-requires-in-Recover-clause-within : goal.siding_there-requires-in-Recover-clause-within
 siding_there-requires-in-Recover-clause-within c =

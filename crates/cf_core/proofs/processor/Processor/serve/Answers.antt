@@ -13,7 +13,8 @@ use Rattle.cf_core.proofs.Asked.{input-unasked, output-unasked}
 use Rattle.cf_core.proofs.processor.Processor.serve.Goals as goal
 
 pub returns-in-FenceI-clause-serves : goal.returns-in-FenceI-clause-serves
-returns-in-FenceI-clause-serves g c = fence-takes c.args.self.now c.synchronize.new.self c.in-Some.passenger c.in-FenceI.rd c.in-FenceI.rs1 c.in-FenceI.imm _ _ (grind arith) (grind arith) (grind arith) refl
+returns-in-FenceI-clause-serves g c = fence-takes c.args.self.now c.synchronize.new.self c.in-Some.passenger c.in-FenceI.rd c.in-FenceI.rs1 c.in-FenceI.imm _ _
+    (grind arith) (grind arith) (grind arith) refl
 
 pub returns-in_default-instruction-clause-serves : goal.returns-in_default-instruction-clause-serves
 returns-in_default-instruction-clause-serves g c =
@@ -21,7 +22,9 @@ returns-in_default-instruction-clause-serves g c =
     let calls : instruction c.in-Some.passenger ≡ Ecall = grind (arith, serial-calls) in
     let before : Streams = streams_of (g.S.Source.left c.args.input.now) (g.K.Sink.written c.args.output.now) in
     let after : Streams = streams_of (g.S.Source.left c.serve-served.new.input) (g.K.Sink.written c.serve-served.new.output) in
-    let serves : Serves c.self.inside.ends.regs c.self.inside.memory c.serve-served.new.mem before after c.serve-served.result = subst (λ (r : List ℕ). Serves r c.self.inside.memory c.serve-served.new.mem before after c.serve-served.result) c.regs.ensures.registers c.serve-served.ensures.serves in
+    let serves : Serves c.self.inside.ends.regs c.self.inside.memory c.serve-served.new.mem before after c.serve-served.result =
+    subst (λ (r : List ℕ). Serves r c.self.inside.memory c.serve-served.new.mem before after c.serve-served.result) c.regs.ensures.registers
+    c.serve-served.ensures.serves in
     call-takes c.args.self.now _ c.take.new.self c.in-Some.passenger c.serve-served.new.mem before after c.serve-served.result c.take.result here calls
     (subst (λ (p : Processor). Serves p.state.regs p.state.mem c.serve-served.new.mem before after c.serve-served.result) c.self.view_is serves)
     (ap (λ (p : Processor). with_memory p c.serve-served.new.mem) c.self.view_is) c.take.ensures.state c.take.ensures.told
@@ -32,7 +35,8 @@ returns-in_default-instruction-clause-input g c = (
   λ unasked.
       let here : passenger_at c.args.self.now.state.cells c.args.self.now.plan.stages ≡ Some c.in-Some.passenger = grind arith in
       let calls : instruction c.in-Some.passenger ≡ Ecall = grind (arith, serial-calls) in
-      let none : asks_input c.self.inside.ends.regs c.self.inside.memory ≡ false = subst (λ (p : Processor). asks_input p.state.regs p.state.mem ≡ false) (sym c.self.view_is) (input-unasked c.args.self.now c.in-Some.passenger here calls unasked) in
+      let none : asks_input c.self.inside.ends.regs c.self.inside.memory ≡ false = subst (λ (p : Processor). asks_input p.state.regs p.state.mem ≡ false)
+      (sym c.self.view_is) (input-unasked c.args.self.now c.in-Some.passenger here calls unasked) in
       c.serve-served.ensures.input_asked (rw c.regs.ensures.registers none),
 )
 
@@ -42,6 +46,7 @@ returns-in_default-instruction-clause-output g c = (
   λ unasked.
       let here : passenger_at c.args.self.now.state.cells c.args.self.now.plan.stages ≡ Some c.in-Some.passenger = grind arith in
       let calls : instruction c.in-Some.passenger ≡ Ecall = grind (arith, serial-calls) in
-      let none : asks_output c.self.inside.ends.regs c.self.inside.memory ≡ false = subst (λ (p : Processor). asks_output p.state.regs p.state.mem ≡ false) (sym c.self.view_is) (output-unasked c.args.self.now c.in-Some.passenger here calls unasked) in
+      let none : asks_output c.self.inside.ends.regs c.self.inside.memory ≡ false = subst (λ (p : Processor). asks_output p.state.regs p.state.mem ≡ false)
+      (sym c.self.view_is) (output-unasked c.args.self.now c.in-Some.passenger here calls unasked) in
       c.serve-served.ensures.output_asked (rw c.regs.ensures.registers none),
 )

@@ -5,7 +5,8 @@ use Rattle.cf_debug.proofs.feed.Feed.next.Goals as goal
 
 pub returns-then-not-is_used-clause-feeds : goal.returns-then-not-is_used-clause-feeds
 returns-then-not-is_used-clause-feeds g c =
-    feeds-used _ _ _ _ c.use_byte.ensures.byte c.use_byte.ensures.left (subst (λ (f : Feeding). length f.rest ≤ 4096) c.self.view_is (few_left _ _ _ c.self.invariant.1))
+    feeds-used _ _ _ _ c.use_byte.ensures.byte c.use_byte.ensures.left (subst (λ (f : Feeding). length f.rest ≤ 4096) c.self.view_is
+    (few_left _ _ _ c.self.invariant.1))
 
 pub returns-in-Ok-eq0-clause-feeds : goal.returns-in-Ok-eq0-clause-feeds
 returns-in-Ok-eq0-clause-feeds g c =
@@ -14,7 +15,8 @@ returns-in-Ok-eq0-clause-feeds g c =
 
 pub returns-in-Ok-clause-feeds : goal.returns-in-Ok-clause-feeds
 returns-in-Ok-clause-feeds g c =
-    feeds-taken _ _ _ _ _ _ (c.is_used.ensures.yes c.if-not-is_used.false) c.in-Ok.ensures.taken c.in-Ok.ensures.left c.in-Ok.ensures.few c.use_byte-in-Ok.ensures.byte c.use_byte-in-Ok.ensures.left
+    feeds-taken _ _ _ _ _ _ (c.is_used.ensures.yes c.if-not-is_used.false) c.in-Ok.ensures.taken c.in-Ok.ensures.left c.in-Ok.ensures.few
+    c.use_byte-in-Ok.ensures.byte c.use_byte-in-Ok.ensures.left
 
 pub returns-in-Err-clause-feeds : goal.returns-in-Err-clause-feeds
 returns-in-Err-clause-feeds g c = feeds-fault _ _ _ _ (c.is_used.ensures.yes c.if-not-is_used.false) c.in-Err.ensures.failed.0 c.in-Err.ensures.failed.1

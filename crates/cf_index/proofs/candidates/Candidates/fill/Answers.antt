@@ -2,4 +2,5 @@ use Rattle.cf_index.proofs.Filled.{all_chosen}
 use Rattle.cf_index.proofs.candidates.Candidates.fill.Goals as goal
 
 pub returns : goal.returns
-returns c = all_chosen c.args.core.now.plan c.args.core.now.state _ _ _ _ c.entering-self-inside.ensures c.passing-self-inside.ensures c.slides-self-inside.ensures c.leaving-self-inside.ensures
+returns c = all_chosen c.args.core.now.plan c.args.core.now.state _ _ _ _ c.entering-self-inside.ensures c.passing-self-inside.ensures
+    c.slides-self-inside.ensures c.leaving-self-inside.ensures

@@ -8,7 +8,8 @@ get-requires-else-i-slides c =
     let i = c.self.inside in
     rest_below (slides_of i.slides) (leaving_moves i.leaving) _ _ (c.count-slides.ensures.numbers ∙ sym (length-slides_of i.slides)) c.if-i-slides.false (
     rest_below (passing_moves i.passing) (slides_of i.slides ++ leaving_moves i.leaving) _ _ c.len-passing.ensures.count c.if-i-passing.false (
-    rest_below (entering_moves i.entering) (passing_moves i.passing ++ (slides_of i.slides ++ leaving_moves i.leaving)) _ _ c.len-entering.ensures.count c.if-i-entering.false
+    rest_below (entering_moves i.entering) (passing_moves i.passing ++ (slides_of i.slides ++ leaving_moves i.leaving)) _ _ c.len-entering.ensures.count
+    c.if-i-entering.false
     (rw (c.self.view_is) c.requires)))
 
 pub returns-then-i-slides : goal.returns-then-i-slides

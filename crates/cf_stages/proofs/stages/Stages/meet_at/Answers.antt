@@ -10,4 +10,5 @@ pub returns-in-Some-clause-stages : goal.returns-in-Some-clause-stages
 returns-in-Some-clause-stages c =
     c.place_packet.ensures.stages
     ∙ ap (λ (cells : List Cell). changed cells c.args.i (with_place c.meet_passenger-left.result c.is_there.result)) c.meet_passenger-left.ensures.stages
-    ∙ met-is c.args.self.now c.args.i c.in-Some.packet c.meet_passenger-left.result c.is_there.result c.requires (sym c.in-Some.is ∙ c.packet.ensures) c.meet_passenger-left.ensures.left c.is_there.ensures
+    ∙ met-is c.args.self.now c.args.i c.in-Some.packet c.meet_passenger-left.result c.is_there.result c.requires (sym c.in-Some.is
+    ∙ c.packet.ensures) c.meet_passenger-left.ensures.left c.is_there.ensures

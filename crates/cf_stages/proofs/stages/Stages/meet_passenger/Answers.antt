@@ -16,7 +16,8 @@ unreachable-requires c =
 
 pub invariant_of-self : goal.invariant_of-self
 invariant_of-self c =
-    renewed-parts _ _ _ _ _ c.args.i c.meet.new.p c.self.invariant c.requires.above (within-pipe _ _ _ _ _ c.args.i _ c.self.invariant c.self.view_is c.requires.within)
+    renewed-parts _ _ _ _ _ c.args.i c.meet.new.p c.self.invariant c.requires.above (within-pipe _ _ _ _ _ c.args.i _ c.self.invariant c.self.view_is
+    c.requires.within)
     (subst (λ (cells : List Cell). IsSome (passenger_at cells c.args.i)) (sym c.self.view_is) c.requires.there)
 
 pub returns-clause-stages : goal.returns-clause-stages
@@ -31,7 +32,8 @@ pub returns-clause-left : goal.returns-clause-left
 returns-clause-left c =
     let within = within-pipe _ _ _ _ _ c.args.i _ c.self.invariant c.self.view_is c.requires.within in
     let read = passenger-read _ _ _ _ _ c.args.i _ c.self.invariant c.requires.above within c.index_mut.ensures.value in
-    left-is c.args.self.now c.args.i _ c.args.packet c.meet.result (sym c.in-Some.is ∙ read ∙ ap (λ (cells : List Cell). passenger_at cells c.args.i) c.self.view_is) c.meet.ensures.packet
+    left-is c.args.self.now c.args.i _ c.args.packet c.meet.result (sym c.in-Some.is ∙ read
+    ∙ ap (λ (cells : List Cell). passenger_at cells c.args.i) c.self.view_is) c.meet.ensures.packet
 
 pub returns-clause-count : goal.returns-clause-count
 returns-clause-count c =

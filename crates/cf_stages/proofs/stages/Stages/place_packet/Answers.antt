@@ -8,6 +8,7 @@ use Rattle.cf_stages.proofs.stages.Stages.place_packet.Goals as goal
 
 pub invariant_of-self : goal.invariant_of-self
 invariant_of-self c =
-    packet-parts _ _ _ _ _ _ _ c.args.i c.args.packet c.args.met c.is_there.result c.self.invariant c.requires.above (within-pipe _ _ _ _ _ c.args.i _ c.self.invariant c.self.view_is c.requires.within)
+    packet-parts _ _ _ _ _ _ _ c.args.i c.args.packet c.args.met c.is_there.result c.self.invariant c.requires.above
+    (within-pipe _ _ _ _ _ c.args.i _ c.self.invariant c.self.view_is c.requires.within)
     c.requires.result (λ g. subst (λ (cells : List Cell). IsSome (passenger_at cells c.args.i)) (sym c.self.view_is) (c.requires.passenger g))
     c.is_there.ensures c.with_bit-self-inside.ensures c.with_bit-self-inside-2.ensures

@@ -10,7 +10,8 @@ returns-in-Some c =
     let plan = c.args.core.now.plan in
     let s = c.args.core.now.state in
     let seek = c.visit_others.new.visitor in
-    let all : seek ≡ fold shown (nothing c.args.self.now) (allowed_others plan s) = c.visit_others.ensures.shown ∙ ap (λ (n : Seeking). fold shown n (allowed_others plan s)) c.new-least.ensures in
+    let all : seek ≡ fold shown (nothing c.args.self.now) (allowed_others plan s) = c.visit_others.ensures.shown
+    ∙ ap (λ (n : Seeking). fold shown n (allowed_others plan s)) c.new-least.ensures in
     let by : c.least.inside.time ≡ seek.time = ap (λ (n : Seeking). n.time) c.least.view_is in
     issue_soonest c.args.self.now plan s c.args.held seek c.in-Some.due c.visit_others.ensures.few all
     (subst (λ (n : ℕ). IsIssueBy c.args.self.now (unheld_issues c.args.held plan s) n c.in-Some.due) by c.in-Some.ensures.some)
@@ -20,7 +21,8 @@ returns-in-None c =
     let plan = c.args.core.now.plan in
     let s = c.args.core.now.state in
     let seek = c.visit_others.new.visitor in
-    let all : seek ≡ fold shown (nothing c.args.self.now) (allowed_others plan s) = c.visit_others.ensures.shown ∙ ap (λ (n : Seeking). fold shown n (allowed_others plan s)) c.new-least.ensures in
+    let all : seek ≡ fold shown (nothing c.args.self.now) (allowed_others plan s) = c.visit_others.ensures.shown
+    ∙ ap (λ (n : Seeking). fold shown n (allowed_others plan s)) c.new-least.ensures in
     let by : c.least.inside.time ≡ seek.time = ap (λ (n : Seeking). n.time) c.least.view_is in
     rw c.due.ensures (other_soonest c.args.self.now plan s c.args.held seek c.visit_others.ensures.few all
     (subst (λ (n : ℕ). AreLater c.args.self.now (unheld_issues c.args.held plan s) n) by (c.in-None.ensures.none refl)))

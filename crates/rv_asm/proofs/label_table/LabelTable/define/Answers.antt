@@ -9,6 +9,7 @@ invariant_of-self-in_err-insert c =
 pub invariant_of-self-2 : goal.invariant_of-self-2
 invariant_of-self-2 c =
     rw (c.push_reserved.ensures.items, c.reserve.ensures.items)
-    (defined c.self.inside.list.items _ c.args.name.now c.in_ok-key.key.items c.len.result c.self.inside.places c.insert.new.self c.in_ok-name_of.ensures c.in_ok-key.ensures.items
+    (defined c.self.inside.list.items _ c.args.name.now c.in_ok-key.key.items c.len.result c.self.inside.places c.insert.new.self c.in_ok-name_of.ensures
+    c.in_ok-key.ensures.items
     (omega (arith, c.len.ensures, c.reserve.ensures.len, c.self.inside.list.ok.0)) c.self.invariant (rw c.self.view_is c.requires.unknown)
     c.in_ok-insert.ensures.updates)
