@@ -1,4 +1,4 @@
--- The pieces of placed items stand one after the other in their sections.
+-- The pieces of placed items are one after the other in their sections.
 use Rattle.std.proofs.Common.{◌≡◌, ℕ, ◌+◌, ◌≤◌, Bool, true, false, List, [], ◌∷◌, ◌++◌, length, take, drop, refl, sym, ◌∙◌, ap, subst, cond, arith, append_assoc, append-nil, length-append}
 use Rattle.std.proofs.Math.Seq.{drop-append_seam, take-append_seam}
 use Rattle.std.specs.Prelude.{Ok}
@@ -14,7 +14,7 @@ use Rattle.rv_asm.specs.Sized.{piece_size, pieces_size}
 use Rattle.rv_asm.proofs.Sized.{size-append, spelt-length, item-sized, text-after, data-after}
 use Rattle.asm_laws.specs.Programs.{Placed, LineStandsFor, AllStand, section_at, IsThere, AreThere}
 
--- the pieces of those items that stand in the text, or in the data
+-- the pieces of those items that are in the text, or in the data
 abbrev pub text_pieces : List Placed → List Piece
 text_pieces [] = []
 text_pieces (p ∷ ps) = cond p.place.in_text p.pieces [] ++ text_pieces ps
@@ -58,7 +58,7 @@ middle front ps after bytes at h e =
     ap (λ (l : List ℕ). take (pieces_size ps) l) dropped ∙ ap (λ (n : ℕ). take n (inner.front ++ inner.back)) long ∙ take-append_seam inner.front inner.back in
     subst (λ (l : List ℕ). Spells ps l) (sym taken) inner.first
 
--- what stands in the sections above an item: its pieces, as many bytes of them as the place says
+-- what is in the sections above an item: its pieces, as many bytes of them as the place says
 pub record AreAbove (place : SectionPlace) (text_front data_front : List Piece) : Type 0 where
   pub text : pieces_size text_front ≡ place.text_len
   pub data_section : pieces_size data_front ≡ place.data_len

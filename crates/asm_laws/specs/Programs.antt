@@ -1,4 +1,5 @@
--- The program that lines of assembly stand for: a list of placed items (GNU as, "Sections and Relocation"; RISC-V Assembly Programmer's Manual).
+-- The program that lines of assembly stand for: a list of placed items (GNU as, "Sections and Relocation"; RISC-V
+-- Assembly Programmer's Manual).
 use Rattle.std.specs.Prelude.{◌≡◌, ℕ, Bool, false, List, [], ◌∷◌, ◌++◌, length, take, drop, map, Option, Some, None, Result, Ok, if◌then◌else◌}
 use Rattle.rv_asm.specs.declared.object.Object.{Object}
 use Rattle.rv_asm.specs.declared.place.SectionPlace.{SectionPlace}
@@ -10,7 +11,7 @@ use Rattle.rv_asm.specs.Pieces.{Piece, pieces_of}
 use Rattle.rv_asm.specs.Sized.{pieces_size}
 use Rattle.rv_asm.specs.Spelling.{Spells}
 
--- a placed item: where it stands, what it is, and the instructions and bytes that it places
+-- a placed item: where it is, what it is, and the instructions and bytes that it places
 pub record Placed : Type 0 where
   pub place : SectionPlace
   pub item : SourceItem
@@ -34,7 +35,8 @@ AllStand labels place (line ∷ lines) (p ∷ ps) end =
 abbrev pub section_at : Object → SectionPlace → List ℕ
 section_at object place = if place.in_text then object.text_bytes else object.data_bytes
 
--- the item's instructions and bytes stand in its section where it is placed: a word there decodes to its instruction, and bytes are as they were written
+-- the item's instructions and bytes are in its section where it is placed: a word there decodes to its instruction, and
+-- bytes are as they were written
 abbrev pub IsThere : Object → Placed → Type 0
 IsThere object p =
     Spells p.pieces (take (pieces_size p.pieces) (drop (length_at p.place) (section_at object p.place)))

@@ -104,7 +104,7 @@ same_filter p q same (x ∷ xs) = rw (same x, same_filter p q same xs) refl
 abbrev is_below : LazySymbol → LazySymbol → Bool
 is_below x y = is_lt (nat_cmp x.value y.value)
 
--- the symbols of a value stand in a stable order as they stood before
+-- the symbols of a value are in a stable order as they stood before
 stays : (xs ys : List LazySymbol) → IsStableByKey (λ (x : LazySymbol). x.value) nat_cmp xs ys → (x : LazySymbol)
     → filter (has_value x.value) ys ≡ filter (has_value x.value) xs
 stays xs ys stable x =

@@ -10,7 +10,7 @@ use Rattle.asm_listing.specs.Labels.{HaveLines}
 use Rattle.asm_listing.specs.Lines.{label_lines, word_line, lines_at, lines_from, skipped, IsFirstWord}
 use Rattle.asm_listing.specs.Listing.{segment_lines}
 
--- no word stands at an address that 4 does not divide
+-- no word is at an address that 4 does not divide
 pub unaligned : (symbols : List NamedSymbol) (pc : ℕ) (bytes : List ℕ) → 1 ≤ pc % 4 → lines_at symbols pc bytes ≡ []
 unfolding lines_at
 unaligned symbols pc bytes h = let no : (pc % 4 == 0) ≡ false = grind (arith, nat_tests) in rw no refl

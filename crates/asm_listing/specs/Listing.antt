@@ -14,6 +14,6 @@ segment_lines symbols segment =
 unfoldable pub elf_listing : List ℕ → List ℕ
 elf_listing file = flat_map (segment_lines (symbols_of file)) (segments_of file)
 
--- the listing of a flat image, which stands at 0x00010000
+-- the listing of a flat image, which is at 0x00010000
 unfoldable pub flat_listing : List ℕ → List ℕ
 flat_listing image = lines_from [] 0x10000 image

@@ -17,7 +17,7 @@ use cf_io::{Failed, Sink};
 use elf_view::{Elf, LazySymbol, Segment};
 use std::alloc::{AllocError, Global};
 
-/// Where a flat image stands.
+/// Where a flat image is.
 const FLAT_BASE: u32 = 0x1_0000;
 
 /// Why a listing was not put whole.
@@ -25,7 +25,7 @@ pub enum ListingErr {
     /// There was no memory for the order of the symbols. Nothing was put.
     NoMemory,
 
-    /// The output failed. A front of the listing was written.
+    /// The output failed. A prefix of the listing was written.
     Failed,
 }
 
@@ -83,7 +83,7 @@ pub fn put_elf_listing<K: Sink>(alloc: Global, elf: &Elf, out: &mut K) -> Result
     }
 }
 
-/// Puts the listing of a flat image, which stands at 0x00010000. After `Failed` a front of it was written.
+/// Puts the listing of a flat image, which is at 0x00010000. After `Failed` a prefix of it was written.
 #[tactic(auto, using(crate::proofs::Values::none), unfolding(crate::specs::Listing::flat_listing))]
 pub fn put_flat_listing<K: Sink>(image: &[u8], out: &mut K) -> Result<(), Failed>
     ensures ok { OnOk result (Writes (K.written out.old) (K.written out.new) (flat_listing image.now)) }

@@ -29,7 +29,7 @@ fn sort_by_value(symbols: &mut Vec<LazySymbol>) -> Result<(), AllocError>
     Ok(())
 }
 
-/// The symbols of a file that may be labels, in the order of their values. Those of one value stand in their order in the
+/// The symbols of a file that may be labels, in the order of their values. Those of one value are in their order in the
 /// file. A program may have a million symbols and a million words, so not every word can look at every symbol.
 #[tactic(auto, using(crate::proofs::Values::ordered))]
 pub fn ordered_symbols<'a>(alloc: Global, elf: &Elf<'a>) -> Result<Vec<LazySymbol<'a>>, AllocError>

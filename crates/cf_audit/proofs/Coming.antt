@@ -198,7 +198,7 @@ pub agreed-length : (text : List ℕ) (start : RunPlace) (now : AuditRun) → Co
 agreed-length text start now h =
     length-take-le now.seen.agreed text (subst (λ (t : List ℕ). now.seen.agreed ≤ length t) (so-far text start now h).text_is h.within)
 
--- the processor and the input stand where the run leads
+-- the processor and the input are where the run leads
 pub stands-here : (text : List ℕ) (start : RunPlace) (now : AuditRun) (h : Comes text start now) →
     ReachesMoment start.core now.place.core start.streams.input now.place.streams.input h.reached.last
 stands-here text start now h = record { processor = h.reached.core; input = h.reached.streams.input }

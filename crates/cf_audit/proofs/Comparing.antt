@@ -13,7 +13,7 @@ one_more (x ∷ bytes) (suc same) within =
     let count : min (suc (length bytes)) (suc same + 1) ≡ suc (min (length bytes) (same + 1)) = omega arith in
     rw count (ap (λ (rest : List ℕ). x ∷ rest) (one_more bytes same (omega arith)))
 
--- what was put, with a front of more bytes that agree, and the byte after it
+-- what was put, with a prefix of more bytes that agree, and the byte after it
 put_more : (text bytes : List ℕ) (agreed same : ℕ) → same ≤ length bytes → take same (drop agreed text) ≡ take same bytes
     → take (agreed + same) text ++ alone (slice_get bytes same) ≡ (take agreed text ++ []) ++ take (min (length bytes) (same + 1)) bytes
 put_more text bytes agreed same within agrees =

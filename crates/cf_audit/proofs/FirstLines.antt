@@ -117,7 +117,7 @@ front_of n mv after = append_assoc (move_front n) (move_line mv ++ 10 ∷ []) af
 line_after : (text rest : List ℕ) (n : ℕ) (mv : Move) → text ≡ move_front n ++ rest → (b : BeginsWithMove text n mv) → rest ≡ move_line mv ++ 10 ∷ b.after
 line_after text rest n mv is b = append_cancel_left (move_front n) rest (move_line mv ++ 10 ∷ b.after) (sym is ∙ b.is ∙ front_of n mv b.after)
 
--- no move's line stands first where its front does not, where there is no line after that, or where the line names no move
+-- no move's line is first where its front does not, where there is no line after that, or where the line names no move
 pub no_front : (text : List ℕ) (n : ℕ) → ((rest : List ℕ) → text ≡ move_front n ++ rest → ⊥) → (mv : Move) → BeginsWithMove text n mv → ⊥
 no_front text n none mv b = none (move_line mv ++ 10 ∷ b.after) (b.is ∙ front_of n mv b.after)
 
@@ -198,7 +198,7 @@ first_there text end is low = rw is (first_at text (rw is at low))
 pub first_not : (text : List ℕ) (end : ℕ) → end ≡ position_or_len is_line_feed text → length text ≤ end → (line : List ℕ) → IsFirstLine text line → ⊥
 first_not text end is high line f = no_first text line (rw is at high) f
 
--- a move's line stands first exactly where the line there names the move
+-- a move's line is first exactly where the line there names the move
 pub told_first : (text rest line : List ℕ) (n : ℕ) (told : Option Move) → text ≡ move_front n ++ rest → IsFirstLine rest line →
     MatchOption told ((mv : Move) → IsMoveLine line mv → ⊥) (λ mv. IsMoveLine line mv)
     → MatchOption told ((mv : Move) → BeginsWithMove text n mv → ⊥) (λ mv. BeginsWithMove text n mv)

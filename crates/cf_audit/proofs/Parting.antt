@@ -4,7 +4,7 @@ use Rattle.std.specs.Prelude.{slice_get}
 use Rattle.std.proofs.lemmas.List.{length-take}
 use Rattle.cf_audit.specs.Compared.{IsOther}
 
--- a front of the group, and after it another byte of the group
+-- a prefix of the group, and after it another byte of the group
 pub record IsFrontOf (text group : List ℕ) (place other : ℕ) : Type 0 where
   pub same : take place text ≡ take place group
   pub next : slice_get group place ≡ Some other
@@ -24,7 +24,7 @@ front_of (x ∷ text) (g ∷ group) (suc place) (suc k) other within e =
     let h = front_of text group place k other (omega arith) rest in
     record { same = rw first (ap (λ (l : List ℕ). g ∷ l) h.same); next = h.next }
 
--- a text agrees up to one place, and with a front of a group after it up to another, where the group has another byte
+-- a text agrees up to one place, and with a prefix of a group after it up to another, where the group has another byte
 pub parted : (text group : List ℕ) (from to k other : ℕ) → from ≤ length text → to ≤ length text → IsOther text to other →
     take to text ++ other ∷ [] ≡ take from text ++ take k group
     → (from ≤ to) × IsFrontOf (drop from text) group (to - from) other
@@ -41,7 +41,7 @@ parted (x ∷ text) group (suc from) (suc to) k other within low differs e =
     let same : suc to - suc from ≡ to - from = omega arith in
     (omega (arith, h.0), rw same h.1)
 
--- a byte after a front of a text
+-- a byte after a prefix of a text
 pub byte_after : (text : List ℕ) (from to : ℕ) (byte : Option ℕ) → from ≤ to → slice_get (drop from text) (to - from) ≡ byte → slice_get text to ≡ byte
 byte_after text zero to byte low e = let same : to - zero ≡ to = omega arith in rw same at e
 byte_after text (suc from) zero byte low e = absurd (omega arith)

@@ -18,7 +18,7 @@ use Rattle.cf_audit.specs.Turns.{AuditRun, ComparisonAnswers, ShownDiffers, Puts
 puts_all : (a b : Option (List ℕ)) (text : List ℕ) → Writes a b text → PutsSome a b text
 puts_all a b text h = (length text, omega arith, subst (Writes a b) (sym (take-length text)) h)
 
--- or a front of it
+-- or a prefix of it
 puts_front : (a b : Option (List ℕ)) (text : List ℕ) → WritesFront a b text → PutsSome a b text
 puts_front None b text front = (0, omega arith, tt)
 puts_front (Some told) b text (n, short, k) = (n, omega (arith, short), k)

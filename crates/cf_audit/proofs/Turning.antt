@@ -120,7 +120,7 @@ parts_there text start now new mv small tells h next p =
       within = subst (λ (t : List ℕ). new.seen.agreed ≤ length t) s.text_is high;
     }
 
--- the processor and the input stand where the run leads, and no more moves were made
+-- the processor and the input are where the run leads, and no more moves were made
 still_there : (text : List ℕ) (start : RunPlace) (now new : AuditRun) (h : Comes text start now) → new ≡ now →
     ReachesMoment start.core new.place.core start.streams.input new.place.streams.input h.reached.last
 still_there text start now new h same =
@@ -192,7 +192,7 @@ parted_place text start now new h line p line_is =
     let place : new.seen.agreed ≡ now.seen.agreed + (new.seen.agreed - now.seen.agreed) = omega (arith, p.low) in
     line_is ∙ ap (line_of text) place
 
--- an audit's output tells nothing
+-- an audit's output exposes nothing
 abbrev IsQuiet : (now new : AuditRun) → Type 0
 IsQuiet now new =
     (now.place.streams ≡ streams_of now.place.streams.input None) × (new.place.streams ≡ streams_of new.place.streams.input None)

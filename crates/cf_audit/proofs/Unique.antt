@@ -191,7 +191,7 @@ no_trace plan told m n k (first ∷ a) (other ∷ b) last end left place kind st
     (λ (mv : Move). Leads plan most_retired (Some told) (next plan m mv) b end) (sym one.move) (leads_rest plan told m end s other b g l) in
     no_trace plan told (next plan m first.move) (n + 1) k a b last end left place kind stop (omega (arith, count)) before after reads tells some fails one.after
 
--- what is told of the input of a trace
+-- what is known of the input of a trace
 same_start : (core : Processor) (told rest : List ℕ) → rest ≡ told → moment_of core rest ≡ moment_of core told
 same_start core told rest same = ap (moment_of core) same
 

@@ -12,8 +12,8 @@ use Rattle.cf_audit.specs.declared.answer.Audit.{Audit}
 use Rattle.cf_audit.specs.declared.answer.Audit.TheVariants.{Agrees, Wrong, ReadFault}
 use Rattle.cf_audit.specs.Traces.{IsTrace, ReachesMoment, GoesWrong, StopsAtCall}
 
--- the trace is that of a run of this many moves, at whose end the processor and the input stand; or it goes wrong in
--- this line, for this reason, and they stand where the moves that were made lead; or the input failed a call
+-- the trace is that of a run of this many moves, at whose end the processor and the input are; or it goes wrong in this
+-- line, for this reason, and they are where the moves that were made lead; or the input failed a call
 unfoldable pub Audits : (core new : Processor) → (told now : Option (List ℕ)) → List ℕ → Audit → Type 0
 Audits core new told now text (Agrees n) =
     (last : Moment) × IsTrace core told text n last × ReachesMoment core new told now last
@@ -27,7 +27,7 @@ IsAgreement n (Agrees m) = m ≡ n
 IsAgreement n (Wrong line kind) = ⊥
 IsAgreement n ReadFault = Unit {0}
 
--- over an input that tells what it has left, each trace of a run is answered in this way
+-- over an input whose remaining bytes are known, each trace of a run is answered in this way
 abbrev pub AgreesWithAll : Processor → Option (List ℕ) → List ℕ → Audit → Type 0
 AgreesWithAll core None text answer = Unit {0}
 AgreesWithAll core (Some rest) text answer =
@@ -42,7 +42,8 @@ pub record RetiresAs (core : Processor) (hart : Hart) (rest text : List ℕ) (n 
   pub retired : ℕ
   pub lines : AreTexts (hart.retired + 1) (sequence (isa_of core.plan) (machine_on hart rest) retired) (all_shown show.Retired core.plan 1 is.trace)
 
--- This holds of each trace that agrees, on whatever hart the processor was opened, where the input tells what it has left.
+-- This holds of each trace that agrees, on whatever hart the processor was opened, where the input's remaining bytes
+-- are known.
 unfoldable pub RetiresSequentially : Processor → Option (List ℕ) → List ℕ → Audit → Type 0
 RetiresSequentially core (Some rest) text (Agrees n) =
     (hart : Hart) → core ≡ opened core.plan hart → RetiresAs core hart rest text n

@@ -1,7 +1,8 @@
 -- A sink that compares what is put to it with a text (a convention of this project).
 use Rattle.std.specs.Prelude.{◌≡◌, ℕ, ◌≤◌, ◌<◌, suc, List, [], ◌∷◌, ◌++◌, length, take, map, slice_get, Option, Some, None, IfSome, IsSome}
 
--- the text, how many of its bytes were put, the byte after them that differs, if one does, and how often the sink has failed since
+-- the text, how many of its bytes were put, the byte after them that differs, if one does, and how often the sink has
+-- failed since
 pub record Comparison : Type 0 where
   pub text : List ℕ
   pub agreed : ℕ
@@ -12,7 +13,7 @@ pub record Comparison : Type 0 where
 abbrev pub fresh : List ℕ → Comparison
 fresh text = record { text = text; agreed = 0; other = None; faults = 0 }
 
--- the byte does not stand at this place of the text
+-- the byte is not at this place of the text
 abbrev pub IsOther : List ℕ → ℕ → ℕ → Type 0
 IsOther text place byte = slice_get text place ≡ Some byte → ⊥
 
@@ -26,7 +27,7 @@ pub record IsComparison (c : Comparison) : Type 0 where
   pub other : IfSome c.other (λ byte. IsOther c.text c.agreed byte)
   pub failed : 0 < c.faults → IsSome c.other
 
--- a byte that was put does not stand in the text where it should
+-- a byte that was put is not in the text where it should
 pub record HasOther (seen : Comparison) : Type 0 where
   pub other : ℕ
   pub is : seen.other ≡ Some other
@@ -48,7 +49,7 @@ alone (Some byte) = byte ∷ []
 abbrev pub put_of : Comparison → List ℕ
 put_of c = take c.agreed c.text ++ alone c.other
 
--- what the sink tells: the text, in bytes raised by one, so that the first 0 ends it; and after that 0 what was put. So
--- whatever puts to it is known to leave its text as it is
+-- what the sink exposes: the text, in bytes raised by one, so that the first 0 ends it; and after that 0 what was put.
+-- So whatever puts to it is known to leave its text as it is
 unfoldable pub told_by : Comparison → List ℕ
 told_by c = map suc c.text ++ 0 ∷ put_of c

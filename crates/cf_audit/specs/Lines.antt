@@ -8,7 +8,7 @@ use Rattle.cf_audit.specs.Traces.{IsReadBack, has_line}
 abbrev pub move_front : ℕ → List ℕ
 move_front n = codes "move " ++ decimal n ++ codes " "
 
--- the line stands before the first line feed of the text
+-- the line is before the first line feed of the text
 pub record IsFirstLine (text line : List ℕ) : Type 0 where
   pub whole : has_line line ≡ false
   pub after : List ℕ

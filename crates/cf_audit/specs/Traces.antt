@@ -33,8 +33,8 @@ abbrev pub AreReadBack : List Made → Type 0
 AreReadBack [] = Unit {0}
 AreReadBack (made ∷ trace) = IsReadBack made.move × AreReadBack trace
 
--- The text is the trace of a run of n moves from the processor, over what the input tells: for each move its line, the
--- line of the instruction that retired with it, if one did, and the picture after it. The run leads to this moment.
+-- The text is the trace of a run of n moves from the processor, over what the input exposes: for each move its line,
+-- the line of the instruction that retired with it, if one did, and the picture after it. The run leads to this moment.
 pub record IsTrace (core : Processor) (told : Option (List ℕ)) (text : List ℕ) (n : ℕ) (last : Moment) : Type 0 where
   pub trace : List Made
   pub rest : List ℕ
@@ -55,15 +55,16 @@ pub record BeginsWithMove (text : List ℕ) (n : ℕ) (mv : Move) : Type 0 where
   pub after : List ℕ
   pub is : text ≡ numbered_move n mv ++ after
 
--- a line feed stands in the text
+-- a line feed is in the text
 abbrev pub has_line : List ℕ → Bool
 has_line text = list_any is_line_feed text
 
--- the line in which the byte at a place stands, counted from 1
+-- the line in which the byte at a place is, counted from 1
 unfoldable pub line_of : List ℕ → ℕ → ℕ
 line_of text place = 1 + count_by is_line_feed (take place text)
 
--- a front of the text is the trace of a run of n moves that leads to this moment, and this is left of the text, which is not at its end
+-- a prefix of the text is the trace of a run of n moves that leads to this moment, and this is left of the text, which
+-- is not at its end
 pub record AgreesSoFar (core : Processor) (told : Option (List ℕ)) (text front left : List ℕ) (n : ℕ) (last : Moment) : Type 0 where
   pub parts : text ≡ front ++ left
   pub some : 0 < length left
@@ -92,9 +93,9 @@ pub record PartsAt (plan : Plan) (told : Option (List ℕ)) (last : Moment) (n :
   pub differs : slice_get left place ≡ Some other → ⊥
 
 -- why what is left, which is not empty, is not the trace of further moves from the moment, the next of which has this
--- number; the place is that of the byte that shows it. The tests stand in the order in which they are made: no line
--- feed is left; the first line is that of no move; the move is barred; what follows is not its group. Only for the last
--- is a move made: all stops at the moment to which it leads, and else at this one
+-- number; the place is that of the byte that shows it. The tests are in the order in which they are made: no line feed
+-- is left; the first line is that of no move; the move is barred; what follows is not its group. Only for the last is a
+-- move made: all stops at the moment to which it leads, and else at this one
 unfoldable pub TraceFails : Plan → Option (List ℕ) → Moment → ℕ → List ℕ → ℕ → TraceKind → (stop : Moment) → Type 0
 TraceFails plan told last n left place Cut stop =
     ((has_line left ≡ false) × (place ≡ 0) × (stop ≡ last))
@@ -106,7 +107,8 @@ TraceFails plan told last n left place (Barred b) stop =
 TraceFails plan told last n left place Differs stop =
     PartsAt plan told last n left place stop × (place < length left)
 
--- The text is not the trace of a run: after the groups of a run a test fails, in this line. The moves that are made lead to the moment `stop`.
+-- The text is not the trace of a run: after the groups of a run a test fails, in this line. The moves that are made
+-- lead to the moment `stop`.
 pub record GoesWrong (core : Processor) (told : Option (List ℕ)) (text : List ℕ) (line : ℕ) (kind : TraceKind) (stop : Moment) : Type 0 where
   pub front : List ℕ
   pub left : List ℕ
@@ -117,7 +119,8 @@ pub record GoesWrong (core : Processor) (told : Option (List ℕ)) (text : List 
   pub fails : TraceFails core.plan told last (n + 1) left place kind stop
   pub line_is : line ≡ line_of text (length front + place)
 
--- After the groups of a run comes the line of Serve, which nothing bars: this call is the one that failed, and the processor and the input are what it leaves.
+-- After the groups of a run comes the line of Serve, which nothing bars: this call is the one that failed, and the
+-- processor and the input are what it leaves.
 pub record StopsAtCall (core new : Processor) (told now : Option (List ℕ)) (text : List ℕ) : Type 0 where
   pub front : List ℕ
   pub left : List ℕ

@@ -25,7 +25,7 @@ pub record AuditRun : Type 0 where
 abbrev pub stand_of : RunPlace → Comparison → AuditRun
 stand_of place seen = record { place = place; seen = seen }
 
--- the stand with these, given what a source tells; what the program writes goes nowhere
+-- the stand with these, given what a source exposes; what the program writes goes nowhere
 abbrev pub stand_by : {S : Type 0} → (S → Option (List ℕ)) → Processor → S → Comparison → Tally → AuditRun
 stand_by unread core input seen tally = stand_of (place_of core (streams_of (unread input) None) (Some (told_by seen)) tally) seen
 
@@ -46,17 +46,17 @@ ComparisonAnswers text seen (Some (Wrong line Cut)) =
     HasOther seen × (seen.agreed ≡ length seen.text) × (line ≡ line_of text seen.agreed)
 ComparisonAnswers text seen (Some answer) = ⊥
 
--- the move was made, and all that is shown of it stands next in the text
+-- the move was made, and all that is shown of it is next in the text
 pub record Advances (mv : Move) (now new : AuditRun) : Type 0 where
   pub event : Event
   pub makes : MakesAndShows show.Moves mv event now.place new.place
   pub same : AllAgrees new.seen
 
--- a front of these bytes was put, or all of them
+-- a prefix of these bytes was put, or all of them
 abbrev pub PutsSome : Option (List ℕ) → Option (List ℕ) → List ℕ → Type 0
 PutsSome before after bytes = (n : ℕ) × (n ≤ length bytes) × Writes before after (take n bytes)
 
--- the move was made, and a byte of what is shown of it does not stand in the text where it should
+-- the move was made, and a byte of what is shown of it is not in the text where it should
 pub record ShownDiffers (mv : Move) (now new : AuditRun) : Type 0 where
   pub event : Event
   pub makes : MakesMove mv event now.place new.place

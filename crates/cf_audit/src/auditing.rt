@@ -43,7 +43,7 @@ fn count_lines(text: &[u8]) -> usize
     count
 }
 
-/// The line in which the byte at a place stands, counted from 1.
+/// The line in which the byte at a place is, counted from 1.
 #[tactic(auto, using(crate::proofs::Parting::fronts), unfolding(crate::specs::Traces::line_of))]
 fn line_of(text: &[u8], place: usize) -> u32
     requires { length text.now ≤ most_trace }
@@ -79,8 +79,8 @@ fn compared(trace: &[u8], report: &Compared<'_>) -> Option<Audit>
     }
 }
 
-/// Tests the next group of the trace, makes its move, if nothing bars it, and compares all that is shown of it with the trace;
-/// or says how the audit ends.
+/// Tests the next group of the trace, makes its move, if nothing bars it, and compares all that is shown of it with the
+/// trace; or says how the audit ends.
 fn advance<S: Source>(
     core: &mut Core,
     trace: &[u8],
@@ -122,18 +122,19 @@ fn advance<S: Source>(
 /// Audits a recorded trace: what `--show moves` writes of a run, without the report that closes it. The processor is an
 /// opened one on which nothing has retired, and the trace has at most `MOST_TRACE` bytes.
 ///
-/// Group after group the move that the trace names is made, and all that is shown of it is compared with the trace, byte
-/// by byte; nothing of it is kept. `Agrees` comes exactly where the trace is that of a run, of this many moves, which leads to
-/// where the processor and the input then stand. `Wrong` comes exactly where it is not, by the first test that fails, in
-/// the order of [`TraceKind`]. The line is that of the group's first line; for `Differs` that of the first byte that
-/// differs, and for `Cut` that in which the trace ends. The processor and the input then stand where the moves that were
-/// made lead: those of the groups before, and for `Differs`, and for `Cut` within a group, the one of this group too.
+/// Group after group the move that the trace names is made, and all that is shown of it is compared with the trace,
+/// byte by byte; nothing of it is kept. `Agrees` comes exactly where the trace is that of a run, of this many moves,
+/// which leads to where the processor and the input then are. `Wrong` comes exactly where it is not, by the first test
+/// that fails, in the order of [`TraceKind`]. The line is that of the group's first line; for `Differs` that of the
+/// first byte that differs, and for `Cut` that in which the trace ends. The processor and the input then are where the
+/// moves that were made lead: those of the groups before, and for `Differs`, and for `Cut` within a group, the one of
+/// this group too.
 ///
-/// So the lines of retired instructions in a trace that agrees are those of the sequential machine, in its order, whoever
-/// has made the trace and in whatever order its moves were made.
+/// So the lines of retired instructions in a trace that agrees are those of the sequential machine, in its order,
+/// whoever has made the trace and in whatever order its moves were made.
 ///
-/// `ReadFault` comes only where the input failed a call of the environment, and its count of faults rose. What the program
-/// writes goes nowhere.
+/// `ReadFault` comes only where the input failed a call of the environment, and its count of faults rose. What the
+/// program writes goes nowhere.
 pub fn audit<S: Source>(core: &mut Core, trace: &[u8], input: &mut S) -> Audit
     requires opened { IsOpened core.old }
     requires retired { core.old.state.retired ≡ 0 }

@@ -11,7 +11,7 @@ use cf_report::move_number;
 use run_scripts::read_move;
 use rv_text::find_byte;
 
-/// What comes after a front of the text, where it begins with that front.
+/// What comes after a prefix of the text, where it begins with that prefix.
 fn after<'a>(text: &'a [u8], front: &[u8]) -> Option<&'a [u8]>
     ensures { MatchOption result ((rest : List ℕ) → text.now ≡ front.now ++ rest → ⊥)
         (λ rest. text.now ≡ front.now ++ rest.now) }
@@ -28,7 +28,7 @@ fn after_number(text: &[u8], n: u64) -> Option<&[u8]>
     after(text, front.bytes())
 }
 
-/// What stands before the first line feed.
+/// What is before the first line feed.
 fn first_line(text: &[u8]) -> Option<&[u8]>
     ensures { MatchOption result ((line : List ℕ) → IsFirstLine text.now line → ⊥) (λ line. IsFirstLine text.now line.now) }
 {

@@ -6,7 +6,7 @@ use Rattle.cf_bind.specs.declared.passenger.Guess.TheVariants as guess
 use Rattle.cf_bind.specs.declared.moves.Move.{Move}
 use Rattle.cf_bind.specs.declared.moves.Move.TheVariants.{Issue, Emit, Climb, Fall, Meet, Execute, Send, Launch, Slide, Access, Recover, Leave, Exit, Serve}
 
--- a guess, as it stands after `issue`
+-- the text of a guess, which follows `issue`
 abbrev pub guess_text : Guess → List ℕ
 guess_text guess.Next = codes "next"
 guess_text guess.Taken = codes "taken"
@@ -17,7 +17,8 @@ guess_text (guess.To t) = codes "to " ++ hex8 t
 abbrev pub at_stage : List ℕ → ℕ → List ℕ
 at_stage kind i = kind ++ codes " " ++ decimal i
 
--- the line of a move, without its line feed: one space between words, numbers without leading zeros, addresses in eight digits
+-- the line of a move, without its line feed: one space between words, numbers without leading zeros, addresses in eight
+-- digits
 unfoldable pub move_line : Move → List ℕ
 move_line (Issue g) = codes "issue " ++ guess_text g
 move_line Emit = codes "emit"

@@ -1,4 +1,4 @@
-//! A register and its value, as passengers and packets have them.
+//! A register and its value, as instructions and results hold them.
 
 /// A register's name with its value, once that is known ("Counterflow Pipeline Processor Architecture", 1994: a
 /// binding).

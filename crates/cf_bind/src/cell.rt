@@ -1,23 +1,23 @@
-//! What stands at one place: a stage of the pipes, or an operation in a siding.
+//! The contents of a stage of the pipes, and of a cell of a siding.
 
 use crate::packet::Packet;
 use crate::passenger::Passenger;
 use rv_inst::Instr;
 
-/// A stage of the two pipes: one place in each.
+/// A stage of the two pipes, with room for one instruction and one result.
 #[derive(Clone, Copy, PartialEq, Eq)]
 pub struct Cell {
-    /// The instruction that stands here.
+    /// The instruction in this stage.
     pub passenger: Option<Passenger>,
 
-    /// The result that stands here.
+    /// The result in this stage.
     pub packet: Option<Packet>,
 
-    /// The two that stand here have met. It is true only where both are here.
+    /// Whether the two have met. It is true only where both are here.
     pub met: bool,
 }
 
-/// An operation in a siding: what a passenger launched.
+/// An operation in a siding: what an instruction launched.
 #[derive(Clone, Copy, PartialEq, Eq)]
 pub struct Op {
     /// The address of its instruction.
@@ -32,6 +32,6 @@ pub struct Op {
     /// The value of its second source, 0 where it has none.
     pub b: u32,
 
-    /// The answer, once memory was accessed: the extended value of a load, 0 of a store.
+    /// The answer, once memory was accessed: the extended value for a load, 0 for a store.
     pub answer: Option<u32>,
 }

@@ -1,4 +1,4 @@
-//! What moves through the pipes: instructions as passengers, results as packets, what they do when they meet, and the moves.
+//! What moves through the two pipes, instructions up and results down; what they do when they meet; and the moves.
 #![tactic(auto)]
 
 mod binding;

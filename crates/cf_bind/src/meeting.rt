@@ -8,7 +8,7 @@ use crate::binding::Binding;
 use crate::packet::Packet;
 use crate::passenger::Passenger;
 
-/// A source of this register takes the value, unless it has one.
+/// A source of this register takes the value, unless it already has one.
 #[inline(always)]
 fn garner(source: &mut Option<Binding>, reg: u8, value: u32)
     ensures { source.new ≡ garnered reg value source.old }
@@ -20,8 +20,8 @@ fn garner(source: &mut Option<Binding>, reg: u8, value: u32)
     }
 }
 
-/// What is left of a value of this register after it has met an instruction with this destination: nothing where the new
-/// value is not known, and the new value where it is.
+/// A value of this register after it has met an instruction with this destination. Where the instruction writes this
+/// register, nothing is left while the new value is unknown, and the new value once it is known.
 #[inline(always)]
 fn pass(destination: Option<Binding>, reg: u8, value: u32) -> Option<Packet>
     ensures { result ≡ passed reg value destination }
@@ -34,9 +34,10 @@ fn pass(destination: Option<Binding>, reg: u8, value: u32) -> Option<Packet>
     }
 }
 
-/// The instruction and the result meet. A value goes to the sources that wait for it. Then it is killed where the instruction
-/// writes its register and has not yet done so, and updated where it has. A turn or a halt makes the instruction dead, and
-/// takes away what it owes. A dead instruction changes nothing and is not changed. What is left of the result is given back.
+/// The instruction and the result meet. A value goes to the sources that wait for it. Then, where the instruction
+/// writes the value's register, the value is killed while the new one is unknown, and updated to it once it is known. A
+/// turn or a halt makes the instruction dead, and cancels what it owes. A dead instruction changes nothing and is not
+/// changed. What is left of the result is returned.
 #[inline(always)]
 pub fn meet(p: &mut Passenger, k: Packet) -> Option<Packet>
     ensures passenger { p.new ≡ (meeting_of p.old k).passenger }

@@ -1,4 +1,4 @@
-//! The text of a move, as a script has it.
+//! The text of a move in a script.
 #![tactic(auto, unfolding(crate::specs::MoveTexts::move_line))]
 
 ghost use Rattle.std.specs.Prelude.{◌≡◌, ◌+◌, ◌≤◌, ◌++◌, length};
@@ -24,7 +24,7 @@ fn push_guess(guess: Guess, line: &mut MoveLine)
     }
 }
 
-/// A kind of move and a number.
+/// Makes the line hold a kind of move and a number.
 fn numbered(kind: &[u8], number: u32, line: &mut MoveLine)
     requires { length kind.now + 11 ≤ 32 }
     ensures text { line.new ≡ at_stage kind.now number }
@@ -35,8 +35,8 @@ fn numbered(kind: &[u8], number: u32, line: &mut MoveLine)
     line.push_decimal(number);
 }
 
-/// Makes the line hold the move's text and nothing else: one space between words, numbers without leading zeros, an address
-/// in eight digits.
+/// Makes the line hold the move's text and nothing else: one space between words, numbers without leading zeros, an
+/// address in eight digits.
 pub fn move_text(mv: Move, line: &mut MoveLine)
     ensures { line.new ≡ move_line mv }
 {

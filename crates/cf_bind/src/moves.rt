@@ -1,8 +1,8 @@
-//! The moves of the processor, and what bars them.
+//! The moves of the processor, and why they may be barred.
 
 use crate::passenger::Guess;
 
-/// One local change of the processor. A number without a name is that of a stage, from 1 at the bottom.
+/// One local change of the processor. An unnamed number is that of a stage; stage 1 is at the bottom.
 #[derive(Clone, Copy, PartialEq, Eq)]
 pub enum Move {
     /// A new instruction enters the lowest stage, and fetch goes on as guessed.
@@ -29,10 +29,10 @@ pub enum Move {
     /// The instruction launches its operation into a siding.
     Launch(u32),
 
-    /// An operation moves on: the siding, and the cell that it leaves, both from 0.
+    /// An operation moves to the next cell: the siding, and the cell that it leaves, both counted from 0.
     Slide(u32, u32),
 
-    /// The operation in the last cell of the memory siding is made.
+    /// The operation in the last cell of the memory siding is carried out.
     Access,
 
     /// The instruction takes its operation out of the siding.
@@ -57,13 +57,13 @@ pub enum Bar {
     Failed,
     /// There is no such stage, siding or cell.
     NoSuchSite,
-    /// No instruction stands there.
+    /// There is no instruction in the stage.
     NoPassenger,
-    /// No result stands there.
+    /// There is no result in the stage.
     NoPacket,
-    /// The place to go to is taken.
+    /// The destination is occupied.
     Occupied,
-    /// The instruction and the result that stand there have to meet first.
+    /// The instruction and the result in the stage have to meet first.
     NotMet,
     /// The two have met.
     AlreadyMet,
@@ -71,13 +71,13 @@ pub enum Bar {
     SourceMissing(u8),
     /// Nothing there executes this class of instruction.
     NoUnit,
-    /// The instruction has to be executed, or its operation to be answered or recovered, first.
+    /// First the instruction has to be executed, or its operation answered or recovered.
     NotDone,
     /// The instruction has to send what it owes first.
     Owes,
     /// The instruction owes nothing.
     OwesNothing,
-    /// No operation is there.
+    /// There is no operation in the cell.
     OpNotThere,
     /// The requests do not fit into the lane.
     LaneFull,

@@ -1,17 +1,16 @@
-//! Results on their way down, and the fetch unit where they arrive.
+//! Results on their way down, and the fetch unit at which they arrive.
 
-/// What descends the result pipe.
+/// A result that descends the result pipe. `Packet` is the type of results: the value of a register, or a message to
+/// the fetch unit that turns or halts the program. In prose they are called results, as the paper of 1994 has it.
 #[derive(Clone, Copy, PartialEq, Eq)]
 pub enum Packet {
     /// A register's value.
     Value { reg: u8, value: u32 },
 
-    /// The program goes on at this address; all that was fetched after the instruction that
-    /// sends this is to be thrown away.
+    /// The program goes on at this address. All that was fetched after the instruction that sent this is discarded.
     Turn(u32),
 
-    /// The program ends here; all that was fetched after the instruction that sends this is to
-    /// be thrown away.
+    /// The program ends here. All that was fetched after the instruction that sent this is discarded.
     Halt,
 }
 
@@ -21,6 +20,6 @@ pub enum Fetch {
     /// It fetches at this address.
     Running(u32),
 
-    /// It waits for a packet that tells it where to go on.
+    /// It waits for a result that says where to go on.
     Waiting,
 }

@@ -4,10 +4,10 @@ use crate::binding::Binding;
 use crate::packet::Packet;
 use rv_inst::Instr;
 
-/// Where fetch goes on after an instruction, guessed when it is issued.
+/// Where fetch goes on after an instruction: a guess, made when the instruction is issued.
 #[derive(Clone, Copy, PartialEq, Eq)]
 pub enum Guess {
-    /// At the next word.
+    /// At the next instruction word.
     Next,
 
     /// At the target of a branch or of JAL.
@@ -31,13 +31,15 @@ pub enum End {
     Exit(u8),
 }
 
-/// An instruction that climbs the instruction pipe.
+/// An instruction that climbs the instruction pipe. `Passenger` is the type of an instruction under way: the decoded
+/// [`Instr`] and what happens to it on its way up, as its sources, its result, the guess made at its issue and its
+/// progress. In prose it is called an instruction, as in the paper of 1994.
 #[derive(Clone, Copy, PartialEq, Eq)]
 pub struct Passenger {
     /// Its address.
     pub pc: u32,
 
-    /// The instruction, or `None` where there was none at its address.
+    /// The decoded instruction, or `None` where there was none at its address.
     pub what: Option<Instr>,
 
     /// Where fetch went on after it.
@@ -58,7 +60,7 @@ pub struct Passenger {
     /// Its operation was launched into a siding.
     pub launched: bool,
 
-    /// Its operation came back from the siding.
+    /// Its operation has come back from the siding.
     pub recovered: bool,
 
     /// The address of the instruction to run after it, once it is done.
@@ -67,9 +69,9 @@ pub struct Passenger {
     /// How it ends the program, if it does.
     pub ending: Option<End>,
 
-    /// The packet that it still has to send.
+    /// The result that it still has to send.
     pub owes: Option<Packet>,
 
-    /// It should not have been fetched, and climbs on without effect.
+    /// It should not have been fetched, and climbs without effect.
     pub dead: bool,
 }

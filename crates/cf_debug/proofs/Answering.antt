@@ -155,7 +155,7 @@ auto-stopped n now new stop written after b (Ok done) same h = absurd same
 auto-stopped n now new stop written after b (Err e) same h = subst (λ (by : Broken). CommandLeaves (Auto n) (debugger_state now stop)
     (debugger_state new stop) written after (Err by)) (sym same) (auto-broken n now new stop written after b h)
 
--- `back`, whatever the output tells
+-- `back`, whatever the output exposes
 pub carries-back : (core new : Processor) (ring later : List Kept) (output : Option (List ℕ)) (stop : Option ℕ) (written after : Option (List ℕ)) (i j : ℕ)
     (answer : Result (Unit {0}) Failed) → PutsBack (processor_state core ring None) (processor_state new later None) written after i j answer
     → CommandLeaves Back (debugger_state (processor_state core ring output) stop) (debugger_state (processor_state new later output) stop) written after

@@ -105,7 +105,8 @@ chosen-next last policy c later now new mv e drained beside drained_is later_is 
 
 -- Moves so far --
 
--- this many moves were made, none of which issued an instruction at the break address; the turn is kept by a count that stops, and their lines were put
+-- this many moves were made, none of which issued an instruction at the break address; the turn is kept by a count that
+-- stops, and their lines were put
 pub record Comes (stop : Option ℕ) (start now : ProcessorState) (held : Turn) (written after : Option (List ℕ)) (count : ℕ) : Type 0 where
   pub trace : List Made
   pub at : Turn

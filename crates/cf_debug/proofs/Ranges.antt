@@ -16,7 +16,7 @@ use Rattle.cf_debug.specs.declared.command.Refusal.TheVariants.{TooLong, Unknown
 use Rattle.texts.specs.Answers.{and_then}
 use Rattle.cf_debug.specs.Commands.{AsksFew, address_told, alone, auto_told, break_told, command_in, command_named, lone_command, lone_told, memory_told, move_told, number_told, stop_told, within}
 
--- what is told, if anything is, asks for few
+-- what is known, if anything is, asks for few
 abbrev Few : Result DebugCommand Refusal → Type 0
 Few (Ok command) = AsksFew command
 Few (Err refusal) = Unit {0}

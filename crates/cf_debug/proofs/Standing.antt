@@ -1,4 +1,4 @@
--- A session stays on a run: moves are made and taken back, and the ring leads to where the processor stands.
+-- A session stays on a run: moves are made and taken back, and the ring leads to where the processor is.
 use Rattle.std.proofs.Common.{◌≡◌, ◌≢◌, ℕ, zero, suc, ◌+◌, ◌-◌, ◌<◌, ◌≤◌, List, [], ◌∷◌, ◌++◌, length, drop, Option, Some, None, Bool, true, false, refl, sym, ap, subst, ◌∙◌, append-nil, arith}
 use Rattle.std.specs.Prelude.{if◌then◌else◌}
 use Rattle.rv_machine.specs.Hart.{Hart}
@@ -104,7 +104,7 @@ oldest start core ring h = record { moment = h.older; reached = h.reached; none 
 pub stands-comes : (start core : Processor) (ring : List Kept) (h : StandsAfterMoves start core ring) → Comes start.plan (machine_on h.hart []) core.state
 stands-comes start core ring h = comes-along start.plan (machine_on h.hart []) h.older.state ring core.state (oldest start core ring h) h.kept
 
--- at first it stands where it was opened, with an empty ring
+-- at first it is where it was opened, with an empty ring
 pub stands-first : (core : Processor) (ring : List Kept) → IsOpened core → length core.state.regs ≡ 32 → ring ≡ [] → StandsAfterMoves core core ring
 unfolding RecordsLead IsRun run opened opened_on
 stands-first core ring o wide none = record {
@@ -119,7 +119,7 @@ stands-first core ring o wide none = record {
   plan = refl;
 }
 
--- it stands on a run
+-- it is on a run
 pub stands-on_run : (start core : Processor) (ring : List Kept) → StandsAfterMoves start core ring → IsOnRun start core
 stands-on_run start core ring h =
     let c = stands-comes start core ring h in
@@ -198,7 +198,7 @@ stands-after start core older k h =
       made = subst (λ (p : Plan). core.state ≡ moved p cut.0 k.move) back cut.3;
     }
 
--- and it stands with that taken back
+-- and it is with that taken back
 pub stands-back : (start core new : Processor) (older : List Kept) (k : Kept) → StandsAfterMoves start core (older ++ k ∷ []) →
     new ≡ in_state core (restored core.state k) → StandsAfterMoves start new older
 stands-back start core new older k h is =

@@ -16,7 +16,8 @@ unfoldable pub joined : List (List ℕ) → List ℕ → List ℕ
 joined [] rest = rest
 joined (piece ∷ pieces) rest = piece ++ 10 ∷ joined pieces rest
 
--- the bytes are these lines, each ended by a line feed, before which one carriage return is dropped; and after them the unfinished one
+-- the bytes are these lines, each ended by a line feed, before which one carriage return is dropped; and after them the
+-- unfinished one
 pub record HasLines (bytes : List ℕ) (lines : List (List ℕ)) (unfinished : List ℕ) : Type 0 where
   pub pieces : List (List ℕ)
   pub are_pieces : All IsPiece pieces

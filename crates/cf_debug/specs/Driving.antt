@@ -59,7 +59,8 @@ unfoldable pub retirements : List Made → List ℕ
 retirements [] = []
 retirements (made ∷ trace) = retirement made.state.retired made.event ++ retirements trace
 
--- after this many of n moves: there are enough, or the run is over; or the next one issues an instruction at the break address, and is the last
+-- after this many of n moves: there are enough, or the run is over; or the next one issues an instruction at the break
+-- address, and is the last
 abbrev pub Pauses : ℕ → Option ℕ → ℕ → Turn → (now new : ProcessorState) → List Made → Type 0
 Pauses n stop count at now new [] = (new ≡ now) × ((count ≡ n) ⊎ (GoesOn most_retired now.core.state → ⊥))
 Pauses n stop count at now new (made ∷ []) =

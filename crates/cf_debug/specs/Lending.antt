@@ -11,7 +11,7 @@ use Rattle.cf_debug.specs.Replies.{DebuggerState, debugger_state}
 abbrev pub Left : (C U : Type 0) → Type 0
 Left C U = MutBor Processor × (MutBor C × (MutBor (List Kept) × (MutBor (Option ℕ) × U)))
 
--- the debugger with what the output tells: as the call begins
+-- the debugger with what the output exposes: as the call begins
 abbrev pub debugger_state_lent : Lent → Option (List ℕ) → DebuggerState
 debugger_state_lent lent output = debugger_state (processor_state lent.core.now lent.ring.now output) lent.stop.now
 

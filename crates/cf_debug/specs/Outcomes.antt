@@ -1,4 +1,5 @@
--- What a command, or a move of `auto`, leaves: it is done and its answer put, or the report failed after a front of that, or the output failed it.
+-- What a command, or a move of `auto`, leaves: it is done and its answer put, or the report failed after a prefix of
+-- that, or the output failed it.
 use Rattle.std.specs.Prelude.{◌≡◌, ℕ, List, Option, Some, Bool, Result, Ok, Err}
 use Rattle.cf_io.specs.Puts.{Writes, WritesFront}
 use Rattle.cf_io.specs.declared.failed.Failed.{Failed}
@@ -47,7 +48,8 @@ of_report (Err failed) = Err broken.Report
 abbrev pub PutsBack : (now new : ProcessorState) → (written after : Option (List ℕ)) → (before faults : ℕ) → Result (Unit {0}) Failed → Type 0
 PutsBack now new written after before faults answer = (text : List ℕ) × TakesBack now new text × PutsText written after before faults text answer
 
--- what a command leaves: it is carried out and its answer put; or the report failed after a front of that, or the output failed it
+-- what a command leaves: it is carried out and its answer put; or the report failed after a prefix of that, or the
+-- output failed it
 unfoldable pub CommandLeaves : DebugCommand → (now new : DebuggerState) → (written after : Option (List ℕ)) → Result (Unit {0}) Broken → Type 0
 CommandLeaves command now new written after (Ok done) = (text : List ℕ) × CommandAnswers command now new text × Writes written after text
 CommandLeaves command now new written after (Err broken.Report) = (text : List ℕ) × CommandAnswersPart command now new text × WritesFront written after text

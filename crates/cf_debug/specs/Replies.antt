@@ -127,7 +127,7 @@ CommandAnswers (Break stop) now new text = (new ≡ debugger_state now.processor
 CommandAnswers Back now new text = (new.stop ≡ now.stop) × TakesBack now.processor new.processor text
 CommandAnswers End now new text = OnlyAnswers now new text []
 
--- all of it, or `auto` in part: what is done where the report fails after a front of the text
+-- all of it, or `auto` in part: what is done where the report fails after a prefix of the text
 unfoldable pub CommandAnswersPart : DebugCommand → (now new : DebuggerState) → List ℕ → Type 0
 CommandAnswersPart (Auto n) now new text = CommandAnswers (Auto n) now new text ⊎ ((new.stop ≡ now.stop) × DrivesOn n now.stop now.processor new.processor text)
 CommandAnswersPart command now new text = CommandAnswers command now new text

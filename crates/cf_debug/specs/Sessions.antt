@@ -17,7 +17,8 @@ use Rattle.cf_debug.specs.Making.{ProcessorState, processor_state}
 use Rattle.cf_debug.specs.Replies.{DebuggerState, debugger_state, AnswersLine, AnswersAll, AnswersPart, FailsAnswer}
 use Rattle.cf_debug.specs.Standing.{IsOnRun}
 
--- what is seen of a session from outside: the processor, what the commands tell that they have left, and what the report tells
+-- what is seen of a session from outside: the processor, what the commands expose that they have left, and what the
+-- report exposes
 pub record Session : Type 0 where
   pub processor : ProcessorState
   pub commands : Option (List ℕ)
@@ -73,7 +74,8 @@ pub record AnswersWhole (bytes : List ℕ) (begin now : DebuggerState) (written 
   pub has : HasLines bytes lines unfinished
   pub answers : AnswersLines lines begin now written after
 
--- the next line, after these: one that was taken whole, with fewer bytes after it than one take gives; or the unfinished one at the end of the commands
+-- the next line, after these: one that was taken whole, with fewer bytes after it than one take gives; or the
+-- unfinished one at the end of the commands
 abbrev pub IsNext : (told : Option (List ℕ)) → List ℕ → List (List ℕ) → List ℕ → Type 0
 IsNext told bytes lines line =
     ((front rest : List ℕ) × (bytes ≡ front ++ rest) × (length rest < most_taken) × HasLines front (lines ++ line ∷ []) [])
@@ -91,7 +93,7 @@ pub record EndsAtLine (before after : Session) (begin new : DebuggerState) (answ
   pub answers : AnswersLines lines begin now before.report written
   pub ends : LineLeaves line now new written after.report (Some answer)
 
--- the bytes are all that the commands had, where they tell that, and all lines are answered
+-- the bytes are all that the commands had, where they expose that, and all lines are answered
 pub record EndsAtLast (before after : Session) (begin new : DebuggerState) : Type 0 where
   pub bytes : List ℕ
   pub taken : Taken before after bytes
@@ -128,7 +130,7 @@ pub record Debugs (before after : Session) (answer : Debugged) : Type 0 where
   pub stop : Option ℕ
   pub ends : EndsSession before after (debugger_state before.processor None) (debugger_state after.processor stop) answer
 
--- unless the output or the report failed, the processor stands at a moment of a run
+-- unless the output or the report failed, the processor is at a moment of a run
 abbrev pub StaysOnRun : (start core : Processor) → Debugged → Type 0
 StaysOnRun start core Done = IsOnRun start core
 StaysOnRun start core Limit = IsOnRun start core

@@ -40,7 +40,7 @@ pub(crate) enum View {
     /// This many bytes of memory, from an address on.
     Memory(u32, u32),
 
-    /// The weight of what stands in it.
+    /// The weight of what is in it.
     Bound,
 }
 

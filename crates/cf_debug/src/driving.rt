@@ -51,8 +51,8 @@ fn goes_on(core: &Core) -> bool
     core.ending().is_none() && !is_spent(core)
 }
 
-/// Makes the move that is picked and puts the line of an instruction that retires, and says whether an instruction at the break
-/// address was issued.
+/// Makes the move that is picked and puts the line of an instruction that retires, and says whether an instruction at
+/// the break address was issued.
 fn advance<K: Sink, R: Sink>(
     core: &mut Core,
     candidates: &mut Candidates,
@@ -87,8 +87,8 @@ fn advance<K: Sink, R: Sink>(
     }
 }
 
-/// Makes the moves that are picked one after another, at most this many: until the run is over, or an instruction at the break
-/// address is issued. Answers how many there were.
+/// Makes the moves that are picked one after another, at most this many: until the run is over, or an instruction at
+/// the break address is issued. Answers how many there were.
 pub(crate) fn drive<K: Sink, R: Sink>(
     count: u32,
     core: &mut Core,

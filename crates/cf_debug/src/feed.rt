@@ -120,8 +120,8 @@ impl Feed {
         self.at == self.end
     }
 
-    /// The next byte of the commands, or why none comes. Bytes are taken only where none of those taken is left: a take asks for
-    /// 4,096 of them, or for as many as may still be taken.
+    /// The next byte of the commands, or why none comes. Bytes are taken only where none of those taken is left: a take
+    /// asks for 4,096 of them, or for as many as may still be taken.
     pub(crate) fn next<S: Source>(&mut self, commands: &mut S) -> Next
         ensures feeds { Feeds (S.left commands.old) (S.left commands.new) self.old self.new result }
         ensures cause { HasCause (S.faults commands.old) (S.faults commands.new) (commands_fed result) }

@@ -6,7 +6,8 @@ ghost use Rattle.rv_text.specs.Lines.{without_return};
 use arrayvec::ArrayVec;
 use std::marker::Model;
 
-/// The first 258 bytes of a line that is not ended yet: as many as show whether it is too long, a carriage return among them.
+/// The first 258 bytes of a line that is not ended yet: as many as show whether it is too long, a carriage return among
+/// them.
 #[derive(Drop)]
 pub(crate) struct PendingLine {
     bytes: ArrayVec<u8, 258>,

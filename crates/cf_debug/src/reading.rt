@@ -156,8 +156,8 @@ fn read_named(name: &[u8], after: &[u8]) -> Result<DebugCommand, Refusal>
     }
 }
 
-/// What a line tells: a command, or the first refusal of `TooLong`, `UnknownCommand`, `BadNumber` and `ExtraWords`, where
-/// after `move` those of scripts take the place of the last two.
+/// What a line tells: a command, or the first refusal of `TooLong`, `UnknownCommand`, `BadNumber` and `ExtraWords`,
+/// where after `move` those of scripts take the place of the last two.
 #[tactic(auto, unfolding(crate::specs::Commands::command_in))]
 pub(crate) fn read_command(line: &[u8]) -> Result<DebugCommand, Refusal>
     ensures { result ≡ command_in line.now }

@@ -17,7 +17,7 @@ use cf_report::put_retired;
 use report_refusals::{push_bar, push_script};
 use texts::{Page, hex_digit};
 
-/// Puts a text. After `Failed` a front of it was put.
+/// Puts a text. After `Failed` a prefix of it was put.
 fn put<R: Sink>(text: &[u8], report: &mut R) -> Result<(), Failed>
     ensures { PutsText (R.written report.old) (R.written report.new) (R.faults report.old) (R.faults report.new) text.now result }
 {

@@ -9,8 +9,8 @@ use circular_buffer::HeapCircularBuffer;
 use std::alloc::{AllocError, Global};
 use std::marker::Model;
 
-/// What is kept of the last moves of a session, at most 1,024 of them, so that they can be taken back. It is seen as the list of
-/// what is kept, of the oldest move first. No call but `new` takes memory.
+/// What is kept of the last moves of a session, at most 1,024 of them, so that they can be taken back. It is seen as
+/// the list of what is kept, of the oldest move first. No call but `new` takes memory.
 #[derive(Drop)]
 pub struct Ring {
     records: HeapCircularBuffer<Undo>,

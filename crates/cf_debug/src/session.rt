@@ -116,17 +116,18 @@ fn finish<K: Sink, R: Sink>(
     }
 }
 
-/// A session of the debugger on an opened processor: answers the commands, one a line, until one of them is `end` or there are no
-/// more. The ring has to be empty. It takes no memory.
+/// A session of the debugger on an opened processor: answers the commands, one a line, until one of them is `end` or
+/// there are no more. The ring has to be empty. It takes no memory.
 ///
-/// The lines are answered in order, and a refused one changes nothing. The answers are put to the report, and the guest's output
-/// to the output; the guest's input is empty. The ring is left with what is kept of the moves that were made last and not taken
-/// back; unless the output or the report failed, the processor stands at a moment of a run of the machine on which it was opened.
+/// The lines are answered in order, and a refused one changes nothing. The answers are put to the report, and the
+/// guest's output to the output; the guest's input is empty. The ring is left with what is kept of the moves that were
+/// made last and not taken back; unless the output or the report failed, the processor is at a moment of a run of the
+/// machine on which it was opened.
 ///
-/// `Done` comes at `end` and at the end of the commands. `Limit` comes where 16,777,216 bytes were taken, no whole line among them
-/// is `end`, and there is one more byte. `ReadFault` comes only where the commands failed, after the answers to all lines that
-/// were taken whole; `WriteFault` only where the output failed a call of the environment, and `ReportFault` only where the report
-/// failed. In each case that object's count of faults rose.
+/// `Done` comes at `end` and at the end of the commands. `Limit` comes where 16,777,216 bytes were taken, no whole line
+/// among them is `end`, and there is one more byte. `ReadFault` comes only where the commands failed, after the answers
+/// to all lines that were taken whole; `WriteFault` only where the output failed a call of the environment, and
+/// `ReportFault` only where the report failed. In each case that object's count of faults rose.
 pub fn debug<S: Source, K: Sink, R: Sink>(
     core: &mut Core,
     candidates: &mut Candidates,

@@ -1,4 +1,4 @@
-//! The values that are kept at the bottom, so that a later instruction need not request them.
+//! The register cache at the bottom: values that a later instruction need not request.
 
 ghost use Rattle.std.specs.Prelude.{◌≡◌, ◌≢◌, ◌<◌, Some, None, slice_get, slice_set};
 ghost use Rattle.cf_semantics.specs.state.Passengers.{cached as kept_value, forgets, cleared};
@@ -6,7 +6,7 @@ ghost use Rattle.cf_semantics.specs.state.Passengers.{cached as kept_value, forg
 use crate::ends::Ends;
 
 impl Ends {
-    /// The value that is kept for the register, if one is.
+    /// The cached value of the register, if there is one.
     #[inline(always)]
     #[tactic(auto, using(crate::proofs::Keeping::reading))]
     pub fn cached(&self, r: u8) -> Option<u32>
@@ -17,7 +17,7 @@ impl Ends {
         self.cache[r as usize]
     }
 
-    /// Keeps the value for a register other than x0.
+    /// Caches the value of a register other than x0.
     #[inline(always)]
     pub fn keep(&mut self, r: u8, value: u32)
         requires register { r < 32 }
@@ -28,7 +28,7 @@ impl Ends {
         self.cache[r as usize] = Some(value);
     }
 
-    /// Stops keeping a value for the register.
+    /// Forgets the cached value of the register.
     #[inline(always)]
     pub fn forget(&mut self, r: u8)
         requires { r < 32 }
@@ -38,7 +38,7 @@ impl Ends {
         self.cache[r as usize] = None;
     }
 
-    /// Stops keeping any value.
+    /// Empties the cache.
     #[inline(always)]
     #[tactic(auto, using(crate::proofs::Keeping::clearing))]
     pub fn clear(&mut self)
@@ -47,7 +47,7 @@ impl Ends {
         self.cache = [None; 32];
     }
 
-    /// The value that is kept for each register, if one is; none is ever kept for x0.
+    /// The cached value of each register, if there is one; there is never one for x0.
     #[inline(always)]
     pub fn cache(&self) -> [Option<u32>; 32]
         ensures cache { result ≡ self.now.cache }
@@ -56,7 +56,7 @@ impl Ends {
         self.cache
     }
 
-    /// Keeps these values and no others.
+    /// Replaces the contents of the cache.
     #[inline(always)]
     pub fn set_cache(&mut self, cache: [Option<u32>; 32])
         requires { slice_get cache 0 ≡ Some None }

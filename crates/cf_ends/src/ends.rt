@@ -8,8 +8,8 @@ use circular_buffer::HeapCircularBuffer;
 use std::alloc::{AllocError, Global};
 use std::marker::Model;
 
-/// What stands beside the pipes: the register file with its lane of requests, fetch, and the values that are kept at the
-/// bottom. No call but `new` takes memory.
+/// The ends of the pipes: the register file with its lane of requests, fetch, and the register cache at the bottom.
+/// Only `new` allocates memory.
 #[derive(Drop)]
 pub struct Ends {
     pub(crate) regs: [u32; 32],
@@ -30,8 +30,8 @@ impl Model for Ends {
 }
 
 impl Ends {
-    /// The ends of empty pipes: the registers, with x0 zero whatever is given for it, room for 2 to 64 requests, and
-    /// fetch at the address; or an error where there is no memory for the requests.
+    /// The ends of empty pipes: the registers, with x0 zero in any case, a lane for 2 to 64 requests, and fetch at the
+    /// address; or an error where there is no memory for the lane.
     pub fn new(alloc: Global, regs: [u32; 32], pc: u32, lane: u32) -> Result<Ends, AllocError>
         requires least { 2 ≤ lane }
         requires most { lane ≤ 64 }
@@ -85,7 +85,7 @@ impl Ends {
         self.fetch
     }
 
-    /// Lets fetch run at another address, or wait.
+    /// Makes fetch run at another address, or wait.
     #[inline(always)]
     pub fn set_fetch(&mut self, fetch: Fetch)
         ensures { self.new ≡ record self.old { fetch = fetch } }

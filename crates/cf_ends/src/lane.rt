@@ -7,7 +7,7 @@ use crate::ends::Ends;
 use cf_bind::Packet;
 
 impl Ends {
-    /// How many requests there are: at most as many as there is room for, which is at most 64.
+    /// How many requests there are: at most the lane's capacity, which is at most 64.
     #[inline(always)]
     pub fn lane_len(&self) -> u32
         ensures count { result ≡ length self.now.lane }
@@ -17,7 +17,7 @@ impl Ends {
         self.lane.len() as u32
     }
 
-    /// The register of a request, counted from the one to be answered next.
+    /// The register of a request; index 0 is the one to be answered next.
     #[inline(always)]
     pub fn lane_at(&self, j: u32) -> u8
         requires { j < length self.now.lane }
@@ -41,7 +41,7 @@ impl Ends {
         self.lane.push_back(r);
     }
 
-    /// Takes the first request out, and gives the value of its register as a result.
+    /// Removes the first request, and returns the value of its register as a result.
     #[inline(always)]
     pub fn answer(&mut self) -> Packet
         requires { 0 < length self.old.lane }
@@ -57,7 +57,7 @@ impl Ends {
         }
     }
 
-    /// Takes the last request out: the opposite of `request`.
+    /// Removes the last request: the inverse of `request`.
     #[inline(always)]
     pub fn unrequest(&mut self) -> u8
         requires { 0 < length self.old.lane }
@@ -71,7 +71,7 @@ impl Ends {
         }
     }
 
-    /// Requests the register, before all other requests: the opposite of `answer`.
+    /// Requests the register, before all other requests: the inverse of `answer`.
     #[inline(always)]
     pub fn reask(&mut self, r: u8)
         requires register { r < 32 }

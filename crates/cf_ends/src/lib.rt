@@ -1,4 +1,4 @@
-//! What stands beside the pipes: the register file with its lane of requests, fetch, and the values that are kept at the bottom.
+//! The ends of the pipes: the register file with its lane of requests, fetch, and the register cache at the bottom.
 #![tactic(auto)]
 
 mod cache;

@@ -1,4 +1,5 @@
--- The statements of a drawn program (a format of this project, with the instructions as in the RISC-V Assembly Programmer's Manual).
+-- The statements of a drawn program (a format of this project, with the instructions as in the RISC-V Assembly
+-- Programmer's Manual).
 use Rattle.std.specs.Prelude.{ℕ, ◌+◌, ◌*◌, ◌==◌, if◌then◌else◌, List, ◌++◌, codes, decimal}
 use Rattle.cf_gen.specs.declared.choice.Operation.{Operation}
 use Rattle.cf_gen.specs.declared.choice.Operation.TheVariants.{Add, Sub, Xor, Or, Sltu, Sll, Addi, Sw, Lw, Blt}

@@ -116,7 +116,7 @@ fn closing(number: u32) -> Page
 }
 
 /// Puts the text of a program of this many statements, at most 30,000, which are drawn from that number. After `Failed`
-/// a front of the text was written, and the sink's count of faults rose.
+/// a prefix of the text was written, and the sink's count of faults rose.
 #[tactic(auto, using(cf_io::proofs::Owing::owes), unfolding(crate::specs::Program::program_text))]
 pub fn generate<K: Sink>(number: u32, out: &mut K) -> Result<(), Failed>
     requires some { 1 ≤ number }

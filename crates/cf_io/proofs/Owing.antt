@@ -17,14 +17,14 @@ writes-again None b c x y h k = tt
 writes-again (Some told) b c x y h k =
     subst (λ (o : Option (List ℕ)). Writes o c y) h k ∙ ap Some (append_assoc told x y)
 
--- a front of the first text is a front of both
+-- a prefix of the first text is a prefix of both
 pub front-first : (a b : Option (List ℕ)) (x y : List ℕ) → WritesFront a b x → WritesFront a b (x ++ y)
 front-first None b x y front = tt
 front-first (Some told) b x y (n, short, k) =
     let within : n ≤ length x = omega (arith, short) in
     (n, omega (arith, length-append x y, short), k ∙ ap (λ (z : List ℕ). Some (told ++ z)) (sym (take-append-le n x y within)))
 
--- one text, and then a front of another
+-- one text, and then a prefix of another
 pub front-again : (a b c : Option (List ℕ)) (x y : List ℕ) → Writes a b x → WritesFront b c y → WritesFront a c (x ++ y)
 front-again None b c x y h front = tt
 front-again (Some told) b c x y h front =
@@ -49,7 +49,7 @@ owes-next a b c rest next after whole o e h = record {
   parts = append_assoc o.done next after ∙ ap (λ (l : List ℕ). o.done ++ l) (sym e) ∙ o.parts;
 }
 
--- a front of it was put
+-- a prefix of it was put
 pub owes-front : (a b c : Option (List ℕ)) (rest next after whole : List ℕ) → Owes a b rest whole → rest ≡ next ++ after → WritesFront b c next →
     WritesFront a c whole
 owes-front a b c rest next after whole o e h =
@@ -61,7 +61,7 @@ pub owes-none : (a b : Option (List ℕ)) (rest whole : List ℕ) → Owes a b r
 owes-none a b rest whole o e =
     subst (λ (l : List ℕ). Writes a b l) (sym (append-nil o.done) ∙ ap (λ (l : List ℕ). o.done ++ l) (sym e) ∙ o.parts) o.told
 
--- one text, and then an answer that is a failure with a front of another
+-- one text, and then an answer that is a failure with a prefix of another
 pub err-again : {E : Type 0} (a b c : Option (List ℕ)) (x y : List ℕ) (r : Result (Unit {0}) E)
     → Writes a b x → OnErr r (WritesFront b c y) → OnErr r (WritesFront a c (x ++ y))
 err-again a b c x y r h k = on_err_weaker r (front-again a b c x y h) k

@@ -11,7 +11,7 @@ pub record HasPut (written after : Option (List ℕ)) (bytes : List ℕ) (done b
   pub told : Writes written after (take done bytes)
   pub still : now ≡ before
 
--- a front, and then a front of the rest
+-- a front, and then a prefix of the rest
 pub writes-add : (a b c : Option (List ℕ)) (bytes : List ℕ) (i n : ℕ) →
     Writes a b (take i bytes) → Writes b c (take n (drop i bytes)) → Writes a c (take (i + n) bytes)
 writes-add None b c bytes i n first next = tt

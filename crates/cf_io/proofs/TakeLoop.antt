@@ -31,7 +31,7 @@ length-put_mid i slice piece within same =
     rw (rest_written i slice piece within, length-append)
     (omega (arith, same, length-take-le i slice within, length-take rest (drop i slice), length-drop i slice))
 
--- the front of such a slice
+-- the start of such a slice
 take_over : (i n : ℕ) (slice piece : List ℕ) → i ≤ length slice →
     take (i + n) (take i slice ++ piece) ≡ take i slice ++ take n piece
 take_over i n slice piece within =
@@ -45,7 +45,7 @@ drop_over i n slice piece within =
     let front : length (take i slice) ≡ i = length-take-le i slice within in
     ap (λ k. drop (k + n) (take i slice ++ piece)) (sym front) ∙ drop-append-add (take i slice) piece n
 
--- a front of what is left, and then a front of the rest
+-- a prefix of what is left, and then a prefix of the rest
 gives-add : (a b c : Option (List ℕ)) (slice piece : List ℕ) (i n : ℕ) → i ≤ length slice →
     GivesFront a b slice i → GivesFront b c piece n → GivesFront a c (take i slice ++ piece) (i + n)
 gives-add None b c slice piece i n within first next = tt

@@ -1,4 +1,5 @@
--- The standard library's answers as those of this crate: a reader's or a writer's count, or that the call failed (a convention of this project).
+-- The standard library's answers as those of this crate: a reader's or a writer's count, or that the call failed (a
+-- convention of this project).
 use Rattle.std.specs.Prelude.{ℕ, zero, suc, Result, Ok, Err}
 use Rattle.cf_io.specs.declared.failed.Failed.{Failed}
 
@@ -7,7 +8,7 @@ abbrev pub answer_of_reader : {E : Type 0} → Result ℕ E → Result ℕ Faile
 answer_of_reader (Ok count) = Ok count
 answer_of_reader (Err error) = Err record {}
 
--- of a writer, to a piece that is not empty: the number of bytes that it took, where 0 is a failure
+-- of a writer, to a piece that is not empty: the number of bytes that it accepted, where 0 is a failure
 abbrev pub answer_of_writer : {E : Type 0} → Result ℕ E → Result ℕ Failed
 answer_of_writer (Ok zero) = Err record {}
 answer_of_writer (Ok (suc more)) = Ok (suc more)

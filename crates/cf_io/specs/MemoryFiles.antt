@@ -28,7 +28,7 @@ unread_files files fails = record {
   faults = 0;
 }
 
--- what the files tell
+-- what the files expose
 abbrev pub told_by : MemoryFiles → FilesSeen
 told_by files = record {
   content = content_of files.files;
@@ -64,7 +64,7 @@ after_unheld files = record files {
   unheld = raised files.unheld;
 }
 
--- exactly the reads that are to fail do, apart from lack of memory, and each read is counted
+-- each read is counted, and exactly those that are to fail do, unless there is no memory
 abbrev pub ReadsCounted : {T : Type 0} → MemoryFiles → MemoryFiles → List ℕ → Result T FilesErr →
     Type 0
 ReadsCounted files after name (Ok bytes) =

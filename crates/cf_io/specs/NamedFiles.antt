@@ -1,4 +1,4 @@
--- Named files in a list, where the first of each name counts (a convention of this project).
+-- Named files in a list; of several with one name the first counts (a convention of this project).
 use Rattle.std.specs.Prelude.{ℕ, List, [], ◌∷◌, Option, Some, None, if◌then◌else◌, nat_eq, string_bytes, String, Vec}
 use Rattle.std.specs.Global.{Global}
 use lib.Pointwise.{pointwise}

@@ -1,12 +1,12 @@
--- What a read of a file does to what the files tell (a convention of this project).
+-- What a read of a file does to what the files expose (a convention of this project).
 use Rattle.std.specs.Prelude.{◌≡◌, ◌≤◌, ℕ, List, [], ◌∷◌, ◌++◌, take, option_map, Option, Some, None, Result, Ok, Err, Vec}
 use Rattle.std.specs.Global.{Global}
 use Rattle.cf_io.specs.Causes.{Rose, raised}
 use Rattle.cf_io.specs.declared.files.FilesErr.{FilesErr}
 use Rattle.cf_io.specs.declared.files.FilesErr.TheVariants as err
 
--- what files tell: the bytes of each name that they have, the names that were read and those whose read failed, both in
--- order, and how many reads found no memory
+-- what files expose: the bytes of each name that they have, the names that were read and those whose read failed, both
+-- in order, and how many reads found no memory
 pub record FilesSeen : Type 0 where
   pub content : List ℕ → Option (List ℕ)
   pub read : List (List ℕ)
@@ -28,14 +28,15 @@ with_failed told name = record told {
 abbrev pub with_unheld : FilesSeen → FilesSeen
 with_unheld told = record told { unheld = raised told.unheld }
 
--- one read, where the files tell what they have: the first bytes of the file; each read is noted, by its name or as one that found no memory
+-- one read, where the files expose what they have: the first bytes of the file; each read is recorded, by its name or
+-- as one that found no memory
 abbrev pub ReadsTold : FilesSeen → Option FilesSeen → List ℕ → ℕ → Result (Vec ℕ Global) FilesErr → Type 0
 ReadsTold told after name most (Ok bytes) =
     (option_map (take most) (told.content name) ≡ Some bytes.items) × (after ≡ Some (with_read told name))
 ReadsTold told after name most (Err err.Failed) = after ≡ Some (with_failed told name)
 ReadsTold told after name most (Err err.NoMemory) = after ≡ Some (with_unheld told)
 
--- one read: what the files tell before and after, the name, the most bytes wanted, the answer
+-- one read: what the files expose before and after, the name, the most bytes wanted, the answer
 abbrev pub ReadsFile : Option FilesSeen → Option FilesSeen → List ℕ → ℕ → Result (Vec ℕ Global) FilesErr → Type 0
 ReadsFile None after name most result = after ≡ None
 ReadsFile (Some told) after name most result = ReadsTold told after name most result

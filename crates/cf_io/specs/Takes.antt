@@ -1,13 +1,13 @@
 -- What taking bytes does to the slice and to what is left (a convention of this project).
 use Rattle.std.specs.Prelude.{◌≡◌, ◌≤◌, ◌<◌, ℕ, List, [], take, drop, length, min, Option, Some, None, Result, Ok, IfOk, OnErr}
 
--- where the source tells what it has left: the first n bytes that it had left were taken, and the rest is left
+-- where the source exposes what it has left: its first n bytes were taken, and the others are left
 abbrev pub GivesFront : Option (List ℕ) → Option (List ℕ) → List ℕ → ℕ → Type 0
 GivesFront None after new n = Unit {0}
 GivesFront (Some left) after new n =
     (n ≤ length left) × (take n new ≡ take n left) × (after ≡ Some (drop n left))
 
--- where the source tells what it has left, it has nothing left
+-- where the source exposes what it has left, it has nothing left
 abbrev pub IsAtEnd : Option (List ℕ) → Type 0
 IsAtEnd None = Unit {0}
 IsAtEnd (Some left) = left ≡ []
@@ -22,13 +22,13 @@ pub record Takes {E : Type 0} (left after : Option (List ℕ)) (into new : List 
   pub empty : length into ≡ 0 → result ≡ Ok 0
   pub unchanged : OnErr result ((new ≡ into) × (after ≡ left))
 
--- n bytes were taken to the front of the slice, and its old bytes follow them
+-- n bytes were taken to the start of the slice, and its old bytes follow them
 pub record TakesSome (left after : Option (List ℕ)) (into new : List ℕ) (n : ℕ) : Type 0 where
   pub count : n ≤ length into
   pub told : GivesFront left after new n
   pub rest : drop n new ≡ drop n into
 
--- where the source tells what it has left: as many bytes as there is room for, or all
+-- where the source exposes what it has left: as many bytes as there is room for, or all
 abbrev pub TakesMost : Option (List ℕ) → ℕ → ℕ → Type 0
 TakesMost None room n = Unit {0}
 TakesMost (Some left) room n = n ≡ min room (length left)

@@ -10,8 +10,8 @@ use std::alloc::Global;
 use std::io::{self, Read};
 use std::{fs, rt};
 
-/// Real files by their paths, which do not tell their contents. A missing file, or a name that
-/// cannot be opened, is a fault; lack of memory is not.
+/// Real files, named by their paths. They do not expose their contents. A missing file, or a name that cannot be
+/// opened, is a fault; being out of memory is not.
 #[derive(Drop)]
 pub struct DirFiles<'a, R: rt::Files + AllocGlobal> {
     rt: &'a R,
@@ -27,14 +27,14 @@ impl<'a, R: rt::Files + AllocGlobal> DirFiles<'a, R> {
     }
 }
 
-/// The first bytes that a reader has left, at most `most`.
+/// The next bytes of a reader, at most `most`.
 fn front_of<R: Read + Drop>(reader: R, alloc: Global, most: u64) -> io::Result<Vec<u8>>
     ensures most { IfOk result (λ bytes. vec_len bytes ≤ most) }
     ensures bytes { IfOk result (λ bytes. IfSome (R.remaining reader) (λ left. bytes.items ≡ take most left)) }
 {
     let mut bytes = Vec::new(alloc);
     reader.take(most).read_to_end(&mut bytes)?;
-    // std promises no bound of what `read_to_end` appends.
+    // std promises no bound on what `read_to_end` appends.
     bytes.truncate(most as usize);
     Ok(bytes)
 }
@@ -51,7 +51,7 @@ fn read_front<R: rt::Files + AllocGlobal>(
     front_of(fs::open(rt, name)?, alloc, most)
 }
 
-/// Why the read gave no bytes: for lack of memory exactly where the error is of that kind.
+/// Why the read gave no bytes: it was out of memory exactly where the error is of that kind.
 fn reason(error: &io::Error) -> FilesErr
     ensures { result ≡ FilesErr.NoMemory ↔ error_kind error.now ≡ kind.OutOfMemory }
 {

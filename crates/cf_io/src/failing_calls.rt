@@ -5,8 +5,7 @@ ghost use Rattle.cf_io.specs.FailingCalls.{after_call, fails_next, no_calls};
 
 use std::marker::Model;
 
-/// The numbers of the calls that are to fail, and how many calls were made. The first call has
-/// number 1.
+/// The numbers of the calls that are to fail, and how many calls were made. The first call is number 1.
 #[derive(Drop)]
 pub(crate) struct FailingCalls {
     fails: Vec<u64>,
@@ -31,8 +30,8 @@ impl FailingCalls {
         FailingCalls { fails, made: 0 }
     }
 
-    /// Counts one more call and answers whether it is to fail. A call past the greatest `u64` has
-    /// a number that no list holds.
+    /// Counts one more call and returns whether it is to fail. A call past the greatest `u64` has a number that no list
+    /// holds, so it does not fail.
     #[tactic(auto, unfolding(crate::specs::FailingCalls::fails_next))]
     pub(crate) fn next(&mut self) -> bool
         ensures answer { result ≡ fails_next self.old }

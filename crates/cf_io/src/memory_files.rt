@@ -12,8 +12,8 @@ use crate::files::{Files, FilesErr};
 use std::alloc::Global;
 use std::marker::Model;
 
-/// Files in memory, where the first of each name counts. The reads whose numbers are listed fail,
-/// and so do those of a missing name.
+/// Files in memory; of several with one name the first counts. The reads whose numbers are listed fail, and so do those
+/// of a missing name.
 #[derive(Drop)]
 pub struct MemFiles {
     files: Vec<(String, Vec<u8>)>,
@@ -42,8 +42,8 @@ impl Model for MemFiles {
 }
 
 impl MemFiles {
-    /// Files with these names and bytes. `fails` lists the numbers of the reads that fail,
-    /// counted from 1. The lists of reads will take their memory from `alloc`.
+    /// Files with these names and bytes. `fails` lists the numbers of the reads that fail, counted from 1. The lists of
+    /// reads are allocated from `alloc`.
     pub fn new(alloc: Global, files: Vec<(String, Vec<u8>)>, fails: Vec<u64>) -> MemFiles
         ensures { result ≡ unread_files (map entry_of files.items) fails.items }
     {
@@ -84,7 +84,7 @@ fn front_of(alloc: Global, bytes: &[u8], most: u64) -> Result<Vec<u8>, FilesErr>
     }
 }
 
-/// The name for each of two lists, which then have room for it and keep what they hold.
+/// Two copies of the name, one for each list, once both lists have room for it.
 fn names_for(
     alloc: Global,
     name: &str,
@@ -119,7 +119,7 @@ fn append(names: &mut Vec<String>, name: String)
 }
 
 impl MemFiles {
-    /// Counts one more read that found no memory, and answers `NoMemory`.
+    /// Counts one more read that found no memory, and returns `NoMemory`.
     fn refuse_memory(&mut self) -> FilesErr
         ensures answer { result ≡ FilesErr.NoMemory }
         ensures state { self.new ≡ record self.old { unheld = raised self.old.unheld } }

@@ -11,8 +11,7 @@ use crate::sink::Sink;
 use std::alloc::{AllocError, Global};
 use std::marker::Model;
 
-/// A buffer of fixed capacity. The puts whose numbers are listed fail, and so do those into a full
-/// buffer, but no others.
+/// A buffer of fixed capacity. Exactly the puts whose numbers are listed fail, and those into a full buffer.
 #[derive(Drop)]
 pub struct MemSink {
     bytes: Vec<u8>,
@@ -38,8 +37,8 @@ impl Model for MemSink {
 }
 
 impl MemSink {
-    /// An empty sink with room for `capacity` bytes, whose memory is taken here. `fails` lists
-    /// the numbers of the puts that fail, counted from 1; puts of nothing are not counted.
+    /// An empty sink with room for `capacity` bytes, which are allocated here. `fails` lists the numbers of the puts
+    /// that fail, counted from 1; puts of nothing are not counted.
     pub fn new(alloc: Global, capacity: usize, fails: Vec<u64>) -> Result<MemSink, AllocError>
         ensures { IfOk result (λ sink. sink ≡ empty_sink capacity fails.items) }
     {

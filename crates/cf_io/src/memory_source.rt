@@ -10,8 +10,7 @@ use crate::failing_calls::FailingCalls;
 use crate::source::Source;
 use std::marker::Model;
 
-/// Bytes in memory that are given in pieces. The takes whose numbers are listed fail, but no
-/// others.
+/// Bytes in memory that are given in pieces. Exactly the takes whose numbers are listed fail.
 #[derive(Drop)]
 pub struct MemSource {
     bytes: Vec<u8>,
@@ -38,9 +37,8 @@ impl Model for MemSource {
 }
 
 impl MemSource {
-    /// A source of `bytes` that gives in each call the least of `piece`, the slice's length and
-    /// what is left. `fails` lists the numbers of the takes that fail, counted from 1; takes into
-    /// an empty slice are not counted.
+    /// A source of `bytes`. Each call gives the least of `piece`, the slice's length and what is left. `fails` lists
+    /// the numbers of the takes that fail, counted from 1; takes into an empty slice are not counted.
     pub fn new(bytes: Vec<u8>, piece: usize, fails: Vec<u64>) -> MemSource
         requires { 0 < piece }
         ensures { result ≡ start_of bytes.items piece fails.items }

@@ -12,7 +12,7 @@ use crate::sink::Sink;
 use crate::source::Source;
 use std::io::{self, Read, Write};
 
-/// A reader's answer as a source's: the number of bytes that it gave, where 0 is the end and not a fault; each error is
+/// A reader's answer as a source's: the number of bytes that it gave, where 0 is the end and not a fault. Each error is
 /// a failure.
 fn taken(answer: io::Result<usize>) -> Result<usize, Failed>
     ensures { result ≡ answer_of_reader answer }
@@ -23,8 +23,8 @@ fn taken(answer: io::Result<usize>) -> Result<usize, Failed>
     }
 }
 
-/// A writer's answer, to a piece that is not empty, as a sink's: the number of bytes that it took, if it took any. To
-/// take none is a failure, and so is each error.
+/// A writer's answer, to a piece that is not empty, as a sink's: the number of bytes that it accepted, if any.
+/// Accepting none is a failure, and so is each error.
 fn written(answer: io::Result<usize>) -> Result<usize, Failed>
     ensures { result ≡ answer_of_writer answer }
 {
@@ -34,8 +34,8 @@ fn written(answer: io::Result<usize>) -> Result<usize, Failed>
     }
 }
 
-/// A reader, such as standard input, as a source that does not tell what it has left. Its takes are
-/// the reader's own reads.
+/// A reader, such as standard input, as a source that does not expose what it has left. Its takes are the reader's own
+/// reads.
 #[derive(Drop)]
 pub struct StdSource<R: Read + Drop> {
     inner: R,
@@ -56,8 +56,8 @@ impl<R: Read + Drop> Source for StdSource<R> {
 
     ghost faults = { λ s. s.faults };
 
-    // A reader says nothing of the slice after the bytes that it gave, nor of the slice after an
-    // error. So it reads into a buffer of our own.
+    // A reader promises nothing of the slice beyond the bytes that it gave, nor after an error. So it reads into a
+    // buffer of our own.
     fn take(&mut self, into: &mut [u8]) -> Result<usize, Failed>
         ensures bytes { Takes None None into.old into.new result }
         ensures cause { HasCause self.old.faults self.new.faults result }
@@ -83,9 +83,8 @@ impl<R: Read + Drop> Source for StdSource<R> {
     }
 }
 
-/// A writer, such as standard output, as a sink that does not tell what was written. It is never
-/// flushed, so it should be one that keeps nothing back. A write that takes nothing of a piece is
-/// a fault.
+/// A writer, such as standard output, as a sink that does not expose what was written. It is never flushed, so it
+/// should not buffer. A write that accepts nothing of a piece is a fault.
 #[derive(Drop)]
 pub struct StdSink<W: Write + Drop> {
     inner: W,

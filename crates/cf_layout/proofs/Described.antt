@@ -194,7 +194,7 @@ pub ascending_none : ascending [] ≡ []
 unfolding ascending
 ascending_none = none_kept stage_numbers
 
--- a stage from 1 to 32 stands at its place
+-- a stage from 1 to 32 is at its place
 stage_at : (i : ℕ) → 1 ≤ i → i ≤ 32 → get_or stage_numbers (i - 1) 0 ≡ i
 unfolding stage_numbers
 stage_at i low high = get_or-range_with_len 1 32 (i - 1) 0 (omega arith) ∙ omega arith
@@ -230,7 +230,7 @@ entry_step : (n : ℕ) (here rest : Bool) (unit : Class × List ℤ) (found : Op
 entry_step n true rest unit found e u later = (u.some, u.stages)
 entry_step n false rest unit found e u later = later e
 
--- a class that stands in a unit has stages listed
+-- a class that is in a unit has stages listed
 entry_some : (n : ℕ) (units : List (Class × List ℤ)) (c : Class) → All (IsUnit n) units → is_unit units c ≡ true →
     (0 < length (stages_in (find (λ unit. same_class c unit.0) units))) × All (λ z. is_within 1 n z ≡ true)
     (stages_in (find (λ unit. same_class c unit.0) units))
@@ -250,7 +250,7 @@ entry_none_step : (here rest : Bool) (unit : Class × List ℤ) (found : Option 
 entry_none_step true rest unit found e later = cc
 entry_none_step false rest unit found e later = later e
 
--- a class that stands in no unit has no stages listed
+-- a class that is in no unit has no stages listed
 entry_none : (units : List (Class × List ℤ)) (c : Class) → is_unit units c ≡ false → stages_in (find (λ unit. same_class c unit.0) units) ≡ []
 entry_none [] c e = refl
 entry_none (unit ∷ units) c e = entry_none_step (same_class c unit.0) (is_unit units c) unit (find (λ v. same_class c v.0) units) e (entry_none units c)
@@ -291,7 +291,7 @@ served_more : (c : Class) (siding : asked.Siding) (sidings : List asked.Siding) 
 served_more c siding sidings named e once same = rw e (served_step (times siding.classes c) (serves (siding_plan siding) c) (siding_plan siding)
     (filter (λ s. serves s c) (map siding_plan sidings)) (times (sided_classes sidings) c) named once same)
 
--- a class stands in the sidings as often as there are sidings that serve it
+-- a class is in the sidings as often as there are sidings that serve it
 pub served_times : (sidings : List asked.Siding) (c : Class) → IsComputed c → times (sided_classes sidings) c ≤ 1 →
     length (filter (λ siding. serves siding c) (map siding_plan sidings)) ≡ times (sided_classes sidings) c
 served_times [] c small once = sym (times_nil c)

@@ -159,7 +159,7 @@ lists_within plan [] place all = All-nil (IsStage plan)
 lists_within plan (stages ∷ units) zero all = all 0 [] (omega arith)
 lists_within plan (stages ∷ units) (suc place) all = lists_within plan units place (All-tail (All (IsStage plan)) stages units all)
 
--- a unit stands at a stage of the pipeline
+-- a unit is at a stage of the pipeline
 pub unit_within : (plan : Plan) → IsAccepted plan → (c : Class) (i : ℕ) → unit_at plan c i ≡ true → IsStage plan i
 unfolding unit_at stages_of
 unit_within plan a c i at = in_list (IsStage plan) i _ (lists_within plan plan.units (place_of c) a.unit_stages) at

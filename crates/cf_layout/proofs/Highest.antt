@@ -18,7 +18,7 @@ top_bit : (w j : ℕ) → 2 ^ j ≤ w → w < 2 ^ suc j → has_bit w j ≡ true
 unfolding has_bit
 top_bit w j low high = let p = pow-suc 2 j in let e : w / 2 ^ j ≡ 1 = div-eq_of_lt-le (2 ^ j) (omega arith) (omega arith) in rw e refl
 
--- no stage stands above it
+-- no stage is above it
 none_above : (w j d s : ℕ) → w < 2 ^ suc j → j + 1 < s → s + d ≡ 33 → stages_from w s ≡ []
 none_above w j zero s small above at = let e : s ≡ 33 = omega arith in rw e (from_end w)
 none_above w j (suc d) s small above at =

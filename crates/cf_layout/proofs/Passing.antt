@@ -127,7 +127,7 @@ stages_hold n siding first e =
     let g = next_passes _ _ f in
     (holds _ _ (first_passes _ _ e), holds _ _ (first_passes _ _ f), holds _ _ (first_passes _ _ g), int_order _ _ (holds _ _ (next_passes _ _ g)))
 
--- Memory stands beside no other class
+-- Memory is beside no other class
 alone_holds : (named : Bool) (n : ℕ) → not (named && nat_lt 1 n) ≡ true → 0 < n → named ≡ true → n ≡ 1
 alone_holds true n e some t = grind (arith, nat_tests)
 alone_holds false n e some t = cc

@@ -1,4 +1,4 @@
--- What has to hold of the parts of a layout, so that they describe one that is accepted.
+-- The conditions on the parts of a layout under which it is accepted.
 use Rattle.std.specs.Prelude.{◌≡◌, ◌≢◌, ℕ, ℤ, ◌≤◌, ◌<◌, ◌<ℤ◌, List, [], ◌∷◌, ◌++◌, length, map, filter, All, true}
 use Rattle.rv_inst.specs.declared.classes.Class.{Class}
 use Rattle.rv_inst.specs.declared.classes.Class.TheVariants.{Memory, Mul, Div}
@@ -33,9 +33,9 @@ times classes c = length (filter (same_class c) classes)
 
 -- what has to hold of a unit in a pipeline of n stages
 pub record IsUnit (n : ℕ) (unit : Class × List ℤ) : Type 0 where
-  -- memory is reached through a siding
+  -- loads and stores go through a siding
   pub beside_memory : unit.0 ≢ Memory
-  -- it is at one stage at least, and only at stages that the pipeline has
+  -- it has at least one stage, and only stages of the pipeline
   pub some : 0 < length unit.1
   pub stages : All (λ stage. is_within 1 n stage ≡ true) unit.1
 
@@ -48,7 +48,7 @@ pub record IsSiding (n : ℕ) (siding : Siding) : Type 0 where
   pub launch : is_within 1 n siding.launch ≡ true
   pub recover : is_within 1 n siding.recover ≡ true
   pub order : siding.launch <ℤ siding.recover
-  -- what goes to memory shares it with nothing else
+  -- Memory shares its siding with no other class
   pub memory_alone : names siding.classes Memory ≡ true → length siding.classes ≡ 1
 
 -- what has to hold of all parts
@@ -58,11 +58,11 @@ pub record IsAcceptable (parts : Parts) : Type 0 where
   pub few_sidings : length parts.sidings ≤ 8
   pub units : All (IsUnit (natural parts.stages)) parts.units
   pub sidings : All (IsSiding (natural parts.stages)) parts.sidings
-  -- no class is listed twice, whether in units or in sidings
+  -- no class is listed twice, in units or sidings
   pub once : (c : Class) → times (asked_classes parts) c ≤ 1
-  -- each class that every processor computes is there, and of multiplication and division both or neither
+  -- no class that every processor computes is missing; of multiplication and division both are present or neither
   pub needed : (c : Class) → is_needed c ≡ true → is_asked parts c ≡ true
   pub pair : is_asked parts Mul ≡ is_asked parts Div
-  -- control turns at or below the stage from which memory is reached, whether at a unit or at a recovery
+  -- control turns, at a unit or a recovery, at or below the stage from which loads and stores are launched
   pub control : (c : Class) → is_control c ≡ true → All (λ stage. stage ≤ memory_launch_in parts.sidings)
       (turns_in (ascending (listed parts.units c)) (siding_for parts.sidings c))

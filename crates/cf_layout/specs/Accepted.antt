@@ -1,5 +1,5 @@
--- Which layouts are accepted: what has to hold so that each instruction finds its unit or its siding on its way up, and
--- so that nothing that turns control stands above the stage from which memory is reached (Sproull, Sutherland and
+-- Which layouts are accepted. The conditions ensure that each instruction finds its unit or its siding on its way up,
+-- and that nothing turns control above the stage from which loads and stores are launched (Sproull, Sutherland and
 -- Molnar, "Counterflow Pipeline Processor Architecture", 1994, on traps and sidings).
 use Rattle.std.specs.Prelude.{◌≡◌, ℕ, ◌≤◌, ◌<◌, [], ◌∷◌, length, map, All, Bool, true, false, unwrap_or}
 use Rattle.std.specs.List.Sorted.{IsStrictlyIncreasing}
@@ -25,7 +25,7 @@ is_control _ = false
 unfoldable pub memory_launch : Plan → ℕ
 memory_launch plan = launch_stage plan (unwrap_or (siding_of plan Memory) 0)
 
--- one of the pipeline's stages, which are numbered from 1 at the bottom
+-- a stage of the pipeline; stage 1 is at the bottom
 abbrev pub IsStage : Plan → ℕ → Type 0
 IsStage plan i = (1 ≤ i) × (i ≤ plan.stages)
 
@@ -42,7 +42,7 @@ pub record IsSiding (plan : Plan) (siding : SidingPlan) : Type 0 where
   pub order : siding.launch < siding.recover
   -- it has 1 to 8 cells
   pub cells : (1 ≤ siding.cells) × (siding.cells ≤ 8)
-  -- what goes to memory shares it with nothing else
+  -- Memory shares its siding with no other class
   pub memory_alone : serves siding Memory ≡ true → siding.classes ≡ Memory ∷ []
 
 -- the layout is accepted
@@ -58,11 +58,11 @@ pub record IsAccepted (plan : Plan) : Type 0 where
   pub sidings : All (IsSiding plan) plan.sidings
   -- each class that every processor computes has either units or one siding
   pub needed : (c : Class) → is_needed c ≡ true → homes plan c ≡ 1
-  -- multiplication and division have a home each, or neither has one
+  -- multiplication and division each have a home (units or a siding), or neither has
   pub pair : homes plan Mul ≡ homes plan Div
   pub pair_once : homes plan Mul ≤ 1
-  -- memory is reached through a siding
+  -- loads and stores go through a siding
   pub memory : stages_of plan Memory ≡ []
-  -- control turns at or below the stage from which memory is reached, whether at a unit or at a recovery
+  -- control turns, at a unit or a recovery, at or below the stage from which loads and stores are launched
   pub control_units : (c : Class) (i : ℕ) → is_control c ≡ true → unit_at plan c i ≡ true → i ≤ memory_launch plan
   pub control_sidings : (c : Class) → is_control c ≡ true → All (λ siding. serves siding c ≡ true → siding.recover ≤ memory_launch plan) plan.sidings

@@ -1,4 +1,4 @@
--- What the parts of a layout ask for, and the layout that they describe.
+-- What the parts of a layout request, and the layout that they describe.
 use Rattle.std.specs.Prelude.{◌≡◌, true, ℕ, ℤ, pos, negsuc, List, [], filter, find, map, nat_eq, nat_le, Bool, false, ◌||◌, ◌&&◌, Option, Some, None}
 use Rattle.std.specs.List.{list_any, range_with_len}
 use Rattle.rv_inst.specs.declared.classes.Class.{Class}
@@ -34,7 +34,7 @@ stages_in (Some unit) = unit.1
 unfoldable pub listed : List (Class × List ℤ) → Class → List ℤ
 listed units c = stages_in (find (λ unit. same_class c unit.0) units)
 
--- the numbers of the stages that a pipeline can have
+-- the numbers of all stages that a pipeline can have
 unfoldable pub stage_numbers : List ℕ
 stage_numbers = range_with_len 1 32
 
@@ -46,12 +46,12 @@ ascending stages = filter (λ i. list_any (is_number i) stages) stage_numbers
 unfoldable pub in_class_order : List Class → List Class
 in_class_order classes = filter (names classes) computed_classes
 
--- the siding that is asked for
+-- the requested siding
 unfoldable pub siding_plan : Siding → SidingPlan
 siding_plan siding = record
     { classes = in_class_order siding.classes; launch = natural siding.launch; recover = natural siding.recover; cells = natural siding.cells }
 
--- the units that are asked for: for each class in class order their stages
+-- the requested units: for each class in class order their stages
 unfoldable pub units_plan : List (Class × List ℤ) → List (List ℕ)
 units_plan units = map (λ c. ascending (listed units c)) computed_classes
 
@@ -65,14 +65,14 @@ plan_of parts = record {
   sidings = map siding_plan parts.sidings;
 }
 
--- a class stands in a unit, or in a siding
+-- a class is in a unit, or in a siding
 abbrev pub is_unit : List (Class × List ℤ) → Class → Bool
 is_unit units c = list_any (λ unit. same_class c unit.0) units
 
 abbrev pub is_sided : List Siding → Class → Bool
 is_sided sidings c = list_any (λ siding. names siding.classes c) sidings
 
--- a class stands in either
+-- a class is in either
 unfoldable pub is_asked : Parts → Class → Bool
 is_asked parts c = is_unit parts.units c || is_sided parts.sidings c
 

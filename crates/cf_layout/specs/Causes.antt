@@ -1,4 +1,4 @@
--- What each refusal of a layout says by itself.
+-- What each refusal of a layout says, taken by itself.
 use Rattle.std.specs.Prelude.{◌≡◌, min, ◌⊎◌, ℤ, ◌<◌, ◌≤ℤ◌, List, length, slice_get, true, false, Some}
 use Rattle.std.specs.List.{Any, Contains}
 use Rattle.rv_inst.specs.declared.classes.Class.{Class}
@@ -20,7 +20,7 @@ ListsStage parts c z = Any (λ (unit : Class × List ℤ). (unit.0 ≡ c) × Con
 abbrev pub SidesAt : Parts → Class → ℤ → Type 0
 SidesAt parts c z = Any (λ (siding : Siding). Contains siding.classes c × ((siding.launch ≡ z) ⊎ (siding.recover ≡ z))) parts.sidings
 
--- every processor needs the class, or it is one of multiplication and division and the other is asked for
+-- every processor needs the class, or it is one of multiplication and division and the other is requested
 abbrev pub IsWanted : Parts → Class → Type 0
 IsWanted parts c = (is_needed c ≡ true) ⊎ (((c ≡ Mul) × (is_asked parts Div ≡ true)) ⊎ ((c ≡ Div) × (is_asked parts Mul ≡ true)))
 

@@ -1,4 +1,4 @@
--- The list of the members of a word gives the word back.
+-- The list of the members of a bit word gives the word back.
 use Rattle.std.proofs.Common.{◌≡◌, ℕ, suc, zero, ◌+◌, ◌*◌, ◌/◌, ◌%◌, ◌^◌, ◌<◌, List, [], ◌∷◌, length, add_comm, Bool, true, false, cond, refl, arith}
 use Rattle.std.specs.Prelude.{filter, nat_eq}
 use Rattle.std.specs.List.{range_with_len}
@@ -26,11 +26,11 @@ unfolding word_of
 word_more bit x xs true = refl
 word_more bit x xs false = omega arith
 
--- what is below a bit stays where no bit is added
+-- where no bit is added, the bits below are unchanged
 nothing_more : (w k : ℕ) → 0 + w % 2 ^ k ≡ w % 2 ^ (0 + k)
 nothing_more w k = let e : 0 + k ≡ k = omega arith in rw e (omega arith)
 
--- two sums that meet
+-- adding up two sums that have a term in common
 joined : (a b c d e : ℕ) → a + c ≡ d → b + d ≡ e → a + b + c ≡ e
 joined a b c d e p q = omega arith
 

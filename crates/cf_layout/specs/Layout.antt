@@ -5,7 +5,8 @@ use Rattle.std.specs.List.{list_any}
 use Rattle.rv_inst.specs.declared.classes.Class.{Class}
 use Rattle.rv_inst.specs.declared.classes.Class.TheVariants.{Add, Logic, Shift, Compare, Branch, Jump, Memory, Serial, Free, Mul, Div}
 
--- a siding: the classes that go through it, in class order; the stage from which it launches; the stage at which it recovers; and how many cells it has
+-- a siding: the classes that go through it, in class order; the stage from which it launches; the stage at which it
+-- recovers; and how many cells it has
 pub record SidingPlan : Type 0 where
   pub classes : List Class
   pub launch : ℕ
@@ -21,7 +22,7 @@ pub record Plan : Type 0 where
   pub units : List (List ℕ)
   pub sidings : List SidingPlan
 
--- where a class stands in class order: after the nine that units or sidings compute come the two that have neither
+-- the index of a class in class order: after the nine that units or sidings compute come the two that need neither
 abbrev pub place_of : Class → ℕ
 place_of Add = 0
 place_of Logic = 1
@@ -59,7 +60,7 @@ serves siding c = list_any (same_class c) siding.classes
 unfoldable pub siding_of : Plan → Class → Option ℕ
 siding_of plan c = position (λ siding. serves siding c) plan.sidings
 
--- what takes the place of a siding that does not exist
+-- stands for a siding that does not exist
 abbrev pub no_siding : SidingPlan
 no_siding = record { classes = []; launch = 0; recover = 0; cells = 0 }
 
@@ -79,7 +80,7 @@ recover_stage plan k = (siding_at plan k).recover
 unfoldable pub cells_of : Plan → ℕ → ℕ
 cells_of plan k = (siding_at plan k).cells
 
--- units, at however many stages, are one home
+-- the units of a class, at any number of stages, are one home
 abbrev pub unit_homes : List ℕ → ℕ
 unit_homes [] = 0
 unit_homes (stage ∷ stages) = 1
@@ -96,18 +97,18 @@ is_homed plan c = nat_lt 0 (homes plan c)
 unfoldable pub has_mul : Plan → Bool
 has_mul plan = is_homed plan Mul && is_homed plan Div
 
--- the recovery stage of a siding, and the last stage of the pipeline where there is no siding
+-- the recovery stage of a siding, or the last stage of the pipeline where there is no siding
 abbrev pub recovers_by : Plan → Option ℕ → ℕ
 recovers_by plan None = plan.stages
 recovers_by plan (Some k) = recover_stage plan k
 
--- the last of the stages, or else the other number
+-- the last of the stages, or the other number where there is none
 abbrev pub last_of : List ℕ → ℕ → ℕ
 last_of [] other = other
 last_of (stage ∷ stages) other = last_of stages stage
 
 -- the last stage at which an instruction of the class can still be computed: that of its last unit, or else the
--- recovery stage of its siding, or else the last of the pipeline; the first for what needs no computing
+-- recovery stage of its siding, or else the last of the pipeline; and the first for the class that needs no computing
 unfoldable pub last_stage : Plan → Class → ℕ
 last_stage plan Serial = plan.stages
 last_stage plan Free = 1

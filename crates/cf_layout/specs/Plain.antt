@@ -7,7 +7,8 @@ use Rattle.cf_layout.specs.Layout.{SidingPlan, Plan}
 abbrev pub memory_siding : SidingPlan
 memory_siding = record { classes = Memory ∷ []; launch = 4; recover = 6; cells = 2 }
 
--- eight stages: three adders, two units each for logic and for comparing, one each for shifts, branches and jumps, and memory through a siding
+-- eight stages: three adders, two units each for logic and for comparing, one each for shifts, branches and jumps, and
+-- memory through a siding
 abbrev pub plain : Plan
 plain = record {
   stages = 8;

@@ -1,4 +1,4 @@
--- Why a layout is refused: the first test that fails, in the order in which the tests stand here.
+-- Why a layout is refused: the first test that fails, in the order of the tests below.
 use Rattle.std.specs.Prelude.{ℕ, min, ℤ, List, [], ◌∷◌, ◌++◌, length, find, nat_le, nat_lt, int_lt, Bool, not, ◌||◌, ◌&&◌, if◌then◌else◌, Option, Some, None, Result, Ok, Err}
 use Rattle.std.specs.Option.{option_or}
 use Rattle.rv_inst.specs.declared.classes.Class.{Class}

@@ -26,7 +26,7 @@ impl Model for AcceptedSiding {
 }
 
 impl AcceptedSiding {
-    /// Whether the two sidings have the same classes, stand in the same place and have equally many cells.
+    /// Whether the two sidings have the same classes, the same stages and the same number of cells.
     pub(crate) fn same(&self, other: &AcceptedSiding) -> bool
         ensures { IsTrue result ↔ (self.now ≡ other.now) }
     {

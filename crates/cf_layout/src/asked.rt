@@ -1,4 +1,4 @@
-//! What the parts of a layout ask for.
+//! What the parts of a layout request.
 
 ghost use Rattle.std.specs.Prelude.{◌≡◌, All, IfSome, find, not, true};
 ghost use Rattle.std.specs.Option.{option_copied};
@@ -39,14 +39,14 @@ pub(crate) fn names(classes: &[Class], class: Class) -> bool
     classes.iter().any(|other| is_same(class, *other))
 }
 
-/// Whether the class stands in a unit.
+/// Whether the class is in a unit.
 pub(crate) fn is_unit(units: &[(Class, Listed<i64>)], class: Class) -> bool
     ensures { result ≡ is_unit units.now class }
 {
     units.iter().any(|unit| is_same(class, unit.0))
 }
 
-/// Whether the class stands in a siding.
+/// Whether the class is in a siding.
 pub(crate) fn is_sided(sidings: &[Siding], class: Class) -> bool
     ensures { result ≡ is_sided sidings.now class }
 {
@@ -55,7 +55,7 @@ pub(crate) fn is_sided(sidings: &[Siding], class: Class) -> bool
         .any(|siding| names(siding.classes.as_slice(), class))
 }
 
-/// Whether the class stands in a unit or a siding.
+/// Whether the class is in a unit or a siding.
 #[tactic(auto, unfolding(crate::specs::Asked::is_asked))]
 pub(crate) fn is_asked(parts: &Parts, class: Class) -> bool
     ensures { result ≡ is_asked parts.now class }
@@ -80,7 +80,7 @@ pub(crate) fn listed(units: &[(Class, Listed<i64>)], class: Class) -> &[i64]
     }
 }
 
-/// The siding that is asked for the class.
+/// The requested siding for the class.
 #[tactic(auto, using(crate::proofs::Steps::found_small), unfolding(crate::specs::Refusal::siding_for))]
 pub(crate) fn siding_for(sidings: &[Siding], class: Class) -> Option<&Siding>
     ensures first { option_copied result ≡ siding_for sidings.now class }

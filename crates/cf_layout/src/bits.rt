@@ -1,4 +1,4 @@
-//! Single bits of words.
+//! Single bits of 32-bit words.
 
 ghost use Rattle.std.specs.Prelude.{◌≡◌, ◌<◌, ◌^◌, ◌||◌, nat_eq, ℕ};
 ghost use Rattle.cf_layout.specs.Words.{has_bit};

@@ -15,7 +15,7 @@ use crate::stage_set::StageSet;
 use crate::{Layout, LayoutErr, Listed, Parts, Siding};
 use rv_inst::Class;
 
-/// How many classes every processor computes: those at the front of class order, all but multiplication and division.
+/// How many classes every processor computes: those at the start of class order, all but multiplication and division.
 const NEEDED: usize = 7;
 
 /// Tests how many stages, entries of the lane and sidings there are.
@@ -77,7 +77,7 @@ fn check_units(most: u32, units: &[(Class, Listed<i64>)]) -> Result<(), LayoutEr
     Ok(())
 }
 
-/// Whether the class stands in a unit, in one of the sidings or among the classes before it.
+/// Whether the class is in a unit, in one of the sidings or among the earlier classes.
 fn stands_before(
     units: &[(Class, Listed<i64>)],
     before: &[Siding],
@@ -195,7 +195,7 @@ fn check_sidings(
     check_each_siding(most, units, sidings)
 }
 
-/// The first class that every processor computes and that is not asked for.
+/// The first class that every processor computes and that is missing.
 fn first_missing(parts: &Parts) -> Option<&Class>
     ensures { option_copied result ≡ find (λ c. not (is_asked parts.now c)) needed_classes }
 {
@@ -204,7 +204,8 @@ fn first_missing(parts: &Parts) -> Option<&Class>
         .find(|class| !is_asked(parts, **class))
 }
 
-/// Tests that each class that every processor computes is there, and of multiplication and division both or neither.
+/// Tests that no class that every processor computes is missing, and that of multiplication and division both are
+/// present or neither.
 #[tactic(auto, unfolding(crate::specs::Refusal::missing_refusal))]
 fn check_missing(parts: &Parts) -> Result<(), LayoutErr>
     ensures { result ≡ told (missing_refusal parts.now) }
@@ -239,7 +240,7 @@ fn recovery_of(siding: &Siding) -> u32
     natural(siding.recover)
 }
 
-/// The stage from which memory is reached.
+/// The stage from which loads and stores are launched.
 #[tactic(auto, unfolding(crate::specs::Refusal::memory_launch_in))]
 fn memory_launch(sidings: &[Siding]) -> u32
     requires { All IsSmallSiding sidings.now }
@@ -270,7 +271,7 @@ fn turn_above(
     }
 }
 
-/// Tests that the class turns control at no stage above the one from which memory is reached.
+/// Tests that the class turns control at no stage above the one from which loads and stores are launched.
 #[tactic(auto, unfolding(crate::specs::Refusal::turn_refusal))]
 fn check_turns(parts: &Parts, class: Class) -> Result<(), LayoutErr>
     requires { All IsSmallSiding parts.now.sidings }
@@ -334,8 +335,8 @@ fn lay_out(parts: &Parts) -> Result<Layout, LayoutErr>
 /// The layout that the parts describe, if that is accepted, or else the first test that they fail.
 ///
 /// The tests are, in this order: the number of stages, of entries in the lane and of sidings; each unit; each siding;
-/// that no class is missing; and that control turns at or below the stage from which memory is reached. Each entry
-/// names a class that units or sidings compute.
+/// that no class is missing; and that control turns at or below the stage from which loads and stores are launched.
+/// Each entry must name a class that units or sidings compute.
 pub fn check(parts: &Parts) -> Result<Layout, LayoutErr>
     requires { AreComputed parts.now }
     ensures ok { IfOk result (λ layout. layout ≡ plan_of parts.now) }

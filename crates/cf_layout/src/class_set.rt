@@ -12,7 +12,7 @@ use rv_inst::Class;
 use std::alloc::{AllocError, Global};
 use std::marker::Model;
 
-/// A set of classes that units or sidings compute: for each the bit of its place in class order.
+/// A set of classes that units or sidings compute: for each the bit of its index in class order.
 #[derive(Clone, Copy)]
 pub(crate) struct ClassSet {
     word: u32,
@@ -60,7 +60,7 @@ fn add_class(list: &mut Vec<Class>, word: u32, class: Class) -> Result<(), Alloc
 }
 
 impl ClassSet {
-    /// No classes.
+    /// The empty set.
     #[tactic(auto, using(crate::proofs::Words::no_classes))]
     pub(crate) fn empty() -> ClassSet
         ensures { result ≡ [] }
@@ -68,7 +68,7 @@ impl ClassSet {
         ClassSet { word: 0 }
     }
 
-    /// The classes of the list that units or sidings compute.
+    /// Those classes of the list that units or sidings compute.
     #[tactic(auto, using(crate::proofs::Words::no_bits, std::proofs::lemmas::List::Folds::list_any_more, crate::proofs::Words::classes_by))]
     pub(crate) fn of(classes: &[Class]) -> ClassSet
         ensures { result ≡ in_class_order classes.now }

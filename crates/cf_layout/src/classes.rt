@@ -18,7 +18,7 @@ pub const CLASSES: [Class; 9] = [
     Class::Div,
 ];
 
-/// Where the class stands in class order; what neither units nor sidings compute comes after the others.
+/// The index of the class in class order; classes that neither units nor sidings compute come last.
 #[inline(always)]
 pub(crate) fn place(class: Class) -> usize
     ensures { result ≡ place_of class }

@@ -1,4 +1,4 @@
-//! Laying out a layout that was asked for.
+//! Building a layout from its parts.
 
 ghost use Rattle.std.specs.Prelude.{◌≡◌, ◌≤◌, All, map, length};
 ghost use Rattle.cf_layout.specs.Asked.{IsSmallSiding, units_plan, siding_plan};
@@ -13,7 +13,7 @@ use crate::stage_set::StageSet;
 use crate::{Listed, Siding};
 use rv_inst::Class;
 
-/// What stands in a place that no siding takes.
+/// Fills an unused entry of the table of sidings.
 pub(crate) fn no_siding() -> AcceptedSiding
     ensures { result ≡ no_siding }
 {
@@ -25,7 +25,7 @@ pub(crate) fn no_siding() -> AcceptedSiding
     }
 }
 
-/// The units that are asked for: for each class in class order, their stages.
+/// The requested units: for each class in class order, their stages.
 #[tactic(auto, unfolding(crate::specs::Asked::units_plan))]
 pub(crate) fn lay_units(units: &[(Class, Listed<i64>)]) -> [StageSet; 9]
     ensures { result ≡ units_plan units.now }
@@ -37,7 +37,7 @@ pub(crate) fn lay_units(units: &[(Class, Listed<i64>)]) -> [StageSet; 9]
     sets
 }
 
-/// The siding that is asked for.
+/// The requested siding.
 #[tactic(auto, unfolding(crate::specs::Asked::siding_plan))]
 fn lay_siding(siding: &Siding) -> AcceptedSiding
     requires { IsSmallSiding siding.now }
@@ -51,7 +51,7 @@ fn lay_siding(siding: &Siding) -> AcceptedSiding
     }
 }
 
-/// The sidings that are asked for, in eight places.
+/// The requested sidings, in a table of eight entries.
 pub(crate) fn lay_sidings(sidings: &[Siding]) -> [AcceptedSiding; 8]
     requires few { length sidings.now ≤ 8 }
     requires small { All IsSmallSiding sidings.now }

@@ -212,8 +212,8 @@ impl Layout {
     }
 
     /// The last stage at which an instruction of the class can still be computed: that of its last unit, or the one at
-    /// which its siding recovers. It is the last of the pipeline for a class that has neither, and the first for `Free`,
-    /// which needs no computing.
+    /// which its siding recovers. It is the last of the pipeline for a class that has neither, and the first for
+    /// `Free`, which needs no computing.
     #[inline(always)]
     pub fn last_stage(&self, class: Class) -> u32
         ensures { result ≡ last_stage self.now class }
@@ -221,7 +221,7 @@ impl Layout {
         self.last_before(class, self.recovers_by(class))
     }
 
-    /// The same for a class that has no siding, so that no siding is looked for again.
+    /// The same for a class without a siding; it saves the search for one.
     #[inline(always)]
     pub fn last_unit_stage(&self, class: Class) -> u32
         requires { siding_of self.now class ≡ None }

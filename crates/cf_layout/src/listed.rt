@@ -1,10 +1,10 @@
-//! A list that was handed over whole, and is lent.
+//! A list, made from a `Vec`.
 
 ghost use Rattle.std.specs.Prelude.{◌≡◌};
 
 use std::marker::Model;
 
-/// A list of what a layout was asked for: made from a `Vec`, and lending it.
+/// A list in the parts of a layout: made from a `Vec`, which it lends.
 #[derive(Drop)]
 pub struct Listed<T: Drop> {
     items: Vec<T>,
@@ -19,14 +19,14 @@ impl<T: Drop> Model for Listed<T> {
 }
 
 impl<T: Drop> Listed<T> {
-    /// The list of these.
+    /// The list of these items.
     pub fn new(items: Vec<T>) -> Self
         ensures { result ≡ items.items }
     {
         Listed { items }
     }
 
-    /// The list, lent.
+    /// The items.
     pub fn as_slice(&self) -> &[T]
         ensures { result.now ≡ self.now }
     {

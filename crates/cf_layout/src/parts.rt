@@ -1,9 +1,9 @@
-//! A layout as it was asked for.
+//! A layout as it was requested.
 
 use crate::Listed;
 use rv_inst::Class;
 
-/// A siding as it was asked for.
+/// A siding as it was requested.
 #[derive(Drop)]
 pub struct Siding {
     /// The classes that go through it, in any order.
@@ -16,7 +16,7 @@ pub struct Siding {
     pub cells: i64,
 }
 
-/// A layout as it was asked for, with nothing tested.
+/// A layout as it was requested, not tested.
 #[derive(Drop)]
 pub struct Parts {
     /// How many stages the pipeline has.
@@ -25,7 +25,7 @@ pub struct Parts {
     pub lane: i64,
     /// Whether there is a register cache.
     pub cache: bool,
-    /// The units: for a class the stages that have one, in any order.
+    /// The units: for a class, the stages that have one, in any order.
     pub units: Listed<(Class, Listed<i64>)>,
     /// The sidings.
     pub sidings: Listed<Siding>,

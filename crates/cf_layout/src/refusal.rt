@@ -5,9 +5,9 @@ use rv_inst::Class;
 /// Why a layout is refused.
 #[derive(Clone, Copy, PartialEq, Eq)]
 pub enum LayoutErr {
-    /// The pipeline does not have 2 to 32 stages: how many were asked for.
+    /// The pipeline does not have 2 to 32 stages: the number requested.
     StagesOutOfRange(i64),
-    /// The request lane does not have 2 to 64 entries: how many were asked for.
+    /// The request lane does not have 2 to 64 entries: the number requested.
     LaneOutOfRange(i64),
     /// The class has a unit or a siding at a stage that the pipeline does not have.
     StageOutOfRange(Class, i64),
@@ -21,14 +21,15 @@ pub enum LayoutErr {
     MemoryNotSiding,
     /// Memory shares its siding with another class.
     MemorySharesSiding,
-    /// A siding does not launch from a lower stage than it recovers at: the two stages in this order.
+    /// A siding's launch stage is not below its recovery stage: the launch stage, then the recovery stage.
     SidingOrder(i64, i64),
-    /// A siding does not have 1 to 8 cells: how many were asked for.
+    /// A siding does not have 1 to 8 cells: the number requested.
     CellsOutOfRange(i64),
-    /// The class turns control at the first stage, which is above the second, from which memory is reached.
+    /// The class turns control at the first of these stages; loads and stores are launched from the second, which is
+    /// lower.
     ControlAboveMemory(Class, u32, u32),
-    /// There are more than 8 sidings: how many, or the greatest number of 32 bits where there are more than that.
+    /// There are more than 8 sidings: their number, capped at the greatest number of 32 bits.
     TooManySidings(u32),
-    /// The siding of this index has no class.
+    /// The siding at this index has no class.
     EmptySiding(u32),
 }

@@ -57,7 +57,7 @@ fn add_stage(list: &mut Vec<u32>, word: u32, stage: u32) -> Result<(), AllocErro
 }
 
 impl StageSet {
-    /// No stages.
+    /// The empty set.
     #[tactic(auto, using(crate::proofs::Words::no_stages))]
     pub(crate) fn empty() -> StageSet
         ensures { result ≡ [] }
@@ -65,7 +65,7 @@ impl StageSet {
         StageSet { word: 0 }
     }
 
-    /// The stages of the list from 1 to 32: the others were refused before.
+    /// The stages of the list from 1 to 32. The others were refused before.
     #[tactic(auto, using(crate::proofs::Words::no_bits, std::proofs::lemmas::List::Folds::list_any_more, crate::proofs::Words::stages_by))]
     pub(crate) fn of(stages: &[i64]) -> StageSet
         ensures { result ≡ ascending stages.now }
@@ -119,7 +119,7 @@ impl StageSet {
         None
     }
 
-    /// The highest stage of the set, or else the other stage.
+    /// The highest stage of the set, or the other stage where the set is empty.
     #[inline(always)]
     #[tactic(auto, using(crate::proofs::Highest::last_of_some, crate::proofs::Highest::last_of_none))]
     pub(crate) fn last_or(self, other: u32) -> u32

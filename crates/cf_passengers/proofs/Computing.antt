@@ -1,4 +1,5 @@
--- What an accepted layout has units or sidings for is computed from an address and two sources, or is a load or a store.
+-- What an accepted layout has units or sidings for is computed from an address and two sources, or is a load or a
+-- store.
 use Rattle.std.proofs.Common.{◌≡◌, ℕ, ◌<◌, ◌≤◌, List, [], ◌∷◌, All, Bool, true, false, Some, length, refl, arith}
 use Rattle.std.specs.Prelude.{IsTrue, nat_eq, ◌||◌}
 use Rattle.std.specs.List.{list_any}

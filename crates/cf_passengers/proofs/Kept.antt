@@ -1,4 +1,4 @@
--- What holds of passengers and results is kept by all that happens to them.
+-- What holds of instructions and results is kept by all that happens to them.
 use Rattle.std.proofs.Common.{◌≡◌, ◌≢◌, ℕ, List, Option, Some, None, Bool, true, false, refl}
 use Rattle.std.specs.Prelude.{IfSome, ◌==◌, if◌then◌else◌}
 use Rattle.std.proofs.lemmas.Option.{IfSome_then}
@@ -32,7 +32,7 @@ pub undone_as : (c : Class) (cache : List (Option ℕ)) (i : Instr) (pc : ℕ) (
 undone_as class.Free cache i pc g h = absurd (h refl)
 undone_as _ cache i pc g h = refl
 
--- the passenger of an instruction of the set
+-- the instruction of an instruction of the set
 pub undone-passenger : (isa : Isa) (cache : List (Option ℕ)) (i : Instr) (pc : ℕ) (g : Guess) → IsInstruction isa i →
     IsPassenger isa (fresh_undone cache i pc g)
 undone-passenger isa cache i pc g h = record {
@@ -60,13 +60,13 @@ passenger_as : (isa : Isa) (c : Class) (cache : List (Option ℕ)) (i : Instr) (
 passenger_as isa class.Free cache i pc g h = free-passenger isa i pc g (free_trap i pc) h
 passenger_as isa _ cache i pc g h = undone-passenger isa cache i pc g h
 
--- the passenger of what was fetched
+-- the instruction of what was fetched
 pub fresh-passenger : (isa : Isa) (cache : List (Option ℕ)) (f : Fetched) (pc : ℕ) (g : Guess) → IsFetched isa f → IsPassenger isa (fresh cache f pc g)
 unfolding fresh
 fresh-passenger isa cache (Got i) pc g h = passenger_as isa (kind_of i) cache i pc g h
 fresh-passenger isa cache (Bad e) pc g h = end-passenger isa None pc g e tt
 
--- Finish, and what else makes a passenger done --
+-- Finish, and what else makes an instruction done --
 
 binding-with_value : (v : ℕ) (b : Option Binding) → IfSome b IsBinding → IfSome (with_value v b) IsBinding
 binding-with_value v None h = tt
@@ -121,7 +121,7 @@ answered-passenger isa p v h =
 pub quitting-passenger : (isa : Isa) (p : Passenger) (status : ℕ) → IsPassenger isa p → IsPassenger isa (record p { done = true; ending = Some (Exit status) })
 quitting-passenger isa p status h = record { instr = h.instr; ended = λ e. (refl, refl); src1 = h.src1; src2 = h.src2; dst = h.dst; owes = h.owes }
 
--- what a passenger sends, and what launches its operation, leave the rest of it
+-- what an instruction sends, and what launches its operation, leave the rest of it
 pub sent-passenger : (isa : Isa) (p : Passenger) → IsPassenger isa p → IsPassenger isa (record p { owes = None })
 sent-passenger isa p h = record { instr = h.instr; ended = h.ended; src1 = h.src1; src2 = h.src2; dst = h.dst; owes = tt }
 
@@ -172,7 +172,7 @@ unfolding meeting
 meeting-packet p k h = choice (λ (m : Met). IfSome m.packet IsPacket) p.dead (record { passenger = p; packet = Some k })
     (record { passenger = passenger_met k p; packet = packet_met k p }) h (packet-met k p h)
 
--- The operation of a passenger, and what it is known by --
+-- The operation of an instruction, and what it is known by --
 
 pub passenger-fits : (isa : Isa) (p : Passenger) → IsPassenger isa p → IfSome p.what (λ i. Fits i)
 passenger-fits isa p h = IfSome_then p.what h.instr (λ i g. g.fits)
@@ -184,7 +184,7 @@ instruction-in : (isa : Isa) (what : Option Instr) → IfSome what (IsInstructio
 instruction-in isa None h = record { fits = tt; base = λ e. refl }
 instruction-in isa (Some i) h = h
 
--- what stands in for a missing instruction is one of each set
+-- what is in for a missing instruction is one of each set
 pub passenger-instruction : (isa : Isa) (p : Passenger) → IsPassenger isa p → IsInstruction isa (instruction p)
 passenger-instruction isa p h = instruction-in isa p.what h.instr
 

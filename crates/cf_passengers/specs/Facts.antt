@@ -1,4 +1,4 @@
--- What holds of every instruction, result and operation in a processor: registers are x1 to x31, and instructions are
+-- Invariants of every instruction, result and operation in a processor: registers are x1 to x31, and instructions are
 -- those of its set ("Counterflow Pipeline Processor Architecture", 1994; RISC-V Unprivileged ISA Manual, RV32I and
 -- "M").
 use Rattle.std.specs.Prelude.{◌≡◌, ℕ, ◌<◌, None, true, IfSome, IsSome, IsTrue}
@@ -22,7 +22,7 @@ IsWritable r = (0 < r) × (r < 32)
 abbrev pub IsBinding : Binding → Type 0
 IsBinding b = IsWritable b.reg
 
--- so is that of a value
+-- so is the register of a value
 abbrev pub IsPacket : Packet → Type 0
 IsPacket (Value r v) = IsWritable r
 IsPacket (Turn pc) = Unit {0}
@@ -42,7 +42,7 @@ IsFetched isa (Bad e) = Unit {0}
 abbrev pub IsOperation : Isa → Op → Type 0
 IsOperation isa op = IsInstruction isa op.instr
 
--- what holds of a passenger
+-- what holds of each Passenger
 pub record IsPassenger (isa : Isa) (p : Passenger) : Type 0 where
   -- its instruction, if it has one, is one of the set
   pub instr : IfSome p.what (IsInstruction isa)

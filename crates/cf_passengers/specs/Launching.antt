@@ -1,4 +1,4 @@
--- When a passenger traps where it would launch its operation ("Counterflow Pipeline Processor Architecture", 1994:
+-- When an instruction traps instead of launching its operation ("Counterflow Pipeline Processor Architecture", 1994:
 -- sidings; RISC-V Unprivileged ISA Manual, Load and Store Instructions).
 use Rattle.std.specs.Prelude.{List, Option, None, if◌then◌else◌}
 use Rattle.mem_regions.specs.Access.{Bounds}

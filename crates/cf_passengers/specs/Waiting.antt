@@ -1,4 +1,4 @@
--- Which sources a passenger waits for ("Counterflow Pipeline Processor Architecture", 1994: garnering).
+-- Which sources an instruction waits for ("Counterflow Pipeline Processor Architecture", 1994: garnering).
 use Rattle.std.specs.Prelude.{ℕ, List, [], ◌∷◌, ◌++◌, Option, Some, None}
 use Rattle.cf_bind.specs.declared.passenger.Passenger.{Passenger}
 use Rattle.cf_semantics.specs.state.Options.{on}
@@ -9,7 +9,7 @@ use Rattle.cf_passengers.specs.declared.asking.RequestedSources.{RequestedSource
 abbrev pub first_unknown : Passenger → Option ℕ
 first_unknown p = on (missing p.src1) (missing p.src2) Some
 
--- a list of the value, where there is one
+-- the value as a list, empty where there is none
 abbrev pub listed_one : Option ℕ → List ℕ
 listed_one None = []
 listed_one (Some r) = r ∷ []

@@ -1,4 +1,4 @@
-//! The registers that a passenger requests.
+//! The registers that an instruction requests.
 
 ghost use Rattle.std.specs.Prelude.{◌≡◌, IfSome, length};
 ghost use Rattle.rv_inst.specs.declared.isa.Isa.{Isa as InstructionSet};
@@ -29,7 +29,7 @@ impl RequestedSources {
     }
 }
 
-/// The registers of the sources without a value, each once, the first source's first.
+/// The registers of the sources without a value, each once, that of the first source first.
 #[inline(always)]
 pub fn requests(p: &Passenger) -> RequestedSources
     ensures requests { listed result ≡ requested p.now }

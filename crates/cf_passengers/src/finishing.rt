@@ -1,4 +1,4 @@
-//! How a passenger becomes done: it is computed, it traps, its operation comes back, or the environment answers.
+//! How an instruction is finished: it is computed, it traps, its operation comes back, or the environment answers.
 
 ghost use Rattle.std.specs.Prelude.{◌≡◌, false, true, IfNone, IsTrue};
 ghost use Rattle.rv_inst.specs.declared.isa.Isa.{Isa as InstructionSet};
@@ -58,7 +58,7 @@ fn with_value(destination: Option<Binding>, value: u32) -> Option<Binding>
     }
 }
 
-/// The result that a destination's value makes.
+/// The result that carries a destination's value.
 #[inline(always)]
 fn value_of(destination: Option<Binding>, value: u32) -> Option<Packet>
     ensures { result ≡ value_packet value destination }
@@ -69,8 +69,8 @@ fn value_of(destination: Option<Binding>, value: u32) -> Option<Packet>
     }
 }
 
-/// The passenger is done with the value, and the program goes on at `next`: it owes a turn where the guess was another address,
-/// and otherwise its value.
+/// The finished instruction: it has the value, and the program goes on at `next`. It owes a turn where the guess was
+/// another address, and otherwise its value.
 #[inline(always)]
 fn finished(p: Passenger, next: u32, value: u32) -> Passenger
     ensures { result ≡ finished_at p next value }
@@ -89,7 +89,7 @@ fn finished(p: Passenger, next: u32, value: u32) -> Passenger
     }
 }
 
-/// The passenger traps: it is done, and owes a halt to what was fetched after it.
+/// The instruction traps: it is done, and owes a halt to what was fetched after it.
 #[inline(always)]
 pub fn trapped(p: Passenger, end: End) -> Passenger
     ensures passenger { result ≡ trapped_by p end }
@@ -103,8 +103,8 @@ pub fn trapped(p: Passenger, end: End) -> Passenger
     }
 }
 
-/// The passenger finishes, with the answer of memory or, without one, with what its unit computes. A branch or a jump whose
-/// next address is not a multiple of 4 traps.
+/// The instruction finishes, with the answer of memory or, without one, with what its unit computes. A branch or a jump
+/// whose next address is not a multiple of 4 traps.
 #[inline(always)]
 #[tactic(auto, using(crate::proofs::Classes::finishing), unfolding(cf_semantics::specs::state::Passengers::finish, cf_semantics::specs::moves::Instructions::kind_of))]
 pub fn finish(p: Passenger, answer: Option<u32>) -> Passenger
@@ -125,7 +125,7 @@ pub fn finish(p: Passenger, answer: Option<u32>) -> Passenger
     finished(p, next_of(i, p.pc, a, b), value)
 }
 
-/// The passenger takes its operation back; a live one finishes.
+/// The instruction takes its operation back; a live one finishes.
 #[inline(always)]
 pub fn back_in(p: Passenger, answer: Option<u32>) -> Passenger
     requires computing { p.dead ≡ false → IfNone answer (IsTrue (computes (kind_of_passenger p))) }
@@ -143,7 +143,7 @@ pub fn back_in(p: Passenger, answer: Option<u32>) -> Passenger
     }
 }
 
-/// The environment has answered the passenger. All that was fetched after it must be fetched again.
+/// The environment has answered the instruction. All that was fetched after it must be fetched again.
 #[inline(always)]
 pub fn answered(p: Passenger, value: u32) -> Passenger
     ensures passenger { result ≡ answered_by p value }
@@ -159,7 +159,7 @@ pub fn answered(p: Passenger, value: u32) -> Passenger
     }
 }
 
-/// The passenger is a call that ends the program with this status.
+/// The instruction is a call that ends the program with this status.
 #[inline(always)]
 pub fn quits(p: Passenger, status: u8) -> Passenger
     ensures passenger { result ≡ record p { done = true; ending = Some (ending.Exit status) } }

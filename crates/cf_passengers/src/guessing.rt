@@ -1,4 +1,4 @@
-//! Where the program goes on after a passenger, and which guesses are made.
+//! Where the program goes on after an instruction, and which guesses are made.
 
 ghost use Rattle.std.specs.Prelude.{◌≡◌};
 ghost use Rattle.cf_layout.specs.Accepted.{is_control as turns_control};
@@ -61,8 +61,8 @@ pub fn guessed(guess: Guess, i: Instr, pc: u32) -> Option<u32>
     }
 }
 
-/// Whether the passenger may be issued with the guess. Only branches and jumps may have another guess than `Next`: JALR an
-/// address, the others their target.
+/// Whether the instruction may be issued with the guess. Only branches and jumps may have another guess than `Next`:
+/// JALR an address, the others their target.
 #[inline(always)]
 pub fn may_guess(guess: Guess, p: &Passenger) -> bool
     ensures { result ≡ is_allowed guess p.now }
@@ -75,9 +75,9 @@ pub fn may_guess(guess: Guess, p: &Passenger) -> bool
     }
 }
 
-/// The address at which the program goes on after the passenger: its next address where it is done, and otherwise the guessed
-/// one. It is `None` where the passenger ends the program, after ECALL and FENCE.I until they are done, and where fetch
-/// waits.
+/// The address at which the program goes on after the instruction: its next address where it is done, and otherwise the
+/// guessed one. It is `None` where the instruction ends the program, after ECALL and FENCE.I until they are done, and
+/// where fetch waits.
 #[inline(always)]
 pub fn goto(p: &Passenger) -> Option<u32>
     ensures { result ≡ goes_to p.now }

@@ -1,4 +1,4 @@
-//! The instruction at an address, and the passenger that is issued for it.
+//! Fetching at an address, and the `Passenger` that is issued for what was fetched.
 
 ghost use Rattle.std.specs.Prelude.{◌≡◌, ◌<◌, [], false, IfOk, IfSome};
 ghost use Rattle.rv_inst.specs.Ranges.{Fits};
@@ -28,8 +28,8 @@ pub fn isa_of(layout: &Layout) -> Isa
     }
 }
 
-/// The instruction of the set at the address, or the trap of that address: cause 0 where 4 does not divide it, 1 where no word
-/// can be fetched there, and 2 where the word stands for no instruction.
+/// The instruction of the set at the address, or the trap of that address: cause 0 where 4 does not divide it, 1 where
+/// no word can be fetched there, and 2 where the word stands for no instruction.
 #[inline(always)]
 #[tactic(auto, using(crate::proofs::Decoded::decoding), unfolding(cf_semantics::specs::moves::Instructions::fetched))]
 pub fn fetched(isa: Isa, mem: &Regions, pc: u32) -> Result<Instr, End>
@@ -61,7 +61,7 @@ pub fn fetched(isa: Isa, mem: &Regions, pc: u32) -> Result<Instr, End>
     }
 }
 
-/// A source, with the value that is kept for its register, if one is.
+/// A source, with the cached value of its register, if there is one.
 #[inline(always)]
 fn source(ends: &Ends, reg: u8) -> Option<Binding>
     requires { reg < 32 }
@@ -108,7 +108,7 @@ fn trap_when_free(i: Instr, pc: u32) -> Option<End>
     }
 }
 
-/// A passenger of which only the instruction, the address and the guess are known.
+/// A `Passenger` with an instruction, an address and a guess, and nothing else.
 #[inline(always)]
 fn blank(what: Option<Instr>, pc: u32, guess: Guess) -> Passenger
     ensures { result ≡ record { pc = pc; what = what; guess = guess; src1 = None; src2 = None; dst = None; done = false; launched = false; recovered = false; next = None; ending = None; owes = None; dead = false } }
@@ -130,7 +130,7 @@ fn blank(what: Option<Instr>, pc: u32, guess: Guess) -> Passenger
     }
 }
 
-/// A passenger that ends the program where it is issued.
+/// An instruction that ends the program where it is issued.
 #[inline(always)]
 #[tactic(auto, using(crate::proofs::Kept::issuing))]
 fn ended(what: Option<Instr>, pc: u32, guess: Guess, end: End) -> Passenger
@@ -144,7 +144,7 @@ fn ended(what: Option<Instr>, pc: u32, guess: Guess, end: End) -> Passenger
     }
 }
 
-/// A passenger that still has to be computed, or to be answered by the environment.
+/// An instruction that still has to be computed, or to be answered by the environment.
 #[inline(always)]
 #[tactic(auto, using(crate::proofs::Kept::issuing_undone), unfolding(cf_semantics::specs::moves::Instructions::src1_of, cf_semantics::specs::moves::Instructions::src2_of, cf_semantics::specs::moves::Instructions::dst_of))]
 fn undone(ends: &Ends, i: Instr, pc: u32, guess: Guess) -> Passenger
@@ -161,7 +161,8 @@ fn undone(ends: &Ends, i: Instr, pc: u32, guess: Guess) -> Passenger
     }
 }
 
-/// A passenger that is done as soon as it is issued: EBREAK, which ends the program, or FENCE, which has nothing to do.
+/// An instruction that is done as soon as it is issued: EBREAK, which ends the program, or FENCE, which has nothing to
+/// do.
 #[inline(always)]
 #[tactic(auto, using(crate::proofs::Kept::issuing))]
 fn free(i: Instr, pc: u32, guess: Guess) -> Passenger
@@ -178,7 +179,7 @@ fn free(i: Instr, pc: u32, guess: Guess) -> Passenger
     }
 }
 
-/// The passenger that is issued for the instruction.
+/// The `Passenger` that is issued for a decoded instruction.
 #[inline(always)]
 #[tactic(auto, using(crate::proofs::Kept::issuing), unfolding(cf_semantics::specs::moves::Instructions::kind_of, cf_semantics::specs::state::Passengers::fresh))]
 fn issued(ends: &Ends, i: Instr, pc: u32, guess: Guess) -> Passenger
@@ -192,9 +193,9 @@ fn issued(ends: &Ends, i: Instr, pc: u32, guess: Guess) -> Passenger
     }
 }
 
-/// The passenger that is issued for what was fetched at `pc`. A trap and EBREAK are done and end the program there, and FENCE is
-/// done. Any other instruction has its sources and its destination but for x0; a source has the value that is kept for its
-/// register, if one is.
+/// The `Passenger` that is issued for what was fetched at `pc`. A trap or EBREAK is done and ends the program there;
+/// FENCE is done. Any other has its sources and its destination, without x0; a source has the cached value of its
+/// register, if there is one.
 #[inline(always)]
 #[tactic(auto, using(crate::proofs::Kept::issuing), unfolding(cf_semantics::specs::state::Passengers::fresh))]
 pub fn fresh(ends: &Ends, fetched: Result<Instr, End>, pc: u32, guess: Guess) -> Passenger

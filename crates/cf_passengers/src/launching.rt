@@ -1,4 +1,4 @@
-//! The operation of a passenger, and whether it may be launched.
+//! The operation of an instruction, and whether it may be launched.
 
 ghost use Rattle.std.specs.Prelude.{◌≡◌, IfSome};
 ghost use Rattle.rv_inst.specs.declared.isa.Isa.{Isa as InstructionSet};
@@ -12,7 +12,7 @@ use cf_bind::{End, Op, Passenger};
 use mem_regions::{MemErr, Regions};
 use rv_inst::{Class, access_of};
 
-/// The operation of the passenger, which has no answer yet.
+/// The operation of the instruction, which has no answer yet.
 #[inline(always)]
 pub fn operation(p: &Passenger) -> Op
     ensures operation { result ≡ operation_of p.now }
@@ -27,9 +27,9 @@ pub fn operation(p: &Passenger) -> Op
     }
 }
 
-/// The trap of a load or a store that memory does not permit: cause 4 or 6 where the width does not divide the address, and
-/// 5 or 7 where the bytes do not lie in a region that permits it, the lower for a load and the higher for a store. Other
-/// instructions have no such trap.
+/// The trap of a load or a store that memory does not permit: cause 4 or 6 where the width does not divide the address,
+/// and 5 or 7 where the bytes do not lie in a region that permits it, the lower for a load and the higher for a store.
+/// Other instructions have no such trap.
 #[inline(always)]
 #[tactic(auto, unfolding(cf_semantics::specs::moves::Instructions::access_trap, cf_semantics::specs::moves::Instructions::kind_of))]
 pub fn launch_trap(p: &Passenger, mem: &Regions) -> Option<End>

@@ -1,4 +1,4 @@
-//! What is read off a passenger.
+//! Reading the fields of a `Passenger`.
 
 ghost use Rattle.std.specs.Prelude.{◌≡◌};
 ghost use Rattle.cf_semantics.specs.state.Passengers.{instruction as instruction_of, kind as kind_of_passenger, missing as missing_in, value_in as value_held};
@@ -7,7 +7,8 @@ ghost use Rattle.cf_passengers.specs.Waiting.{first_unknown};
 use cf_bind::{Binding, Passenger};
 use rv_inst::{Class, Instr, class_of};
 
-/// The instruction. A passenger without one ended where it was issued, and counts as EBREAK, which does so too.
+/// The decoded instruction. A `Passenger` without one ended when it was issued, and counts as EBREAK, which does so
+/// too.
 #[inline(always)]
 pub fn instruction(p: &Passenger) -> Instr
     ensures { result ≡ instruction_of p.now }

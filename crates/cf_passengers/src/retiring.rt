@@ -1,4 +1,4 @@
-//! What is reported of a passenger that retires.
+//! The report of an instruction that retires.
 
 ghost use Rattle.std.specs.Prelude.{◌≡◌, IfSome};
 ghost use Rattle.rv_inst.specs.Ranges.{Fits};
@@ -22,7 +22,7 @@ fn register_in(destination: Option<Binding>) -> u8
     }
 }
 
-/// The line of the passenger, whose instruction has its fields in range.
+/// The line of the instruction, whose fields are in range.
 #[inline(always)]
 pub fn retirement(p: &Passenger) -> Retired
     requires { IfSome p.now.what (λ i. Fits i) }
@@ -36,8 +36,8 @@ pub fn retirement(p: &Passenger) -> Retired
     }
 }
 
-/// What is seen of a passenger that leaves at the top: a live one ends the program or retires, and a dead one is not seen. The
-/// fields of its instruction are in range.
+/// The event of an instruction that leaves at the top: a live one ends the program or retires, and a dead one shows
+/// nothing. The fields of the instruction are in range.
 #[inline(always)]
 pub fn leaving(p: &Passenger) -> Event
     requires { IfSome p.now.what (λ i. Fits i) }

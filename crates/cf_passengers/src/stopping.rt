@@ -1,4 +1,4 @@
-//! Where a passenger stops on its way up.
+//! Where an instruction stops on its way up.
 
 ghost use Rattle.std.specs.Prelude.{◌≡◌};
 ghost use Rattle.cf_semantics.specs.state.Layouts.{launches as launches_at, recovers as recovers_at, ends_units as ends_units_at};
@@ -42,8 +42,8 @@ pub fn ends_units(layout: &Layout, class: Class, stage: u32) -> bool
     }
 }
 
-/// Whether the passenger must not climb out of the stage: its operation was launched and is recovered here, or it is live, it
-/// is neither done nor launched, and this is the last stage that can execute it or launch its operation.
+/// Whether the instruction must not climb out of the stage: its operation was launched and is recovered here, or it is
+/// live, it is neither done nor launched, and this is the last stage that can execute it or launch its operation.
 #[inline(always)]
 pub fn stops_at(layout: &Layout, p: &Passenger, stage: u32) -> bool
     ensures { result ≡ stops layout.now p.now stage }

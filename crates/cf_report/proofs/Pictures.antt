@@ -44,7 +44,7 @@ stages-below cells zero c here = absurd (cc)
 stages-below cells (suc k) c here =
     (lower_lines 1 k cells, ap (λ text. text ++ lower_lines 1 k cells) (stage-next cells (suc k) k c (omega arith) here) ∙ cut-stages 1 (k + 1) k cells refl)
 
--- above the highest nothing stands
+-- above the highest nothing is
 pub no-stages : (n k : ℕ) (cells : List Cell) → length cells ≡ k → stage_lines n (drop k cells) ≡ []
 no-stages n k [] e = rw (← e) refl
 no-stages n zero (c ∷ cells) e = absurd (omega arith)

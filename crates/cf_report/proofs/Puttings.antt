@@ -107,7 +107,7 @@ has-failed {a = a} {b = b} {i = i} {j = j} {x = x} (Err f) {e = e} err failed h 
     let g = rw err at h in
     record { all = tt; front = g.front; cause = record { never_falls = g.cause.never_falls; rose = g.cause.rose; still = tt } }
 
--- a failed text is a front of a longer one
+-- a failed text is a prefix of a longer one
 pub failed-more : {T E : Type 0} {a b : Option (List ℕ)} {i j : ℕ} {x : List ℕ} (y : List ℕ) (answer : Result T E) → IsErr answer → PutsText a b i j x answer →
     PutsText a b i j (x ++ y) answer
 failed-more y (Ok t) failed h = absurd (false≢true failed)

@@ -1,4 +1,4 @@
--- What a picture says of an instruction, of a result, and of the stage where they stand (a format of this project).
+-- What a picture says of an instruction, of a result, and of the stage where they are (a format of this project).
 use Rattle.std.specs.Prelude.{ℕ, ◌&&◌, not, List, [], ◌++◌, Option, Some, None, Bool, true, false, codes, decimal, is_none, if◌then◌else◌}
 use Rattle.cf_bind.specs.declared.binding.Binding.{Binding}
 use Rattle.cf_bind.specs.declared.packet.Packet.{Packet}
@@ -50,13 +50,13 @@ progress_text (Some (end.Trap cause pc detail)) done launched = codes "trap"
 progress_text (Some (end.Exit status)) done launched = codes "exit"
 progress_text None done launched = if done then codes "done" else if launched then codes "out" else codes "new"
 
--- how an instruction stands; a dead one may have its operation still in a siding
+-- how an instruction is; a dead one may have its operation still in a siding
 unfoldable pub flag_text : Passenger → List ℕ
 flag_text p =
     if p.dead then (if p.launched && not p.recovered then codes "dead-out" else codes "dead")
     else progress_text p.ending p.done p.launched
 
--- its address, its guess and how it stands
+-- its address, its guess and how it is
 abbrev pub standing_text : Passenger → List ℕ
 standing_text p = hex8 p.pc ++ codes " " ++ guess_text p.guess ++ codes " " ++ flag_text p ++ codes " "
 
@@ -81,7 +81,7 @@ held_text (Some p) None met = codes " instruction | " ++ passenger_text p
 held_text None (Some k) met = codes " result | " ++ packet_text k
 held_text None None met = []
 
--- nothing stands in a stage
+-- nothing is in a stage
 abbrev pub is_empty : Cell → Bool
 is_empty c = is_none c.passenger && is_none c.packet
 

@@ -1,4 +1,5 @@
--- A picture of the processor: fetch, the lane of requests, the cache, the stages from the top down, and the sidings (a format of this project).
+-- A picture of the processor: fetch, the lane of requests, the cache, the stages from the top down, and the sidings (a
+-- format of this project).
 use Rattle.std.specs.Prelude.{ℕ, zero, suc, List, [], ◌∷◌, ◌++◌, Option, Some, None, Bool, codes, decimal, is_some, if◌then◌else◌}
 use Rattle.std.specs.List.{list_any}
 use Rattle.cf_bind.specs.declared.packet.Fetch.{Fetch}

@@ -1,4 +1,4 @@
-//! The lines of what stands beside the stages: fetch, the lane, the cache and the sidings.
+//! The lines of what is beside the stages: fetch, the lane, the cache and the sidings.
 #![tactic(auto, unfolding(crate::specs::Picture::fetch_line, crate::specs::Picture::lane_line, crate::specs::Picture::cache_line, crate::specs::Picture::op_text, crate::specs::Picture::siding_line))]
 
 ghost use Rattle.std.specs.Prelude.{◌≡◌, ◌+◌, ◌*◌, ◌≤◌, ◌++◌, length, is_some};

@@ -33,7 +33,7 @@ fn put_move_text<R: Sink>(mv: Move, report: &mut R) -> Result<(), Failed>
     put_text(b"\n", report)
 }
 
-/// What stands before the `n`th move in its line.
+/// What is before the `n`th move in its line.
 pub fn move_number(n: u64) -> Page
     ensures { result ≡ codes "move " ++ decimal n ++ codes " " }
 {

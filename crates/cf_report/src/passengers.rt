@@ -98,7 +98,7 @@ fn progress(ending: Option<End>, done: bool, launched: bool) -> &'static [u8]
     }
 }
 
-/// How an instruction stands.
+/// How an instruction is.
 fn flag(passenger: &Passenger) -> &'static [u8]
     ensures text { result.now ≡ flag_text passenger.now }
     ensures short { length result.now ≤ 8 }

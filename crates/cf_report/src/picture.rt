@@ -49,7 +49,7 @@ fn put_sidings<R: Sink>(core: &Core, report: &mut R) -> Result<(), Failed>
 
 /// Puts a picture of the processor: where fetch runs, the lane of requests, what is kept at the bottom where the layout
 /// keeps values there, the stages that are not empty from the highest down, and the sidings with an operation. After
-/// `Failed` a front of it was put.
+/// `Failed` a prefix of it was put.
 pub fn put_picture<R: Sink>(core: &Core, report: &mut R) -> Result<(), Failed>
     ensures { PutsText (R.written report.old) (R.written report.new)
         (R.faults report.old) (R.faults report.new) (picture core.now.plan core.now.state) result }

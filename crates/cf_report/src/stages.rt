@@ -32,7 +32,7 @@ fn push_both(page: &mut Page, passenger: &Passenger, packet: Packet, met: bool)
     push_packet(page, packet);
 }
 
-/// An instruction that stands alone.
+/// An instruction that is alone.
 fn push_instruction(page: &mut Page, passenger: &Passenger)
     requires { length page.old + 110 ≤ page_room }
     ensures text { page.new ≡ page.old ++ (codes " instruction | " ++ passenger_text passenger.now) }
@@ -42,7 +42,7 @@ fn push_instruction(page: &mut Page, passenger: &Passenger)
     push_passenger(page, passenger);
 }
 
-/// A result that stands alone.
+/// A result that is alone.
 fn push_result(page: &mut Page, packet: Packet)
     requires { length page.old + 23 ≤ page_room }
     ensures text { page.new ≡ page.old ++ (codes " result | " ++ packet_text packet) }

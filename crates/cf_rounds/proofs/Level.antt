@@ -1,4 +1,5 @@
--- After each round the run is level with the count at its limit, and the program ends below that: so it ends as the sequential machine does.
+-- After each round the run is level with the count at its limit, and the program ends below that: so it ends as the
+-- sequential machine does.
 use Rattle.std.proofs.Common.{◌≡◌, ℕ, ◌<◌, List, [], ◌∷◌, Bool, true, false, Option, None, inl, inr, ◌⊎◌, refl, sym, ap, subst, ◌∙◌, arith}
 use Rattle.std.specs.List.{AllByRecursion}
 use Rattle.std.proofs.lemmas.Bool.Decides.{nat_tests}
@@ -62,7 +63,7 @@ other_than_leave plan mv apart = by (is_leave mv) refl
     by false e = e
     by true e = absurd (let both : shares plan Leave mv ≡ true = ap (shares plan Leave) (leave_one mv e) ∙ both_leave plan in cc)
 
--- so the call that stands there, if one does, is one that was served or not as before
+-- so the call that is there, if one does, is one that was served or not as before
 served_stays : (plan : Plan) (m : Moment) (mv : Move) → bar plan m.state mv ≡ None → shares plan Leave mv ≡ false →
     served_count plan (next plan m mv).state ≡ served_count plan m.state
 served_stays plan m mv free apart =
@@ -84,7 +85,8 @@ level_stays plan limit m mv free apart over =
       below = λ e ended. let low = over.below e (sym kept.ending ∙ ended) in let count = kept.retired in omega (arith, low, count);
     }
 
--- where the moves of a round have led: the count is below the limit; or the run is level there, and none of the moves that are left shares a place with a Leave
+-- where the moves of a round have led: the count is below the limit; or the run is level there, and none of the moves
+-- that are left shares a place with a Leave
 abbrev Stands : Plan → ℕ → State → List Move → Type 0
 Stands plan limit s round = (s.retired < limit) ⊎ (Over plan limit s × AllByRecursion (λ other. shares plan Leave other ≡ false) round)
 

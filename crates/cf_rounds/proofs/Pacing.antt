@@ -1,4 +1,5 @@
--- The moves of rounds are a run under the hold rule: while the candidates are held no move is an Issue unless no other move is allowed.
+-- The moves of rounds are a run under the hold rule: while the candidates are held no move is an Issue unless no other
+-- move is allowed.
 use Rattle.std.proofs.Common.{◌≡◌, ℕ, suc, ◌+◌, ◌*◌, ◌≤◌, Bool, true, false, nat_le, List, [], ◌∷◌, ◌++◌, Option, Some, None, refl, sym, ap, subst, ◌∙◌, arith}
 use Rattle.std.specs.Prelude.{◌||◌, slice_get, if◌then◌else◌}
 use Rattle.std.specs.List.{AllByRecursion, find}

@@ -1,4 +1,5 @@
--- Rounds: the moves that a clocked processor makes at one tick. No two of them use a place in common, so they can be made in any order.
+-- Rounds: the moves that a clocked processor makes at one tick. No two of them use a place in common, so they can be
+-- made in any order.
 use Rattle.std.specs.Prelude.{◌≡◌, ◌⊎◌, ℕ, ◌≤◌, List, length, [], ◌∷◌, ◌++◌, Bool, true, false, None, if◌then◌else◌}
 use Rattle.std.specs.List.{AllByRecursion, find, list_any}
 use Rattle.cf_layout.specs.Layout.{Plan}
@@ -51,13 +52,15 @@ AreApart plan (mv ∷ round) = AllByRecursion (λ other. shares plan mv other �
 abbrev pub IsTaken : Plan → List Move → Move → Type 0
 IsTaken plan round mv = ((front : List Move) × (after : List Move) × (round ≡ front ++ mv ∷ after)) ⊎ (shares_any plan round mv ≡ true)
 
--- the round is one move that is made alone; or no two of its moves share a place, and each candidate that it leaves out shares one with a move that it has
+-- the round is one move that is made alone; or no two of its moves share a place, and each candidate that it leaves out
+-- shares one with a move that it has
 abbrev pub IsFull : Plan → State → (moves round : List Move) → Type 0
 IsFull plan s moves round =
     ((mv : Move) × (stands_alone plan s mv ≡ true) × (round ≡ mv ∷ []))
     ⊎ (AreApart plan round × AllByRecursion (IsTaken plan round) moves)
 
--- the other list has the same moves, in some order: the first of them somewhere, and the others in some order without it
+-- the other list has the same moves, in some order: the first of them somewhere, and the others in some order without
+-- it
 abbrev pub IsOrderOf : List Move → List Move → Type 0
 IsOrderOf [] other = other ≡ []
 IsOrderOf (mv ∷ moves) other =

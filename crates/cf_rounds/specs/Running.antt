@@ -27,7 +27,8 @@ abbrev pub all_of : List (List Made) → List Made
 all_of [] = []
 all_of (made ∷ rounds) = made ++ all_of rounds
 
--- the rounds are made one after the other, each where the run goes on: the round of the candidates there, held back by the count of the Issue moves before it
+-- the rounds are made one after the other, each where the run goes on: the round of the candidates there, held back by
+-- the count of the Issue moves before it
 unfoldable pub InRounds : Plan → ℕ → ℕ → State → List (List Made) → (last : ℕ) → (end : State) → Type 0
 InRounds plan limit count s [] last end = (last ≡ count) × (end ≡ s)
 InRounds plan limit count s (made ∷ rounds) last end =
@@ -48,7 +49,8 @@ StopsRounds limit count now new Limit = IsOver limit now.core.state ran.Limit ×
 StopsRounds limit count now new ReadFault = FailsThere limit count now new ran.ReadFault
 StopsRounds limit count now new WriteFault = FailsThere limit count now new ran.WriteFault
 
--- the run makes this many rounds, and stops after them with this answer. After the Leave with which the limit is reached a round may have another move
+-- the run makes this many rounds, and stops after them with this answer. After the Leave with which the limit is
+-- reached a round may have another move
 pub record RunsRounds (limit : ℕ) (start new : RunPlace) (number : ℕ) (answer : Clocked) : Type 0 where
   pub now : RunPlace
   pub reaches : Reaches (limit + 1) show.Report start now

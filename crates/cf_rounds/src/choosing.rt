@@ -12,7 +12,7 @@ use cf_bind::Move;
 use cf_core::Core;
 use cf_index::{Candidates, shares};
 
-/// Whether a live instruction that ends the program stands in the highest stage.
+/// Whether a live instruction that ends the program is in the highest stage.
 fn ends_there(core: &Core) -> bool
     ensures { result ≡ ends_there_of core.now.plan core.now.state }
 {
@@ -88,8 +88,9 @@ fn take_all(core: &Core, c: &Candidates, set: &mut RoundSet)
 }
 
 /// Makes the set hold the round of the candidates, held back or not: where one of them is Serve, or the Leave of a live
-/// instruction that ends the program, that one alone; else, in their order, each that shares no place with those already
-/// taken. So no two moves of a round share a place, and each candidate that it leaves out shares one with a move that it has.
+/// instruction that ends the program, that one alone; else, in their order, each that shares no place with those
+/// already taken. So no two moves of a round share a place, and each candidate that it leaves out shares one with a
+/// move that it has.
 pub fn choose(core: &Core, c: &Candidates, set: &mut RoundSet)
     requires candidates { AreCandidates core.now.plan core.now.state c.now }
     requires some { 0 < length c.now }

@@ -5,8 +5,8 @@ ghost use Rattle.std.specs.Prelude.{◌≡◌, ◌<◌, ◌++◌, ◌∷◌, [],
 use cf_bind::Move;
 use std::marker::Model;
 
-/// The moves of a round, in the order in which they were taken: at most 128, of which a round of candidates has at most 96,
-/// since each uses a stage or a cell of a siding of its own.
+/// The moves of a round, in the order in which they were taken: at most 128, of which a round of candidates has at most
+/// 96, since each uses a stage or a cell of a siding of its own.
 #[derive(Drop)]
 pub struct RoundSet {
     len: u32,

@@ -90,15 +90,16 @@ fn advance<S: Source, K: Sink>(
     finish_with(fire(core, set, pace, input, output, tally))
 }
 
-/// Runs an opened processor in rounds: makes the round of the candidates, one after the other, until the program ends or as
-/// many instructions have retired as the limit allows, which is looked at before each round. The candidates are held back as
-/// under a policy.
+/// Runs an opened processor in rounds: makes the round of the candidates, one after the other, until the program ends
+/// or as many instructions have retired as the limit allows, which is looked at before each round. The candidates are
+/// held back as under a policy.
 ///
-/// `ReadFault` and `WriteFault` come only where the input or the output failed a call of the environment; that round is not
-/// counted, nor its move. In each case that stream's count of faults rose.
+/// `ReadFault` and `WriteFault` come only where the input or the output failed a call of the environment; that round is
+/// not counted, nor its move. In each case that stream's count of faults rose.
 ///
-/// Where the processor was opened on a machine, the run is a run of that machine, over an input that tells what it has left and
-/// over one that does not, and ends as that machine does under the same limit. It has at most 4 N K (limit + 1) moves.
+/// Where the processor was opened on a machine, the run is a run of that machine, over an input whose remaining bytes
+/// are known and over one that does not, and ends as that machine does under the same limit. It has at most 4 N K
+/// (limit + 1) moves.
 pub fn run_rounds<S: Source, K: Sink>(
     core: &mut Core,
     candidates: &mut Candidates,

@@ -1,4 +1,5 @@
--- Where a run has arrived, whatever its input tells; and where it has arrived over an input that tells what it has left.
+-- Where a run has arrived, whatever its input exposes; and where it has arrived over an input whose remaining bytes are
+-- known.
 use Rattle.std.proofs.Common.{◌≡◌, ℕ, ◌+◌, List, [], Option, Some, ap, subst, ◌∙◌, refl, length}
 use Rattle.run_options.specs.declared.show.Show.{Show}
 use Rattle.run_options.specs.declared.show.Show.TheVariants as show
@@ -33,7 +34,7 @@ pub record Arrives (shows : Show) (x : Machine) (m : Moment) (n : ℕ) (written 
   pub texts : AreTexts n written (all_shown show.Retired begin.core.plan 1 trace)
   pub report : Writes begin.report now.report (all_shown shows begin.core.plan 1 trace)
 
--- an opened processor stands at the start of the machine
+-- an opened processor is at the start of the machine
 opened_same : (plan : Plan) (hart : Hart) (rest : List ℕ) → (opened plan hart).state ≡ opened_on plan (machine_on hart rest)
 unfolding opened opened_on
 opened_same plan hart rest = refl

@@ -1,4 +1,5 @@
--- The run of a policy has a bounded number of moves, whatever its input tells, and until it is over the policy is offered a move.
+-- The run of a policy has a bounded number of moves, whatever its input exposes, and until it is over the policy is
+-- offered a move.
 use Rattle.std.proofs.Common.{◌≡◌, ℕ, suc, ◌+◌, ◌-◌, ◌*◌, ◌≤◌, ◌<◌, ◌^◌, List, [], ◌∷◌, None, All, refl, sym, ap, subst, ◌∙◌, length, arith}
 use Rattle.std.proofs.lemmas.List.{length-map}
 use Rattle.std.proofs.lemmas.Bool.Decides.{nat_tests}

@@ -57,7 +57,8 @@ pub record Over (plan : Plan) (limit : ℕ) (s : State) : Type 0 where
   pub full : s.retired ≡ limit → served_count plan s ≡ 0
   pub below : (e : End) → s.ending ≡ Some e → s.retired < limit
 
--- so it is after a move that is made below the limit: the last move retired an instruction, or ended the program and retired none
+-- so it is after a move that is made below the limit: the last move retired an instruction, or ended the program and
+-- retired none
 pub over-made : (plan : Plan) (limit : ℕ) (m : Moment) (mv : Move) (e : Event) → bar plan m.state mv ≡ None → IsEvent plan m.state mv e →
     m.state.retired < limit → Over plan limit (next plan m mv).state
 over-made plan limit m mv e free is low = record {
@@ -181,7 +182,7 @@ over-reached limit shows begin now hart accepted wide opens h =
     (over-led begin.core.plan limit begin.streams.input (moment_of begin.core h.rest) h.trace h.last
     (over-opened limit begin.core hart accepted wide opens) h.leads)
 
--- over an input that tells
+-- over an input whose remaining bytes are known
 ends_told : (bound limit : ℕ) (shows : Show) (begin now : RunPlace) (hart : Hart) (rest : List ℕ) (answer : Answer) → IsAccepted begin.core.plan →
     length hart.regs ≡ 32 → begin.core ≡ opened begin.core.plan hart → begin.streams.input ≡ Some rest → Reaches bound shows begin now →
     Over begin.core.plan limit now.core.state → IsOver limit now.core.state answer

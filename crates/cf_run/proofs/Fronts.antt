@@ -1,4 +1,4 @@
--- What was written where the output failed is a front of what the sequential machine writes with its next step.
+-- What was written where the output failed is a prefix of what the sequential machine writes with its next step.
 use Rattle.std.proofs.Common.{◌≡◌, ℕ, zero, suc, ◌+◌, List, [], ◌∷◌, ◌++◌, Option, Some, None, true, false, refl, sym, ap, subst, ◌∙◌, take, drop, append_assoc, arith}
 use Rattle.std.specs.Prelude.{IsTrue}
 use Rattle.std.proofs.lemmas.List.{take-append-drop}
@@ -64,7 +64,7 @@ count_there : (cells : List Cell) (n : ℕ) (c : Cell) (p q : Passenger) → cel
     on (cell_at (put_cell cells n (with_passenger c q)) n) 0 (λ c. on c.passenger 0 (λ p. one (has_served p))) ≡ 1
 count_there cells n c p q e k = rw (put_there cells n c (with_passenger c q) e, k) refl
 
--- the instruction in the highest stage is that of the passenger there
+-- the instruction in the highest stage is that of the instruction there
 calls_there : (cells : List Cell) (n : ℕ) (c : Cell) (p : Passenger) → cell_at cells n ≡ Some c → c.passenger ≡ Some p →
     Where (passenger_at cells n) ⊥ (λ q. instruction q ≡ Ecall) → instruction p ≡ Ecall
 calls_there cells n c p e f h =
@@ -93,14 +93,14 @@ wrote plan m bytes r unended calls asks is =
           (has_answered r.who a.value r.live (ap is_serial r.serial) unended);
     }
 
--- the passenger that is to be served has not ended
+-- the instruction that is to be served has not ended
 unended_here : (plan : Plan) (m : Moment) (x : Machine) (r : Serves plan m.state) → Sound plan m.state m.rest m.output x → r.who.ending ≡ None
 unfolding sure.SureAt
 unended_here plan m x r h =
     let c : Scene plan m.state m.rest m.output x r = scene plan m.state x r h in
     c.certain.0.unended r.undone
 
--- a front of more bytes
+-- a prefix of more bytes
 front_of : (isa : Isa) (x : Machine) (n : ℕ) (output bytes : List ℕ) (k : ℕ) (at : Machine) → after isa x n ≡ Some at → at.output ≡ output ++ bytes →
     IsFrontAfter isa x n (output ++ take k bytes)
 front_of isa x n output bytes k at count is = record {
@@ -110,7 +110,8 @@ front_of isa x n output bytes k at count is = record {
   front = is ∙ ap (λ (z : List ℕ). output ++ z) (sym (take-append-drop k bytes)) ∙ sym (append_assoc output (take k bytes) (drop k bytes));
 }
 
--- after a write that the output failed at a moment at which the invariant holds: the output of the moment and any front of the buffer's bytes
+-- after a write that the output failed at a moment at which the invariant holds: the output of the moment and any front
+-- of the buffer's bytes
 pub front-after : (plan : Plan) (x : Machine) (m : Moment) (bytes : List ℕ) (k : ℕ) → IsAccepted plan → HoldsAfter plan x m → bar plan m.state Serve ≡ None →
     Where (passenger_at m.state.cells plan.stages) ⊥ (λ q. instruction q ≡ Ecall)
     → IsTrue (asks_output m.state.regs m.state.mem) → range_of m.state.mem (second_argument m.state.regs) (third_argument m.state.regs) ≡ Some bytes

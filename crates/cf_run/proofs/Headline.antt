@@ -1,5 +1,5 @@
 -- A run is a run of the sequential machine on which its processor was opened, whatever chose its moves and whatever
--- stops it, and whether or not the input tells what it has left.
+-- stops it, and whether or not the input exposes what it has left.
 use Rattle.std.proofs.Common.{◌≡◌, ℕ, ◌+◌, List, Option, Some, None, refl, sym, ap, subst, ◌∙◌, length}
 use Rattle.run_options.specs.declared.show.Show.{Show}
 use Rattle.rv_machine.specs.Hart.{Hart}
@@ -21,7 +21,7 @@ use Rattle.cf_run.proofs.ByScript.{comes-to}
 use Rattle.cf_run.proofs.Stopping.{IsStopped, ComesTo}
 use Rattle.cf_run.proofs.UnknownInput.{ArrivesAnew, arrives-anew}
 
--- a run on an opened processor, over an input that tells
+-- a run on an opened processor, over an input whose remaining bytes are known
 run-told : (limit : ℕ) (shows : Show) (hart : Hart) (rest : List ℕ) (begin new : RunPlace) (moves : List Move) (answer : Scripted) →
     IsAccepted begin.core.plan → length hart.regs ≡ 32 → begin.core ≡ opened begin.core.plan hart → begin.streams.input ≡ Some rest
     → ComesTo limit shows begin moves new answer → RunsAs shows (machine_on hart rest) moves begin new answer
@@ -34,7 +34,7 @@ run-told limit shows hart rest begin new moves answer accepted wide opens tells 
     c.stops x (moment_after plan x made) (hart.retired + 1) (lines_after plan x made) a.arrives in
     subst (λ (moves : List Move). RunsAs shows x moves begin new answer) c.moves_are (record { right = a.right; stops = h.stops; report = h.report })
 
--- and over one that does not tell
+-- and over one that does not expose
 run-untold : (limit : ℕ) (shows : Show) (hart : Hart) (begin new : RunPlace) (moves : List Move) (answer : Scripted) → IsAccepted begin.core.plan →
     length hart.regs ≡ 32 → begin.core ≡ opened begin.core.plan hart → begin.streams.input ≡ None
     → ComesTo limit shows begin moves new answer → RunsOverUnknownInput shows hart begin new answer

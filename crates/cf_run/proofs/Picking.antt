@@ -1,4 +1,5 @@
--- The picks of a policy are a run under the hold rule: each is allowed, and while the candidates are held no pick is an Issue unless no other move is allowed.
+-- The picks of a policy are a run under the hold rule: each is allowed, and while the candidates are held no pick is an
+-- Issue unless no other move is allowed.
 use Rattle.std.proofs.Common.{◌≡◌, ℕ, List, [], ◌∷◌, ◌++◌, Option, Some, true, refl, sym, subst}
 use Rattle.rv_machine.specs.Machine.{Machine}
 use Rattle.cf_layout.specs.Accepted.{IsAccepted}

@@ -41,7 +41,7 @@ leads-more plan limit told m [] last rest made h finds is =
 leads-more plan limit told m (first ∷ trace) last rest made (r, f, i, h) finds is =
     (r, f, i, leads-more plan limit told (next plan (record m { rest = r }) first.move) trace last rest made h finds is)
 
--- over an input that tells what it has left the moves are a run
+-- over an input whose remaining bytes are known the moves are a run
 pub leads-run : (plan : Plan) (limit : ℕ) (told : List ℕ) (m : Moment) (trace : List Made) (last : Moment) → Leads plan limit (Some told) m trace last →
     IsRun plan m (moves_of trace) × (last ≡ run plan m (moves_of trace))
 unfolding Leads IsRun run

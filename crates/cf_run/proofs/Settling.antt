@@ -1,4 +1,5 @@
--- From every moment at which what every move keeps holds the processor settles: with issue held back it drains, to one end.
+-- From every moment at which what every move keeps holds the processor settles: with issue held back it drains, to one
+-- end.
 use Rattle.std.proofs.Common.{◌≡◌, ℕ, zero, suc, ◌*◌, ◌≤◌, List, [], ◌∷◌, Option, Some, None, Bool, true, false, refl, sym, ap, subst, ◌∙◌, length, arith}
 use Rattle.std.specs.Prelude.{filter, not}
 use Rattle.rv_machine.specs.Machine.{Machine}

@@ -94,7 +94,7 @@ no_input mv m begin now new core streams outside h = record {
   output = subst (λ (o : Option (List ℕ)). Writes begin.streams.output o m.output) (sym h.fails.output) streams.output;
 }
 
--- what was written where a front was, and whether the output tells it or not
+-- what was written where a front was, and whether the output exposes it or not
 record Written (before after : Option (List ℕ)) (bytes : List ℕ) : Type 0 where
   count : ℕ
   told : Writes before after (take count bytes)
@@ -159,7 +159,7 @@ fills : (told : Option (List ℕ)) (text : List ℕ) → Writes told (filled tol
 fills None text = tt
 fills (Some told) text = refl
 
--- a front of the last text is a front of all
+-- a prefix of the last text is a prefix of all
 front_whole : (a b c : Option (List ℕ)) (x y z : List ℕ) → Writes a b x → WritesFront b c y → Writes a (filled b y) z → WritesFront a c z
 front_whole None b c x y z h front whole = tt
 front_whole (Some told) b c x y z h front whole =

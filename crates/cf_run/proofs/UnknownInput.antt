@@ -1,5 +1,5 @@
--- Where a run has arrived over an input that does not tell what it has left: at a machine to which as many steps lead
--- as have retired, each of which finds some input.
+-- Where a run has arrived over an input whose remaining bytes are unknown: at a machine to which as many steps lead as
+-- have retired, each of which finds some input.
 use Rattle.std.proofs.Common.{◌≡◌, ℕ, zero, suc, ◌+◌, List, [], ◌∷◌, ◌++◌, Option, Some, None, refl, subst, length, ◌≤◌, arith}
 use Rattle.run_options.specs.declared.show.Show.{Show}
 use Rattle.run_options.specs.declared.show.Show.TheVariants as show
@@ -59,7 +59,7 @@ goes-anew isa hart rest zero at written (same, none) = (record { hart = same.har
 goes-anew isa hart rest (suc n) at written (before, next, earlier, goes, step, same, is) =
     (before, next, earlier, goes-anew isa hart rest n before earlier goes, step, same, is)
 
--- of an input that does not tell, anything may be left
+-- of an input whose remaining bytes are unknown, anything may be left
 untold-input : (told after : Option (List ℕ)) (rest : List ℕ) → told ≡ None → Becomes told after rest
 untold-input None after rest none = tt
 untold-input (Some told) after rest none = absurd (cc)
@@ -69,7 +69,7 @@ pub left-untold : (before after : Streams) (found rest output : List ℕ) → be
     Leaves before after rest output
 left-untold before after found rest output none h = record { input = untold-input before.input after.input rest none; output = h.output }
 
--- where a run has arrived over an input that does not tell
+-- where a run has arrived over an input whose remaining bytes are unknown
 pub record ArrivesAnew (shows : Show) (hart : Hart) (begin now : RunPlace) : Type 0 where
   pub at : Machine
   pub written : List Line

@@ -1,4 +1,5 @@
--- Which moves of a run ask the input or the output: what no move asks stays as it was ("Counterflow Pipeline Processor Architecture", 1994).
+-- Which moves of a run ask the input or the output: what no move asks stays as it was ("Counterflow Pipeline Processor
+-- Architecture", 1994).
 use Rattle.std.specs.Prelude.{◌≡◌, ◌⊎◌, ℕ, List, [], ◌∷◌, Some, Ok}
 use Rattle.run_options.specs.declared.show.Show.{Show}
 use Rattle.cf_layout.specs.Layout.{Plan}
@@ -12,7 +13,8 @@ use Rattle.cf_run.specs.Made.{Made}
 use Rattle.cf_run.specs.Reaching.{GoesOn}
 use Rattle.cf_run.specs.Scripts.{ScriptRun, RunsScript}
 
--- one of these moves asks this; the first was made in that state, and each other in the state that the move before it left
+-- one of these moves asks this; the first was made in that state, and each other in the state that the move before it
+-- left
 unfoldable pub SomeAsks : (asks : Processor → Move → Type 0) → Plan → State → List Made → Type 0
 SomeAsks asks plan s [] = ⊥
 SomeAsks asks plan s (made ∷ trace) =

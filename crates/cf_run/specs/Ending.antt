@@ -20,7 +20,8 @@ use Rattle.cf_run.specs.declared.answer.Scripted.TheVariants.{Ran, ScriptEnd, Ba
 use Rattle.cf_run.specs.Headline.{machine_on}
 use Rattle.cf_run.specs.Moving.{RunPlace}
 
--- n steps lead to this machine from the one that starts on the hart with what the input tells; where it does not tell that, each step finds some input
+-- n steps lead to this machine from the one that starts on the hart with what the input exposes; where it does not
+-- expose that, each step finds some input
 abbrev pub IsAfterSteps : Isa → Option (List ℕ) → Hart → ℕ → Machine → Type 0
 IsAfterSteps isa (Some rest) hart n at = after isa (machine_on hart rest) n ≡ Some at
 IsAfterSteps isa None hart n at = (written : List Line) × GoesTo isa (machine_on hart []) n at written

@@ -14,12 +14,13 @@ use Rattle.cf_run.specs.Made.{Made, moves_of}
 abbrev pub moment_of : Processor → List ℕ → Moment
 moment_of core rest = record { state = core.state; rest = rest; output = [] }
 
--- the input that a move finds: what the moves before it have left, where the input tells that, and else any input
+-- the input that a move finds: what the moves before it have left, where the input exposes that, and else any input
 abbrev pub Finds : Option (List ℕ) → (left rest : List ℕ) → Type 0
 Finds None left rest = Unit {0}
 Finds (Some told) left rest = rest ≡ left
 
--- the move was made at this moment: fewer instructions had retired than the limit, nothing barred it, and this was its event and the state after it
+-- the move was made at this moment: fewer instructions had retired than the limit, nothing barred it, and this was its
+-- event and the state after it
 pub record IsMade (plan : Plan) (limit : ℕ) (m : Moment) (made : Made) : Type 0 where
   pub below : m.state.retired < limit
   pub allowed : bar plan m.state made.move ≡ None
@@ -33,7 +34,7 @@ Leads plan limit told m (made ∷ trace) last =
     (rest : List ℕ) × Finds told m.rest rest × IsMade plan limit (record m { rest = rest }) made
     × Leads plan limit told (next plan (record m { rest = rest }) made.move) trace last
 
--- over an input that tells what it has left they are a run, which ends at that moment
+-- over an input whose remaining bytes are known they are a run, which ends at that moment
 abbrev pub RunsTo : Plan → Option (List ℕ) → Moment → List Made → Moment → Type 0
 RunsTo plan None m trace last = Unit {0}
 RunsTo plan (Some told) m trace last = IsRun plan m (moves_of trace) × (last ≡ run plan m (moves_of trace))

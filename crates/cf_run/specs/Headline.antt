@@ -1,5 +1,5 @@
 -- The headline: a run leaves what the sequential machine on which the processor was opened leaves, whether or not the
--- input tells what it has left, and comes to rest ("Counterflow Pipeline Processor Architecture", 1994: the order of
+-- input exposes what it has left, and comes to rest ("Counterflow Pipeline Processor Architecture", 1994: the order of
 -- the local actions is free).
 use Rattle.std.specs.Prelude.{◌≡◌, ℕ, ◌+◌, ◌≤◌, List, [], ◌∷◌, ◌++◌, length, Option, Some, None}
 use Rattle.run_options.specs.declared.show.Show.{Show}
@@ -33,7 +33,8 @@ use Rattle.cf_run.specs.declared.answer.Scripted.TheVariants.{Ran}
 use Rattle.cf_run.specs.Made.{Made, all_shown}
 use Rattle.cf_run.specs.Moving.{RunPlace}
 
--- The sequential machine as a run begins: the hart on which the processor was opened, with this input before it and nothing written.
+-- The sequential machine as a run begins: the hart on which the processor was opened, with this input before it and
+-- nothing written.
 abbrev pub machine_on : Hart → List ℕ → Machine
 machine_on hart rest = record { hart = hart; rest = rest; output = [] }
 
@@ -52,7 +53,8 @@ pub record Settles (plan : Plan) (x : Machine) (m : Moment) : Type 0 where
   pub bounded : (moves : List Move) → IsRun plan m moves → issues moves ≡ 0 → length moves ≤ weight plan m.state
   -- there is a run without Issue that cannot be extended
   pub drains : (t : Moment) × Drains plan m t
-  -- where the program goes on, each such run retires what stands on the sequential path, and ends drained there or with the program's end
+  -- where the program goes on, each such run retires what is on the sequential path, and ends drained there or with the
+  -- program's end
   pub ends : m.state.ending ≡ None → (t : Moment) → Drains plan m t → EndsAs plan x m t
   -- any two such runs end alike
   pub alike : (t u : Moment) → Drains plan m t → Drains plan m u → EndAlike t u
@@ -66,7 +68,7 @@ pub record IsRight (plan : Plan) (x : Machine) (moves : List Move) : Type 0 wher
   pub refines : Refines plan x (lines plan (start_on plan x) moves) (moment_after plan x moves)
   pub settles : Settles plan x (moment_after plan x moves)
 
--- The processor stands at the moment: what is left of the input and what was written to the output are the moment's.
+-- The processor is at the moment: what is left of the input and what was written to the output are the moment's.
 pub record StandsAt (m : Moment) (begin new : RunPlace) : Type 0 where
   pub core : new.core ≡ in_state begin.core m.state
   pub streams : Leaves begin.streams new.streams m.rest m.output
@@ -77,7 +79,8 @@ pub record IsUnmoved (m : Moment) (s : State) : Type 0 where
   pub retired : s.retired ≡ m.state.retired
   pub ending : s.ending ≡ m.state.ending
 
--- The input failed the call that was to be served at the moment: registers, count and ending are those before the call, and the output is the moment's.
+-- The input failed the call that was to be served at the moment: registers, count and ending are those before the call,
+-- and the output is the moment's.
 pub record FailsInput (m : Moment) (begin new : RunPlace) : Type 0 where
   pub allowed : bar begin.core.plan m.state Serve ≡ None
   pub before : Streams
@@ -86,7 +89,7 @@ pub record FailsInput (m : Moment) (begin new : RunPlace) : Type 0 where
   pub unmoved : IsUnmoved m new.core.state
   pub output : Writes begin.streams.output new.streams.output m.output
 
--- The bytes are a front of what the machine has written after n steps, all of which it makes.
+-- The bytes are a prefix of what the machine has written after n steps, all of which it makes.
 pub record IsFrontAfter (isa : Isa) (x : Machine) (n : ℕ) (written : List ℕ) : Type 0 where
   pub at : Machine
   pub count : after isa x n ≡ Some at
@@ -94,7 +97,7 @@ pub record IsFrontAfter (isa : Isa) (x : Machine) (n : ℕ) (written : List ℕ)
   pub front : at.output ≡ written ++ more
 
 -- The output failed the call that was to be served at the moment: registers, count and ending are those before the
--- call, and what was written is a front of what the sequential machine has written after its next step, which is the
+-- call, and what was written is a prefix of what the sequential machine has written after its next step, which is the
 -- call.
 pub record FailsOutput (x : Machine) (m : Moment) (begin new : RunPlace) : Type 0 where
   pub allowed : bar begin.core.plan m.state Serve ≡ None
@@ -118,7 +121,7 @@ AreTexts n [] text = text ≡ []
 AreTexts n (line ∷ more) text =
     (shown : Retired) × (later : List ℕ) × Shows line shown × (text ≡ retired_line n shown ++ later) × AreTexts (n + 1) more later
 
--- The report got the text, or a front of it where it failed.
+-- The report got the text, or a prefix of it where it failed.
 unfoldable pub Gets : Option (List ℕ) → Option (List ℕ) → Scripted → List ℕ → Type 0
 Gets before after (Ran ran.ReportFault) text = WritesFront before after text
 Gets before after answer text = Writes before after text
@@ -140,7 +143,7 @@ pub record RunsAs (shows : Show) (x : Machine) (moves : List Move) (begin new : 
   pub stops : StopsAt x (moment_after begin.core.plan x moves) begin new answer
   pub report : ReportsLines shows (x.hart.retired + 1) (lines_after begin.core.plan x moves) begin new answer
 
--- The run is a run of the machine that starts on this hart, over an input that does not tell what it has left: as many
+-- The run is a run of the machine that starts on this hart, over an input whose remaining bytes are unknown: as many
 -- steps as have retired, each of which finds some input, lead to a machine, with these lines; and with some input left,
 -- what is seen of the moment where the run stops is what that machine does, and from there the processor drains.
 pub record RunsOverUnknownInput (shows : Show) (hart : Hart) (begin new : RunPlace) (answer : Scripted) : Type 0 where
@@ -157,14 +160,14 @@ pub record RunsOverUnknownInput (shows : Show) (hart : Hart) (begin new : RunPla
   pub stops : StopsAt at last begin new answer
   pub report : ReportsLines shows (hart.retired + 1) written begin new answer
 
--- The run is a run of the machine that starts on this hart with what the input tells, by these moves; where the input
--- does not tell that, of the machine each of whose calls finds some input.
+-- The run is a run of the machine that starts on this hart with what the input exposes, by these moves; where the input
+-- does not expose that, of the machine each of whose calls finds some input.
 abbrev pub RunsOver : Option (List ℕ) → Show → Hart → List Move → (begin new : RunPlace) → Scripted → Type 0
 RunsOver (Some rest) shows hart moves begin new answer = RunsAs shows (machine_on hart rest) moves begin new answer
 RunsOver None shows hart moves begin new answer = RunsOverUnknownInput shows hart begin new answer
 
 -- The headline, of a run that made these moves, whatever chose them: on whatever hart the processor was opened, and
--- whatever the input tells or does not tell, the run is a run of the machine that starts on that hart.
+-- whatever the input exposes or does not tell, the run is a run of the machine that starts on that hart.
 unfoldable pub RunsSequentially : Show → List Move → (begin new : RunPlace) → Scripted → Type 0
 RunsSequentially shows moves begin new answer =
     (plan : Plan) (hart : Hart) → begin.core ≡ opened plan hart → RunsOver begin.streams.input shows hart moves begin new answer

@@ -15,7 +15,7 @@ use Rattle.cf_run.specs.declared.answer.Ran.{Ran as Answer}
 use Rattle.cf_run.specs.declared.answer.Ran.TheVariants as ran
 use Rattle.cf_run.specs.Made.{counted, shown}
 
--- where a run has arrived: the processor, what input and output tell, what the report tells, and what was counted
+-- where a run has arrived: the processor, what input and output expose, what the report exposes, and what was counted
 pub record RunPlace : Type 0 where
   pub core : Processor
   pub streams : Streams
@@ -26,7 +26,7 @@ pub record RunPlace : Type 0 where
 abbrev pub place_of : Processor → Streams → Option (List ℕ) → Tally → RunPlace
 place_of core streams report tally = record { core = core; streams = streams; report = report; tally = tally }
 
--- the place with what these objects tell, given what a source and two sinks tell
+-- the place with what these objects expose, given what a source and two sinks expose
 abbrev pub place_by : {S K R : Type 0} → (S → Option (List ℕ)) → (K → Option (List ℕ)) → (R → Option (List ℕ)) →
     Processor → S → K → R → Tally → RunPlace
 place_by unread written reported core input output report tally =
@@ -49,12 +49,13 @@ pub record MakesAndShows (show : Show) (mv : Move) (event : Event) (now new : Ru
   pub makes : MakesMove mv event now new
   pub report : Writes now.report new.report (shown_of show mv event now new)
 
--- it was made, and the report failed after a front of what is shown of it, before it had all
+-- it was made, and the report failed after a prefix of what is shown of it, before it had all
 pub record MakesUnshown (show : Show) (mv : Move) (event : Event) (now new : RunPlace) : Type 0 where
   pub makes : MakesMove mv event now new
   pub report : WritesFront now.report new.report (shown_of show mv event now new)
 
--- what else holds where the input or the output fails a call: nothing barred the move, it was Serve, and nothing was counted or shown
+-- what else holds where the input or the output fails a call: nothing barred the move, it was Serve, and nothing was
+-- counted or shown
 pub record FailsOutside (mv : Move) (now new : RunPlace) : Type 0 where
   pub allowed : first_bar now.core.plan now.core.state mv ≡ None
   pub serves : mv ≡ Serve

@@ -28,7 +28,8 @@ pub record IsOpened (core : Processor) : Type 0 where
   pub hart : Hart
   pub is : core ≡ opened core.plan hart
 
--- a run under a policy may begin: its limit may be asked for and is not passed, and the processor was opened and has made no move since
+-- a run under a policy may begin: its limit may be asked for and is not passed, and the processor was opened and has
+-- made no move since
 pub record CanRun (limit : ℕ) (core : Processor) : Type 0 where
   pub limit_allowed : limit ≤ most_limit
   pub within : core.state.retired ≤ limit
@@ -62,7 +63,8 @@ after_choice onward plan at s made = record {
   count = paced at.count made.move made.event (is_drained made.state);
 }
 
--- the moves are, one after the other, the picks of the policy, the first of them in that state; and they lead it on to the last
+-- the moves are, one after the other, the picks of the policy, the first of them in that state; and they lead it on to
+-- the last
 unfoldable pub Picks : {P : Type 0} → (picked : P → List Move → ℕ) → (onward : P → List Move → P) → Plan → Chooser P → State → List Made → Chooser P → Type 0
 Picks picked onward plan at s [] last = last ≡ at
 Picks picked onward plan at s (made ∷ trace) last =
@@ -105,7 +107,8 @@ StopsPolicy picked onward limit show at now new later ran.ReadFault = StopsAtPic
 StopsPolicy picked onward limit show at now new later ran.WriteFault = StopsAtPick picked onward limit show at now new later ran.WriteFault
 StopsPolicy picked onward limit show at now new later ran.ReportFault = StopsAtPick picked onward limit show at now new later ran.ReportFault
 
--- one turn of the run, by a pace that counts up to where the candidates are held: the policy picks a move and it is made
+-- one turn of the run, by a pace that counts up to where the candidates are held: the policy picks a move and it is
+-- made
 pub record Turned {P : Type 0} (picked : P → List Move → ℕ) (onward : P → List Move → P) (limit : ℕ) (show : Show) (now new : RunPlace)
     (at later : Chooser P) : Type 0 where
   pub takes : TakesPick picked limit show at now new

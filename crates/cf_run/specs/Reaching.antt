@@ -19,7 +19,7 @@ no_tally = record { moves = 0; meets = 0; kills = 0; dead = 0 }
 
 -- moves lead from one place to another: they were counted, and shown after what the report told
 pub record Reaches (limit : ℕ) (show : Show) (start now : RunPlace) : Type 0 where
-  -- these moves were made, from a moment whose input agrees with what is told to another
+  -- these moves were made, from a moment whose input agrees with what is known to another
   pub trace : List Made
   pub rest : List ℕ
   pub told : IsTold start.streams.input rest

@@ -13,7 +13,7 @@ use Rattle.cf_run.specs.Made.{moves_of}
 use Rattle.cf_run.specs.Moving.{RunPlace, MoveDoes}
 use Rattle.cf_run.specs.Reaching.{Reaches, GoesOn, IsOver}
 
--- where the run of a script stands: the place that it has reached, and what is left of the script
+-- where the run of a script is: the place that it has reached, and what is left of the script
 pub record ScriptRun : Type 0 where
   pub place : RunPlace
   pub script : ScriptLines
@@ -26,7 +26,7 @@ stand_of place script = record { place = place; script = script }
 abbrev pub first_moves : ScriptLines → Tally → List Move
 first_moves script tally = map (λ line. line.1) (take tally.moves script.moves)
 
--- the run has followed the script from one stand to another
+-- the run has followed the script from one are to another
 pub record Follows (limit : ℕ) (show : Show) (start now : ScriptRun) : Type 0 where
   pub reaches : Reaches limit show start.place now.place
   -- its moves are the first of the script, and the others are left of it
@@ -51,7 +51,8 @@ pub record ScriptTries (limit : ℕ) (show : Show) (now new : ScriptRun) (answer
   pub script : new.script ≡ after_next now.script
   pub does : DoesLine show line move now.place new.place answer
 
--- the run stops here: it is over, or the script has no further move or a line that is no move, and all stays; or its next move is the last that it tries
+-- the run stops here: it is over, or the script has no further move or a line that is no move, and all stays; or its
+-- next move is the last that it tries
 unfoldable pub ScriptStops : ℕ → Show → (now new : ScriptRun) → Scripted → Type 0
 ScriptStops limit show now new ScriptEnd =
     GoesOn limit now.place.core.state × (next_of now.script ≡ Ok None) × (new ≡ now)

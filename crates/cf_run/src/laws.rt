@@ -1,5 +1,5 @@
-//! The laws of runs: what holds of every run, whatever chose its moves. Each is the contract of a function that does nothing;
-//! docs/PROMISES.md says each in plain words.
+//! The laws of runs: what holds of every run, whatever chose its moves. Each is the contract of a function that does
+//! nothing; docs/PROMISES.md says each in plain words.
 
 ghost use Rattle.std.specs.Prelude.{◌≡◌, ◌≤◌, ◌<◌, ◌-◌, ℕ, List, None, Some, length, slice_get};
 ghost use Rattle.run_options.specs.declared.show.Show.{Show};
@@ -21,8 +21,8 @@ ghost use Rattle.cf_run.specs.Reaching.{GoesOn, Reaches};
 ghost use Rattle.cf_run.specs.Scripts.{ScriptRun, RunsScript, first_moves};
 
 /// The run of a script or of a policy on an opened processor is a run of the sequential machine: retired instructions,
-/// registers and ending are those after as many instructions, input, output and memory those after the instructions that
-/// were served or have passed the memory port.
+/// registers and ending are those after as many instructions, input, output and memory those after the instructions
+/// that were served or have passed the memory port.
 pub fn t4_2()
     ensures scripts { (limit : ℕ) (show : Show) (start new : ScriptRun) (answer : Scripted) → IsAccepted start.place.core.plan →
         length start.place.core.state.regs ≡ 32 → RunsScript limit show start new answer →
@@ -33,8 +33,8 @@ pub fn t4_2()
         RunsSequentially show moves start new (Ran answer) }
 {}
 
-/// Where the run of a script or of a policy ends with Exit, Trap or Limit, its ending, the retired count, the registers and
-/// what was taken of the input and written to the output are those of the sequential machine under the same limit.
+/// Where the run of a script or of a policy ends with Exit, Trap or Limit, its ending, the retired count, the registers
+/// and what was taken of the input and written to the output are those of the sequential machine under the same limit.
 pub fn t4_5()
     ensures scripts { (limit : ℕ) (show : Show) (start new : ScriptRun) (hart : Hart) (answer : Scripted) →
         IsAccepted start.place.core.plan → length hart.regs ≡ 32 → start.place.core ≡ opened start.place.core.plan hart →
@@ -45,8 +45,8 @@ pub fn t4_5()
         EndsAlike limit hart start new (Ran answer) }
 {}
 
-/// The run of a policy on an opened processor has at most 4 N K (r + 1) moves, where r instructions retire in it, whatever
-/// the policy picks and whatever the input tells; and until it is over a move is offered, so it ends.
+/// The run of a policy on an opened processor has at most 4 N K (r + 1) moves, where r instructions retire in it,
+/// whatever the policy picks and whatever the input exposes; and until it is over a move is offered, so it ends.
 pub fn t5_6()
     ensures bounded { (limit : ℕ) (show : Show) (start new : RunPlace) (picks later : List ℕ) (moves : List Move)
         (answer : Answer) → IsAccepted start.core.plan → length start.core.state.regs ≡ 32 → IsOpened start.core →

@@ -82,16 +82,17 @@ fn advance<P: Policy, S: Source, K: Sink, R: Sink>(
     }
 }
 
-/// Runs a policy on an opened processor: makes the moves that it picks, one after another, until the program ends, as many
-/// instructions have retired as the limit allows, or a fault occurs. These are looked at in this order before each move. The
-/// policy is offered the allowed moves in the order of all moves, but for the issue with an address, and under the hold rule
-/// without Issue; what `show` says is put to the report as the run goes on. It takes no memory, and always comes to an end.
+/// Runs a policy on an opened processor: makes the moves that it picks, one after another, until the program ends, as
+/// many instructions have retired as the limit allows, or a fault occurs. These are looked at in this order before each
+/// move. The policy is offered the allowed moves in the order of all moves, but for the issue with an address, and
+/// under the hold rule without Issue; what `show` says is put to the report as the run goes on. It takes no memory, and
+/// always comes to an end.
 ///
-/// `ReadFault` and `WriteFault` come only where the input or the output failed a call of the environment; that move is not
-/// counted. `ReportFault` comes only where the report failed, after a move that was made and counted. In each case that
-/// object's count of faults rose.
+/// `ReadFault` and `WriteFault` come only where the input or the output failed a call of the environment; that move is
+/// not counted. `ReportFault` comes only where the report failed, after a move that was made and counted. In each case
+/// that object's count of faults rose.
 ///
-/// Where no move of the run asks the input, the input is left as it was, whatever it tells of itself; the output likewise.
+/// Where no move of the run asks the input, the input is left as it was, whatever it exposes; the output likewise.
 pub fn run_policy<P: Policy, S: Source, K: Sink, R: Sink>(
     core: &mut Core,
     candidates: &mut Candidates,

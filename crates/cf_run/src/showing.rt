@@ -55,7 +55,7 @@ fn put_lines<R: Sink>(
 }
 
 /// Puts what is to be shown of a move, the `n`th, that left the processor as it is. Most runs show nothing.
-// The move and the event are copied, so that they need not stand in memory where nothing is shown.
+// The move and the event are copied, so that they need not be in memory where nothing is shown.
 #[inline(always)]
 pub(crate) fn put_shown<R: Sink>(
     core: &Core,

@@ -1,11 +1,13 @@
--- What the policies pick, and what they are after the pick: each as a function of what the policy was and of the candidates.
+-- What the policies pick, and what they are after the pick: each as a function of what the policy was and of the
+-- candidates.
 use Rattle.std.specs.Prelude.{ℕ, ◌%◌, List, length, slice_get, Option}
 use Rattle.rand_pcg.specs.Lcg.{Lcg, increment_of, started}
 use Rattle.rand_pcg.specs.Pcg.{multiplier_64, pcg32}
 use Rattle.cf_bind.specs.declared.moves.Move.{Move}
 use Rattle.cf_index.specs.Order.{first_after}
 
--- Round picks the first candidate after the last one that it picked, or the first of all where none comes after it or nothing was picked yet
+-- Round picks the first candidate after the last one that it picked, or the first of all where none comes after it or
+-- nothing was picked yet
 abbrev pub round_pick : Option Move → List Move → ℕ
 round_pick last moves = first_after last moves
 

@@ -10,8 +10,8 @@ use cf_bind::Move;
 use cf_semantics::Event;
 use std::marker::Model;
 
-/// Counts the Issue moves since the start, the last retirement, or the last drained state, whichever is latest. Once there
-/// are twice as many as stages, Issue is held back. The count stops there, so that it never overflows.
+/// Counts the Issue moves since the start, the last retirement, or the last drained state, whichever is latest. Once
+/// there are twice as many as stages, Issue is held back. The count stops there, so that it never overflows.
 #[derive(Drop)]
 pub struct Pace {
     stages: u32,

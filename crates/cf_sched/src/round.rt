@@ -11,9 +11,9 @@ use cf_core::Core;
 use cf_index::{Candidates, Rank};
 use std::marker::Model;
 
-/// Picks the first candidate after the last one that it picked in the order of all moves, or the first of all where none
-/// comes after it or nothing was picked yet. It is seen as the last one that it picked. The rank of that is kept beside it; where
-/// nothing was picked that is the rank of a Slide, after which all candidates are looked at.
+/// Picks the first candidate after the last one that it picked in the order of all moves, or the first of all where
+/// none comes after it or nothing was picked yet. It is seen as the last one that it picked. The rank of that is kept
+/// beside it; where nothing was picked that is the rank of a Slide, after which all candidates are looked at.
 #[derive(Drop)]
 pub struct Round {
     last: Option<Move>,
@@ -70,8 +70,8 @@ impl Round {
 }
 
 /// The first of the moves that a processor offers after the last one, by a look at all of them.
-// That is rare, and a call, so that the search after the last move is part of the loop of a run. The policy is not lent to it, so that
-// it need not stand in memory.
+// That is rare, and a call, so that the search after the last move is part of the loop of a run. The policy is not lent
+// to it, so that it need not be in memory.
 #[inline(never)]
 fn first_of_all(last: Option<Move>, core: &Core, candidates: &mut Candidates, pace: &Pace) -> Move
     requires { 0 < length (offers pace.now core.now.plan core.now.state) }

@@ -1,4 +1,4 @@
--- What is claimed of every run.
+-- The claims about every run.
 pub mod Laws
 pub mod Walks
 pub mod Path

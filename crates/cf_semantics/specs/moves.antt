@@ -1,4 +1,5 @@
--- The fourteen moves: what instructions do on their way, what bars each move, what it does, and what is seen of it.
+-- The fourteen moves: what instructions do on their way, what bars each move, what it does, and what it shows from
+-- outside.
 pub mod Instructions
 pub mod Bars
 pub mod Moves

@@ -1,4 +1,4 @@
--- What a state is: what stands in the pipes and beside them, and what is asked of it.
+-- States: what is in the pipes and beside them, and what the moves ask about it.
 pub mod Options
 pub mod State
 pub mod Column

@@ -1,4 +1,4 @@
-//! What is seen of a move.
+//! What a move shows from outside.
 
 use cf_bind::End;
 use rv_machine::Retired;

@@ -1,4 +1,5 @@
-//! What the counterflow pipeline processor is: its states, its moves, its runs, and what holds of them. There is no code here but the event of a move.
+//! The definition of the counterflow pipeline processor: its states, its moves, its runs, and the claims about them.
+//! The only code here is the event of a move.
 #![tactic(auto)]
 
 mod event;

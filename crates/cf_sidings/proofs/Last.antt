@@ -22,7 +22,7 @@ set_index (o ∷ []) (suc n) q e = absurd (omega arith)
 set_index (o ∷ p ∷ cells) zero q e = absurd (omega arith)
 set_index (o ∷ p ∷ cells) (suc n) q e = ap (λ (l : List (Option Op)). o ∷ l) (set_index (p ∷ cells) n q (omega arith))
 
--- what stands in the last cell
+-- what is in the last cell
 pub last_op-index : (cells : List (Option Op)) → 0 < length cells → last_op cells ≡ slice_index_or cells (length cells - 1) None
 last_op-index cells h = last_index cells (length cells - 1) (omega arith)
 

@@ -1,4 +1,5 @@
--- What stands in the sidings, each listed from the cell that operations enter by ("Counterflow Pipeline Processor Architecture", 1994: sidings).
+-- The contents of the sidings, each listed from the cell at which operations enter ("Counterflow Pipeline Processor
+-- Architecture", 1994: sidings).
 use Rattle.std.specs.Prelude.{◌≡◌, ℕ, ◌+◌, List, [], Option, Some, None, map, replicate, slice_get, slice_set}
 use Rattle.mem_regions.specs.Memory.{Memory}
 use Rattle.mem_regions.specs.Access.{bounds_of}
@@ -11,7 +12,7 @@ use Rattle.cf_semantics.specs.moves.Instructions.{access_trap, answer_of, mem_af
 use Rattle.cf_semantics.specs.moves.Bars.{last_op}
 use Rattle.cf_semantics.specs.moves.Moves.{set_last}
 
--- the sidings of a layout, in which no operation stands
+-- the empty sidings of a layout
 unfoldable pub empty_sidings : Plan → List (List (Option Op))
 empty_sidings plan = map (λ siding. replicate siding.cells None) plan.sidings
 
@@ -23,21 +24,21 @@ cells_in sidings k = on (slice_get sidings k) [] (λ cells. cells)
 abbrev pub last_in : List (List (Option Op)) → ℕ → Option Op
 last_in sidings k = last_op (cells_in sidings k)
 
--- the sidings with other cells in one of them
+-- the sidings with new cells in one of them
 abbrev pub with_cells : List (List (Option Op)) → ℕ → List (Option Op) → List (List (Option Op))
 with_cells sidings k cells = slice_set sidings k cells
 
--- a siding after what stands in a cell has moved to the next one
+-- a siding after the contents of a cell have moved to the next one
 unfoldable pub moved_on : List (Option Op) → ℕ → List (Option Op)
 moved_on cells c = on (slice_get cells c) cells (λ o. slice_set (slice_set cells c None) (c + 1) o)
 
--- an operation that can be made now: a load or a store without an answer, which memory permits
+-- an operation that can be carried out now: a load or a store without an answer, which memory permits
 pub record IsReadyOperation (op : Op) (mem : Memory) : Type 0 where
   pub memory : class_of op.instr ≡ MemoryClass
   pub unanswered : op.answer ≡ None
   pub permitted : access_trap op.instr op.pc op.a (bounds_of mem) ≡ None
 
--- there is an operation that can be made now
+-- there is an operation that can be carried out now
 abbrev pub CanAccess : Option Op → Memory → Type 0
 CanAccess o mem = Where o ⊥ (λ op. IsReadyOperation op mem)
 
@@ -45,10 +46,10 @@ CanAccess o mem = Where o ⊥ (λ op. IsReadyOperation op mem)
 abbrev pub answered : Op → Memory → Op
 answered op mem = record op { answer = Some (answer_of op.instr op.a op.b mem) }
 
--- a siding after the operation at its end was made
+-- a siding after the operation at its end was carried out
 unfoldable pub after_access : List (Option Op) → Memory → List (Option Op)
 after_access cells mem = on (last_op cells) cells (λ op. set_last cells (Some (answered op mem)))
 
--- memory after the operation at the end of a siding was made
+-- memory after the operation at the end of a siding was carried out
 unfoldable pub mem_after_access : List (Option Op) → Memory → Memory
 mem_after_access cells mem = on (last_op cells) mem (λ op. mem_after op.instr op.a op.b mem)

@@ -1,4 +1,4 @@
-//! Loads and stores are made.
+//! Carrying out loads and stores.
 
 ghost use Rattle.std.specs.Prelude.{◌≡◌};
 ghost use Rattle.cf_semantics.specs.moves.Instructions.{answer_of, mem_after};
@@ -8,8 +8,8 @@ use cf_bind::Op;
 use mem_regions::Regions;
 use rv_inst::{access_of, extend};
 
-/// Makes a load or a store that memory permits. The answer is the value that a load writes to its register, and 0 for a
-/// store.
+/// Carries out a load or a store that memory permits. The answer is the value that a load writes to its register, and 0
+/// for a store.
 #[inline(always)]
 #[tactic(auto, using(crate::proofs::Permitted::permitted_access), unfolding(cf_semantics::specs::moves::Instructions::answer_of, cf_semantics::specs::moves::Instructions::mem_after))]
 pub(crate) fn make(op: Op, mem: &mut Regions) -> u32

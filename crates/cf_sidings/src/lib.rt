@@ -1,4 +1,4 @@
-//! The sidings, in which operations stand while they are computed beside the pipes.
+//! The sidings, which hold operations while they are computed beside the pipes.
 #![tactic(auto)]
 
 mod access;

@@ -13,7 +13,7 @@ use mem_regions::Regions;
 use std::alloc::{AllocError, Global};
 use std::marker::Model;
 
-/// A siding, seen as the list of its cells from the one that operations enter by.
+/// A siding. Contracts see it as the list of its cells, from the one at which operations enter.
 #[derive(Drop)]
 pub(crate) struct SidingCells {
     cells: Vec<Option<Op>>,
@@ -38,7 +38,7 @@ impl SidingCells {
         Ok(SidingCells { cells })
     }
 
-    /// The cells, from the one that operations enter by.
+    /// The cells, from the one at which operations enter.
     #[inline(always)]
     pub(crate) fn cells(&self) -> &[Option<Op>]
         ensures { result.now ≡ self.now }
@@ -46,7 +46,7 @@ impl SidingCells {
         &self.cells
     }
 
-    /// Whether an operation stands in it.
+    /// Whether it holds an operation.
     #[inline(always)]
     pub(crate) fn holds_some(&self) -> bool
         ensures { result ≡ list_any is_some self.now }
@@ -54,7 +54,7 @@ impl SidingCells {
         self.cells.iter().any(|op| op.is_some())
     }
 
-    /// What stands in the cell.
+    /// The contents of the cell.
     #[inline(always)]
     pub(crate) fn cell(&self, c: usize) -> Option<Op>
         requires { c < length self.now }
@@ -63,7 +63,7 @@ impl SidingCells {
         self.cells[c]
     }
 
-    /// Puts something else, or nothing, into the cell.
+    /// Replaces the contents of the cell.
     #[inline(always)]
     pub(crate) fn set(&mut self, c: usize, op: Option<Op>)
         requires { c < length self.old }
@@ -83,7 +83,7 @@ impl SidingCells {
         self.cells[0] = Some(op);
     }
 
-    /// Moves what stands in the cell to the next one.
+    /// Moves the contents of the cell to the next one.
     #[inline(always)]
     #[tactic(auto, unfolding(crate::specs::Sidings::moved_on))]
     pub(crate) fn move_on(&mut self, c: usize)
@@ -106,7 +106,7 @@ impl SidingCells {
         self.cells[self.cells.len() - 1]
     }
 
-    /// Puts something else into the last cell.
+    /// Replaces the contents of the last cell.
     #[inline(always)]
     #[tactic(auto, using(crate::proofs::Last::last_cell))]
     fn set_last(&mut self, op: Option<Op>)
@@ -136,7 +136,7 @@ impl SidingCells {
         }
     }
 
-    /// Makes the load or store in the last cell.
+    /// Carries out the load or store in the last cell.
     #[inline(always)]
     #[tactic(auto, using(crate::proofs::Last::there), unfolding(crate::specs::Sidings::after_access, crate::specs::Sidings::mem_after_access))]
     pub(crate) fn make_last(&mut self, mem: &mut Regions)

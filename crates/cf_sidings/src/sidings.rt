@@ -14,8 +14,8 @@ use mem_regions::Regions;
 use std::alloc::{AllocError, Global};
 use std::marker::Model;
 
-/// The sidings of a layout, seen as the lists of their cells, each from the one that operations enter by. No call but `new`
-/// takes memory.
+/// The sidings of a layout. Contracts see them as the lists of their cells, each from the one at which operations
+/// enter. Only `new` allocates memory.
 #[derive(Drop)]
 pub struct Sidings {
     list: Vec<SidingCells>,
@@ -31,7 +31,7 @@ impl Model for Sidings {
 }
 
 impl Sidings {
-    /// The sidings of the layout, in which no operation stands; or an error where there is no memory for them.
+    /// The empty sidings of the layout; or an error where there is no memory for them.
     #[tactic(auto, using(crate::proofs::Empty::emptying), unfolding(crate::specs::Sidings::empty_sidings))]
     pub fn new(alloc: Global, layout: &Layout) -> Result<Sidings, AllocError>
         ensures { IfOk result (λ sidings. sidings ≡ empty_sidings layout.now) }
@@ -43,7 +43,7 @@ impl Sidings {
         Ok(Sidings { list })
     }
 
-    /// The cells of a siding, from the one that operations enter by.
+    /// The cells of a siding, from the one at which operations enter.
     #[inline(always)]
     pub fn siding(&self, k: u32) -> &[Option<Op>]
         requires { k < length self.now }
@@ -52,7 +52,7 @@ impl Sidings {
         self.list[k as usize].cells()
     }
 
-    /// Whether an operation stands in any siding.
+    /// Whether any siding holds an operation.
     #[inline(always)]
     pub fn hold_some(&self) -> bool
         ensures { result ≡ list_any (list_any is_some) self.now }
@@ -60,7 +60,7 @@ impl Sidings {
         self.list.iter().any(|siding| siding.holds_some())
     }
 
-    /// What stands in a cell of a siding.
+    /// The contents of a cell of a siding.
     #[inline(always)]
     pub fn cell(&self, k: u32, c: u32) -> Option<Op>
         requires siding { k < length self.now }
@@ -91,8 +91,8 @@ impl Sidings {
         self.list[k as usize].move_on(c as usize);
     }
 
-    /// Makes the load or store in the last cell of a siding, which memory permits and which has no answer yet. The answer is
-    /// the value that a load writes to its register, and 0 for a store.
+    /// Carries out the load or store in the last cell of a siding, which memory permits and which has no answer yet.
+    /// The answer is the value that a load writes to its register, and 0 for a store.
     #[inline(always)]
     pub fn access(&mut self, k: u32, mem: &mut Regions)
         requires { CanAccess (last_in self.old k) mem.old }
@@ -103,7 +103,7 @@ impl Sidings {
         self.list[k as usize].make_last(mem);
     }
 
-    /// Takes out the operation in the last cell of a siding.
+    /// Removes the operation in the last cell of a siding.
     #[inline(always)]
     pub fn recover(&mut self, k: u32) -> Op
         requires { IsSome (last_in self.old k) }
@@ -114,7 +114,7 @@ impl Sidings {
         self.list[k as usize].take_last()
     }
 
-    /// Puts back what stood in a cell of a siding.
+    /// Puts back earlier contents of a cell of a siding.
     #[inline(always)]
     pub fn put_back(&mut self, k: u32, c: u32, op: Option<Op>)
         requires siding { k < length self.old }

@@ -1,4 +1,4 @@
--- The pipes and the words still agree after one stage was changed, and what stands in the stages then.
+-- The pipes and the words still agree after one stage was changed, and what is in the stages then.
 use Rattle.std.proofs.Common.{◌≡◌, ◌∙◌, ℕ, zero, suc, ◌-◌, ◌<◌, ◌≤◌, List, [], ◌∷◌, All, Option, Some, None, Bool, true, false, IsTrue, length, length-set, refl, sym, ap, subst, arith}
 use Rattle.std.specs.Prelude.{IsSome, slice_get, slice_index_or, slice_set}
 use Rattle.std.proofs.lemmas.Option.{slice_get-get_or}
@@ -16,7 +16,7 @@ use Rattle.cf_stages.proofs.Bits.{bit-other, bit-same}
 use Rattle.cf_stages.proofs.Cells.{cell-in, cells-put}
 use Rattle.cf_stages.proofs.Parts.{cell-parts, length-cells, put-parts, set-same, word-put, word-put-same}
 
--- what stands at an index
+-- what is at an index
 record There {A : Type 0} (xs : List A) (j : ℕ) : Type 0 where
   value : A
   is : slice_get xs j ≡ Some value
@@ -35,7 +35,7 @@ parts_put ps qs met i p q b low within e most =
     put-parts ps qs met (with_bit met (i - 1) b) i p q low within e most (λ k below off. bit-other met (i - 1) k b (omega arith) below off)
     ∙ ap (λ (m : Bool). put_cell (cells_of ps qs met) i (record { passenger = p; packet = q; met = m })) (bit-same met (i - 1) b (omega arith))
 
--- the parts agree with what stands in the stages then
+-- the parts agree with what is in the stages then
 agree_put : (ps ps1 : List (Option Passenger)) (qs qs1 : List (Option Packet)) (riding flying met riding1 flying1 met1 i : ℕ) (c : Cell) →
     AreParts ps qs riding flying met → 0 < i → i ≤ length ps →
     length ps1 ≡ length ps → length qs1 ≡ length qs → cells_of ps1 qs1 met1 ≡ put_cell (cells_of ps qs met) i c → IsCell c →
@@ -77,7 +77,7 @@ stood ps qs met i low within same =
     let q = there qs (i - 1) (omega arith) in
     record { rider = p.value; result = q.value; rides = p.is; flies = q.is; here = cell-parts ps qs met i p.value q.value low p.is q.is }
 
--- the stages with one changed, where this stands there
+-- the stages with one changed, where this is there
 changed_there : (cells : List Cell) (i : ℕ) (c : Cell) (f : Cell → Cell) → cell_at cells i ≡ Some c → changed cells i f ≡ put_cell cells i (f c)
 changed_there cells i c f here = rw here refl
 
@@ -145,7 +145,7 @@ packet-parts ps qs riding flying met flying1 met1 i q b flies h low within both 
     (λ g. rw (rides_there ps qs met i s (rides g)) (both g)) (bit_kept (λ d. is_some d.passenger) (cells_of ps qs met) i riding _ c low (omega arith)
     (omega (arith, h.most)) s.here refl h.passenger_bits) (f ∙ ap (with_bit flying (i - 1)) is) m
 
--- another instruction stands in the place of the one that is there
+-- another instruction is in the place of the one that is there
 renew_put : (ps : List (Option Passenger)) (qs : List (Option Packet)) (met i : ℕ) (p : Option Passenger) (s : Stood ps qs met i) → 0 < i → i ≤ length ps →
     length qs ≡ length ps → length ps ≤ 32 →
     cells_of (slice_set ps (i - 1) p) qs met ≡ put_cell (cells_of ps qs met) i (record { passenger = p; packet = s.result; met = has_bit met (i - 1) })

@@ -1,4 +1,5 @@
--- What stands in the stages, and what the words say, after an instruction went to the stage above or a result to the one below.
+-- What is in the stages, and what the words say, after an instruction went to the stage above or a result to the one
+-- below.
 use Rattle.std.proofs.Common.{◌≡◌, ◌∙◌, ℕ, ◌+◌, ◌-◌, ◌<◌, ◌≤◌, List, Option, Some, None, Bool, true, false, IsTrue, length, length-set, refl, sym, ap, subst, arith}
 use Rattle.std.specs.Prelude.{IsSome, slice_get, slice_index_or, slice_set}
 use Rattle.std.proofs.lemmas.List.{set_comm}

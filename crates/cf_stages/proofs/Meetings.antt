@@ -18,7 +18,7 @@ put_twice : (cells : List Cell) (i : ℕ) (c d : Cell) → put_cell (put_cell ce
 put_twice cells zero c d = refl
 put_twice cells (suc k) c d = set-set cells k c d
 
--- the instruction that has met the result is what meeting it makes of the one that stands there
+-- the instruction that has met the result is what meeting it makes of the one that is there
 pub rider-met-is : (cells : List Cell) (i : ℕ) (p q : Passenger) (k : Packet) → Some p ≡ passenger_at cells i → q ≡ (meeting p k).passenger →
     changed cells i (λ c. with_passenger c q) ≡ changed cells i (rider_met k)
 rider-met-is cells i p q k rides e = by (cell_at cells i) rides

@@ -1,4 +1,4 @@
--- A move up or down leaves what stands in the pipes in its order.
+-- A move up or down leaves what is in the pipes in its order.
 use Rattle.std.proofs.Common.{◌≡◌, ◌∙◌, ℕ, zero, suc, ◌+◌, ◌-◌, List, [], ◌∷◌, ◌++◌, Option, Some, None, Bool, true, false, IsTrue, map, refl, sym, subst, ap, arith, append_assoc}
 use Rattle.std.specs.Prelude.{slice_get, slice_set}
 use Rattle.std.proofs.lemmas.List.{map-append}
@@ -12,7 +12,7 @@ use Rattle.cf_semantics.specs.moves.Moves.{without_passenger, without_packet}
 use Rattle.cf_stages.specs.Changes.{can_climb, can_fall, climbs, falls, climbed, fallen, with_new_passenger, with_new_packet}
 use Rattle.cf_stages.specs.Contents.{StageContent, content, contents}
 
--- what stands in a stage, wherever that is
+-- what is in a stage, wherever that is
 abbrev inside : Cell → List StageContent
 inside c = map content (items 1 c)
 
@@ -90,7 +90,7 @@ fall_step cells i (suc k) (Some c) (Some d) n e f h =
     let r = pair-changed cells k d c (with_new_packet c.packet d) (without_packet c) f g (fall-pair d c h) in
     subst (λ (m : ℕ). stacked (put_cell (put_cell cells m (without_packet c)) (suc k) (with_new_packet c.packet d)) ≡ stacked cells) (sym n) r.down
 
--- a result that can fall does not stand in the lowest stage
+-- a result that can fall is not in the lowest stage
 falls-high : (cells : List Cell) (i : ℕ) → IsTrue (falls cells i) → i ≡ suc (i - 1)
 unfolding falls
 falls-high cells zero h = absurd (cc)

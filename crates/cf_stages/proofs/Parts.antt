@@ -1,4 +1,4 @@
--- What stands in the stages, from the two pipes and the words, and after a change of one place of each.
+-- What is in the stages, from the two pipes and the words, and after a change of one place of each.
 use Rattle.std.proofs.Common.{◌≡◌, ◌≢◌, ◌∙◌, ℕ, zero, suc, ◌+◌, ◌-◌, ◌<◌, ◌≤◌, List, [], ◌∷◌, Option, Some, Bool, true, false, length, refl, sym, ap, arith}
 use Rattle.std.specs.Prelude.{slice_get, slice_set, nat_eq}
 use Rattle.std.proofs.lemmas.Bool.Decides.{nat_tests}
@@ -22,7 +22,7 @@ length-cells k [] qs met e = refl
 length-cells k (p ∷ ps) [] met e = absurd (cc)
 length-cells k (p ∷ ps) (q ∷ qs) met e = ap suc (length-cells (suc k) ps qs met (omega arith))
 
--- what stands in a stage
+-- what is in a stage
 get_cells : (k : ℕ) (ps : List (Option Passenger)) (qs : List (Option Packet)) (met j : ℕ) (p : Option Passenger) (q : Option Packet) →
     slice_get ps j ≡ Some p → slice_get qs j ≡ Some q → slice_get (cells_from k ps qs met) j
     ≡ Some (record { passenger = p; packet = q; met = has_bit met (k + j) })

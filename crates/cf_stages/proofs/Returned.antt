@@ -18,7 +18,7 @@ stood [] (suc k) low within = absurd (omega arith)
 stood (c ∷ cells) (suc zero) low within = (c, refl)
 stood (c ∷ cells) (suc (suc k)) low within = stood cells (suc k) (omega arith) (omega arith)
 
--- what is put last into a stage stands there
+-- what is put last into a stage is there
 put-put : (cells : List Cell) (i : ℕ) (c d : Cell) → put_cell (put_cell cells i c) i d ≡ put_cell cells i d
 put-put cells zero c d = refl
 put-put cells (suc k) c d = set-set cells k c d

@@ -1,4 +1,5 @@
--- What stands in the stages after a single change; the stages are listed from the lowest up ("Counterflow Pipeline Processor Architecture", 1994).
+-- The contents of the stages after a single change; the stages are listed from the lowest up ("Counterflow Pipeline
+-- Processor Architecture", 1994).
 use Rattle.std.specs.Prelude.{ℕ, List, Option, Some, None, Bool, false, not, ◌&&◌, ◌+◌, ◌-◌, IsTrue}
 use Rattle.cf_bind.specs.declared.cell.Cell.{Cell}
 use Rattle.cf_bind.specs.declared.packet.Packet.{Packet}
@@ -20,7 +21,7 @@ passenger_at cells i = on (cell_at cells i) None (λ c. c.passenger)
 abbrev pub packet_at : List Cell → ℕ → Option Packet
 packet_at cells i = on (cell_at cells i) None (λ c. c.packet)
 
--- the two that stand there have met
+-- the two have met
 abbrev pub has_met_at : List Cell → ℕ → Bool
 has_met_at cells i = on (cell_at cells i) false (λ c. c.met)
 
@@ -48,7 +49,7 @@ falls cells i = on (cell_at cells i) false (λ c. can_fall c (cell_at cells (i -
 abbrev pub changed : List Cell → ℕ → (Cell → Cell) → List Cell
 changed cells i change = on (cell_at cells i) cells (λ c. put_cell cells i (change c))
 
--- a stage to which an instruction comes, or a result, which has met nothing yet
+-- a stage that gets an instruction, or a result, which has met nothing yet
 abbrev pub with_new_passenger : Option Passenger → Cell → Cell
 with_new_passenger p c = record c { passenger = p; met = false }
 
@@ -69,7 +70,7 @@ fallen cells i =
     on (cell_at cells (i - 1)) cells (λ d.
     put_cell (put_cell cells i (without_packet c)) (i - 1) (with_new_packet c.packet d)))
 
--- a stage after its instruction has met a result, which is still as it was
+-- a stage whose instruction has met a result; the result itself is unchanged
 abbrev pub rider_met : Packet → Cell → Cell
 rider_met k c = on c.passenger c (λ p. with_passenger c (meeting p k).passenger)
 
@@ -77,6 +78,6 @@ rider_met k c = on c.passenger c (λ p. with_passenger c (meeting p k).passenger
 abbrev pub met_in : Cell → Cell
 met_in c = on c.passenger c (λ p. on c.packet c (λ k. cell_met c p k))
 
--- a stage with a result, which has met the instruction that is there or has not
+-- a stage with a result, which has met the instruction there or has not
 abbrev pub with_packet : Packet → Bool → Cell → Cell
 with_packet k met c = record c { packet = Some k; met = met }

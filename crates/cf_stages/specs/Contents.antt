@@ -1,5 +1,5 @@
--- What stands in the pipes from the top down, wherever it stands. No move up or down changes it ("Counterflow Pipeline
--- Processor Architecture", 1994: the order of instructions and results).
+-- The contents of the pipes from the top down, without their stages. No move up or down changes it ("Counterflow
+-- Pipeline Processor Architecture", 1994: the order of instructions and results).
 use Rattle.std.specs.Prelude.{List, map}
 use Rattle.cf_bind.specs.declared.cell.Cell.{Cell}
 use Rattle.cf_bind.specs.declared.packet.Packet.{Packet}
@@ -11,7 +11,7 @@ pub data StageContent : Type 0 where
   Instruction : Passenger → StageContent
   Outcome : Packet → StageContent
 
--- an item of the column without the stage where it stands
+-- an item of the column without the stage where it is
 abbrev pub content : Item → StageContent
 content (Up i p) = Instruction p
 content (Down i k) = Outcome k

@@ -1,4 +1,4 @@
--- The stages as two pipes side by side, and words of what stands where.
+-- The stages as two pipes side by side, with bit words that record where instructions and results are.
 use Rattle.std.specs.Prelude.{◌≡◌, ◌≤◌, ℕ, suc, Bool, List, [], ◌∷◌, Option, All, length}
 use Rattle.cf_bind.specs.declared.cell.Cell.{Cell}
 use Rattle.cf_bind.specs.declared.packet.Packet.{Packet}
@@ -7,18 +7,20 @@ use Rattle.cf_layout.specs.Words.{has_bit}
 use Rattle.cf_stages.specs.Changes.{IsCell}
 use Rattle.cf_stages.specs.Words.{passenger_word, packet_word, met_word}
 
--- what stands in the stages from a given one on: the instruction and the result of each, which have met where the bit is set
+-- the contents of the stages from a given one on: the instruction and the result of each, which have met where the bit
+-- is set
 unfoldable pub cells_from : ℕ → List (Option Passenger) → List (Option Packet) → ℕ → List Cell
 cells_from k [] packets met = []
 cells_from k (p ∷ passengers) [] met = []
 cells_from k (p ∷ passengers) (q ∷ packets) met =
     record { passenger = p; packet = q; met = has_bit met k } ∷ cells_from (suc k) passengers packets met
 
--- what stands in all of them
+-- the contents of all stages
 abbrev pub cells_of : List (Option Passenger) → List (Option Packet) → ℕ → List Cell
 cells_of passengers packets met = cells_from 0 passengers packets met
 
--- two pipes of 2 to 32 stages, and the words of where an instruction is, where a result is, and where the two have met
+-- two pipes of 2 to 32 stages, and the bit words that record where an instruction is, where a result is, and where the
+-- two have met
 pub record AreParts (passengers : List (Option Passenger)) (packets : List (Option Packet)) (riding flying met : ℕ) : Type 0 where
   pub pipes : length packets ≡ length passengers
   pub least : 2 ≤ length passengers
@@ -28,6 +30,6 @@ pub record AreParts (passengers : List (Option Passenger)) (packets : List (Opti
   pub packet_bits : flying ≡ packet_word (cells_of passengers packets met)
   pub met_bits : met ≡ met_word (cells_of passengers packets met)
 
--- a stage with this in the place of the result, which has met the instruction that is there or has not
+-- a stage with this for its result, which has met the instruction there or has not
 abbrev pub with_place : Option Packet → Bool → Cell → Cell
 with_place q met c = record c { packet = q; met = met }

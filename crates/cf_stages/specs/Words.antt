@@ -1,4 +1,4 @@
--- Words of bits, one for each stage: bit i - 1 stands for stage i.
+-- Bit words, with one bit for each stage: bit i - 1 stands for stage i.
 use Rattle.std.specs.Prelude.{ℕ, zero, suc, ◌+◌, ◌*◌, ◌^◌, List, Bool, true, false, length}
 use Rattle.std.specs.Int.{bit_not, w32}
 use Rattle.std.specs.Int.RustNames.{bit_and, bit_or}
@@ -21,7 +21,7 @@ unfoldable pub with_bit : ℕ → ℕ → Bool → ℕ
 with_bit word k true = bit_or word (2 ^ k)
 with_bit word k false = bit_and word (bit_not w32 (2 ^ k))
 
--- the word that is set exactly at the stages where the test of what stands there holds
+-- the word that is set exactly at the stages whose contents pass the test
 abbrev pub word_where : (Cell → Bool) → List Cell → ℕ
 word_where test cells = word_of (λ i. on (cell_at cells i) false test) (length cells)
 

@@ -1,4 +1,4 @@
-//! Changes of what stands in one stage.
+//! Changes of the contents of one stage.
 
 ghost use Rattle.std.specs.Prelude.{◌≡◌, ◌<◌, ◌≤◌, IsTrue, IsSome, IsNone, None, Some, false, length};
 ghost use Rattle.cf_bind.specs.Meeting.{meeting};
@@ -11,7 +11,7 @@ use crate::words::is_there;
 use cf_bind::{Packet, Passenger, meet};
 
 impl Stages {
-    /// Lets the instruction of the stage meet the result, where it stands, and gives what is left of the result.
+    /// Makes the instruction of the stage meet the result, in place, and returns what is left of the result.
     #[inline(always)]
     #[tactic(auto, using(crate::proofs::Kept::counting, crate::proofs::Kept::reading))]
     fn meet_passenger(&mut self, i: u32, packet: Packet) -> Option<Packet>
@@ -28,8 +28,8 @@ impl Stages {
         }
     }
 
-    /// Lets the instruction and the result of the stage meet. Afterwards they have met, or the result was killed and only
-    /// the instruction is left.
+    /// Makes the instruction and the result of the stage meet. Afterwards they have met, or the result was killed and
+    /// only the instruction is left.
     #[inline(always)]
     pub fn meet_at(&mut self, i: u32)
         requires { IsTrue (is_full_at self.old i) }
@@ -42,7 +42,7 @@ impl Stages {
         }
     }
 
-    /// Puts another instruction in the place of the one in the stage. The result stays, and so does whether they have met.
+    /// Replaces the instruction of the stage. The result is unchanged, and so is whether the two have met.
     #[inline(always)]
     pub fn set_passenger(&mut self, i: u32, passenger: Passenger)
         requires { IsSome (passenger_at self.old i) }

@@ -1,4 +1,4 @@
-//! Whether anything stands in the stages, and whether two `Stages` are the same.
+//! Whether the stages are empty, and whether two `Stages` are the same.
 
 ghost use Rattle.std.specs.List.{list_any};
 ghost use Rattle.std.specs.Prelude.{◌≡◌, ◌↔◌, IsTrue, not};
@@ -7,14 +7,14 @@ ghost use Rattle.cf_semantics.specs.state.Drained.{is_occupied};
 use crate::stages::Stages;
 use cf_bind::{Packet, Passenger};
 
-/// Whether the two pipes have the same instructions in the same places.
+/// Whether the two pipes have the same instructions at the same stages.
 fn same_passengers(passengers: &[Option<Passenger>], other: &[Option<Passenger>]) -> bool
     ensures { IsTrue result ↔ (passengers.now ≡ other.now) }
 {
     passengers == other
 }
 
-/// Whether the two pipes have the same results in the same places.
+/// Whether the two pipes have the same results at the same stages.
 fn same_packets(packets: &[Option<Packet>], other: &[Option<Packet>]) -> bool
     ensures { IsTrue result ↔ (packets.now ≡ other.now) }
 {
@@ -30,7 +30,7 @@ impl Stages {
         self.passenger_mask == 0 && self.packet_mask == 0
     }
 
-    /// Whether the same stands in each stage of the two.
+    /// Whether each stage has the same contents in both.
     #[tactic(auto, using(crate::proofs::Sameness::comparing))]
     pub fn same(&self, other: &Stages) -> bool
         ensures { IsTrue result ↔ (self.now ≡ other.now) }

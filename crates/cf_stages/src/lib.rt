@@ -1,4 +1,4 @@
-//! The stages of the two pipes, and the single changes of what stands in them.
+//! The stages of the two pipes, and the single changes of their contents.
 #![tactic(auto)]
 
 mod changes;

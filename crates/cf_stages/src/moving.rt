@@ -7,8 +7,8 @@ ghost use Rattle.cf_stages.specs.Contents.{contents};
 use crate::stages::Stages;
 
 impl Stages {
-    /// Whether the instruction of the stage can move up: it is there, it has met the result of its stage if there is one,
-    /// and there is a stage above, without an instruction.
+    /// Whether the stage has an instruction that can move up: it has met the result of its stage, if there is one, and
+    /// there is a stage above without an instruction.
     #[inline(always)]
     #[tactic(auto, unfolding(crate::specs::Changes::climbs))]
     pub fn may_climb(&self, i: u32) -> bool
@@ -34,8 +34,8 @@ impl Stages {
         self.lift_passenger(i);
     }
 
-    /// Whether the result of the stage can move down: it is there, it has met the instruction of its stage if there is
-    /// one, and there is a stage below, without a result.
+    /// Whether the stage has a result that can move down: it has met the instruction of its stage, if there is one, and
+    /// there is a stage below without a result.
     #[inline(always)]
     #[tactic(auto, unfolding(crate::specs::Changes::falls))]
     pub fn may_fall(&self, i: u32) -> bool

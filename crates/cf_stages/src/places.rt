@@ -1,4 +1,4 @@
-//! One place of a pipe gets other contents, and the words keep up with it.
+//! One entry of a pipe gets new contents, and the bit words follow.
 
 ghost use Rattle.std.specs.Prelude.{◌≡◌, ◌-◌, ◌<◌, ◌≤◌, IsSome, IsTrue, None, length, slice_index_or, slice_set};
 ghost use Rattle.cf_semantics.specs.moves.Moves.{with_passenger};
@@ -11,7 +11,7 @@ use crate::stages::Stages;
 use crate::words::{is_there, with_bit};
 use cf_bind::{Cell, Packet, Passenger};
 
-/// Copies the instruction of the place below into the place.
+/// Copies the instruction of the entry below into this entry.
 #[inline(always)]
 fn carry(places: &mut Vec<Option<Passenger>>, i: usize)
     requires above { 0 < i }
@@ -38,7 +38,7 @@ impl Stages {
     }
 
     /// The instruction of the stage goes to the one above, which has none, where it has met nothing.
-    // It is copied from one place to the other at once: through a place of its own it would be copied twice.
+    // It is copied directly from one entry to the other; a temporary would make it two copies.
     #[inline(always)]
     #[tactic(auto, using(crate::proofs::Lifted::lifting, crate::proofs::Kept::counting))]
     pub(crate) fn lift_passenger(&mut self, i: u32)
@@ -82,7 +82,7 @@ impl Stages {
         self.packets[i as usize - 1] = None;
     }
 
-    /// Another instruction stands in the place of the one that is there.
+    /// Replaces the instruction of the stage by another.
     #[inline(always)]
     #[tactic(auto, using(crate::proofs::Kept::renewing, crate::proofs::Kept::counting))]
     pub(crate) fn renew_passenger(&mut self, i: u32, passenger: Passenger)
@@ -95,7 +95,7 @@ impl Stages {
         self.passengers[i as usize - 1] = Some(passenger);
     }
 
-    /// Puts back what stood in the stage.
+    /// Puts back earlier contents of the stage.
     #[inline(always)]
     #[tactic(auto, using(crate::proofs::Returned::returning))]
     pub fn put_back(&mut self, i: u32, cell: Cell)

@@ -1,4 +1,4 @@
-//! The stages of the two pipes, and what stands in each.
+//! The stages of the two pipes, and what is in each.
 
 ghost use Rattle.std.specs.Prelude.{◌≡◌, ◌<◌, ◌≤◌, IfOk, length, replicate, Some};
 ghost use Rattle.cf_semantics.specs.state.State.{cell_at};
@@ -11,10 +11,10 @@ use cf_bind::{Cell, Packet, Passenger};
 use std::alloc::{AllocError, Global};
 use std::marker::Model;
 
-/// The stages of the two pipes, from 1 at the bottom, seen as the list of what stands in them.
+/// The stages of the two pipes, from 1 at the bottom. Contracts see them as the list of their contents.
 ///
-/// Each pipe is a list of its own, so that what moves in one leaves the other alone. Words say where an instruction is, where
-/// a result is, and where the two have met: bit i - 1 for stage i.
+/// Each pipe is a list of its own, so that a move in one leaves the other alone. Three bit words record where an
+/// instruction is, where a result is, and where the two have met: bit i - 1 for stage i.
 #[derive(Drop)]
 pub struct Stages {
     pub(crate) passengers: Vec<Option<Passenger>>,
@@ -37,7 +37,7 @@ impl Model for Stages {
 }
 
 impl Stages {
-    /// This many stages, from 2 to 32, in which nothing stands; or an error where there is no memory for them.
+    /// This many empty stages, from 2 to 32; or an error where there is no memory for them.
     #[tactic(auto, using(crate::proofs::Empty::emptying))]
     pub fn new(alloc: Global, count: u32) -> Result<Stages, AllocError>
         requires few { 2 ≤ count }
@@ -68,7 +68,7 @@ impl Stages {
         self.passengers.len() as u32
     }
 
-    /// What stands in the stage.
+    /// What is in the stage.
     #[inline(always)]
     #[tactic(auto, using(crate::proofs::Kept::reading))]
     pub fn cell(&self, i: u32) -> Cell
@@ -141,7 +141,7 @@ impl Stages {
         has_bit(self.met_mask, i)
     }
 
-    /// Whether both an instruction and a result stand in the stage, and have not met.
+    /// Whether both an instruction and a result are in the stage, and have not met.
     #[inline(always)]
     pub fn is_full(&self, i: u32) -> bool
         requires above { 0 < i }

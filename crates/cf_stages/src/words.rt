@@ -1,4 +1,4 @@
-//! Words of bits, one for each stage.
+//! Bit words, with one bit for each stage.
 
 ghost use Rattle.std.specs.Prelude.{◌≡◌, ◌<◌, ◌≤◌, ◌-◌};
 ghost use Rattle.cf_layout.specs.Words.{has_bit as is_bit_set};
@@ -28,7 +28,7 @@ pub fn with_bit(word: u32, i: u32, set: bool) -> u32
     if set { word | bit } else { word & !bit }
 }
 
-/// Whether something is there.
+/// Whether the entry has contents.
 #[inline(always)]
 pub(crate) fn is_there<T>(place: &Option<T>) -> bool
     ensures { result ≡ is_some place.now }

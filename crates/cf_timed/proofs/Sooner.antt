@@ -1,4 +1,4 @@
--- The move that is done first is one that issues, or the first of the others.
+-- The move that finishes earliest is one that issues, or the first of the others.
 use Rattle.std.proofs.Common.{◌≡◌, ◌∙◌, sym, refl, ap, ℕ, zero, suc, ◌+◌, ◌-◌, ◌^◌, ◌<◌, ◌≤◌, List, [], ◌∷◌, ◌++◌, All, fold, length, get_or, Bool, true, false, nat_lt, Some, None, arith}
 use Rattle.std.specs.Prelude.{IfSome, slice_get}
 use Rattle.std.proofs.lemmas.Bool.Decides.{nat_tests}

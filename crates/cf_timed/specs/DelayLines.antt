@@ -1,4 +1,5 @@
--- What a text of delays gives (a format of this project): one kind of move and its delay a line, apart from comments and lines without words.
+-- What a text of delays gives (a format of this project): one kind of move and its delay a line, apart from comments
+-- and lines without words.
 use Rattle.std.specs.Prelude.{ℕ, ◌+◌, Bool, Option, Some, None, Result, Ok, Err, List, [], ◌∷◌, length, map, drop, replicate, slice_get, slice_set, unwrap_or, ◌&&◌, nat_le, nat_lt, if◌then◌else◌}
 use Rattle.texts.specs.Answers.{and_then, needed}
 use Rattle.rv_text.specs.Lines.{text_lines}

@@ -1,4 +1,5 @@
--- The policy of a timed run: of the moves that it is offered it picks the one that is done first, and the first of them where several are.
+-- The policy of a timed run: of the moves that it is offered it picks the one that finishes earliest, and the first of
+-- them where several are.
 use Rattle.std.specs.Prelude.{ℕ, List, ◌∷◌, slice_get, nat_le}
 use Rattle.std.specs.List.{list_all, position_or_len}
 use Rattle.cf_layout.specs.Layout.{Plan}
@@ -10,7 +11,8 @@ use Rattle.cf_timed.specs.Times.{Done, done_after, time_after}
 unfoldable pub first_least : (Move → ℕ) → List Move → ℕ
 first_least time moves = position_or_len (λ mv. list_all (λ other. nat_le (time mv) (time other)) moves) moves
 
--- the policy is seen as the moves that it has picked, each with its time, the last first: it picks by the times after these
+-- the policy is seen as the moves that it has picked, each with its time, the last first: it picks by the times after
+-- these
 abbrev pub earliest : Plan → List ℕ → List Done → List Move → ℕ
 earliest plan delays picked moves = first_least (time_after plan delays picked) moves
 

@@ -1,4 +1,4 @@
--- The move that is done first, where the moves that issue are looked at after the others.
+-- The move that finishes earliest, where the moves that issue are looked at after the others.
 use Rattle.std.specs.Prelude.{◌≡◌, ℕ, ◌-◌, ◌^◌, ◌<◌, ◌≤◌, All, List, Option, Some, None, nat_lt, slice_get, if◌then◌else◌}
 use Rattle.cf_bind.specs.declared.moves.Move.{Move}
 use Rattle.cf_timed.specs.declared.soonest.Due.{Due}

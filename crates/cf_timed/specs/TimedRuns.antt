@@ -1,4 +1,4 @@
--- A timed run: the moves that are done first, one after another, and what the clock tells of them.
+-- A timed run: the moves that finish earliest, one after another, and what the clock tells of them.
 use Rattle.std.specs.Prelude.{◌≡◌, ◌≢◌, ℕ, List, [], Some, None}
 use Rattle.run_options.specs.declared.show.Show.TheVariants as show
 use Rattle.cf_io.specs.Causes.{HasCause}
@@ -51,8 +51,8 @@ pub record RunsUnreported {P : Type 0} (picked : P → List Move → ℕ) (onwar
   pub ends : EndsSequentially limit begin (place_of core streams None tally) (Ran answer)
   pub reports : answer ≢ ran.ReportFault
 
--- from there it is a run of the policy that picks what is done first, right by the sequential machine; this many moves
--- were made, and the clock was told exactly these
+-- from there it is a run of the policy that picks what finishes earliest, right by the sequential machine; this many
+-- moves were made, and the clock was told exactly these
 pub record RunsTimed (delays : List ℕ) (limit : ℕ) (begin : RunPlace) (core : Processor) (streams : Streams) (clock : SiteTimes) (moves : ℕ)
     (answer : Timed) : Type 0 where
   pub tally : Tally

@@ -10,8 +10,8 @@ use cf_bind::Move;
 use cf_layout::Layout;
 use std::marker::Model;
 
-/// For each place of a processor the time of the last move that used it: of each stage by its number, of each cell of a siding,
-/// of the lane, of what fetch does, of the memory and of the code.
+/// For each place of a processor the time of the last move that used it: of each stage by its number, of each cell of a
+/// siding, of the lane, of what fetch does, of the memory and of the code.
 #[derive(Clone, Copy)]
 pub struct Clock {
     pub(crate) layout: Layout,
@@ -114,8 +114,8 @@ impl Clock {
         self.latest = self.latest.max(time);
     }
 
-    /// When the move is done if it is made now: the greatest time of the places that it uses, and its delay. The layout has each
-    /// stage and each cell that the move uses.
+    /// When the move is done if it is made now: the greatest time of the places that it uses, and its delay. The layout
+    /// has each stage and each cell that the move uses.
     #[tactic(auto, using(crate::proofs::SiteTimes::reach_within), unfolding(crate::specs::Clocks::finish))]
     pub fn finish(&self, mv: Move) -> u64
         requires sites { HasSites self.now.plan mv }

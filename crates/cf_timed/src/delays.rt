@@ -8,8 +8,8 @@ ghost use Rattle.cf_timed.specs.DelayLines.{filled};
 use cf_bind::Move;
 use std::marker::Model;
 
-/// The delays of a timed run: for each kind of move, in the order of `Move`, from 1 to 1,000 ticks. They are seen as the list of
-/// these.
+/// The delays of a timed run: for each kind of move, in the order of `Move`, from 1 to 1,000 ticks. They are seen as
+/// the list of these.
 #[derive(Clone, Copy)]
 pub struct Delays {
     ticks: [u32; 14],

@@ -1,4 +1,4 @@
-//! Timed schedules: each kind of move takes a number of ticks, and the move that is done first is made next.
+//! Timed schedules: each kind of move takes a number of ticks, and the move that finishes earliest is made next.
 #![tactic(auto)]
 
 mod answer;

@@ -58,9 +58,9 @@ fn read_line(named: &mut [Option<u32>; 14], line: &[u8]) -> Result<(), DelayKind
 /// The greatest length of a text of delays, in bytes.
 pub const MOST_DELAYS: usize = 65_536;
 
-/// The delays that the text gives, a kind of move and its delay a line; a kind that no line gives has delay 1. Or the first
-/// line that gives no delay: the first refusal of `NotAscii`, `UnknownKind`, `KindTwice`, `BadDelay` and `ExtraWords`. A comment
-/// and a line without words are skipped.
+/// The delays that the text gives, a kind of move and its delay a line; a kind that no line gives has delay 1. Or the
+/// first line that gives no delay: the first refusal of `NotAscii`, `UnknownKind`, `KindTwice`, `BadDelay` and
+/// `ExtraWords`. A comment and a line without words are skipped.
 #[tactic(auto, unfolding(crate::specs::DelayLines::delays_in))]
 pub fn read_delays(text: &[u8]) -> Result<Delays, DelayErr>
     requires { length text.now ≤ most_delays }

@@ -1,4 +1,4 @@
-//! The move that is done first, found without filling in the candidates.
+//! The move that finishes earliest, found without filling in the candidates.
 
 ghost use Rattle.std.specs.Prelude.{◌≡◌, IfSome, None};
 ghost use Rattle.cf_semantics.specs.moves.Candidates.{candidates};
@@ -19,8 +19,8 @@ pub(crate) struct Due {
 }
 
 impl Clock {
-    /// The first Issue that is allowed and not held back, where it is done by this time. It is looked for only where an Issue would be
-    /// done by then, since an instruction must be decoded for it; all Issues use the same places.
+    /// The first Issue that is allowed and not held back, where it is done by this time. It is looked for only where an
+    /// Issue would be done by then, since an instruction must be decoded for it; all Issues use the same places.
     #[inline(always)]
     #[tactic(auto, using(crate::proofs::Sooner::issue_due))]
     fn issue_by(&self, core: &Core, held: bool, by: u64) -> Option<Due>
@@ -40,8 +40,8 @@ impl Clock {
         }
     }
 
-    /// Of the allowed moves, with Issue held back or not, the first that is done no later than any. It may be missing where no time
-    /// of a move other than Issue is below the greatest u64.
+    /// Of the allowed moves, with Issue held back or not, the first that is done no later than any. It may be missing
+    /// where no time of a move other than Issue is below the greatest u64.
     #[inline(always)]
     pub(crate) fn soonest(&self, core: &Core, held: bool) -> Option<Due>
         ensures { IfSome result (λ due. IsSoonest self.now (withheld held (candidates core.now.plan core.now.state)) due) }

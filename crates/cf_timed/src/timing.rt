@@ -1,4 +1,4 @@
-//! The policy that picks what is done first.
+//! The policy that picks what finishes earliest.
 
 ghost use Rattle.std.specs.Prelude.{◌≡◌, ◌<◌, None, Some, length, slice_get};
 ghost use Rattle.cf_sched.specs.Paces.{offers};
@@ -16,9 +16,9 @@ use cf_index::Candidates;
 use cf_sched::{Pace, Policy};
 use std::marker::Model;
 
-/// Picks the candidate that is done first, and the first in the order of all moves where several are. The clock is told of a move once
-/// the next one is to be picked, since a call of the environment may fail. It is seen as the clock and the last pick, beside which it
-/// keeps when that is done, in ticks.
+/// Picks the candidate that finishes earliest, and the first in the order of all moves where several are. The clock is
+/// told of a move once the next one is to be picked, since a call of the environment may fail. It is seen as the clock
+/// and the last pick, beside which it keeps when that is done, in ticks.
 #[derive(Drop)]
 pub struct Timing {
     clock: Clock,

@@ -16,7 +16,8 @@ file_header s entry =
     identity ++ halves (2 ∷ 243 ∷ []) ++ words (1 ∷ entry ∷ 52 ∷ sections_at s ∷ 0 ∷ [])
     ++ halves (52 ∷ 32 ∷ 2 ∷ 40 ∷ 6 ∷ 5 ∷ [])
 
--- a segment that is loaded (PT_LOAD): its offset in the file, its address, its length there and in memory, its flags, aligned to 4
+-- a segment that is loaded (PT_LOAD): its offset in the file, its address, its length there and in memory, its flags,
+-- aligned to 4
 abbrev pub program_header : ℕ → ℕ → ℕ → ℕ → List ℕ
 program_header offset address len flags =
     words (1 ∷ offset ∷ address ∷ address ∷ len ∷ len ∷ flags ∷ 4 ∷ [])
@@ -26,7 +27,8 @@ abbrev pub program_headers : Sizes → List ℕ
 program_headers s =
     program_header text_at 0x10000 s.text_len 5 ++ program_header (data_at s) 0x200000 s.data_len 6
 
--- a section: the index of its name, its kind, flags, address, offset, length, link, information, alignment, and the size of its entries
+-- a section: the index of its name, its kind, flags, address, offset, length, link, information, alignment, and the
+-- size of its entries
 abbrev pub section_header : ℕ → ℕ → ℕ → ℕ → ℕ → ℕ → ℕ → ℕ → ℕ → ℕ → List ℕ
 section_header name kind flags address offset len link info align entry_size =
     words (name ∷ kind ∷ flags ∷ address ∷ offset ∷ len ∷ link ∷ info ∷ align ∷ entry_size ∷ [])

@@ -1,4 +1,5 @@
--- The symbols of the file and their names (Tool Interface Standard, Executable and Linking Format Specification, "Symbol Table" and "String Table").
+-- The symbols of the file and their names (Tool Interface Standard, Executable and Linking Format Specification,
+-- "Symbol Table" and "String Table").
 use Rattle.std.specs.Prelude.{ℕ, ◌+◌, ◌^◌, nat_lt, Bool, true, false, not, List, [], ◌∷◌, ◌++◌, filter, length, codes, replicate, if◌then◌else◌}
 use Rattle.std.specs.List.{flat_map, list_all}
 use Rattle.rv_asm.specs.Labels.{LabelView}
@@ -29,7 +30,8 @@ closed_names labels = flat_map (λ label. closed label.name) labels
 unfoldable pub names : List LabelView → List ℕ
 names labels = 0 ∷ closed_names (in_order labels)
 
--- the entry of a label whose name begins at an index: name, value, no size, whether it is local or global (STB_LOCAL, STB_GLOBAL), and its section
+-- the entry of a label whose name begins at an index: name, value, no size, whether it is local or global (STB_LOCAL,
+-- STB_GLOBAL), and its section
 abbrev pub entry : ℕ → LabelView → List ℕ
 entry name label =
     words (name ∷ label.value ∷ 0 ∷ []) ++ (if label.global then 16 else 0) ∷ 0 ∷ []

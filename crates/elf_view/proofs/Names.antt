@@ -16,7 +16,7 @@ told_index : (t : Bool) (n i : ℕ) → Some i ≡ cond t (Some n) None → n �
 told_index true n i e = cc
 told_index false n i e = cc
 
--- the bytes up to the first NUL are those that stand before it
+-- the bytes up to the first NUL are those that are before it
 pub stops_at_nul : (text : List ℕ) (end : ℕ) → Some end ≡ position (λ byte. byte == 0) text → take end text ≡ before_first (λ byte. byte == 0) text
 stops_at_nul text end e = let at : position_or_len is_nul text ≡ end = told_index (nat_lt (position_or_len is_nul text) (length text))
     (position_or_len is_nul text) end e in rw at refl

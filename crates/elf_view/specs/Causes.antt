@@ -18,7 +18,8 @@ pub record IsFirstCut (file : List ℕ) (at size count place : ℕ) : Type 0 whe
   pub beyond : length file < place + size
   pub first : (k : ℕ) → k < index → (at + size * k) + size ≤ length file
 
--- the file ends before its header, or before the first of the program headers, or these lie in it and it ends before the first of the section headers
+-- the file ends before its header, or before the first of the program headers, or these lie in it and it ends before
+-- the first of the section headers
 abbrev pub IsCutShort : List ℕ → FileHeader → ℕ → Type 0
 IsCutShort file h place =
     ((length file < 52) × (place ≡ 0))

@@ -53,14 +53,16 @@ is_sound_table file table =
     has_whole_entries table && (lies_in file table && (nat_lt table.link (number_of_sections (file_header file))
     && has_sound_names file table (section_at file table.link)))
 
--- the section has names for the entries: its bytes lie in the file and end in NUL, and the name of each entry begins in them
+-- the section has names for the entries: its bytes lie in the file and end in NUL, and the name of each entry begins in
+-- them
 pub record HasNames (file : List ℕ) (names : SectionHeader) (entries : List SymbolEntry) : Type 0 where
   pub within : names.offset + names.size ≤ length file
   pub filled : 0 < names.size
   pub closed : slice_index (content_of file names) (names.size - 1) ≡ 0
   pub begin : All (λ e. e.name < names.size) entries
 
--- the section is a symbol table that can be read: whole entries of 16 bytes that lie in the file, and a section with their names
+-- the section is a symbol table that can be read: whole entries of 16 bytes that lie in the file, and a section with
+-- their names
 pub record IsReadable (file : List ℕ) (table : SectionHeader) : Type 0 where
   pub entry_size : table.entry_size ≡ 16
   pub whole : table.size % 16 ≡ 0

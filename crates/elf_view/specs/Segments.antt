@@ -1,11 +1,13 @@
--- The segments that a loader puts into memory (Tool Interface Standard, Executable and Linking Format Specification, "Program Header" and "Program Loading").
+-- The segments that a loader puts into memory (Tool Interface Standard, Executable and Linking Format Specification,
+-- "Program Header" and "Program Loading").
 use Rattle.std.specs.Prelude.{ℕ, ◌+◌, ◌≤◌, ◌≡◌, List, length, map, filter, All, Bool, ◌==◌, not, bit_and}
 use Rattle.elf_view.specs.Fields.{bytes_at, entries}
 use Rattle.elf_view.specs.Headers.{program_header, program_headers}
 use Rattle.elf_view.specs.declared.headers.ProgramHeader.{ProgramHeader}
 use Rattle.elf_view.specs.declared.segment.Segment.{Segment}
 
--- a segment: its address, the offset of its bytes in the file, these bytes, its size in memory, and whether it may be written and executed
+-- a segment: its address, the offset of its bytes in the file, these bytes, its size in memory, and whether it may be
+-- written and executed
 pub record LoadSegment : Type 0 where
   pub vaddr : ℕ
   pub offset : ℕ
@@ -26,7 +28,8 @@ is_interpreter h = h.kind == 3
 abbrev pub loads_in : List ℕ → ℕ → ℕ → List ProgramHeader
 loads_in file at count = filter is_load (entries program_header 32 file at count)
 
--- the segment of a header: its bytes are those of the file at its offset, and its flags say whether it may be written (PF_W) and executed (PF_X)
+-- the segment of a header: its bytes are those of the file at its offset, and its flags say whether it may be written
+-- (PF_W) and executed (PF_X)
 abbrev pub segment_of : List ℕ → ProgramHeader → LoadSegment
 segment_of file h = record {
   vaddr = h.vaddr;

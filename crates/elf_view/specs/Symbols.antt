@@ -1,4 +1,5 @@
--- The symbols of a file (Tool Interface Standard, Executable and Linking Format Specification, "Symbol Table" and "String Table").
+-- The symbols of a file (Tool Interface Standard, Executable and Linking Format Specification, "Symbol Table" and
+-- "String Table").
 use Rattle.std.specs.Prelude.{ℕ, List, [], length, map, drop, Bool, ◌==◌, not, Option, Some, None}
 use Rattle.std.specs.List.{before_first}
 use Rattle.elf_view.specs.Sections.{first_symbol_table, section_at, content_of, entries_of}
@@ -21,7 +22,7 @@ first_text names = before_first (λ b. b == 0) names
 abbrev pub text_at : List ℕ → ℕ → List ℕ
 text_at names at = first_text (drop at names)
 
--- the symbol of an entry, whose name stands in the names
+-- the symbol of an entry, whose name is in the names
 abbrev pub symbol_of : List ℕ → SymbolEntry → NamedSymbol
 symbol_of names e = record { name = text_at names e.name; value = e.value; size = e.size }
 

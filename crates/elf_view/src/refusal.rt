@@ -39,9 +39,9 @@ pub enum ElfErr {
     FileLargerThanMemory(u32),
     /// A program header names an interpreter.
     NeedsInterpreter,
-    /// The first symbol table, the section of this index, is not sound: its entries are not whole ones of 16 bytes, it or the
-    /// section of its names does not lie in the file, there is no such section, the names do not end in NUL, or a
-    /// symbol's name begins beyond them.
+    /// The first symbol table, the section of this index, is not sound: its entries are not whole ones of 16 bytes, it
+    /// or the section of its names does not lie in the file, there is no such section, the names do not end in NUL, or
+    /// a symbol's name begins beyond them.
     BadSymbols(u32),
 }
 

@@ -263,7 +263,7 @@ top-form [] true p units e fit = rw e
 top-form (s ∷ ss) false p units e fit = rw (e, fit)
 top-form (s ∷ ss) true p units e fit = rw (e, fit)
 
--- what stands at the keys
+-- what is at the keys
 top-siding : (ss : List Siding) (second : Bool) (p : Parts) (units : Members) → p.sidings ≡ ss →
     items_at (codes "siding") (top_table second p units) ≡ siding_items ss
 top-siding [] false p units e = rw e

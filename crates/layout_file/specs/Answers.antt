@@ -1,4 +1,4 @@
--- What reading a layout file answers.
+-- The outcome of reading a layout file.
 use Rattle.std.specs.Prelude.{◌≡◌, ◌⊎◌, ℕ, ◌<◌, ◌≤◌, List, length, Option, Some, None, IsUtf8}
 use Rattle.toml.specs.Data.{Members}
 use Rattle.toml.specs.Parse.{parse_document}
@@ -25,7 +25,8 @@ IsDocument file ms = IsUtf8 file × (parse_document file ≡ Some ms)
 abbrev pub HasFault : List ℕ → FileErr → Type 0
 HasFault file e = (ms : Members) × IsDocument file ms × (fault_of ms ≡ Some e)
 
--- why reading a file that is not too long fails: lack of memory, no document, or a document with a fault
+-- why reading a file that is not too long fails: it is out of memory, or the file is no document or a document with a
+-- fault
 abbrev pub FailsWithin : List ℕ → FileErr → Type 0
 FailsWithin file e = (e ≡ NoMemory) ⊎ (((e ≡ NotToml) × IsNotToml file) ⊎ HasFault file e)
 
@@ -37,7 +38,8 @@ LayoutFails file e = ((e ≡ TooLong) × (most_layout_bytes < length file)) ⊎ 
 abbrev pub Describes : List ℕ → Plan → Type 0
 Describes file plan = (length file ≤ most_layout_bytes) × ((ms : Members) × IsDocument file ms × (fault_of ms ≡ None) × (plan ≡ plan_of (asked_by ms)))
 
--- the file is read as the layout: it describes that one and no other, and reading it fails only where memory runs out
+-- the file is read as the layout: it describes this layout and no other, and reading it fails only where memory runs
+-- out
 pub record ReadsAs (file : List ℕ) (plan : Plan) : Type 0 where
   pub describes : Describes file plan
   pub alone : (other : Plan) → Describes file other → other ≡ plan

@@ -1,11 +1,11 @@
--- The words that a layout file has for the classes of instructions.
+-- The names of the classes of instructions in a layout file.
 use Rattle.std.specs.Prelude.{ℕ, nat_eq, List, codes, take, find, Bool, if◌then◌else◌, Option}
 use lib.Pointwise.{pointwise}
 use Rattle.rv_inst.specs.declared.classes.Class.{Class}
 use Rattle.cf_layout.specs.Layout.{computed_classes}
 use Rattle.rv_inst.specs.declared.classes.Class.TheVariants.{Add, Logic, Shift, Compare, Branch, Jump, Memory, Serial, Free, Mul, Div}
 
--- the word of a class
+-- the name of a class
 abbrev pub class_name : Class → List ℕ
 class_name Add = codes "add"
 class_name Logic = codes "logic"
@@ -23,7 +23,7 @@ class_name Div = codes "div"
 abbrev pub same_text : List ℕ → List ℕ → Bool
 same_text s t = pointwise nat_eq s t
 
--- the class among these with this word
+-- the class with this name among these
 abbrev pub class_among : List Class → List ℕ → Option Class
 class_among classes word = find (λ c. same_text (class_name c) word) classes
 
@@ -31,6 +31,6 @@ class_among classes word = find (λ c. same_text (class_name c) word) classes
 abbrev pub classes_in : Bool → List Class
 classes_in second = if second then computed_classes else take 7 computed_classes
 
--- the class of a word
+-- the class of a name
 unfoldable pub class_of : Bool → List ℕ → Option Class
 class_of second word = class_among (classes_in second) word

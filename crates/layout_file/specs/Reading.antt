@@ -15,7 +15,7 @@ use Rattle.layout_file.specs.declared.fault.FileErr.TheVariants.{UnknownClass, U
 use Rattle.layout_file.specs.Names.{class_name, class_of}
 use Rattle.layout_file.specs.Tables.{form_fault}
 
--- what a value is, where it is of the type, or else 0, false or empty
+-- the value where it is of the type, or else 0, false or empty
 abbrev pub integer_in : Data → ℤ
 integer_in d = unwrap_or (as_integer d) (pos 0)
 
@@ -31,7 +31,7 @@ items_in d = unwrap_or (as_array d) no_items
 abbrev pub members_in : Data → Members
 members_in d = unwrap_or (as_table d) no_members
 
--- what stands at a key
+-- the value at a key, in the same way
 abbrev pub integer_at : List ℕ → Members → ℤ
 integer_at k ms = unwrap_or (option_map integer_in (get_member k ms)) (pos 0)
 
@@ -54,7 +54,7 @@ abbrev pub classes_of : Bool → Items → List Class
 classes_of second no_items = []
 classes_of second (item d ds) = unwrap_or (class_of second (text_in d)) Add ∷ classes_of second ds
 
--- the first text of an array that names no class
+-- the first string of an array that is no class's name
 abbrev pub first_nameless : Bool → Items → Option (List ℕ)
 first_nameless second no_items = None
 first_nameless second (item d ds) = if is_some (class_of second (text_in d)) then first_nameless second ds else Some (text_in d)
@@ -123,7 +123,7 @@ tables_fault second ms =
     (option_or (form_fault (form.Units second) (members_at (codes "units") ms))
     (sidings_fault second (items_at (codes "siding") ms))))
 
--- what the tables ask for, in a format: there is no cache in format 1
+-- the parts that the tables request, in a format: there is no cache in format 1
 unfoldable pub parts_in : Bool → Members → Parts
 parts_in second ms = record {
   stages = integer_at (codes "stages") ms;
@@ -133,10 +133,10 @@ parts_in second ms = record {
   sidings = sidings_in second (items_at (codes "siding") ms);
 }
 
--- what a document asks for
+-- the parts that a document requests
 abbrev pub asked_by : Members → Parts
 asked_by ms = parts_in (is_second ms) ms
 
--- the first fault of a document: of its tables, or else of what they ask for
+-- the first fault of a document: of its tables, or else of the layout that they request
 unfoldable pub fault_of : Members → Option FileErr
 fault_of ms = option_or (tables_fault (is_second ms) ms) (option_map Refused (refusal (asked_by ms)))

@@ -1,4 +1,5 @@
--- The tables of a layout file: which keys each table may have and must have, and what types the values are of. TOML is what the crate `toml` reads: TOML 1.1.
+-- The tables of a layout file: which keys each table may have and must have, and the types of their values. The crate
+-- `toml` reads TOML 1.1.
 use Rattle.std.specs.Prelude.{ℕ, suc, nat_le, List, [], ◌∷◌, codes, Bool, true, false, ◌||◌, ◌&&◌, if◌then◌else◌, Option, Some, None, is_some, option_map}
 use Rattle.std.specs.List.{list_any}
 use Rattle.std.specs.Option.{option_or}
@@ -71,12 +72,12 @@ fits (Top second) k d =
 fits (Units second) k d = is_list_of Integer d
 fits Siding k d = if same_text k (codes "classes") then is_list_of Text d else has_shape Integer d
 
--- the first key in byte order that the table may not have
+-- the first key in byte order that is not allowed in the table
 abbrev pub first_unknown : Form → Members → Option (List ℕ)
 first_unknown f no_members = None
 first_unknown f (member k d ms) = if knows f k then first_unknown f ms else Some k
 
--- the first of these keys that the table lacks
+-- the first of these keys that is missing in the table
 abbrev pub first_absent : List (List ℕ) → Members → Option (List ℕ)
 first_absent [] ms = None
 first_absent (k ∷ ks) ms = if is_some (get_member k ms) then first_absent ks ms else Some k
@@ -86,7 +87,7 @@ abbrev pub first_misfit : Form → Members → Option (List ℕ)
 first_misfit f no_members = None
 first_misfit f (member k d ms) = if fits f k d then first_misfit f ms else Some k
 
--- a key that the table may not have: among the units it names no class
+-- the fault of a key that is not allowed: among the units it names no class
 abbrev pub unknown_in : Form → List ℕ → FileErr
 unknown_in (Top second) k = UnknownKey k
 unknown_in (Units second) k = UnknownClass k

@@ -1,4 +1,4 @@
--- The one text that is written for a layout.
+-- The canonical form of a layout.
 use Rattle.std.specs.Prelude.{ℕ, List, [], ◌∷◌, ◌++◌, map, codes, decimal, Bool, ◌||◌, if◌then◌else◌}
 use Rattle.rv_inst.specs.declared.classes.Class.{Class}
 use Rattle.cf_layout.specs.Layout.{SidingPlan, Plan, computed_classes, stages_of, has_mul}
@@ -8,7 +8,7 @@ use Rattle.layout_file.specs.Names.{class_name}
 unfoldable pub pair_line : List ℕ → List ℕ → List ℕ
 pair_line key value = key ++ (codes " = " ++ (value ++ codes "\n"))
 
--- what follows the first text of an array, with the closing bracket
+-- what follows the first element of an array, with the closing bracket
 abbrev pub rest_text : List (List ℕ) → List ℕ
 rest_text [] = codes "]"
 rest_text (t ∷ ts) = codes ", " ++ (t ++ rest_text ts)
@@ -18,7 +18,7 @@ abbrev pub array_text : List (List ℕ) → List ℕ
 array_text [] = codes "[]"
 array_text (t ∷ ts) = codes "[" ++ (t ++ rest_text ts)
 
--- the word of a class in quotes
+-- the name of a class in quotes
 abbrev pub quoted_name : Class → List ℕ
 quoted_name c = codes "\"" ++ (class_name c ++ codes "\"")
 
@@ -50,7 +50,7 @@ siding_lines (s ∷ ss) = siding_text s ++ siding_lines ss
 abbrev pub needs_second : Plan → Bool
 needs_second plan = plan.cache || has_mul plan
 
--- a truth value
+-- a boolean
 abbrev pub truth_text : Bool → List ℕ
 truth_text b = if b then codes "true" else codes "false"
 

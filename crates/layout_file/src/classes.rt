@@ -1,4 +1,4 @@
-//! The words of classes.
+//! The names of classes in a layout file.
 
 ghost use Rattle.std.specs.Prelude.{◌≡◌, IfSome};
 ghost use Rattle.layout_file.specs.Names.{class_name, class_among, class_of};
@@ -7,7 +7,7 @@ ghost use Rattle.cf_layout.specs.Acceptable.{IsComputed};
 use cf_layout::CLASSES;
 use rv_inst::Class;
 
-/// The word that a file has for the class.
+/// The name of the class in a file.
 pub fn class_name(class: Class) -> &'static str
     ensures { result.now ≡ class_name class }
 {
@@ -26,7 +26,7 @@ pub fn class_name(class: Class) -> &'static str
     }
 }
 
-/// The class among these with this word.
+/// The class with this name among these.
 fn class_among(classes: &[Class], word: &str) -> Option<Class>
     ensures { result ≡ class_among classes.now word.now }
 {
@@ -36,10 +36,10 @@ fn class_among(classes: &[Class], word: &str) -> Option<Class>
         .find(|class| class_name(*class) == word)
 }
 
-/// How many of the classes in class order a file of format 1 may name: `mul` and `div` come after them.
+/// How many of the classes, in class order, a file of format 1 may name. `mul` and `div` come after them.
 const FIRST_FORMAT: usize = 7;
 
-/// The class of a word, in a file of format 2 or of format 1.
+/// The class of a name: in format 2 where `second` is set, otherwise in format 1.
 #[tactic(auto, unfolding(crate::specs::Names::class_of))]
 pub(crate) fn class_of(second: bool, word: &str) -> Option<Class>
     ensures class { result ≡ class_of second word.now }

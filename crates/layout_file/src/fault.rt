@@ -11,13 +11,13 @@ pub enum FileErr {
     TooLong,
     /// The file is not a TOML document.
     NotToml,
-    /// A table has this key, which it may not have.
+    /// A table has this key, which is not allowed there.
     UnknownKey(Name),
-    /// A table lacks this key.
+    /// This key of a table is missing.
     MissingKey(Name),
     /// The value at this key is of the wrong type, or is an array of more than 1,000 elements.
     WrongType(Name),
-    /// This word names no class.
+    /// No class has this name.
     UnknownClass(Name),
     /// The file is of this format, which is neither 1 nor 2.
     UnknownFormat(i64),

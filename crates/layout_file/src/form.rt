@@ -1,6 +1,6 @@
 //! The forms of tables and of values.
 
-/// Which table of a layout file it is, and where that matters, whether the file is of format 2.
+/// The kind of a table in a layout file, and, where that matters, whether the file is of format 2.
 #[derive(Clone, Copy)]
 pub(crate) enum Form {
     /// The whole document.
@@ -11,7 +11,7 @@ pub(crate) enum Form {
     Siding,
 }
 
-/// What a value has to be.
+/// The type that a value must have.
 #[derive(Clone, Copy)]
 pub(crate) enum Shape {
     Integer,

@@ -7,7 +7,7 @@ use crate::{FileErr, read_layout, write_layout};
 use cf_layout::Layout;
 use std::alloc::Global;
 
-/// Writes a layout and reads the text: the layout comes back, unless memory runs out.
+/// Writes a layout and reads the text back: the result is the same layout, unless memory runs out.
 pub fn read_back(alloc: Global, layout: &Layout) -> Result<Layout, FileErr>
     ensures same { IfOk result (λ back. back ≡ layout.now) }
     ensures memory { IfErr result (λ error. error ≡ OutOfMemory) }

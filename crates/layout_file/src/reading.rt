@@ -41,7 +41,7 @@ fn integer_at(table: &Table, key: &str) -> i64
     }
 }
 
-/// The truth value at a key.
+/// The boolean at a key.
 fn truth_at(table: &Table, key: &str) -> bool
     ensures { result ≡ truth_at key.now (table_view table.now) }
 {
@@ -92,14 +92,14 @@ fn integers(alloc: Global, array: &[Value]) -> Result<Vec<i64>, AllocError>
     Ok(list)
 }
 
-/// The value as a text, or an empty text.
+/// The value as a string, or an empty one.
 fn text_in(value: &Value) -> &str
     ensures { result.now ≡ text_in (view value.now) }
 {
     value.as_str().unwrap_or("")
 }
 
-/// The class that a word names.
+/// The class of a name.
 fn class_named(alloc: Global, second: bool, word: &str) -> Result<Class, FileErr>
     ensures class { IfOk result (λ class. class_of second word.now ≡ Some class) }
     ensures refused { IfErr result (λ error. (error ≡ OutOfMemory) ⊎ ((class_of second word.now ≡ None) × (error ≡ NoClass word.now))) }
@@ -233,7 +233,7 @@ fn check_format(second: bool, format: i64) -> Result<(), FileErr>
     }
 }
 
-/// What the tables of a document ask for, in a format.
+/// The parts that the tables of a document request, in a format.
 #[tactic(auto, unfolding(crate::specs::Reading::tables_fault, crate::specs::Reading::parts_in))]
 fn read_tables(alloc: Global, second: bool, table: &Table) -> Result<Parts, FileErr>
     ensures right { IfOk result (λ parts. tables_fault second (table_view table.now) ≡ None) }
@@ -273,9 +273,9 @@ pub const MOST_LAYOUT: usize = 65_536;
 /// Reads a layout file of format 1 or 2: a TOML document with the keys `format`, `stages`, `lane`, the table `units`,
 /// and the array of tables `siding`; format 2 also has the key `cache`, and the classes `mul` and `div`.
 ///
-/// The tables are tested in this order: the document, `units`, each siding. In each a key that is unknown is looked for
-/// first, then one that is missing, then one whose value is of the wrong type, each the first in byte order; then the
-/// format, or the first word of a siding that names no class. What the tables ask for is tested last.
+/// The tables are tested in this order: the document, `units`, each siding. In each, unknown keys are reported first,
+/// then missing ones, then values of the wrong type, each time the first key in byte order; then the format, or the
+/// first name in a siding that is no class's. The requested layout is tested last.
 pub fn read_layout(alloc: Global, file: &[u8]) -> Result<Layout, FileErr>
     ensures ok { IfOk result (λ layout. Describes file.now layout) }
     ensures refused { IfErr result (λ error. LayoutFails file.now error) }

@@ -119,7 +119,7 @@ fn unknown_name(form: Form, table: &Table) -> Option<&String>
     table.keys().find(|key| !is_known(form, key.as_str()))
 }
 
-/// The first key in byte order that the table may not have.
+/// The first key in byte order that is not allowed in the table.
 fn unknown_key(form: Form, table: &Table) -> Option<&String>
     ensures { option_map (λ k. string_bytes k.now) result ≡ first_unknown form (table_view table.now) }
 {
@@ -148,7 +148,7 @@ fn first_missing(
     }
 }
 
-/// The first key in byte order that the table lacks.
+/// The first key in byte order that is missing in the table.
 fn missing_key(form: Form, table: &Table) -> Option<&'static str>
     ensures { option_map (λ k. k.now) result ≡ first_absent (needed_keys form) (table_view table.now) }
 {

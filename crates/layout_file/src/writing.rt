@@ -224,7 +224,7 @@ fn push_body(text: &mut String, alloc: Global, layout: &Layout) -> Result<(), Al
     Ok(())
 }
 
-/// The text of a layout.
+/// The canonical form of a layout.
 #[tactic(auto, using(std::proofs::lemmas::List::append_assoc), unfolding(crate::specs::Text::text_of))]
 fn layout_text(alloc: Global, layout: &Layout) -> Result<String, AllocError>
     ensures text { IfOk result (λ text. string_bytes text ≡ text_of layout.now) }
@@ -239,8 +239,8 @@ fn layout_text(alloc: Global, layout: &Layout) -> Result<String, AllocError>
     Ok(text)
 }
 
-/// Writes the one text of a layout: in format 1, or in format 2 where the layout has the cache or multiplies and
-/// divides. [`read_layout`](crate::read_layout) of it gives the layout back, unless memory runs out.
+/// Writes the canonical form of a layout: in format 1, or in format 2 where the layout has the cache or multiplies and
+/// divides. [`read_layout`](crate::read_layout) gives the layout back, unless memory runs out.
 #[tactic(auto, using(crate::proofs::ReadBack::text_reads))]
 pub fn write_layout(alloc: Global, layout: &Layout) -> Result<Vec<u8>, AllocError>
     ensures text { IfOk result (λ file. file.items ≡ text_of layout.now) }

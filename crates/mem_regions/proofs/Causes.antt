@@ -46,7 +46,7 @@ first_to_wrap parts i e = record {
   first = λ k below d. wraps-in (get_or parts k d) ((position-Some wraps parts i d e).2 k below);
 }
 
--- the first overlap of the whole list whose second part stands at or after an index
+-- the first overlap of the whole list whose second part is at or after an index
 record IsOverlapFrom (whole : List Part) (from i j : ℕ) : Type 0 where
   before : i < j
   within : j < length whole
@@ -54,7 +54,7 @@ record IsOverlapFrom (whole : List Part) (from i j : ℕ) : Type 0 where
   least_second : (k n : ℕ) → k < n → from ≤ n → n < j → ApartAt whole k n
   least_first : (k : ℕ) → k < i → ApartAt whole k j
 
--- what stands before a part, and the part itself, in the whole list
+-- what is before a part, and the part itself, in the whole list
 at_part : (before : List Part) (p : Part) (ps : List Part) (n : ℕ) (d : Part) → n ≡ length before → get_or (before ++ p ∷ ps) n d ≡ p
 at_part before p ps n d e = rw (e, get_or-append_seam) refl
 

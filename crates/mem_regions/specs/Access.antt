@@ -1,4 +1,5 @@
--- Which accesses memory permits (RISC-V Unprivileged ISA Manual, "RV32I Base Integer Instruction Set", load and store instructions).
+-- Which accesses memory permits (RISC-V Unprivileged ISA Manual, "RV32I Base Integer Instruction Set", load and store
+-- instructions).
 use Rattle.std.specs.Prelude.{◌≡◌, ◌⊎◌, ℕ, ◌+◌, ◌%◌, List, length, map, Bool, not, ◌&&◌, ◌||◌, ◌==◌, nat_le, if◌then◌else◌, Result, Ok, Err}
 use Rattle.std.specs.List.{list_any}
 use Rattle.mem_regions.specs.Area.{Area}
@@ -6,7 +7,7 @@ use Rattle.mem_regions.specs.Memory.{Memory}
 use Rattle.mem_regions.specs.declared.access.MemErr.{MemErr}
 use Rattle.mem_regions.specs.declared.access.MemErr.TheVariants.{Misaligned, NoAccess}
 
--- what decides on an access: where a region stands, how long it is, and what a program may do to it
+-- what decides on an access: a region's base, its length, and what a program may do to it
 pub record Bounds : Type 0 where
   pub base : ℕ
   pub size : ℕ
@@ -25,7 +26,7 @@ bounds_of m = map area_bounds m.areas
 abbrev pub holds : ℕ → ℕ → Bounds → Bool
 holds addr len b = nat_le b.base addr && nat_le (addr + len) (b.base + b.size)
 
--- the range lies in the region, and the region may be written where that is asked
+-- the range lies in the region, and the region may be written where the access is a store
 abbrev pub permits_in : ℕ → ℕ → Bool → Bounds → Bool
 permits_in addr len write b = holds addr len b && (not write || b.write)
 
@@ -45,7 +46,7 @@ is_permitted bs addr len write = list_any (permits_in addr len write) bs
 unfoldable pub permits_at : List Bounds → ℕ → ℕ → Bool → Result (Unit {0}) MemErr
 permits_at bs addr width write = if is_aligned addr width then (if is_permitted bs addr width write then Ok tt else Err NoAccess) else Err Misaligned
 
--- whether an answer permits, and otherwise why not, whatever it gives
+-- the answer without the value that it gives: permitted, or why not
 abbrev pub permission_told : {A : Type 0} → Result A MemErr → Result (Unit {0}) MemErr
 permission_told (Ok x) = Ok tt
 permission_told (Err e) = Err e

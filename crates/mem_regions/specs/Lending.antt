@@ -1,4 +1,4 @@
--- What memory is once a range that was lent for writing has come back with other bytes.
+-- Memory after a range that was borrowed for writing has come back with other bytes.
 use Rattle.std.specs.Prelude.{ℕ, List, [], slice_set, slice_get, unwrap_or, false, Option, Some, None}
 use Rattle.std.specs.Borrow.{Lends, LendsIf, MutBor, Fml, Array, u8}
 use Rattle.mem_regions.specs.Area.{Area}
@@ -7,7 +7,7 @@ use Rattle.mem_regions.specs.Writing.{area_with, memory_with}
 use Rattle.mem_regions.specs.contracts.region.Region.{the_row as region_row}
 use Rattle.mem_regions.specs.contracts.regions.Regions.{the_row as regions_row}
 
--- what is lent, as it stands
+-- the bytes that are lent, as they are now
 abbrev pub lent_bytes : Option (MutBor (List ℕ)) → Option (List ℕ)
 lent_bytes None = None
 lent_bytes (Some bytes) = Some bytes.now
@@ -16,7 +16,7 @@ lent_bytes (Some bytes) = Some bytes.now
 abbrev pub LendsRange : MutBor Area → ℕ → MutBor (List ℕ) → Fml
 LendsRange a addr r = Lends region_row (Array u8 0) a r (λ w. area_with addr w a.now)
 
--- what is used in place of a region that does not exist
+-- stands for a region that does not exist
 abbrev pub no_area : Area
 no_area = record { base = 0; write = false; exec = false; bytes = []; code = [] }
 

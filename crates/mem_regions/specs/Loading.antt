@@ -1,4 +1,4 @@
--- The memory that the parts of a program make: a region for each part that takes room (Tool Interface Standard,
+-- The memory that the parts of a program make: a region for each part of a size above 0 (Tool Interface Standard,
 -- "Executable and Linking Format", program loading).
 use Rattle.std.specs.Prelude.{ℕ, ◌+◌, ◌-◌, ◌≤◌, List, [], ◌++◌, length, take, drop, replicate, filter, map, Bool, if◌then◌else◌, nat_lt}
 use Rattle.mem_regions.specs.Area.{Area}
@@ -18,11 +18,11 @@ image_of file p = take p.len (drop p.start file) ++ replicate (p.size - p.len) 0
 abbrev pub area_of : List ℕ → Part → Area
 area_of file p = record { base = p.base; write = p.write; exec = p.exec; bytes = image_of file p; code = if p.exec then image_of file p else [] }
 
--- the part takes room in memory
+-- the part's size is above 0
 abbrev pub has_room : Part → Bool
 has_room p = nat_lt 0 p.size
 
--- a region for each part that takes room, in order
+-- a region for each part of a size above 0, in order
 unfoldable pub areas_of : List ℕ → List Part → List Area
 areas_of file parts = map (area_of file) (filter has_room parts)
 

@@ -1,4 +1,4 @@
--- The memory of a program: its regions in order, and beside them the program break, which is the end of its heap.
+-- The memory of a program: its regions in order, and the program break, which is the end of its heap.
 use Rattle.std.specs.Prelude.{ℕ, List}
 use Rattle.mem_regions.specs.Area.{Area}
 

@@ -17,7 +17,7 @@ wraps p = nat_lt (2 ^ 32) (end_of p)
 abbrev pub overlaps : Part → Part → Bool
 overlaps p q = nat_lt (max p.base q.base) (min (end_of p) (end_of q))
 
--- over 16 parts
+-- more than 16 parts
 unfoldable pub too_many : List Part → Option LoadErr
 too_many parts = if nat_lt 16 (length parts) then Some (TooMany (min (length parts) (2 ^ 32 - 1))) else None
 
@@ -30,7 +30,7 @@ wraps_at (Some i) = Some (WrapsAround i)
 unfoldable pub first_wrapping : List Part → Option LoadErr
 first_wrapping parts = wraps_at (position wraps parts)
 
--- the bytes that all parts take
+-- the sizes of all parts, added
 abbrev pub total_size : List Part → ℕ
 total_size parts = sum_by (λ p. p.size) parts
 
@@ -48,7 +48,7 @@ abbrev pub overlap_from : List Part → List Part → Option LoadErr
 overlap_from before [] = None
 overlap_from before (p ∷ ps) = overlap_or (position (λ b. overlaps b p) before) (length before) (overlap_from (before ++ p ∷ []) ps)
 
--- the pair of parts that share an address, with the least second part, and then the least first part
+-- the pair of parts that share an address with the earliest second part, and then the earliest first part
 unfoldable pub first_overlap : List Part → Option LoadErr
 first_overlap parts = overlap_from [] parts
 
@@ -61,7 +61,7 @@ abbrev pub load_answer : Option LoadErr → Result (Unit {0}) LoadErr
 load_answer None = Ok tt
 load_answer (Some e) = Err e
 
--- the refusal of the parts that an answer gives: none where it is lack of memory
+-- the refusal of the parts in an answer: none where there was no memory
 abbrev pub refusal_told : LoadErr → Option LoadErr
 refusal_told NoMemory = None
 refusal_told e = Some e

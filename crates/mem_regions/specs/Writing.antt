@@ -1,4 +1,4 @@
--- What a write leaves: other bytes in one range of one region, and all else as it was (RISC-V Unprivileged ISA Manual,
+-- Memory after a write: other bytes in one range of one region, and all else as it was (RISC-V Unprivileged ISA Manual,
 -- "RV32I Base Integer Instruction Set", load and store instructions).
 use Rattle.std.specs.Prelude.{ℕ, ◌+◌, ◌-◌, List, [], ◌∷◌, ◌++◌, length, take, drop, Bool, if◌then◌else◌}
 use Rattle.mem_regions.specs.Area.{Area}
@@ -7,7 +7,7 @@ use Rattle.mem_regions.specs.Access.{is_aligned}
 use Rattle.mem_regions.specs.Ranges.{writes_in}
 use Rattle.mem_regions.specs.Bytes.{le_bytes}
 
--- the bytes with others written over them from an index on, none of these beyond the end
+-- the bytes, overwritten with others from an index on; those that would lie beyond the end are dropped
 abbrev pub overwritten : List ℕ → ℕ → List ℕ → List ℕ
 overwritten bytes at w = take (length bytes) (take at bytes ++ w ++ drop (at + length w) bytes)
 

@@ -13,7 +13,7 @@ use crate::Regions;
 use crate::numbers::number_of;
 use crate::region::Region;
 
-/// Why memory refuses an access.
+/// Why an access is refused.
 #[derive(Clone, Copy, PartialEq, Eq)]
 pub enum MemErr {
     /// The width does not divide the address.
@@ -58,8 +58,8 @@ impl Regions {
         }
     }
 
-    /// The little-endian number at the address, of 1, 2 or 4 bytes and not sign-extended. `Misaligned` comes where the
-    /// width does not divide the address, and `NoAccess` where it does and the bytes do not lie in one region.
+    /// The little-endian number of 1, 2 or 4 bytes at the address, not sign-extended. The refusal is `Misaligned` where
+    /// the width does not divide the address, and otherwise `NoAccess` where the bytes do not lie in one region.
     #[inline(always)]
     #[tactic(auto, using(crate::proofs::Loads::permission))]
     pub fn load_number(&self, addr: u32, width: u32) -> Result<u32, MemErr>
@@ -67,7 +67,7 @@ impl Regions {
         ensures number { result ≡ load_at self.now addr width }
         ensures permission { permission_told result ≡ permits_at (bounds_of self.now) addr width false }
     {
-        // The search is made for each width by itself, which is faster.
+        // Each width has its own search, which is faster.
         match width {
             1 => self.number_at(addr, 1),
             2 => self.number_at(addr, 2),
@@ -122,9 +122,9 @@ impl Regions {
         }
     }
 
-    /// Writes the low 1, 2 or 4 bytes of the number at the address, in little-endian order. The code of a region stays
-    /// as it is. `Misaligned` comes where the width does not divide the address, and `NoAccess` where it does and the
-    /// bytes do not lie in one region that may be written; memory then stays as it is.
+    /// Writes the low 1, 2 or 4 bytes of the number at the address, in little-endian order. The code of a region is
+    /// unchanged. The refusal is `Misaligned` where the width does not divide the address, and otherwise `NoAccess`
+    /// where the bytes do not lie in one writable region; memory is then unchanged.
     #[inline(always)]
     pub fn store(&mut self, addr: u32, width: u32, number: u32) -> Result<(), MemErr>
         requires { IsWidth width }
@@ -132,7 +132,7 @@ impl Regions {
         ensures memory { self.new ≡ stored self.old addr width number }
         ensures unchanged { OnErr result (self.new ≡ self.old) }
     {
-        // As for a load, the search is made for each width by itself.
+        // As for a load, each width has its own search.
         match width {
             1 => self.store_number(addr, 1, number),
             2 => self.store_number(addr, 2, number),
@@ -140,7 +140,7 @@ impl Regions {
         }
     }
 
-    /// The answer that a load of 1, 2 or 4 bytes at the address would give, or, where `write` is set, a store.
+    /// Whether a load of 1, 2 or 4 bytes at the address, or a store where `write` is set, is permitted, and why not.
     #[inline(always)]
     #[tactic(auto, using(crate::proofs::Writes::permitting), unfolding(crate::specs::Access::permits_at))]
     pub fn permits(&self, addr: u32, width: u32, write: bool) -> Result<(), MemErr>

@@ -6,7 +6,7 @@ use crate::Regions;
 use crate::region::Region;
 
 impl Region {
-    /// Whether the two regions stand in the same place, with the same permissions, bytes and code.
+    /// Whether the two regions have the same bounds, permissions, bytes and code.
     fn same(&self, other: &Region) -> bool
         ensures { IsTrue result ↔ (self.now ≡ other.now) }
     {

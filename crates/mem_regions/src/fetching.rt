@@ -16,8 +16,8 @@ fn find_fetching<'a>(list: &'a [Region], pc: u32) -> Option<&'a Region>
 }
 
 impl Regions {
-    /// The instruction word at the address, from the code of an executable region. `Misaligned` comes where 4 does
-    /// not divide the address, and `NoAccess` where it does and the word does not lie in one executable region.
+    /// The instruction word at the address, from the code of an executable region. The refusal is `Misaligned` where 4
+    /// does not divide the address, and otherwise `NoAccess` where the word does not lie in one executable region.
     #[inline(always)]
     #[tactic(auto, using(crate::proofs::Finding::finding), unfolding(crate::specs::Fetching::fetch_at))]
     pub fn fetch(&self, pc: u32) -> Result<u32, MemErr>

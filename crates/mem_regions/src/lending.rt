@@ -1,4 +1,4 @@
-//! Ranges of memory, lent as they stand or for writing.
+//! Ranges of memory, borrowed for reading or for writing.
 
 ghost use Rattle.std.specs.Prelude.{◌≡◌, ◌<◌, Some, None, IfSome, IfNone, IsTrue, find, position, length};
 ghost use Rattle.std.specs.Option.{option_copied};
@@ -27,14 +27,14 @@ impl Regions {
         Some(region.range(addr, len))
     }
 
-    /// The index of the first region that the range may be written in.
+    /// The index of the first region in which the range may be written.
     fn place_to_write(&self, addr: u32, len: u32) -> Option<usize>
         ensures { result ≡ position (writes_in addr len) self.now.areas }
     {
         self.list.iter().position(|region| region.writes(addr, len))
     }
 
-    /// Whether the range lies in one region that may be written.
+    /// Whether the range lies in one writable region.
     #[tactic(auto, using(crate::proofs::Writes::finding_a_place))]
     pub fn is_writable(&self, addr: u32, len: u32) -> bool
         ensures { result ≡ can_write self.now addr len }
@@ -60,7 +60,7 @@ impl Regions {
     ghost use Rattle.mem_regions.specs.Area.{Area};
     ghost use Rattle.mem_regions.specs.Lending.{LendsAt, LendsPart, LendsWritable, lent_bytes, area_at};
 
-    /// The bytes of a range that lies in the region of that index, lent for writing.
+    /// The bytes of a range in the region at that index, borrowed for writing.
     fn range_at(&mut self, place: usize, addr: u32, len: u32) -> &mut [u8]
         requires place { place < length self.old.areas }
         requires holds { IsTrue (lies_in addr len (area_at self.old place)) }
@@ -72,7 +72,7 @@ impl Regions {
         region.range_mut(addr, len)
     }
 
-    /// The bytes of a range that lies in one region that may be written, lent for writing.
+    /// The bytes of a range that lies in one writable region, borrowed for writing.
     #[tactic(auto, using(crate::proofs::Writes::storing))]
     pub fn writable(&mut self, addr: u32, len: u32) -> &mut [u8]
         requires { IsTrue (can_write self.old addr len) }
@@ -84,8 +84,8 @@ impl Regions {
         self.range_at(place, addr, len)
     }
 
-    /// The bytes of a range, lent for writing, or `None` where it does not lie in one region that may be written. What
-    /// is written through the loan changes these bytes of memory and nothing else.
+    /// The bytes of a range, borrowed for writing, or `None` where it does not lie in one writable region. Writing
+    /// through the borrow changes these bytes of memory and nothing else.
     pub fn part_mut(&mut self, addr: u32, len: u32) -> Option<&mut [u8]>
         ensures* writes_back { sem 𝓛 (LendsPart self.entry addr len result) }
         ensures bytes { lent_bytes result ≡ writable_of self.old addr len }

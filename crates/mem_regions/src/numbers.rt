@@ -4,7 +4,7 @@ ghost use Rattle.std.specs.Prelude.{◌≡◌, ◌⊎◌, length};
 ghost use Rattle.mem_regions.specs.Access.{IsWidth};
 ghost use Rattle.mem_regions.specs.Bytes.{le_number, le_bytes};
 
-/// The number of 4 bytes. They are copied at once, which is one load of the host, where a sum would make four.
+/// The number of 4 bytes. Copying them at once compiles to one load; a sum would need four.
 #[inline(always)]
 #[tactic(auto, using(crate::proofs::Words::words))]
 pub(crate) fn word_of(bytes: &[u8]) -> u32

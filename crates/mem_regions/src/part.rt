@@ -1,7 +1,7 @@
 //! The parts of a program.
 
-/// A part of a program as its file describes it: where its bytes lie in the file, and where and how they stand in
-/// memory.
+/// A part of a program as its file describes it: where its bytes are in the file, and where in memory, with their
+/// permissions.
 #[derive(Clone, Copy)]
 pub struct Part {
     /// The address of its first byte in memory.
@@ -10,7 +10,7 @@ pub struct Part {
     pub start: u32,
     /// How many bytes of the file it has.
     pub len: u32,
-    /// How many bytes it takes in memory: zeros follow the file's bytes.
+    /// How many bytes it has in memory: zeros follow the file's bytes.
     pub size: u32,
     /// Whether the program may write to it.
     pub write: bool,

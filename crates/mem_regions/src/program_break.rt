@@ -15,7 +15,7 @@ impl Regions {
         self.program_break
     }
 
-    /// Moves the program break to the address, which lies in the room for the heap or at its end.
+    /// Moves the program break to the address, which is in the heap's range or at its end.
     pub fn set_brk(&mut self, addr: u32)
         requires from { 0x7f000000 ≤ addr }
         requires to { addr ≤ 0x7f080000 }

@@ -8,12 +8,11 @@ use crate::Part;
 /// Why parts cannot be loaded. A part is named by its index in the list.
 #[derive(Clone, Copy, Debug, PartialEq, Eq)]
 pub enum LoadErr {
-    /// Two parts share an address: of all such pairs the one whose second part comes first, and for that second part the
-    /// first part that shares an address with it.
+    /// Two parts share an address: the pair with the earliest second part, and then with the earliest first part.
     Overlap(u32, u32),
-    /// There are more than 16 parts: their number, or the greatest number of 32 bits where there are more than that.
+    /// There are more than 16 parts: their number, capped at the greatest number of 32 bits.
     TooMany(u32),
-    /// The sizes of all parts add up to this number of bytes, which is over 67,108,864.
+    /// The parts have this number of bytes in all, over 67,108,864.
     TooLarge(u64),
     /// The first part that ends beyond the last address.
     WrapsAround(u32),

@@ -76,7 +76,7 @@ impl Region {
         self.holds_some(pc, 4) && self.exec
     }
 
-    /// The word of the region's code: the one place that reads it.
+    /// The word of the region's code. Only this function reads the code.
     #[inline(always)]
     pub(crate) fn word(&self, pc: u32) -> u32
         requires { IsTrue (fetches_in pc self.now) }
@@ -111,7 +111,7 @@ impl Region {
     ghost use Rattle.std.specs.Borrow.{sem};
     ghost use Rattle.mem_regions.specs.Lending.{LendsRange};
 
-    /// The bytes of a range that lies in the region, lent for writing.
+    /// The bytes of a range that lies in the region, borrowed for writing.
     #[inline(always)]
     pub(crate) fn range_mut(&mut self, addr: u32, len: u32) -> &mut [u8]
         requires { IsTrue (lies_in addr len self.old) }

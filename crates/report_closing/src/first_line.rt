@@ -73,7 +73,8 @@ fn push_ran(page: &mut Page, limit: u64, answer: Ran)
     }
 }
 
-/// The line that says how a run finished, whatever its schedule: the first of its report. It is empty where the report failed.
+/// The line that says how a run finished, whatever its schedule: the first of its report. It is empty where the report
+/// failed.
 pub fn run_line(limit: u64, answer: Ran) -> Page
     ensures line { result ≡ line_of_run limit answer }
     ensures size { length result ≤ 80 }

@@ -110,8 +110,8 @@ fn put_part<R: Sink>(core: &Core, part: ClosingPart, report: &mut R) -> Result<(
     }
 }
 
-/// Puts a line for each move but the issue with an address, with each stage and each cell of each siding, in the order of
-/// all moves: that the processor can make it now, or what bars it. After `Failed` a front of the lines was put.
+/// Puts a line for each move but the issue with an address, with each stage and each cell of each siding, in the order
+/// of all moves: that the processor can make it now, or what bars it. After `Failed` a prefix of the lines was put.
 pub fn put_moves<R: Sink>(core: &Core, report: &mut R) -> Result<(), Failed>
     ensures { PutsText (R.written report.old) (R.written report.new)
         (R.faults report.old) (R.faults report.new) (moves_text core.now.plan core.now.state) result }

@@ -51,8 +51,8 @@ fn push_source(page: &mut Page, kind: AsmKind)
     }
 }
 
-/// The report of a source that is refused: one line with the line's number, the name of the refusal and what it keeps, such
-/// as `bad source line 1: Text OutOfRange 2048`.
+/// The report of a source that is refused: one line with the line's number, the name of the refusal and what it keeps,
+/// such as `bad source line 1: Text OutOfRange 2048`.
 pub fn bad_source(error: AsmErr) -> Page
     ensures { result ≡ report_of error }
 {

@@ -1,4 +1,5 @@
--- What the time of a run is made of: how long each place of the processor is in use, how many moves of each kind are made, and a longest chain.
+-- What the time of a run is made of: how long each place of the processor is in use, how many moves of each kind are
+-- made, and a longest chain.
 use Rattle.std.specs.Prelude.{ℕ, ◌-◌, List, [], ◌∷◌, ◌++◌, length, map, filter, Bool, false, ◌==◌, ◌&&◌, if◌then◌else◌}
 use Rattle.std.specs.List.{list_any}
 use Rattle.cf_layout.specs.Layout.{Plan}
@@ -58,7 +59,7 @@ is_last moves done = done.time == greatest_time moves
 unfoldable pub longest_chain : Plan → List ℕ → List Move → List Move
 longest_chain plan delays moves = chain_to plan delays (is_last (times plan delays moves)) (times plan delays moves)
 
--- what the time of a run is made of; stages and sidings stand by their numbers
+-- what the time of a run is made of; stages and sidings are by their numbers
 unfoldable pub breakdown : Plan → List ℕ → List Move → Breakdown
 breakdown plan delays moves = record {
   layout = plan;

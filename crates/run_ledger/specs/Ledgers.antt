@@ -1,4 +1,4 @@
--- How a ledger of a run is kept: at each place of the processor stands a mark of the last move that used it.
+-- How a ledger of a run is kept: at each place of the processor is a mark of the last move that used it.
 use Rattle.std.specs.Prelude.{ℕ, ◌+◌, ◌-◌, ◌*◌, ◌^◌, List, [], ◌∷◌, length, map, min, replicate, slice_get, slice_set, unwrap_or, Bool, ◌&&◌, ◌||◌, nat_lt, nat_eq, if◌then◌else◌}
 use Rattle.cf_layout.specs.Layout.{Plan}
 use Rattle.cf_bind.specs.declared.moves.Move.{Move}

@@ -1,4 +1,5 @@
--- The policy of a timed run of which a ledger is kept: the clock picks, and the ledger is told of each move when the clock is.
+-- The policy of a timed run of which a ledger is kept: the clock picks, and the ledger is told of each move when the
+-- clock is.
 use Rattle.std.specs.Prelude.{ℕ, List}
 use Rattle.cf_bind.specs.declared.moves.Move.{Move}
 use Rattle.cf_semantics.specs.state.Options.{on}

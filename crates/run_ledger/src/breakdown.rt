@@ -17,6 +17,6 @@ pub struct Breakdown {
     /// How many moves of each kind were made, in the order of `Move`.
     pub moves: [u64; 14],
 
-    /// How many of each kind stand on the longest chain that ends with the last move that is done last.
+    /// How many of each kind are on the longest chain that ends with the last move that is done last.
     pub chain: [u64; 14],
 }

@@ -1,4 +1,5 @@
-//! The law of the chain that a breakdown tells of: what holds of every run. It is the contract of a function that does nothing.
+//! The law of the chain that a breakdown tells of: what holds of every run. It is the contract of a function that does
+//! nothing.
 
 ghost use Rattle.std.specs.Prelude.{◌≡◌, ℕ, List};
 ghost use Rattle.cf_layout.specs.Layout.{Plan};
@@ -7,8 +8,8 @@ ghost use Rattle.cf_timed.specs.Chains.{IsChain, sum_of_delays};
 ghost use Rattle.cf_timed.specs.Times.{greatest_time, times};
 ghost use Rattle.run_ledger.specs.Breakdowns.{longest_chain};
 
-/// The chain that is followed back from the last move that is done last is a chain of the run, and the sum of its delays is the
-/// run's time, so no chain has a greater sum.
+/// The chain that is followed back from the last move that is done last is a chain of the run, and the sum of its
+/// delays is the run's time, so no chain has a greater sum.
 pub fn chain_is_longest()
     ensures chain { (plan : Plan) (delays : List ℕ) (moves : List Move) →
         IsChain plan moves (longest_chain plan delays moves) }

@@ -12,8 +12,8 @@ use cf_bind::Move;
 use cf_layout::Layout;
 use cf_timed::Delays;
 
-/// For each place of a processor the last move that used it, with the moves by kind on the chain that ends with it; how long each
-/// stage and siding was in use; and the moves by kind. It takes no memory.
+/// For each place of a processor the last move that used it, with the moves by kind on the chain that ends with it; how
+/// long each stage and siding was in use; and the moves by kind. It takes no memory.
 #[derive(Clone, Copy)]
 pub struct Ledger {
     pub(crate) layout: Layout,

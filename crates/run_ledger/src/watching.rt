@@ -12,7 +12,7 @@ use cf_sched::{Pace, Policy};
 use cf_timed::{Clock, Timing};
 use std::marker::Model;
 
-/// Picks what is done first by a clock, and tells a ledger of each move when the clock is told of it.
+/// Picks what finishes earliest by a clock, and tells a ledger of each move when the clock is told of it.
 #[derive(Drop)]
 pub(crate) struct Watching {
     timing: Timing,

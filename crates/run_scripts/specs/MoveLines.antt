@@ -20,7 +20,7 @@ abbrev pub named : Option Kind → Result Kind ScriptKind
 named (Some k) = Ok k
 named None = Err UnknownMove
 
--- what is read from the front of some words, with the words after it
+-- what is read from the start of some words, with the words after it
 abbrev pub read_with : {A : Type 0} → A → List (List ℕ) → Result (A × List (List ℕ)) ScriptKind
 read_with a words = Ok (a, words)
 

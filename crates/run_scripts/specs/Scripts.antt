@@ -8,7 +8,8 @@ use Rattle.run_scripts.specs.declared.refusal.ScriptErr.{ScriptErr}
 use Rattle.run_scripts.specs.Words.{words_of}
 use Rattle.run_scripts.specs.MoveLines.{move_in}
 
--- the moves of a script in order, each after the number of its line, up to the first line that gives no move, and that line's refusal
+-- the moves of a script in order, each after the number of its line, up to the first line that gives no move, and that
+-- line's refusal
 pub record ScriptLines : Type 0 where
   pub moves : List (ℕ × Move)
   pub refused : Option ScriptErr

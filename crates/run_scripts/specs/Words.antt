@@ -12,7 +12,7 @@ abbrev pub is_word : List ℕ → Bool
 is_word [] = false
 is_word (byte ∷ piece) = true
 
--- the words of a line: what stands between spaces and tabs
+-- the words of a line: what is between spaces and tabs
 unfoldable pub words_of : List ℕ → List (List ℕ)
 words_of line = filter is_word (slice_split is_blank line)
 

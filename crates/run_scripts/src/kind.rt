@@ -79,8 +79,8 @@ pub fn place_named(word: &[u8]) -> Option<usize>
     KINDS.iter().position(|kind| kind.name() == word)
 }
 
-/// The name of the kind at a place among the kinds in the order of `Move`, from 0: the first word of its lines, of at most seven
-/// letters.
+/// The name of the kind at a place among the kinds in the order of `Move`, from 0: the first word of its lines, of at
+/// most seven letters.
 #[tactic(auto, using(crate::proofs::Names::named))]
 pub fn kind_name(place: usize) -> &'static [u8]
     requires { place < 14 }

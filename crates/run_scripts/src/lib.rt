@@ -1,4 +1,5 @@
-//! The schedule of a run: moves as a script has them, line by line; and why a line of a script, of delays or of a trace is refused.
+//! The schedule of a run: moves as a script has them, line by line; and why a line of a script, of delays or of a trace
+//! is refused.
 #![tactic(auto)]
 
 mod delay_refusal;

@@ -7,7 +7,7 @@ use crate::refusal::ScriptKind;
 use rv_text::{numeral, split_name, trim};
 use std::marker::Model;
 
-/// The words of a line that are left to read: what stands between spaces and tabs.
+/// The words of a line that are left to read: what is between spaces and tabs.
 #[derive(Drop)]
 pub struct Words<'a> {
     rest: &'a [u8],

@@ -250,7 +250,7 @@ kept_value items found name place label finds told e =
     value_found (map named items) found name place (named label) finds told
     ∙ ap (λ (l : LabelView). Some l.value) (named_at items place label (place_within items found name place finds told) e)
 
--- the label is exported where it stands
+-- the label is exported where it is
 pub kept_exported : (items : List Label) (found : List ℕ → Option ℕ) (name : List ℕ) (place : ℕ) (label : Label) → FindsNames (names_of (map named items)) found
     → found name ≡ Some place → label ≡ slice_index_or items place label
     → exported (map named items) name ≡ map named (slice_set items place (record label { global = true }))

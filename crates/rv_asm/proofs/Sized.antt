@@ -178,7 +178,7 @@ placed-sized s item ps h e n = record {
   place = place-after s.place item h.place e;
 }
 
--- an item that was read fits where it stands
+-- an item that was read fits where it is
 pub item-fits : (p : SectionPlace) (text : List ℕ) (item : SourceItem) → item_at p text ≡ Ok item → fits_at p item ≡ Ok tt
 unfolding item_at
 item-fits p text item e =

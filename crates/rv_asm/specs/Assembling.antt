@@ -28,7 +28,7 @@ are_ascii above (line ∷ lines) =
     if is_ascii line then are_ascii (above + 1) lines
     else Err (record { line = above + 1; kind = NotAscii })
 
--- the labels with that of a line, which stands at the line's own address
+-- the labels with that of a line, which is at the line's own address
 abbrev pub with_label : List LabelView → SectionPlace → Option (List ℕ) → Result (List LabelView) AsmKind
 with_label labels place None = Ok labels
 with_label labels place (Some name) =
@@ -48,7 +48,7 @@ draft_from above draft [] = Ok draft
 draft_from above draft (line ∷ lines) =
     and_then (at_line (above + 1) (drafted draft (said line))) (λ next. draft_from (above + 1) next lines)
 
--- what stands in the sections above a line
+-- what is in the sections above a line
 pub record Sections : Type 0 where
   pub place : SectionPlace
   pub text : List Piece
@@ -60,7 +60,7 @@ abbrev pub marked : List LabelView → SourceItem → List LabelView
 marked labels (Export name) = exported labels name
 marked labels item = labels
 
--- what stands in the sections after an item, whose pieces come after those of its section
+-- what is in the sections after an item, whose pieces come after those of its section
 abbrev pub placed : Sections → SourceItem → List Piece → Sections
 placed sections item pieces = record {
   place = place_after sections.place item;
@@ -69,14 +69,14 @@ placed sections item pieces = record {
   labels = marked sections.labels item;
 }
 
--- what stands in the sections after a line that says this
+-- what is in the sections after a line that says this
 unfoldable pub filled : Sections → List ℕ → Result Sections AsmKind
 filled sections text =
     and_then (item_at sections.place (statement_in text)) (λ item.
     and_then (pieces_of sections.labels (address_of sections.place) item) (λ pieces.
     Ok (placed sections item pieces)))
 
--- what stands in the sections after all lines
+-- what is in the sections after all lines
 abbrev pub sections_from : ℕ → Sections → List (List ℕ) → Result Sections AsmErr
 sections_from above sections [] = Ok sections
 sections_from above sections (line ∷ lines) =

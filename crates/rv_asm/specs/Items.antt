@@ -6,8 +6,9 @@ use Rattle.rv_asm.specs.declared.operations.Width.{Width}
 use Rattle.rv_asm.specs.declared.item.Far.{Far}
 use Rattle.rv_asm.specs.Operands.{bytes_of_width}
 
--- nothing; a change to the text or to the data; a name that is exported; one or two instructions; a jump or a branch to a label; the address of a label,
--- or a call to it, in two instructions; numbers, which may be labels where they are words; a string, and whether a zero follows; a number of zeros
+-- nothing; a change to the text or to the data; a name that is exported; one or two instructions; a jump or a branch to
+-- a label; the address of a label, or a call to it, in two instructions; numbers, which may be labels where they are
+-- words; a string, and whether a zero follows; a number of zeros
 pub data SourceItem : Type 0 where
   Nothing : SourceItem
   Section : (in_text : Bool) → SourceItem

@@ -1,4 +1,5 @@
--- The names of the directives and of the pseudo-instructions (RISC-V Assembly Programmer's Manual, "Pseudo Ops" and "Assembler Pseudoinstructions").
+-- The names of the directives and of the pseudo-instructions (RISC-V Assembly Programmer's Manual, "Pseudo Ops" and
+-- "Assembler Pseudoinstructions").
 use Rattle.std.specs.Prelude.{ℕ, Option, List, [], ◌∷◌, codes}
 use Rattle.rv_inst.specs.declared.instruction.Cond.TheVariants as cond
 use Rattle.rv_text.specs.Tables.{look_up}

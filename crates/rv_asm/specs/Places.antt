@@ -1,4 +1,4 @@
--- Where a line stands: in the text or in the data, after what stands there already.
+-- Where a line is: in the text or in the data, after what is there already.
 use Rattle.std.specs.Prelude.{ℕ, ◌≤◌, ◌+◌, ◌%◌, ◌==◌, ◌&&◌, ◌||◌, not, nat_lt, true, Result, Ok, Err, List, if◌then◌else◌}
 use Rattle.rv_asm.specs.declared.refusal.AsmKind.{AsmKind}
 use Rattle.rv_asm.specs.declared.refusal.AsmKind.TheVariants.{Misplaced, TooLarge}
@@ -30,7 +30,8 @@ unfoldable pub place_after : SectionPlace → SourceItem → SectionPlace
 place_after place (Section in_text) = record place { in_text = in_text }
 place_after place item = grown place (size_of item)
 
--- the item may stand there: instructions only in the text at a multiple of 4, and its section is then no longer than 1,048,576 bytes
+-- the item may be there: instructions only in the text at a multiple of 4, and its section is then no longer than
+-- 1,048,576 bytes
 unfoldable pub fits_at : SectionPlace → SourceItem → Result (Unit {0}) AsmKind
 fits_at place item =
     if is_code item && (not place.in_text || not (address_of place % 4 == 0)) then Err Misplaced

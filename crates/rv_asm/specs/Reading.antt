@@ -1,4 +1,5 @@
--- What a statement stands for: a directive, a pseudo-instruction or an instruction (RISC-V Assembly Programmer's Manual).
+-- What a statement stands for: a directive, a pseudo-instruction or an instruction (RISC-V Assembly Programmer's
+-- Manual).
 use Rattle.std.specs.Prelude.{ℕ, ◌-◌, ◌%◌, ◌^◌, ◌==◌, pos, Bool, true, false, Option, Some, None, Result, Ok, Err, List, length, codes, nat_eq, if◌then◌else◌}
 use Rattle.std.specs.List.{starts_with}
 use Rattle.std.specs.Int.RustNames.{unsigned_abs}
@@ -46,7 +47,7 @@ one_number greatest text =
 abbrev pub padding : ℕ → ℕ → ℕ
 padding address size = (size - address % size) % size
 
--- a string, which is all that stands there, and whether a zero follows
+-- a string, which is all that is there, and whether a zero follows
 unfoldable pub string_read : Bool → List ℕ → Result SourceItem AsmKind
 string_read zero text = and_then (needed BadString (string_of (trimmed text))) (λ bytes. Ok (Chars bytes zero))
 
@@ -74,7 +75,8 @@ instruction_read mnemonic pc text = and_then (statement_by mnemonic text) (targe
 unfoldable pub unknown : List ℕ → AsmKind
 unknown name = if starts_with nat_eq name (codes ".") then UnknownDirective else Text UnknownName
 
--- what operands stand for after a name that may name a directive, a pseudo-instruction or an instruction: the first of these counts
+-- what operands stand for after a name that may name a directive, a pseudo-instruction or an instruction: the first of
+-- these counts
 abbrev pub meant : Option Directive → Option Pseudo → Option Mnemonic → List ℕ → ℕ → List ℕ → Result SourceItem AsmKind
 meant (Some directive) p m name pc text = directive_read directive pc text
 meant None (Some pseudo) m name pc text = as_text (pseudo_read pseudo pc text)

@@ -1,4 +1,5 @@
--- What stands in a line of assembly: a label, a statement, and a comment (GNU as, "Statements", "Comments" and "Symbol Names").
+-- What is in a line of assembly: a label, a statement, and a comment (GNU as, "Statements", "Comments" and "Symbol
+-- Names").
 use Rattle.std.specs.Prelude.{ℕ, ◌+◌, ◌==◌, ◌&&◌, ◌||◌, Bool, true, false, Option, Some, None, List, [], ◌∷◌, length, take, drop, codes, nat_eq, nat_le, if◌then◌else◌}
 use Rattle.std.specs.List.{starts_with, prefix_len}
 use Rattle.texts.specs.Bytes.{is_digit}
@@ -41,13 +42,13 @@ is_outside Outside = true
 is_outside Inside = false
 is_outside Escaped = false
 
--- how many bytes stand before the first `#` outside a string
+-- how many bytes are before the first `#` outside a string
 abbrev pub comment_at : Quote → List ℕ → ℕ
 comment_at quote [] = 0
 comment_at quote (byte ∷ rest) =
     if is_outside quote && byte == 35 then 0 else 1 + comment_at (quote_after quote byte) rest
 
--- what a line says: what stands before its comment, without the blanks around it
+-- what a line says: what is before its comment, without the blanks around it
 unfoldable pub said : List ℕ → List ℕ
 said line = trimmed (take (comment_at Outside line) line)
 

@@ -37,7 +37,8 @@ abbrev pub FarFits : Far → Type 0
 FarFits (far.Address rd) = IsRegister rd
 FarFits far.Call = Unit {0}
 
--- the fields of an instruction are in range, the text of a string is a string, and texts and zeros are no longer than a source may be
+-- the fields of an instruction are in range, the text of a string is a string, and texts and zeros are no longer than a
+-- source may be
 abbrev pub IsSoundStatement : Read → Type 0
 IsSoundStatement (read.Single i) = Fits i
 IsSoundStatement (read.Double i j) = Fits i × Fits j

@@ -12,7 +12,8 @@ HasNoNul name = All (λ byte. byte ≢ 0) name
 abbrev pub joined_names : List LabelView → List ℕ
 joined_names labels = flat_map (λ label. label.name) labels
 
--- at most 1,048,576 bytes of text and of data, at most 524,288 labels, and names without NUL of at most 1,048,576 bytes in all
+-- at most 1,048,576 bytes of text and of data, at most 524,288 labels, and names without NUL of at most 1,048,576 bytes
+-- in all
 pub record IsSmallObject (object : Object) : Type 0 where
   pub text : length object.text_bytes ≤ 1048576
   pub data_section : length object.data_bytes ≤ 1048576

@@ -1,5 +1,5 @@
 -- The bytes of a section: each instruction is a word that decodes to it, the low byte first (RISC-V Unprivileged ISA
--- Manual, "RV32I Base Integer Instruction Set"), and bytes stand as they are.
+-- Manual, "RV32I Base Integer Instruction Set"), and bytes are as they are.
 use Rattle.std.specs.Prelude.{◌≡◌, ◌⊎◌, ℕ, Some, Result, Ok, Err, List, [], ◌∷◌, ◌++◌, length}
 use Rattle.std.specs.Int.{w32, from_le_bytes}
 use Rattle.rv_inst.specs.Decoding.{decoded_m}

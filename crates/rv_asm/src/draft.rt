@@ -1,4 +1,4 @@
-//! The first look at the lines: where each stands, and the labels.
+//! The first look at the lines: where each is, and the labels.
 
 ghost use Rattle.std.specs.Prelude.{◌≡◌, ◌≤◌, ◌⊎◌, [], length, Ok, Err, IfOk, IfErr, OnOk};
 ghost use Rattle.rv_text.specs.Lines.{text_lines};
@@ -17,7 +17,7 @@ use crate::scanning::{label_in, said, statement_in};
 use rv_text::cut_line;
 use std::alloc::Global;
 
-/// What is known above a line: where it stands, and the labels so far.
+/// What is known above a line: where it is, and the labels so far.
 #[derive(Drop)]
 pub struct Draft {
     pub place: SectionPlace,

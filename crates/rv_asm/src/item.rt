@@ -54,7 +54,7 @@ pub fn is_code(item: SourceItem<'_>) -> bool
     }
 }
 
-/// How many numbers stand between the commas of a text.
+/// How many numbers are between the commas of a text.
 #[tactic(auto, using(crate::proofs::Splits::counts))]
 fn count_numbers(text: &[u8]) -> usize
     ensures count { result ≡ length (operands_of text.now) }

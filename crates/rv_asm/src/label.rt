@@ -21,7 +21,7 @@ pub(crate) fn name_of(alloc: Global, bytes: &[u8]) -> Result<Name, AllocError>
     }
 }
 
-/// A label: its name, its value, whether it is exported, and whether it stands in the text.
+/// A label: its name, its value, whether it is exported, and whether it is in the text.
 #[derive(Drop)]
 pub struct Label {
     pub name: Name,

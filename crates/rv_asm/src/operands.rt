@@ -69,7 +69,7 @@ fn check_placeable(width: Width, text: &[u8]) -> Result<(), TextErr>
     Ok(())
 }
 
-/// The operand at the front of a text, and the text after its comma, where there is one.
+/// The operand at the start of a text, and the text after its comma, where there is one.
 #[tactic(auto, using(crate::proofs::Splits::commas))]
 pub fn cut_operand(text: &[u8]) -> (&[u8], Option<&[u8]>)
     ensures operands { operands_of text.now ≡ result.0.now ∷ operands_left (option_map (λ rest. rest.now) result.1) }

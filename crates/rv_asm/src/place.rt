@@ -1,4 +1,4 @@
-//! Where a line stands: in the text or in the data, after what stands there already.
+//! Where a line is: in the text or in the data, after what is there already.
 #![tactic(auto, unfolding(crate::specs::Places::address_of, crate::specs::Places::place_after, crate::specs::Places::fits_at))]
 
 ghost use Rattle.std.specs.Prelude.{◌≡◌, ◌≤◌, ◌+◌, ◌<◌, ◌^◌, Ok};
@@ -12,7 +12,7 @@ use crate::refusal::AsmKind;
 /// The most bytes that a source, the text or the data may have.
 pub const MOST: usize = 0x10_0000;
 
-/// Where a line stands: the section, and how long both are above the line.
+/// Where a line is: the section, and how long both are above the line.
 #[derive(Clone, Copy)]
 pub struct SectionPlace {
     pub in_text: bool,
@@ -86,7 +86,7 @@ impl SectionPlace {
         }
     }
 
-    /// `Misplaced` where the item is code and stands in the data or at an address that 4 does not divide, and `TooLarge`
+    /// `Misplaced` where the item is code and is in the data or at an address that 4 does not divide, and `TooLarge`
     /// where its section would be too long with it.
     pub fn check(self, item: SourceItem<'_>) -> Result<(), AsmKind>
         requires place { IsPlaceInLimits self }

@@ -22,9 +22,9 @@ pub enum AsmKind {
     TooLarge(u64),
     /// A byte of the line is above 127.
     NotAscii,
-    /// A string is expected, but does not stand there alone, has no end, or has an unknown escape.
+    /// A string is expected, but is not there alone, has no end, or has an unknown escape.
     BadString,
-    /// An instruction stands in the data, or at an address that 4 does not divide.
+    /// An instruction is in the data, or at an address that 4 does not divide.
     Misplaced,
     /// Memory is refused.
     NoMemory,

@@ -18,7 +18,7 @@ use crate::scanning::{said, statement_in};
 use rv_text::cut_line;
 use std::alloc::{AllocError, Global};
 
-/// What stands in the sections above a line.
+/// What is in the sections above a line.
 #[derive(Drop)]
 pub struct Output {
     pub place: SectionPlace,

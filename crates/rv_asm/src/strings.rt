@@ -21,7 +21,7 @@ fn escape(byte: u8) -> Option<u8>
     }
 }
 
-/// The byte that the front of a text stands for after a `\` in a string, and the text after it.
+/// The byte that the start of a text stands for after a `\` in a string, and the text after it.
 #[tactic(auto)]
 fn cut_escaped(text: &[u8]) -> Option<(u8, &[u8])>
     ensures cut { MatchOption result (string_from true text.now ≡ None)
@@ -34,8 +34,8 @@ fn cut_escaped(text: &[u8]) -> Option<(u8, &[u8])>
     }
 }
 
-/// The byte of an open string that the front of a text stands for, and the text after it; or `None` where no byte of the
-/// string stands there.
+/// The byte of an open string that the start of a text stands for, and the text after it; or `None` where no byte of
+/// the string is there.
 #[tactic(auto, using(crate::proofs::Chars::quote_alone))]
 fn cut_char(text: &[u8]) -> Option<(u8, &[u8])>
     ensures cut { MatchOption result (string_from false text.now ≡ ended text.now)
@@ -52,7 +52,7 @@ fn cut_char(text: &[u8]) -> Option<(u8, &[u8])>
     }
 }
 
-/// How many bytes stand in the string that is open at the front of a text and closed at its end.
+/// How many bytes are in the string that is open at the start of a text and closed at its end.
 #[tactic(auto, using(crate::proofs::Chars::counts))]
 fn open_string_len(text: &[u8]) -> Option<usize>
     ensures length { result ≡ option_map (λ bytes. length bytes) (string_from false text.now) }
@@ -75,8 +75,8 @@ pub fn string_len(text: &[u8]) -> Option<usize>
     open_string_len(text.strip_prefix(b"\"")?)
 }
 
-/// Appends the bytes of the string that is open at the front of a text, and says
-/// whether the string is closed at the text's end and has no unknown escapes.
+/// Appends the bytes of the string that is open at the start of a text, and says whether the string is closed at the
+/// text's end and has no unknown escapes.
 #[tactic(auto, using(crate::proofs::Chars::chars))]
 fn push_open_string(bytes: &mut Vec<u8>, text: &[u8]) -> Result<bool, AllocError>
     ensures { IfOk result (λ whole. option_map (λ string. bytes.old.items ++ string) (string_from false text.now)

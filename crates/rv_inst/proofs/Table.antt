@@ -69,7 +69,7 @@ decoded_complete w Ebreak b h = rw h decoded-ebreak
 decoded_complete w (FenceI rd rs1 imm) b h = rw (h.opcode_is, h.funct3_is) (cc)
 decoded_complete w (Mul op rd rs1 rs2) b h = absurd (grind arith)
 
--- the instruction of RV32I that is read stands in the table
+-- the instruction of RV32I that is read is in the table
 pub decoded_sound : (w : ℕ) → IfSome (decoded w) (λ i. Encodes w i)
 unfolding decoded decoded_jalr decoded_branch decoded_load decoded_store decoded_imm decoded_op decoded_fence decoded_system
 decoded_sound w = grind (arith, nat_tests)
@@ -102,7 +102,7 @@ decoded_m_complete w (Mul mulop.Rem rd rs1 rs2) h = rw (h.opcode_is, h.funct3_is
 decoded_m_complete w (Mul mulop.Remu rd rs1 rs2) h = rw (h.opcode_is, h.funct3_is, h.funct7_is) (cc)
 decoded_m_complete w i h = decoded_m_base w i (decoded_complete w i refl h)
 
--- the instruction that is read stands in the table
+-- the instruction that is read is in the table
 pub decoded_m_sound : (w : ℕ) → IfSome (decoded_m w) (λ i. Encodes w i)
 unfolding decoded_m decoded_mul
 decoded_m_sound w = grind (arith, nat_tests, decoded_sound)

@@ -1,5 +1,5 @@
--- What a load or a store asks of the memory, and what a load makes of the answer (RISC-V Unprivileged ISA Manual,
--- "RV32I Base Integer Instruction Set", Load and Store Instructions).
+-- The memory access of a load or a store, and the value that a load makes of what it read (RISC-V Unprivileged ISA
+-- Manual, "RV32I Base Integer Instruction Set", Load and Store Instructions).
 use Rattle.std.specs.Prelude.{ℕ, Bool, ◌%◌, ◌^◌, true, false}
 use Rattle.rv_inst.specs.declared.instruction.LoadKind.{LoadKind}
 use Rattle.rv_inst.specs.declared.instruction.LoadKind.TheVariants as load
@@ -30,13 +30,14 @@ store_width store.Byte = 1
 store_width store.Half = 2
 store_width store.Word = 4
 
--- the access of a load or a store whose sources are a and b; other instructions make no access, written here as all zeros
+-- the access of a load or a store whose sources are a and b; other instructions make no access, and get all zeros here
 unfoldable pub access_made : Instr → ℕ → ℕ → Access
 access_made (Load k rd rs1 imm) a b = record { addr = word_sum a (word_of imm); width = load_width k; write = false; value = 0 }
 access_made (Store k rs1 rs2 imm) a b = record { addr = word_sum a (word_of imm); width = store_width k; write = true; value = b }
 access_made _ a b = record { addr = 0; width = 0; write = false; value = 0 }
 
--- the value that a load writes to its register when it has read `raw`: the low 8 or 16 bits, sign-extended or zero-extended, or the whole word
+-- the value that a load writes to its register when it has read `raw`: the low 8 or 16 bits, sign-extended or
+-- zero-extended, or the whole word
 unfoldable pub load_value : LoadKind → ℕ → ℕ
 load_value load.Byte raw = word_of (signed_below (2 ^ 7) (raw % 2 ^ 8))
 load_value load.Half raw = word_of (signed_below (2 ^ 15) (raw % 2 ^ 16))
@@ -44,7 +45,7 @@ load_value load.Word raw = raw
 load_value load.ByteU raw = raw % 2 ^ 8
 load_value load.HalfU raw = raw % 2 ^ 16
 
--- the value that a load writes, and what any other instruction leaves as it is
+-- the value that a load writes; for any other instruction the number as it is
 unfoldable pub extended : Instr → ℕ → ℕ
 extended (Load k rd rs1 imm) raw = load_value k raw
 extended _ raw = raw

@@ -59,7 +59,8 @@ alu_value (OpImm op rd rs1 imm) pc a b = op_value (register_op op) a (word_of im
 alu_value (Op op rd rs1 rs2) pc a b = op_value op a b
 alu_value _ pc a b = 0
 
--- the address of the next instruction: the target of a jump or of a taken branch, else this instruction's address plus 4; JALR clears bit 0
+-- the address of the next instruction: the target of a jump or of a taken branch, else this instruction's address plus
+-- 4; JALR clears bit 0
 unfoldable pub next_pc : Instr → ℕ → ℕ → ℕ → ℕ
 next_pc (Jal rd imm) pc a b = word_sum pc (word_of imm)
 next_pc (Jalr rd rs1 imm) pc a b = word_sum a (word_of imm) / 2 * 2

@@ -1,4 +1,5 @@
--- The instruction of a word, read off its fields (RISC-V Unprivileged ISA Manual, "RV32/64G Instruction Set Listings": RV32I, Zifencei, RV32M).
+-- The instruction of a word, read off its fields (RISC-V Unprivileged ISA Manual, "RV32/64G Instruction Set Listings":
+-- RV32I, Zifencei, RV32M).
 use Rattle.std.specs.Prelude.{ℕ, pos, Option, Some, None, ◌==◌, ◌&&◌, ◌||◌, if◌then◌else◌, option_and_then}
 use Rattle.rv_inst.specs.declared.instruction.Cond.{Cond}
 use Rattle.rv_inst.specs.declared.instruction.Cond.TheVariants as cond

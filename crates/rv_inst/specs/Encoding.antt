@@ -1,4 +1,5 @@
--- The encoding: which word stands for which instruction (RISC-V Unprivileged ISA Manual, "RV32/64G Instruction Set Listings": RV32I, Zifencei, RV32M).
+-- The encoding: which word stands for which instruction (RISC-V Unprivileged ISA Manual, "RV32/64G Instruction Set
+-- Listings": RV32I, Zifencei, RV32M).
 use Rattle.std.specs.Prelude.{◌≡◌, ℕ, Bool, true, false}
 use Rattle.rv_inst.specs.declared.instruction.Cond.TheVariants as cond
 use Rattle.rv_inst.specs.declared.instruction.LoadKind.TheVariants as load

@@ -30,11 +30,11 @@ rs2_of w = bits 24 20 w
 unfoldable pub funct7 : ℕ → ℕ
 funct7 w = bits 31 25 w
 
--- the upper twelve bits as they stand, as FENCE holds them
+-- the upper twelve bits, unchanged, as FENCE holds them
 unfoldable pub high12 : ℕ → ℕ
 high12 w = bits 31 20 w
 
--- the two's complement reading of a number below twice `half`: from `half` on, twice `half` less
+-- the two's complement value of a number below twice `half`: from `half` on, twice `half` is subtracted
 abbrev pub signed_below : ℕ → ℕ → ℤ
 signed_below half n = if nat_lt n half then pos n else pos n -ℤ pos (half + half)
 
@@ -42,7 +42,7 @@ signed_below half n = if nat_lt n half then pos n else pos n -ℤ pos (half + ha
 unfoldable pub imm_i : ℕ → ℤ
 imm_i w = signed_below (2 ^ 11) (bits 31 20 w)
 
--- the bits of the S-immediate: bits 31 to 25 above bits 11 to 7
+-- the bits of the S-immediate: bits 31 to 25, then bits 11 to 7
 abbrev pub bits_s : ℕ → ℕ
 bits_s w = bits 31 25 w * 2 ^ 5 + bits 11 7 w
 
@@ -58,7 +58,7 @@ bits_b w = bits 31 31 w * 2 ^ 12 + bits 7 7 w * 2 ^ 11 + bits 30 25 w * 2 ^ 5 + 
 unfoldable pub imm_b : ℕ → ℤ
 imm_b w = signed_below (2 ^ 12) (bits_b w)
 
--- the U-immediate: bits 31 to 12, which stands for itself times 2 ^ 12
+-- the U-immediate: bits 31 to 12, which count times 2 ^ 12
 unfoldable pub imm_u : ℕ → ℕ
 imm_u w = bits 31 12 w
 

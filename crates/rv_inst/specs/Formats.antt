@@ -1,4 +1,5 @@
--- The instruction formats: what each field of a word holds (RISC-V Unprivileged ISA Manual, "RV32I Base Integer Instruction Set", Base Instruction Formats).
+-- The instruction formats: what each field of a word holds (RISC-V Unprivileged ISA Manual, "RV32I Base Integer
+-- Instruction Set", Base Instruction Formats).
 use Rattle.std.specs.Prelude.{◌≡◌, ℕ, ℤ, pos}
 use Rattle.rv_inst.specs.Fields.{opcode, rd_of, funct3, rs1_of, rs2_of, funct7, high12, imm_i, imm_s, imm_b, imm_u, imm_j}
 
@@ -19,7 +20,7 @@ pub record IsIType (w opc f3 rd rs1 : ℕ) (imm : ℤ) : Type 0 where
   pub rs1_is : rs1 ≡ rs1_of w
   pub imm_is : imm ≡ imm_i w
 
--- the I-type of a shift by a constant: the amount stands in the field of rs2
+-- the I-type of a shift by a constant: the amount is in the field of rs2
 pub record IsShiftType (w opc f3 f7 rd rs1 : ℕ) (amount : ℤ) : Type 0 where
   pub opcode_is : opcode w ≡ opc
   pub funct3_is : funct3 w ≡ f3
@@ -28,7 +29,7 @@ pub record IsShiftType (w opc f3 f7 rd rs1 : ℕ) (amount : ℤ) : Type 0 where
   pub rs1_is : rs1 ≡ rs1_of w
   pub amount_is : amount ≡ pos (rs2_of w)
 
--- the I-type of a fence: its upper twelve bits are taken as they stand
+-- the I-type of a fence: its upper twelve bits are one field
 pub record IsFenceType (w opc f3 rd rs1 imm : ℕ) : Type 0 where
   pub opcode_is : opcode w ≡ opc
   pub funct3_is : funct3 w ≡ f3

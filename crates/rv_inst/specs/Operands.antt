@@ -1,4 +1,5 @@
--- The class of an instruction, and the registers that it reads and writes (RISC-V Unprivileged ISA Manual, "RV32I Base Integer Instruction Set").
+-- The class of an instruction, and the registers that it reads and writes (RISC-V Unprivileged ISA Manual, "RV32I Base
+-- Integer Instruction Set").
 use Rattle.std.specs.Prelude.{ℕ}
 use Rattle.rv_inst.specs.declared.instruction.ImmOp.{ImmOp}
 use Rattle.rv_inst.specs.declared.instruction.ImmOp.TheVariants as immop

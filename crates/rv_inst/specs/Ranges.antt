@@ -1,4 +1,5 @@
--- The ranges of an instruction's fields (RISC-V Unprivileged ISA Manual, "RV32I Base Integer Instruction Set", Immediate Encoding Variants).
+-- The ranges of an instruction's fields (RISC-V Unprivileged ISA Manual, "RV32I Base Integer Instruction Set",
+-- Immediate Encoding Variants).
 use Rattle.std.specs.Prelude.{◌≡◌, ℕ, ◌-◌, ◌<◌, ◌%◌, ◌^◌, ℤ, pos, negsuc, ◌≤ℤ◌, ◌<ℤ◌}
 use Rattle.std.specs.Int.RustNames.{unsigned_abs}
 use Rattle.rv_inst.specs.declared.instruction.ImmOp.{ImmOp}

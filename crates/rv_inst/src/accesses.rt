@@ -1,4 +1,4 @@
-//! What a load or a store asks of the memory, and what a load makes of the answer.
+//! The memory access of a load or a store, and the value that a load makes of what it read.
 #![tactic(auto, using(crate::proofs::Masks::masks), unfolding(crate::specs::Accesses::access_made, crate::specs::Accesses::load_value, crate::specs::Accesses::extended))]
 
 ghost use Rattle.std.specs.Prelude.{◌≡◌, ◌⊎◌, false, IsTrue, ◌^◌, ◌<◌};

@@ -129,7 +129,7 @@ fn encode_word(i: Instr) -> u32
     }
 }
 
-/// The word that stands for the instruction, whose fields are in range. It is the only one.
+/// The only word that stands for the instruction, whose fields are in range.
 #[tactic(auto, using(crate::proofs::Reading::writing))]
 pub fn encode(i: Instr) -> u32
     requires { Fits i }

@@ -17,7 +17,8 @@ pub enum Cond {
     Geu,
 }
 
-/// The width of a load and how it fills the register ("RV32I Base Integer Instruction Set", Load and Store Instructions).
+/// The width of a load and how it fills the register ("RV32I Base Integer Instruction Set", Load and Store
+/// Instructions).
 #[derive(Clone, Copy, PartialEq, Eq)]
 pub enum LoadKind {
     /// LB: one byte, sign-extended.
@@ -43,7 +44,8 @@ pub enum StoreKind {
     Word,
 }
 
-/// An operation on a register and an immediate ("RV32I Base Integer Instruction Set", Integer Register-Immediate Instructions).
+/// An operation on a register and an immediate ("RV32I Base Integer Instruction Set", Integer Register-Immediate
+/// Instructions).
 #[derive(Clone, Copy, PartialEq, Eq)]
 pub enum ImmOp {
     /// ADDI.
@@ -117,12 +119,12 @@ pub enum MulOp {
 /// `fits` says which values stand for an instruction of the machine.
 #[derive(Clone, Copy, PartialEq, Eq)]
 pub enum Instr {
-    /// LUI; `imm` is the 20-bit field, which stands for itself times 4096.
+    /// LUI; `imm` is the 20-bit field, which counts times 4096.
     Lui {
         rd: u8,
         imm: u32,
     },
-    /// AUIPC; `imm` is the 20-bit field, which stands for itself times 4096.
+    /// AUIPC; `imm` is the 20-bit field, which counts times 4096.
     Auipc {
         rd: u8,
         imm: u32,

@@ -16,14 +16,14 @@ pub fn one_word()
     ensures { (v w : ℕ) (i : Instruction) → v < 2 ^ 32 → w < 2 ^ 32 → Encodes v i → Encodes w i → v ≡ w }
 {}
 
-/// A word that stands for an instruction is read as that instruction, and only such a word is.
+/// A word is decoded to an instruction exactly where it stands for it.
 #[tactic(auto, using(crate::proofs::Reading::laws))]
 pub fn read_where_encoded()
     ensures complete { (w : ℕ) (i : Instruction) → Encodes w i → decoded_m w ≡ Some i }
     ensures sound { (w : ℕ) (i : Instruction) → decoded_m w ≡ Some i → Encodes w i }
 {}
 
-/// The same of the instructions of RV32I with FENCE.I alone.
+/// The same for RV32I with FENCE.I alone.
 #[tactic(auto, using(crate::proofs::Reading::laws))]
 pub fn read_where_base_encoded()
     ensures complete { (w : ℕ) (i : Instruction) → IsTrue (is_base i) → Encodes w i → decoded w ≡ Some i }

@@ -1,4 +1,5 @@
-//! The instructions of RV32I with FENCE.I and the M extension: words to instructions and back, and what an instruction computes.
+//! The instructions of RV32I with FENCE.I and the M extension: words to instructions and back, and what an instruction
+//! computes.
 #![tactic(auto)]
 
 mod accesses;

@@ -72,7 +72,7 @@ pub fn pack_shift(opcode: u32, funct3: u32, funct7: u32, rd: u8, rs1: u8, amount
     pack_rd_rs1(opcode, funct3, rd, rs1, amount as u32, funct7)
 }
 
-/// The I-type word of a fence, whose `imm` is the upper twelve bits as they stand.
+/// The I-type word of a fence, whose `imm` is the upper twelve bits, unchanged.
 pub fn pack_fence(opcode: u32, funct3: u32, rd: u8, rs1: u8, imm: u32) -> u32
     requires opcode { opcode < 2 ^ 7 }
     requires funct3 { funct3 < 2 ^ 3 }

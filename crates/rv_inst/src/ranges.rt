@@ -30,14 +30,14 @@ fn is_amount(imm: i32) -> bool
     0 <= imm && imm < 32
 }
 
-/// Whether a branch can go this far.
+/// Whether it is a branch distance.
 fn is_branch_distance(imm: i32) -> bool
     ensures { IsTrue result ↔ IsWithin (2 ^ 12) imm × IsEven imm }
 {
     -0x1000 <= imm && imm < 0x1000 && imm.unsigned_abs() % 2 == 0
 }
 
-/// Whether a jump can go this far.
+/// Whether it is a jump distance.
 fn is_jump_distance(imm: i32) -> bool
     ensures { IsTrue result ↔ IsWithin (2 ^ 20) imm × IsEven imm }
 {

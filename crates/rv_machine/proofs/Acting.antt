@@ -1,4 +1,5 @@
--- What a hart does alone, it does beside streams that stay as they are; and as an environment call ends, so does its instruction.
+-- What a hart does alone, it does beside streams that stay as they are; and as an environment call ends, so does its
+-- instruction.
 use Rattle.std.proofs.Common.{◌≡◌, ◌∙◌, ◌≢◌, ℕ, ◌%◌, List, [], Some, None, Ok, Err, true, false, ◌==◌, refl, ap, sym, subst, IsTrue, arith}
 use Rattle.std.proofs.lemmas.Bool.Decides.{nat_tests}
 use Rattle.mem_regions.specs.Memory.{Memory}

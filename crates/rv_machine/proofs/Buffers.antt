@@ -1,4 +1,4 @@
--- A read leaves the bytes that were taken at the front of its buffer, and the old ones after them.
+-- A read leaves the bytes that were taken at the start of its buffer, and the old ones after them.
 use Rattle.std.proofs.Common.{◌≡◌, ◌∙◌, ℕ, ◌+◌, ◌-◌, ◌≤◌, List, [], ◌∷◌, ◌++◌, Bool, true, false, Option, Some, None, Result, Ok, Err, IsTrue, length, take, drop, find, cond, refl, ap, sym, arith, append_assoc}
 use Rattle.std.specs.Prelude.{IfOk, OnErr}
 use Rattle.std.specs.Option.{option_map}
@@ -13,7 +13,8 @@ use Rattle.mem_regions.proofs.Writes.{writes-lies}
 use Rattle.rv_machine.specs.Streams.{GivesInput}
 use Rattle.rv_machine.specs.Buffers.{TakesInto, Fills, FillsSome}
 
--- a part and what comes after it are the part's front and what comes after that, where the part has the old bytes after its front
+-- a part and what comes after it are the part's front and what comes after that, where the part has the old bytes after
+-- its front
 tail-kept : (bytes new : List ℕ) (at len n : ℕ) → at + len ≤ length bytes → length new ≡ len →
     n ≤ len → drop n new ≡ drop n (take len (drop at bytes)) →
     new ++ drop (at + length new) bytes ≡ take n new ++ drop (at + length (take n new)) bytes
@@ -81,7 +82,7 @@ memory_with-front mem addr len n old new h size some same =
     ap (λ (areas : List Area). let m : Memory = record mem { areas = areas } in m)
     (first_changed-front addr len n new old mem.areas size some same h)
 
--- what is told of an input whose first bytes were taken
+-- what is known of an input whose first bytes were taken
 front-gives : (left after : Option (List ℕ)) (new : List ℕ) (n : ℕ) →
     GivesFront left after new n → GivesInput left after (take n new)
 front-gives None after new n gives = tt

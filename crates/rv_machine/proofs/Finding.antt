@@ -1,4 +1,4 @@
--- A step by what stands at the program counter.
+-- A step by what is at the program counter.
 use Rattle.std.proofs.Common.{◌≡◌, ◌≢◌, ℕ, ◌%◌, false, Option, Some, None, Result, Ok, Err, find, refl, ap, sym, ◌∙◌, arith}
 use Rattle.std.proofs.lemmas.Bool.Decides.{nat_tests}
 use Rattle.mem_regions.specs.Memory.{Memory}
@@ -79,7 +79,7 @@ misaligned m pc e a =
     let f : word_of pc (find (fetches_in pc) m.areas) ≡ Err Misaligned = rw a at e in
     word_of-aligned pc (find (fetches_in pc) m.areas) f
 
--- an instruction of RV32IM stands there
+-- an instruction of RV32IM is there
 pub steps-found : (isa : Isa) (h new : Hart) (before after : Streams) (word : ℕ) (i : Instr)
     (result : Stepped) → found_at h.mem h.pc ≡ found.Instruction word i →
     Acts (decoded_as isa word ≡ Some instr.Ecall)
@@ -90,7 +90,7 @@ steps-found isa h new before after word i result e acts =
     let f = read_from-instruction (fetch_at h.mem h.pc) word i e in
     steps-fetched isa h new before after word result (word-aligned h.mem h.pc word f.0) f.0 acts
 
--- no instruction stands there
+-- no instruction is there
 stopped : (isa : Isa) (h : Hart) (s : Streams) (f : Found) (result : Stepped) → read_from (fetch_at h.mem h.pc) ≡ f →
     is_instruction f ≡ false → result ≡ trap_of h.pc f → Steps isa h h s s result
 stopped isa h s (found.Instruction word i) result e none is = absurd (grind arith)

@@ -1,10 +1,10 @@
--- What streams tell where nothing is asked of them, and after one use and then another.
+-- What streams expose where nothing is asked of them, and after one use and then another.
 use Rattle.std.proofs.Common.{◌≡◌, ℕ, List, [], ◌++◌, Option, Some, None, refl, ap, sym, ◌∙◌, subst, append-nil, append_assoc}
 use Rattle.std.specs.Prelude.{unwrap_or}
 use Rattle.cf_io.specs.Puts.{Writes}
 use Rattle.rv_machine.specs.Streams.{Streams, IsTold, Becomes, Leaves, IsSpent}
 
--- an input that agrees with what is told: the empty one where nothing is told
+-- an input that agrees with what is known: the empty one where nothing is told
 abbrev pub some_rest : Option (List ℕ) → List ℕ
 some_rest told = unwrap_or told []
 

@@ -13,7 +13,7 @@ use Rattle.rv_machine.specs.declared.decode_cache.Found.TheVariants as found
 use Rattle.rv_machine.specs.declared.decode_cache.Decoded.{Decoded}
 use Rattle.rv_machine.specs.Decoded.{read_from, found_at, is_instruction, IsEmpty, IsKeptOf, IsCacheOf, place_at, nothing_kept, keeps}
 
--- what stands at an address depends only on the word that is fetched there
+-- what is at an address depends only on the word that is fetched there
 found_at-same : (m n : Memory) (pc : ℕ) → fetch_at n pc ≡ fetch_at m pc → found_at n pc ≡ found_at m pc
 unfolding found_at
 found_at-same m n pc e = ap read_from e
@@ -35,7 +35,7 @@ pub cache-empty : (m : Memory) (places : List Decoded) → All IsEmpty places �
 unfolding IsCacheOf
 cache-empty m places empty = λ k d below small. absurd (omega arith)
 
--- what stands at one address is kept with the rest
+-- what is at one address is kept with the rest
 pub cache-with : (m : Memory) (places : List Decoded) (k address pc word : ℕ) (i : Instr) → address ≡ pc →
     found_at m pc ≡ found.Instruction word i → IsCacheOf m places →
     IsCacheOf m (slice_set places k (record { address = address; word = word; instr = i }))
@@ -51,7 +51,7 @@ pub keeps-with : (places : List Decoded) (address pc word : ℕ) (i : Instr) →
 unfolding keeps
 keeps-with places address pc word i e below = grind (arith, nat_tests, get_or-set_at)
 
--- what is kept of an address stands there
+-- what is kept of an address is there
 pub cache-at : (m : Memory) (places : List Decoded) (pc : ℕ) → IsCacheOf m places → IsTrue (keeps places pc) →
     place_at pc < length places → pc < 2 ^ 32 →
     found_at m pc ≡ found.Instruction (slice_index_or places (place_at pc) nothing_kept).word

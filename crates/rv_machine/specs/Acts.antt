@@ -1,4 +1,4 @@
--- What a call of the machine does, by what the definitions say and the streams tell.
+-- What a call of the machine does, by the definitions and by what the streams expose.
 use Rattle.std.specs.Prelude.{◌≡◌, ℕ, ◌+◌, ◌%◌, List, Some, Ok}
 use Rattle.mem_regions.specs.Memory.{Memory}
 use Rattle.mem_regions.specs.Fetching.{fetch_at}
@@ -19,13 +19,13 @@ use Rattle.rv_machine.specs.Step.{step_on}
 use Rattle.rv_machine.specs.Streams.{Streams, IsTold, Leaves, IsSpent}
 use Rattle.rv_machine.specs.Faults.{FailsReading, FailsWriting}
 
--- the hart did this, which asks nothing of the streams
+-- the hart did this, without using the streams
 abbrev pub HartDoes : Outcome Hart → Hart → Hart → Stepped → Type 0
 HartDoes (Next h line) old new result = (new ≡ h) × (result ≡ stepped.Next line)
 HartDoes (Trap cause pc detail) old new result = (new ≡ old) × (result ≡ stepped.Trap cause pc detail)
 HartDoes (Exit status) old new result = (new ≡ old) × (result ≡ stepped.Exit status)
 
--- an instruction retired: the outcome is this on some input that agrees with what is told
+-- an instruction retired: the outcome is this on some input that agrees with what is known
 pub record Retires (outcome : List ℕ → Outcome Machine) (new : Hart) (before after : Streams)
     (line : Retired) : Type 0 where
   pub rest : List ℕ
@@ -36,7 +36,7 @@ pub record Retires (outcome : List ℕ → Outcome Machine) (new : Hart) (before
   pub leaves : Leaves before after next.rest next.output
   pub spent : IsSpent before.input next.rest
 
--- a trap or an exit, which leaves all as it was: the outcome is this on some input that agrees with what is told
+-- a trap or an exit, which leaves all as it was: the outcome is this on some input that agrees with what is known
 pub record StopsUnchanged (outcome : List ℕ → Outcome Machine) (end : Outcome Machine) (old new : Hart)
     (before after : Streams) : Type 0 where
   pub rest : List ℕ
@@ -71,7 +71,7 @@ abbrev pub Steps : Isa → Hart → Hart → Streams → Streams → Stepped →
 Steps isa old new before after result =
     Acts (CallsHere isa old) (step_on isa old) old new before after result
 
--- the call answered: it is this on some input that agrees with what is told
+-- the call answered: it is this on some input that agrees with what is known
 pub record Returns (asked : List ℕ → Called) (new : Memory) (before after : Streams)
     (value : ℕ) : Type 0 where
   pub rest : List ℕ

@@ -5,7 +5,7 @@ use Rattle.mem_regions.specs.Memory.{Memory}
 use Rattle.mem_regions.specs.Writing.{memory_with}
 use Rattle.rv_machine.specs.Streams.{GivesInput}
 
--- bytes went from the input to the front of the buffer, and its old bytes follow them
+-- bytes went from the input to the start of the buffer, and its old bytes follow them
 pub record TakesInto (addr len : ℕ) (mem new : Memory) (left after : Option (List ℕ))
     (taken : List ℕ) : Type 0 where
   pub fits : length taken ≤ len

@@ -1,4 +1,4 @@
--- What stands at an address of memory, and what a cache may keep of it (RISC-V Unprivileged ISA Manual, "Zifencei"
+-- What is at an address of memory, and what a cache may keep of it (RISC-V Unprivileged ISA Manual, "Zifencei"
 -- Extension for Instruction-Fetch Fence: stores need not be seen by fetches).
 use Rattle.std.specs.Prelude.{◌≡◌, ◌<◌, ◌≤◌, ◌^◌, ◌/◌, ◌%◌, ◌==◌, ℕ, List, slice_index_or, Bool, true, false, if◌then◌else◌, Option, Some, None, Result, Ok, Err}
 use Rattle.std.specs.List.{All}
@@ -29,7 +29,7 @@ read_from (Ok word) = read_as word (decoded_m word)
 read_from (Err NoAccess) = found.Nothing
 read_from (Err Misaligned) = found.Misaligned
 
--- what stands at the address
+-- what is at the address
 unfoldable pub found_at : Memory → ℕ → Found
 found_at mem pc = read_from (fetch_at mem pc)
 
@@ -56,26 +56,26 @@ if_m Rv32im i = Some i
 unfoldable pub in_set : Isa → Instr → Option Instr
 in_set isa i = if is_base i then Some i else if_m isa i
 
--- a place with nothing in it has an address beyond all others
+-- the address of an empty entry is beyond all others
 abbrev pub IsEmpty : Decoded → Type 0
 IsEmpty d = 2 ^ 32 ≤ d.address
 
--- what a place keeps of an address is what stands there
+-- what the entry keeps of its address is what memory has there
 abbrev pub IsKeptOf : Memory → Decoded → Type 0
 IsKeptOf mem d = d.address < 2 ^ 32 → found_at mem d.address ≡ found.Instruction d.word d.instr
 
--- all that is kept is what stands there
+-- all that the cache keeps is what memory has
 unfoldable pub IsCacheOf : Memory → List Decoded → Type 0
 IsCacheOf mem places = All (IsKeptOf mem) places
 
--- the place of an address
+-- the index of an address in the cache
 abbrev pub place_at : ℕ → ℕ
 place_at pc = pc / 4 % 4096
 
--- what an index out of range would give, which never occurs in a cache
+-- the entry at an index out of range, which never occurs in a cache
 abbrev pub nothing_kept : Decoded
 nothing_kept = record { address = 0; word = 0; instr = Lui 0 0 }
 
--- the address is kept
+-- the cache has the address
 unfoldable pub keeps : List Decoded → ℕ → Bool
 keeps places pc = (slice_index_or places (place_at pc) nothing_kept).address == pc

@@ -45,7 +45,8 @@ first_value h i = register_value h.regs (sources_of i).0
 abbrev pub second_value : Hart → Instr → ℕ
 second_value h i = register_value h.regs (sources_of i).1
 
--- arithmetic, products and quotients, branches and jumps: a target that is not a multiple of 4 is a trap of the instruction that jumps
+-- arithmetic, products and quotients, branches and jumps: a target that is not a multiple of 4 is a trap of the
+-- instruction that jumps
 unfoldable pub compute : Hart → ℕ → Instr → Outcome Hart
 compute h word i =
     let a = first_value h i in
@@ -84,7 +85,7 @@ breaks _ = false
 unfoldable pub pass : Hart → ℕ → Instr → Outcome Hart
 pass h word i = if breaks i then Trap 3 h.pc h.pc else retire h word (word_sum h.pc 4) 0 0
 
--- the hart's outcome, with what the input has left and the bytes that went to the output
+-- the hart's outcome as the machine's, with what the input has left and the bytes that went to the output
 abbrev pub beside : List ℕ → List ℕ → Outcome Hart → Outcome Machine
 beside rest output (Next h line) = Next (record { hart = h; rest = rest; output = output }) line
 beside rest output (Trap cause pc detail) = Trap cause pc detail
@@ -105,7 +106,7 @@ synchronizes _ = false
 unfoldable pub synchronize : Hart → ℕ → Outcome Hart
 synchronize h word = retire (record h { mem = synced h.mem }) word (word_sum h.pc 4) 0 0
 
--- ECALL asks the outside; FENCE.I has the code fetched anew from memory
+-- ECALL asks the environment; FENCE.I makes the code that is fetched that of memory
 unfoldable pub serial : Hart → List ℕ → ℕ → Instr → Outcome Machine
 serial h rest word i =
     if synchronizes i

@@ -24,7 +24,7 @@ fn synchronizes(i: Instr) -> bool
 }
 
 impl Machine {
-    /// FENCE.I: what is fetched from now on is what memory has, and nothing is kept that was decoded before.
+    /// FENCE.I: from now on code is fetched from memory as it is, and the cache of decoded instructions is empty.
     #[inline(always)]
     #[tactic(auto, using(crate::proofs::Keeping::still), unfolding(crate::specs::Step::retire, crate::specs::Step::synchronize))]
     fn synchronize(&mut self, word: u32) -> Stepped

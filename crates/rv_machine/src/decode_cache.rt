@@ -8,10 +8,10 @@ ghost use Rattle.rv_machine.specs.Decoded.{IsEmpty, IsCacheOf, found_at, is_inst
 use mem_regions::{MemErr, Regions};
 use rv_inst::{Instr, decode_m};
 
-/// How many instructions are kept: those of 16 KiB of code.
+/// How many entries the cache has: enough for 16 KiB of code.
 const PLACES: usize = 4096;
 
-/// What stands at an address.
+/// What is at an address.
 #[derive(Clone, Copy)]
 pub(crate) enum Found {
     /// A word, and the instruction of RV32IM that it stands for.
@@ -30,26 +30,26 @@ pub(crate) enum Found {
 /// An instruction that was decoded, with its address and its word.
 #[derive(Clone, Copy)]
 pub(crate) struct Decoded {
-    // An empty place has an address beyond all others.
+    // The address of an empty entry is beyond all others.
     pub(crate) address: u64,
     pub(crate) word: u32,
     pub(crate) instr: Instr,
 }
 
-/// What stands in an empty place.
+/// An empty entry.
 const EMPTY: Decoded = Decoded {
     address: u64::MAX,
     word: 0,
     instr: Instr::Ebreak,
 };
 
-/// The instructions that were decoded last, each in the place of its address.
+/// The instructions that were decoded last, each at the index of its address.
 #[derive(Drop)]
 pub(crate) struct DecodeCache {
     pub(crate) places: [Decoded; 4096],
 }
 
-/// The place of an address.
+/// The index of an address in the cache.
 #[inline(always)]
 fn place_of(pc: u32) -> usize
     ensures place { result ≡ place_at pc }
@@ -58,7 +58,7 @@ fn place_of(pc: u32) -> usize
     (pc / 4) as usize % PLACES
 }
 
-/// What stands at the address.
+/// What is at the address.
 #[inline(always)]
 pub(crate) fn look_up(mem: &Regions, pc: u32) -> Found
     ensures { result ≡ found_at mem.now pc }
@@ -83,14 +83,14 @@ impl DecodeCache {
         }
     }
 
-    /// Forgets everything.
+    /// Empties the cache.
     pub(crate) fn clear(&mut self)
         ensures { All IsEmpty self.new.places }
     {
         self.places = [EMPTY; PLACES];
     }
 
-    /// Whether the address is kept.
+    /// Whether the cache has the address.
     #[inline(always)]
     #[tactic(auto, unfolding(crate::specs::Decoded::keeps))]
     fn has(&self, pc: u32) -> bool
@@ -121,7 +121,7 @@ impl DecodeCache {
         }
     }
 
-    /// Whether an instruction stands at the address; it is then kept.
+    /// Whether an instruction is at the address; the cache then has it.
     #[inline(always)]
     #[tactic(auto, using(crate::proofs::Keeping::having))]
     fn comes_to_have(&mut self, mem: &Regions, pc: u32) -> bool
@@ -133,8 +133,8 @@ impl DecodeCache {
         self.has(pc) || self.keep(mem, pc)
     }
 
-    /// The instruction at the address, if there is one. It is read from its place even where it has just been decoded,
-    /// which keeps what is done seldom out of the compiler's way.
+    /// The instruction at the address, if there is one. It is read from the cache even where it has just been decoded,
+    /// which keeps the rare path out of the hot loop.
     #[inline(always)]
     #[tactic(auto, using(crate::proofs::Keeping::keeping))]
     pub(crate) fn find(&mut self, mem: &Regions, pc: u32) -> Option<Decoded>

@@ -37,7 +37,7 @@ fn write_register(regs: &mut [u32; 32], r: u8, value: u32)
 }
 
 impl Machine {
-    /// The instruction of this word retires: the register has the value, and the program goes on at `next`.
+    /// The instruction of this word retires: the register gets the value, and the program goes on at `next`.
     #[inline(always)]
     pub(crate) fn retire(&mut self, word: u32, next: u32, reg: u8, value: u32) -> Stepped
         requires register { reg < 32 }
@@ -81,7 +81,7 @@ impl Machine {
         (self.regs[first as usize], self.regs[second as usize])
     }
 
-    /// An instruction that computes; a next address that 4 does not divide traps.
+    /// An instruction that computes. A next address that 4 does not divide traps.
     #[inline(always)]
     pub(crate) fn compute(&mut self, word: u32, i: Instr) -> Stepped
         requires fits { Fits i }

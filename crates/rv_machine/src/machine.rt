@@ -7,7 +7,7 @@ use crate::decode_cache::DecodeCache;
 use mem_regions::Regions;
 use std::marker::Model;
 
-/// A machine between two instructions, seen as its hart.
+/// A machine between two instructions. Contracts see it as its hart.
 #[derive(Drop)]
 pub struct Machine {
     pub(crate) pc: u32,

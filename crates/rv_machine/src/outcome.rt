@@ -22,9 +22,10 @@ pub enum Stepped {
     /// The instruction retired.
     Next(Retired),
 
-    /// It trapped. The causes are those of the RISC-V Privileged Architecture: 0 a misaligned instruction address,
-    /// 1 no instruction there, 2 no such instruction, 3 EBREAK, 4 and 6 a misaligned load or store, 5 and 7 one
-    /// without access. `pc` is the instruction's address, `detail` the address or the word at fault.
+    /// It trapped. The causes are those of the RISC-V Privileged Architecture: 0 a misaligned instruction address, 1 an
+    /// address that cannot be fetched, 2 a word that is no instruction, 3 EBREAK, 4 and 6 a misaligned load or store, 5
+    /// and 7 one that memory does not permit. `pc` is the instruction's address, `detail` the address or the word at
+    /// fault.
     Trap { cause: u8, pc: u32, detail: u32 },
 
     /// The program ended itself with this status.

@@ -65,7 +65,7 @@ impl Machine {
         ensures input_asked { (i ≡ Instr.Ecall → asks_input self.old.regs self.old.mem ≡ false) → input.new ≡ input.old }
         ensures output_asked { (i ≡ Instr.Ecall → asks_output self.old.regs self.old.mem ≡ false) → output.new ≡ output.old }
     {
-        // An arm for each instruction: what is inlined there is specialized for it.
+        // One arm for each instruction, so that what is inlined there is specialised for it.
         match i {
             Instr::Lui { .. } => self.compute(word, i),
             Instr::Auipc { .. } => self.compute(word, i),
@@ -84,7 +84,7 @@ impl Machine {
         }
     }
 
-    /// Executes the instruction of a word, or traps where the set lacks it.
+    /// Executes the instruction of a word, or traps where the set does not have it.
     #[inline(always)]
     fn interpret<S: Source, K: Sink>(
         &mut self,
@@ -112,10 +112,10 @@ impl Machine {
         }
     }
 
-    /// Makes one step of a machine that has this instruction set: the rest is as in [`Machine::step`].
+    /// Makes one step of a machine with this instruction set; the rest is as in [`Machine::step`].
     ///
-    /// A program that steps in one place, whatever the instruction set, calls this one: the whole step is then
-    /// compiled into that place.
+    /// A caller with one loop for all instruction sets uses this function, so that the whole step is compiled into that
+    /// loop.
     #[inline(always)]
     pub fn step_as<S: Source, K: Sink>(
         &mut self,
@@ -141,10 +141,10 @@ impl Machine {
 
     /// Makes one step of an RV32I machine: the instruction at the program counter retires, traps or ends the program.
     ///
-    /// After `Next` the machine is the one after the instruction; after a trap, an exit or a fault its program
-    /// counter, registers and count are what they were. A fault comes only from an environment call, as [`serve`] says.
-    /// Unless the instruction is an environment call that asks the input, the input is left as it was, whatever it tells of
-    /// itself; the output likewise.
+    /// After `Next` the machine has executed the instruction; after a trap, an exit or a fault its program counter,
+    /// registers and count are unchanged. A fault comes only from an environment call, as [`serve`] says. Unless the
+    /// instruction is an environment call that asks the input, what the input exposes is unchanged; the output
+    /// likewise.
     #[inline(always)]
     pub fn step<S: Source, K: Sink>(&mut self, input: &mut S, output: &mut K) -> Stepped
         requires { self.old.retired + 1 < 2 ^ 64 }
@@ -160,7 +160,7 @@ impl Machine {
         self.step_as(Isa::Rv32i, input, output)
     }
 
-    /// Makes one step of an RV32IM machine, which also multiplies and divides: the rest is as in [`Machine::step`].
+    /// Makes one step of an RV32IM machine, which also multiplies and divides; the rest is as in [`Machine::step`].
     #[inline(always)]
     pub fn step_m<S: Source, K: Sink>(&mut self, input: &mut S, output: &mut K) -> Stepped
         requires { self.old.retired + 1 < 2 ^ 64 }

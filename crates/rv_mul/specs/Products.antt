@@ -1,4 +1,5 @@
--- The results of multiplication and division (RISC-V Unprivileged ISA Manual, "M" Extension for Integer Multiplication and Division).
+-- The results of multiplication and division (RISC-V Unprivileged ISA Manual, "M" Extension for Integer Multiplication
+-- and Division).
 use Rattle.std.specs.Prelude.{ℕ, ◌-◌, ◌^◌, ◌<◌, ◌≡◌, ◌⊎◌, ℤ, pos, ◌+ℤ◌, ◌*ℤ◌, unsigned_abs, int_div, int_rem, ◌==◌, if◌then◌else◌}
 use Rattle.std.specs.Int.{int_div_euclid, int_rem_euclid, is_negative}
 use Rattle.rv_inst.specs.declared.instruction.MulOp.{MulOp}
@@ -13,7 +14,8 @@ lower_word z = unsigned_abs (int_rem_euclid z (pos (2 ^ 32)))
 unfoldable pub upper_word : ℤ → ℕ
 upper_word z = lower_word (int_div_euclid z (pos (2 ^ 32)))
 
--- x divided by y is q and leaves r: x is q times y and r more, r is smaller than y in size, and r is 0 or has the sign of x
+-- x divided by y is q with remainder r: x is q times y plus r, r is smaller than y in magnitude, and r is 0 or has the
+-- sign of x
 pub record Divides (x y q r : ℤ) : Type 0 where
   pub whole : x ≡ q *ℤ y +ℤ r
   pub small : unsigned_abs r < unsigned_abs y
@@ -23,12 +25,12 @@ pub record Divides (x y q r : ℤ) : Type 0 where
 abbrev pub quotient : ℤ → ℤ → ℤ
 quotient x y = int_div x y
 
--- what that quotient leaves: the r of `Divides`
+-- the remainder of that quotient: the r of `Divides`
 abbrev pub remainder : ℤ → ℤ → ℤ
 remainder x y = int_rem x y
 
--- the result of an operation on the words a and b: MULH, DIV and REM read both as signed numbers, MULHSU the first alone,
--- the others neither; a quotient by 0 is 2 ^ 32 - 1, and a remainder by 0 is a
+-- the result of an operation on the words a and b: MULH, DIV and REM read both as signed numbers, MULHSU the first
+-- alone, the others neither; a quotient by 0 is 2 ^ 32 - 1, and a remainder by 0 is a
 unfoldable pub product_of : MulOp → ℕ → ℕ → ℕ
 product_of mulop.Mul a b = lower_word (pos a *ℤ pos b)
 product_of mulop.Mulh a b = upper_word (signed a *ℤ signed b)

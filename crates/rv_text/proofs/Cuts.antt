@@ -1,4 +1,4 @@
--- What stands between commas, one piece after the other.
+-- What is between commas, one piece after the other.
 use Rattle.std.proofs.Common.{◌≡◌, ℕ, ◌+◌, Bool, true, false, List, [], ◌∷◌, get_or, refl, sym, ◌∙◌, ap, arith, cond, suc, zero, take, drop}
 use Rattle.std.specs.Prelude.{slice_index_or, not}
 use Rattle.std.specs.List.{slice_split, onto_first, after_first, position_or_len}

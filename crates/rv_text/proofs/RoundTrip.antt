@@ -172,7 +172,7 @@ branch_back : (c : Cond) (rs1 rs2 : ℕ) (imm : ℤ) → IsFar (2 ^ 12) imm → 
 unfolding aimed
 branch_back c rs1 rs2 imm h = rw h.test refl
 
--- what a text says, and where it stands
+-- what a text says, and where it is
 read_as : (text : List ℕ) (pc : ℕ) (found : Result LineReading TextErr) → statement_of text ≡ found → read_text text pc ≡ and_then found (placed pc)
 unfolding read_text
 read_as text pc found e = ap (λ f. and_then f (placed pc)) e

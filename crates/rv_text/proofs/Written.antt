@@ -164,7 +164,7 @@ zeros_by d ds false k e low rest =
     let none : suc k ≤ 0 = rw e at low in
     absurd (omega arith)
 
--- zeros in front do not change the value
+-- leading zeros do not change the value
 drop_zeros : (k : ℕ) (ds : List ℕ) → k ≤ prefix_len (λ digit. digit == 48) ds → AllDigits 16 ds
     → (digits_value 16 (drop k ds) ≡ digits_value 16 ds) × AllDigits 16 (drop k ds)
 drop_zeros zero ds low all = (refl, all)

@@ -1,4 +1,4 @@
--- The operands that are read, each with its place and its range (RISC-V Assembly Programmer's Manual; RISC-V
+-- The operands that are read, each with its position and its range (RISC-V Assembly Programmer's Manual; RISC-V
 -- Unprivileged ISA Manual, "Immediate Encoding Variants").
 use Rattle.std.specs.Prelude.{ℕ, ◌-◌, ◌==◌, ◌&&◌, ℤ, pos, negsuc, int_le, Bool, true, false, Option, Some, None, Result, Ok, Err, List, length, take, drop, codes, nat_eq, if◌then◌else◌}
 use Rattle.std.specs.Int.RustNames.{unsigned_abs}
@@ -16,12 +16,12 @@ use Rattle.rv_text.specs.Registers.{register_of}
 unfoldable pub register_in : List ℕ → Result ℕ TextErr
 register_in text = needed BadRegister (register_of text)
 
--- a number from the least to the greatest
+-- the number, where it is from the least to the greatest
 abbrev pub within : ℤ → ℤ → ℤ → Result ℤ TextErr
 within least greatest z =
     if int_le least z && int_le z greatest then Ok z else Err (OutOfRange z)
 
--- an operand that must be a number from the least to the greatest
+-- an operand that must be the number, where it is from the least to the greatest
 unfoldable pub number_in : ℤ → ℤ → List ℕ → Result ℤ TextErr
 number_in least greatest text = and_then (needed BadNumber (number_of text)) (within least greatest)
 
@@ -48,19 +48,19 @@ immediate_of op text = if is_shift op then number_in (pos 0) (pos 31) text else 
 abbrev pub is_open : ℕ → Bool
 is_open byte = byte == 40
 
--- what stands before a `)` at the end
+-- what is before a `)` at the end
 abbrev pub before_close : List ℕ → Option (List ℕ)
 before_close text = if ends_with nat_eq text (codes ")") then Some (take (length text - 1) text) else None
 
--- what stands between a `(` at the beginning and a `)` at the end
+-- what is between a `(` at the beginning and a `)` at the end
 abbrev pub enclosed : List ℕ → Option (List ℕ)
 enclosed text = if starts_with nat_eq text (codes "(") then before_close (drop 1 text) else None
 
--- the number of an address: what stands before the first `(`
+-- the number of an address: what is before the first `(`
 unfoldable pub offset_in : List ℕ → Result ℤ TextErr
 offset_in text = immediate_in (trimmed (before_first is_open text))
 
--- the register of an address: what stands between the first `(` and a `)` at the end
+-- the register of an address: what is between the first `(` and a `)` at the end
 unfoldable pub base_in : List ℕ → Result ℕ TextErr
 base_in text =
     and_then (needed BadRegister (enclosed (drop (position_or_len is_open text) text)))

@@ -1,4 +1,4 @@
--- How a text is cut into lines (POSIX, "Line"): each ends with a line feed, which the last may lack.
+-- How a text is cut into lines (POSIX, "Line"): each ends with a line feed, which may be missing after the last.
 use Rattle.std.specs.Prelude.{ℕ, ◌-◌, ◌==◌, Bool, List, [], ◌∷◌, length, take, nat_eq, if◌then◌else◌}
 use Rattle.std.specs.List.{ends_with, slice_split}
 

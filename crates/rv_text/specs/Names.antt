@@ -1,4 +1,5 @@
--- The names of the instructions (RISC-V Unprivileged ISA Manual, "RV32/64G Instruction Set Listings": RV32I, Zifencei, RV32M).
+-- The names of the instructions (RISC-V Unprivileged ISA Manual, "RV32/64G Instruction Set Listings": RV32I, Zifencei,
+-- RV32M).
 use Rattle.std.specs.Prelude.{ℕ, Option, List, [], ◌∷◌, codes}
 use Rattle.std.specs.List.{find}
 use Rattle.std.specs.Str.{bytes_eq}
@@ -80,7 +81,7 @@ mnemonics =
     ∷ Mul mulop.Mul ∷ Mul mulop.Mulh ∷ Mul mulop.Mulhsu ∷ Mul mulop.Mulhu
     ∷ Mul mulop.Div ∷ Mul mulop.Divu ∷ Mul mulop.Rem ∷ Mul mulop.Remu ∷ []
 
--- the mnemonic whose name the word is
+-- the mnemonic with this name
 unfoldable pub mnemonic_named : List ℕ → Option Mnemonic
 mnemonic_named word = find (λ mnemonic. bytes_eq (name_of mnemonic) word) mnemonics
 

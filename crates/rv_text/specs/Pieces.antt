@@ -9,7 +9,7 @@ is_blank byte = byte == 32 || byte == 9
 abbrev pub is_comma : ℕ → Bool
 is_comma byte = byte == 44
 
--- without the blanks in front
+-- without the leading blanks
 unfoldable pub without_front : List ℕ → List ℕ
 without_front text = drop (prefix_len is_blank text) text
 
@@ -17,11 +17,11 @@ without_front text = drop (prefix_len is_blank text) text
 unfoldable pub without_end : List ℕ → List ℕ
 without_end text = take (length text - suffix_len is_blank text) text
 
--- without the blanks in front and at the end
+-- without the blanks at both ends
 unfoldable pub trimmed : List ℕ → List ℕ
 trimmed text = without_end (without_front text)
 
--- the name in a text: what stands before the first blank, once the blanks in front are left out
+-- the name in a text: what is before the first blank, after the leading blanks
 unfoldable pub name_part : List ℕ → List ℕ
 name_part text = before_first is_blank (trimmed text)
 
@@ -29,7 +29,7 @@ name_part text = before_first is_blank (trimmed text)
 unfoldable pub operand_part : List ℕ → List ℕ
 operand_part text = drop (length (name_part text)) (trimmed text)
 
--- what stands between the commas of a text
+-- what is between the commas of a text
 abbrev pub pieces : List ℕ → List (List ℕ)
 pieces text = slice_split is_comma text
 

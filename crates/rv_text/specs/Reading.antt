@@ -29,7 +29,7 @@ distance_of target pc =
 unfoldable pub is_distance : ℕ → ℤ → Bool
 is_distance half z = int_le (negsuc (half - 1)) z && int_lt z (pos half) && unsigned_abs z % 2 == 0
 
--- an instruction whose distance fits, or else the refusal of the distance
+-- the instruction where its distance fits, else the refusal of the distance
 abbrev pub if_fits : Bool → Instr → ℤ → Result Instr TextErr
 if_fits fits i z = if fits then Ok i else Err (OutOfRange z)
 
@@ -151,7 +151,7 @@ operands_read Ebreak text = Ok (WholeOf instr.Ebreak)
 operands_read FenceI text = whole (λ (rd, rs1, set). instr.FenceI rd rs1 set) (fence_form 0 text)
 operands_read (Mul op) text = whole (λ (rd, rs1, rs2). instr.Mul op rd rs1 rs2) (register_form text)
 
--- a count of operands, at most the greatest number of 32 bits
+-- a count of operands, capped at the greatest number of 32 bits
 abbrev pub counted : ℕ → ℕ
 counted count = min count (2 ^ 32 - 1)
 

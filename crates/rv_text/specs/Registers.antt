@@ -1,4 +1,5 @@
--- How a register is spelled: by its number, or by its name in the calling convention (RISC-V Assembly Programmer's Manual, "Register Names").
+-- How a register is spelled: by its number, or by its name in the calling convention (RISC-V Assembly Programmer's
+-- Manual, "Register Names").
 use Rattle.std.specs.Prelude.{ℕ, ◌&&◌, Option, Some, None, List, [], ◌∷◌, length, drop, codes, nat_eq, nat_lt, if◌then◌else◌}
 use Rattle.std.specs.List.{starts_with}
 use Rattle.rv_text.specs.Numbers.{numeral}
@@ -21,13 +22,13 @@ abbrev pub register_only : Option ℕ → Option ℕ
 register_only None = None
 register_only (Some n) = if nat_lt n 32 then Some n else None
 
--- one or two digits, with no zero in front of another digit: the register of that number
+-- one or two digits without a leading zero: the register of that number
 unfoldable pub register_numbered : List ℕ → Option ℕ
 register_numbered digits =
     if starts_with nat_eq digits (codes "0") && nat_lt 1 (length digits) then None
     else register_only (numeral 10 2 digits)
 
--- the same, where one zero may stand in front
+-- the same, where one leading zero is allowed
 unfoldable pub register_padded : List ℕ → Option ℕ
 register_padded digits =
     if starts_with nat_eq digits (codes "0") && nat_lt 1 (length digits)

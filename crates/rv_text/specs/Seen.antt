@@ -1,4 +1,4 @@
--- What a statement that was read stands for.
+-- The meaning of a statement that was read.
 use Rattle.std.specs.Prelude.{◌≡◌, Result, Ok, Err, MatchResult}
 use Rattle.rv_text.specs.declared.statement.Statement.{Statement}
 use Rattle.rv_text.specs.declared.statement.Statement.TheVariants.{Whole, Aimed}

@@ -1,4 +1,5 @@
--- The text of an instruction (RISC-V Assembly Programmer's Manual; RISC-V Unprivileged ISA Manual, "RV32/64G Instruction Set Listings").
+-- The text of an instruction (RISC-V Assembly Programmer's Manual; RISC-V Unprivileged ISA Manual, "RV32/64G
+-- Instruction Set Listings").
 use Rattle.std.specs.Prelude.{ℕ, ◌==◌, ◌&&◌, ℤ, pos, List, [], ◌∷◌, ◌++◌, codes, decimal, drop, min, if◌then◌else◌}
 use Rattle.std.specs.Fmt.{signed_decimal}
 use Rattle.std.specs.List.{prefix_len}
@@ -10,7 +11,7 @@ use Rattle.rv_text.specs.declared.operands.Operand.{Operand}
 use Rattle.rv_text.specs.declared.operands.Operand.TheVariants.{Register, Number, Upper, Target, Address}
 use Rattle.rv_text.specs.Names.{name_of, mnemonic_of}
 
--- digits without the zeros in front, of which at most seven are left out
+-- digits without the leading zeros, of which at most seven are left out
 abbrev pub without_zeros : List ℕ → List ℕ
 without_zeros digits = drop (min (prefix_len (λ digit. digit == 48) digits) 7) digits
 
@@ -30,7 +31,7 @@ operand_text (Upper field) = codes "0x" ++ hexadecimal field
 operand_text (Target address) = codes "0x" ++ hex8 address
 operand_text (Address z r) = signed_decimal z ++ codes "(" ++ register_text r ++ codes ")"
 
--- the operands, one after the other, with these bytes before the first and `, ` before each of the others
+-- the operands in order, with these bytes before the first and `, ` before each of the others
 unfoldable pub listed : List ℕ → List Operand → List ℕ
 listed before [] = []
 listed before (operand ∷ operands) = before ++ operand_text operand ++ listed (codes ", ") operands

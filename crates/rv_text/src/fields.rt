@@ -19,8 +19,8 @@ pub fn register_in(text: &[u8]) -> Result<u8, TextErr>
     read_register(text).ok_or(TextErr::BadRegister)
 }
 
-/// The number that an operand spells, from the least to the greatest: `BadNumber` where it spells
-/// no number, and `OutOfRange` with the number where it lies outside.
+/// The number that an operand spells, from `least` to `greatest`: `BadNumber` where it spells no number, and
+/// `OutOfRange` with the number where it is outside.
 pub fn number_in(least: i32, greatest: i32, text: &[u8]) -> Result<i32, TextErr>
     ensures value { result ≡ number_in least greatest text.now }
     ensures least { IfOk result (λ z. least ≤ℤ z) }
@@ -66,7 +66,7 @@ pub(crate) fn offset_in(text: &[u8]) -> Result<i32, TextErr>
     immediate_in(trim(&text[..find_byte(text, b'(')]))
 }
 
-/// What stands between `(` and `)`, where a text begins with the one and ends with the other.
+/// What is between `(` and `)`, where a text begins with the one and ends with the other.
 fn enclosed(text: &[u8]) -> Option<&[u8]>
     ensures { MatchOption result (enclosed text.now ≡ None) (λ inner. enclosed text.now ≡ Some inner.now) }
 {

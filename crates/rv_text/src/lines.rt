@@ -16,7 +16,7 @@ fn without_return(line: &[u8]) -> &[u8]
     }
 }
 
-/// What stands before the byte at an index, and what follows it.
+/// What is before the byte at an index, and what follows it.
 pub fn cut_at(text: &[u8], index: usize) -> (&[u8], &[u8])
     requires { index < length text.now }
     ensures before { result.0.now ≡ take index text.now }

@@ -205,7 +205,7 @@ impl Mnemonic {
         }
     }
 
-    /// The mnemonic whose name the word is.
+    /// The mnemonic with this name.
     #[tactic(auto, unfolding(crate::specs::Names::mnemonic_named))]
     pub fn named(word: &[u8]) -> Option<Mnemonic>
         ensures { result ≡ mnemonic_named word.now }

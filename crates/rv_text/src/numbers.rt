@@ -4,7 +4,7 @@
 ghost use Rattle.std.specs.Prelude.{◌≡◌, ◌^◌, ◌≤◌, ◌<◌, IfSome};
 ghost use Rattle.rv_text.specs.Numbers.{numeral, magnitude, number_of};
 
-/// The value of from one to `most` digits of the base.
+/// The value of one to `most` digits of the base.
 #[tactic(auto, using(crate::proofs::Numerals::numerals), unfolding(crate::specs::Numbers::numeral, crate::specs::Numbers::is_numeral))]
 pub fn numeral(digits: &[u8], base: u32, most: usize) -> Option<u64>
     requires least { 2 ≤ base }
@@ -35,8 +35,8 @@ fn magnitude(text: &[u8]) -> Option<u64>
     }
 }
 
-/// The number that a text spells: decimal digits, at most ten, or `0x` and at most eight
-/// hexadecimal digits; `-` in front negates it. It is `None` for any other text.
+/// The number that a text spells: decimal digits, at most ten, or `0x` and at most eight hexadecimal digits; a leading
+/// `-` negates it. It is `None` for any other text.
 pub fn read_number(text: &[u8]) -> Option<i64>
     ensures { result ≡ number_of text.now }
 {

@@ -31,7 +31,7 @@ fn without_end(text: &[u8]) -> &[u8]
     &text[..end]
 }
 
-/// The text without the blanks in front and at the end.
+/// The text without the blanks at both ends.
 pub fn trim(text: &[u8]) -> &[u8]
     ensures { result.now ≡ trimmed text.now }
 {
@@ -59,7 +59,7 @@ pub fn split_name(text: &[u8]) -> (&[u8], &[u8])
     (&text[..end], &text[end..])
 }
 
-/// The index of the first such byte, or the length where there is none.
+/// The index of the first occurrence of the byte, or the length where there is none.
 pub fn find_byte(text: &[u8], byte: u8) -> usize
     ensures index { result ≡ position_or_len (λ b. b == byte) text.now }
     ensures within { result ≤ length text.now }

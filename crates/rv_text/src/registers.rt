@@ -86,8 +86,8 @@ fn register_padded(digits: &[u8]) -> Option<u8>
     }
 }
 
-/// The register that a word spells: `x` and its number, before which one zero may stand, or its
-/// name in the calling convention. It is `None` for any other word.
+/// The register that a word spells: `x` and its number, which may have one leading zero, or its name in the calling
+/// convention. It is `None` for any other word.
 pub fn read_register(word: &[u8]) -> Option<u8>
     ensures value { result ≡ register_of word.now }
     ensures register { IfSome result (λ r. r < 32) }

@@ -1,7 +1,7 @@
 //! What is wrong with the text of an instruction.
 
-/// Why a text is not an instruction. The first that holds is the answer: the name, the count of
-/// operands, then the operands from left to right.
+/// Why a text is not an instruction. The first reason is returned: the name, the count of operands, then the operands
+/// from left to right.
 #[derive(Clone, Copy, PartialEq, Eq)]
 pub enum TextErr {
     /// The first word is not an instruction's name.

@@ -34,7 +34,7 @@ fn put_number(line: &mut TextLine, number: i32)
     line.put(buffer.format(number).as_bytes());
 }
 
-/// How many zeros stand in front, not counting the last of the eight digits.
+/// The number of leading zeros; the last of the eight digits does not count.
 fn count_zeros(digits: &[u8; 8]) -> usize
     ensures zeros { result ≡ min (prefix_len (λ digit. digit == 48) digits.now) 7 }
 {

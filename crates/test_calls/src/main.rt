@@ -1,5 +1,5 @@
-//! Worked calls of the simulator: makes each call that the files of rows describe, and prints each whose outcome is not what
-//! its row wants.
+//! Worked calls of the simulator: makes each call that the files of rows describe, and prints each whose outcome is not
+//! what its row wants.
 #![tactic(auto)]
 
 mod making;

@@ -49,7 +49,7 @@ fn sinks_of(alloc: Global, call: &Call) -> Result<Sinks, AllocError> {
     Ok(Sinks { output, report })
 }
 
-/// Makes the call over what stands in memory; the status that the process would end with.
+/// Makes the call over what is in memory; the status that the process would end with.
 fn status_of(
     alloc: Global,
     words: &[String],

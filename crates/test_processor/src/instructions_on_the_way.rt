@@ -6,7 +6,7 @@ use cf_passengers::{answered, finish, fresh, goto, kind, requests};
 use rv_inst::{Class, decode};
 use std::process::Abort;
 
-/// The passenger of a word.
+/// The instruction of a word.
 fn issued(ends: &Ends, word: u32, pc: u32, guess: Guess) -> Passenger {
     match decode(word) {
         Some(i) => fresh(ends, Ok(i), pc, guess),

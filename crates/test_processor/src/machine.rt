@@ -24,7 +24,8 @@ fn run(machine: &mut Machine, multiplies: bool) -> Stepped {
     Stepped::ReadFault
 }
 
-/// A program that traps: its words, the cause, the address and what is at fault, and how many instructions have retired by then.
+/// A program that traps: its words, the cause, the address and what is at fault, and how many instructions have retired
+/// by then.
 type Trapping = (&'static [u32], (u8, u32, u32), u64);
 
 static TRAPPING: [Trapping; 7] = [
@@ -51,7 +52,8 @@ static TRAPPING: [Trapping; 7] = [
 type Ending = (&'static [u32], u8, u64);
 
 static ENDING: [Ending; 2] = [
-    // A program that writes its last instruction over its fifth: with fence.i it is fetched anew, with fence it is not.
+    // A program that writes its last instruction over its fifth: with fence.i it is fetched again, with fence it is
+    // not.
     (
         &[
             0x0001_02b7,
@@ -191,7 +193,7 @@ fn six_bytes(rt: &(impl Abort + AllocGlobal), fails: &[u64]) -> MemSource {
     MemSource::new(bytes, 3, fails)
 }
 
-/// Whether the bytes stand at the bottom of the stack.
+/// Whether the bytes are at the bottom of the stack.
 fn stand_below(memory: &Regions, bytes: &[u8; 8]) -> bool {
     memory.part(0x7f00_0000, 8) == Some(bytes.as_slice())
 }

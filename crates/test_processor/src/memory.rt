@@ -1,6 +1,6 @@
 //! What no clause says: that calls can succeed, and that the definitions mean what is wanted. The values are worked out
-//! by hand; the instruction words are those of NOP and EBREAK in the RISC-V Unprivileged ISA Manual, "RV32I Base Integer
-//! Instruction Set".
+//! by hand; the instruction words are those of NOP and EBREAK in the RISC-V Unprivileged ISA Manual, "RV32I Base
+//! Integer Instruction Set".
 
 ghost use Rattle.std.specs.Prelude.{◌≡◌, All, [], false};
 ghost use Rattle.mem_regions.specs.Loading.{LiesIn};
@@ -40,7 +40,7 @@ fn memory(rt: &(impl Abort + AllocGlobal)) -> Regions {
     memory_of(rt, &file, &[CODE, CONSTANTS])
 }
 
-/// Whether the bytes stand at the address, in one region.
+/// Whether the bytes are at the address, in one region.
 fn stand_at(memory: &Regions, addr: u32, bytes: &[u8]) -> bool {
     bytes.len() < 100 && memory.part(addr, bytes.len() as u32) == Some(bytes)
 }

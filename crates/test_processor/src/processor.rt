@@ -1,5 +1,5 @@
-//! Runs that were worked out by hand, under the built-in layout: what no clause says is that there is memory for a processor, and
-//! that these moves lead from its start to where a reader of the table of moves expects them to.
+//! Runs that were worked out by hand, under the built-in layout: what no clause says is that there is memory for a
+//! processor, and that these moves lead from its start to where a reader of the table of moves expects them to.
 use crate::programs::{BASE, machine_of};
 use cf_bind::{Bar, Guess, Move};
 use cf_core::{Core, Step};
@@ -26,7 +26,7 @@ fn make(core: &mut Core, moves: &[Move]) -> Option<Step> {
     None
 }
 
-/// How many instructions have retired, what x10 has, and whether nothing stands in the processor any more.
+/// How many instructions have retired, what x10 has, and whether nothing is in the processor any more.
 fn seen_of(core: &Core) -> (u64, u32, bool) {
     (core.retired(), core.reg(10), core.drained())
 }
@@ -54,7 +54,7 @@ fn an_instruction_retires(rt: HostRuntime) {
     assert!(rt; seen_of(&core) == (1, 7, true));
 }
 
-/// `addi x5, x10, 1` has not met the value of x10, which stands beside it.
+/// `addi x5, x10, 1` has not met the value of x10, which is beside it.
 #[test]
 fn a_source_is_missing(rt: HostRuntime) {
     let mut core = core_of(&rt, &[0x0015_0293]);
@@ -80,7 +80,7 @@ fn words_of(core: &Core) -> [u32; 5] {
     ]
 }
 
-/// The words of `addi x10, x0, 7` on its way: a unit for it stands in stage 2, and it has no source.
+/// The words of `addi x10, x0, 7` on its way: a unit for it is in stage 2, and it has no source.
 #[test]
 fn the_words_keep_up_with_the_moves(rt: HostRuntime) {
     let mut core = core_of(&rt, &[0x0070_0513]);

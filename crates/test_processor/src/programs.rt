@@ -6,7 +6,7 @@ use mem_regions::{Part, Regions};
 use rv_machine::Machine;
 use std::process::Abort;
 
-/// Where the words of a program stand.
+/// Where the words of a program are.
 pub(crate) const BASE: u32 = 0x1_0000;
 
 /// A stack of 1 MiB, zeroed.
@@ -37,7 +37,7 @@ fn bytes_of(rt: &(impl Abort + AllocGlobal), words: &[u32]) -> Vec<u8> {
     bytes
 }
 
-/// A machine whose words stand at `BASE` in a region that may be read, written and executed, with a stack.
+/// A machine whose words are at `BASE` in a region that may be read, written and executed, with a stack.
 pub(crate) fn machine_of(rt: &(impl Abort + AllocGlobal), words: &[u32], entry: u32) -> Machine {
     let file = bytes_of(rt, words);
     assert!(rt; words.len() <= 16 && file.len() == 4 * words.len());

@@ -1,5 +1,5 @@
-//! What no clause says: that there is memory for stages, and that the definitions mean what is wanted. The values are worked
-//! out by hand: two additions of 1 to x1 stand one above the other, and x1 is 0.
+//! What no clause says: that there is memory for stages, and that the definitions mean what is wanted. The values are
+//! worked out by hand: two additions of 1 to x1 are one above the other, and x1 is 0.
 
 ghost use Rattle.std.specs.Prelude.{◌≡◌, Some};
 ghost use Rattle.cf_semantics.specs.state.State.{cell_at};
@@ -43,7 +43,7 @@ fn value(value: u32) -> Option<Packet> {
     Some(Packet::Value { reg: 1, value })
 }
 
-/// What stands in a stage that exists.
+/// What is in a stage that exists.
 fn cell(rt: &impl Abort, stages: &Stages, i: u32) -> Cell
     ensures { Some result ≡ cell_at stages.now i }
 {

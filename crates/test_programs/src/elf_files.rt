@@ -1,6 +1,7 @@
-//! What no clause says: that files are accepted, and that the definitions mean what is wanted. The offsets and numbers are
-//! those of the Tool Interface Standard, Executable and Linking Format Specification, with the machine and the flags of
-//! the RISC-V ELF psABI Specification. `readelf -h -l -S -s` of GNU binutils reads both files as they are described here.
+//! What no clause says: that files are accepted, and that the definitions mean what is wanted. The offsets and numbers
+//! are those of the Tool Interface Standard, Executable and Linking Format Specification, with the machine and the
+//! flags of the RISC-V ELF psABI Specification. `readelf -h -l -S -s` of GNU binutils reads both files as they are
+//! described here.
 
 use byteorder::{ByteOrder, LittleEndian};
 use elf_view::{Elf, ElfErr, LazySymbols, Segments, Symbols};
@@ -21,8 +22,8 @@ fn put(file: &mut [u8; 248], at: usize, number: u32) {
 }
 
 /// A program that writes a greeting, as a linker lays it out: headers and code in one segment, the greeting in another.
-/// A program header has its type, the offset of the segment, its address, at 16 its sizes in the file and in memory, and
-/// its flags.
+/// A program header has its type, the offset of the segment, its address, at 16 its sizes in the file and in memory,
+/// and its flags.
 const PROGRAM: [(usize, u32); 34] = [
     // The file header.
     (0, 0x464c_457f),

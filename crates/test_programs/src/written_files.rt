@@ -1,6 +1,6 @@
-//! What no clause says: that files are written, and that the definitions mean what is wanted. The offsets and numbers are
-//! those of the Tool Interface Standard, Executable and Linking Format Specification; `readelf -a` of GNU binutils reads the
-//! file as it is described here.
+//! What no clause says: that files are written, and that the definitions mean what is wanted. The offsets and numbers
+//! are those of the Tool Interface Standard, Executable and Linking Format Specification; `readelf -a` of GNU binutils
+//! reads the file as it is described here.
 
 use crate::assembler::object_of;
 use elf_make::write_elf;
@@ -29,7 +29,7 @@ fn an_empty_program_has_412_bytes(rt: HostRuntime) {
     assert_empty(&rt, file.as_slice());
 }
 
-/// Where a part of a file stands, and its bytes.
+/// Where a part of a file is, and its bytes.
 const PARTS: [(usize, &[u8]); 9] = [
     (
         0,

@@ -7,7 +7,7 @@ use Rattle.test_rows.specs.declared.matching.Matching.TheVariants.{Whole, Begins
 abbrev pub BeginsWith : List ℕ → List ℕ → Type 0
 BeginsWith bytes front = take (length front) bytes ≡ front
 
--- the bytes that were left are the wanted ones, begin with them, are a front of them and fewer, or are this many
+-- the bytes that were left are the wanted ones, begin with them, are a prefix of them and fewer, or are this many
 abbrev pub IsAsWanted : Matching → List ℕ → List ℕ → Type 0
 IsAsWanted Whole left wanted = left ≡ wanted
 IsAsWanted Begins left wanted = BeginsWith left wanted

@@ -101,7 +101,7 @@ fn add_registers(content: &mut Vec<u8>, words: &str) -> Result<(), LineErr> {
     Ok(())
 }
 
-/// Adds what stands under a name.
+/// Adds what is under a name.
 fn copy(content: &mut Vec<u8>, kept: &[NamedBytes], name: &str) -> Result<(), LineErr> {
     match find(kept, name) {
         Some(bytes) => Ok(content.extend_from_slice(bytes)?),
@@ -118,7 +118,7 @@ fn replaced(alloc: Global, bytes: &[u8], old: &str, new: &str) -> Result<Vec<u8>
     Ok(text.replacen(alloc, old, new, 1)?.into_bytes())
 }
 
-/// Puts a text in place of another, where the other comes first. Both stand with `\\n` for line feeds.
+/// Puts a text in place of another, where the other comes first. Both are with `\\n` for line feeds.
 fn replace(content: &mut Vec<u8>, old: &str, new: &str) -> Result<(), LineErr> {
     let alloc = *content.allocator();
     let old = old.replace(alloc, "\\n", "\n")?;

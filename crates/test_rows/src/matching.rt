@@ -10,7 +10,7 @@ pub enum Matching {
     Whole,
     /// What the call left begins with the wanted ones.
     Begins,
-    /// What the call left is a front of the wanted ones, and shorter.
+    /// What the call left is a prefix of the wanted ones, and shorter.
     Front,
     /// What the call left has this many bytes.
     Size(usize),

@@ -1,5 +1,5 @@
-//! Candidates that were worked out by hand from the table of moves, under the built-in layout: what no clause says is that these
-//! moves are allowed where a reader of the table expects them to be.
+//! Candidates that were worked out by hand from the table of moves, under the built-in layout: what no clause says is
+//! that these moves are allowed where a reader of the table expects them to be.
 use crate::processors::{BRANCH_BEHIND, core_of, enter_stage_2};
 use cf_bind::{Guess, Move};
 use cf_index::Candidates;
@@ -14,7 +14,8 @@ fn assert_moves(rt: &impl Abort, candidates: &Candidates, moves: &[Move]) {
     }
 }
 
-/// With the first instruction in stage 2, where it can be executed or passed on, the branch can be issued by three guesses.
+/// With the first instruction in stage 2, where it can be executed or passed on, the branch can be issued by three
+/// guesses.
 const AFTER: [Move; 5] = [
     Move::Issue(Guess::Next),
     Move::Issue(Guess::Taken),
@@ -23,8 +24,8 @@ const AFTER: [Move; 5] = [
     Move::Execute(2),
 ];
 
-/// Of these candidates Climb(2) has the last after it, and Serve, which comes after them all, the first. Holding back takes the
-/// Issues out.
+/// Of these candidates Climb(2) has the last after it, and Serve, which comes after them all, the first. Holding back
+/// takes the Issues out.
 fn assert_after(rt: &impl Abort, candidates: &mut Candidates) {
     assert_moves(rt, candidates, &AFTER);
     assert!(rt;

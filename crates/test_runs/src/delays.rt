@@ -9,7 +9,7 @@ fn delays(rt: &impl Abort, text: &[u8]) -> Delays {
     read_delays(text).expect(rt, "delays")
 }
 
-/// Spellings of the format: zeros in front, a carriage return, comments and lines without words.
+/// Spellings of the format: leading zeros, a carriage return, comments and lines without words.
 #[test]
 fn delays_that_are_told(rt: HostRuntime) {
     let told = delays(

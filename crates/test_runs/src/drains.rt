@@ -1,4 +1,4 @@
-//! The weight of what stands in a processor, and drains of one state, worked out by hand from the table of moves.
+//! The weight of what is in a processor, and drains of one state, worked out by hand from the table of moves.
 
 use crate::processors::{SEVEN, TINY, core_of, layout_of, make};
 use cf_bind::{Fetch, Guess, Move};
@@ -20,7 +20,7 @@ const WRONG_GUESS: &[u32] = &[0x0000_0863, 0x0011_1093];
 enum Leg {
     /// One move.
     One(Move),
-    /// A packet falls, from this stage on, this many times.
+    /// A result falls, from this stage on, this many times.
     Falls(u32, u32),
     /// An instruction climbs, from this stage on, this many times.
     Climbs(u32, u32),
@@ -49,8 +49,8 @@ fn make_all(rt: &(impl Abort + AllocGlobal), core: &mut Core, legs: &[Leg]) {
     }
 }
 
-/// An empty processor weighs nothing. The first instruction weighs 3 in stage 1 of 2, 4 as it is not done, and 4 as it is
-/// not launched where the longest siding has one cell; it requests no register.
+/// An empty processor weighs nothing. The first instruction weighs 3 in stage 1 of 2, 4 as it is not done, and 4 as it
+/// is not launched where the longest siding has one cell; it requests no register.
 #[test]
 fn bounds(rt: HostRuntime) {
     let mut core = core_of(&rt, layout_of(&rt, TINY), SEVEN);
@@ -59,7 +59,7 @@ fn bounds(rt: HostRuntime) {
     assert!(rt; core.bound() == 11, "another bound");
 }
 
-/// The branch stands in stage 3, where its unit is, and has not been executed; the shift behind it stands in stage 1, from
+/// The branch is in stage 3, where its unit is, and has not been executed; the shift behind it is in stage 1, from
 /// which its siding launches, and has requested x2.
 fn guessed(rt: &(impl Abort + AllocGlobal)) -> Core {
     let mut core = core_of(rt, layout_of(rt, SHIFT_SIDING), WRONG_GUESS);
@@ -135,8 +135,8 @@ const LEAVE: &[Leg] = &[
     Leg::One(Move::Leave),
 ];
 
-/// The state after the moves, and others after them, in which nothing stands any more: the branch has retired, and fetch goes
-/// on at its target.
+/// The state after the moves, and others after them, in which nothing is any more: the branch has retired, and fetch
+/// goes on at its target.
 fn drained(rt: &(impl Abort + AllocGlobal), moves: &[Leg], after: &[Leg]) -> Core {
     let mut core = guessed(rt);
     make_all(rt, &mut core, moves);
@@ -159,7 +159,8 @@ fn assert_begins_elsewhere(rt: &(impl Abort + AllocGlobal), other: &Core) {
     assert!(rt; !core.same(other), "the same state");
 }
 
-/// All orders of moves that drain one state lead to one state, but for what is kept at the bottom; and that is another state.
+/// All orders of moves that drain one state lead to one state, but for what is kept at the bottom; and that is another
+/// state.
 #[test]
 fn drains_end_in_one_state(rt: HostRuntime) {
     let first = drained(&rt, DIES_FIRST, &[]);

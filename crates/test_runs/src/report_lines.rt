@@ -160,8 +160,8 @@ fn operation(answer: Option<u32>) -> Option<Op> {
     })
 }
 
-/// The lines of stages, from runs that were worked out by hand, and one for each form besides; an empty stage has none. Then
-/// what stands beside the stages, and the other lines.
+/// The lines of stages, from runs that were worked out by hand, and one for each form besides; an empty stage has none.
+/// Then what is beside the stages, and the other lines.
 const LINES: &str = "stage 1 complete | 00010000 next done - - x10=00000007 - | x10=00000007
 stage 2 instruction | 00010000 next done x01=00000000 - x01=00000001 x01=00000001
 stage 1 instruction | 00010004 next new x01=00000001 - x01=? -
@@ -220,7 +220,7 @@ fn put_stages(rt: &impl Abort, report: &mut MemSink) {
     }
 }
 
-/// Puts the lines of what stands beside the stages, and the others.
+/// Puts the lines of what is beside the stages, and the others.
 fn put_others(rt: &impl Abort, report: &mut MemSink) {
     let puts = [
         put_fetch(Fetch::Running(0x0001_0008), report),

@@ -1,6 +1,7 @@
-//! Picks that were worked out by hand, and words of the generator. The words are those of PCG XSH RR 64/32 (O'Neill, "PCG: a family
-//! of simple fast space-efficient statistically good algorithms for random number generation", 2014), worked out with whole
-//! numbers in Python by a program that gives the words of the paper's C demo, 0xa15c02b7 and so on, for state 42 and stream 54.
+//! Picks that were worked out by hand, and words of the generator. The words are those of PCG XSH RR 64/32 (O'Neill,
+//! "PCG: a family of simple fast space-efficient statistically good algorithms for random number generation", 2014),
+//! worked out with whole numbers in Python by a program that gives the words of the paper's C demo, 0xa15c02b7 and so
+//! on, for state 42 and stream 54.
 use crate::processors::{BRANCH_BEHIND, core_of, enter_stage_2};
 use cf_bind::{Guess, Move};
 use cf_core::Core;

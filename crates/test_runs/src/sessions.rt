@@ -8,8 +8,8 @@ use cf_index::Candidates;
 use cf_io::{MemSink, MemSource};
 use std::process::Abort;
 
-/// A program of which these puts of output fail, and the commands of its session, which come in pieces of this size where these takes
-/// fail.
+/// A program of which these puts of output fail, and the commands of its session, which come in pieces of this size
+/// where these takes fail.
 #[derive(Clone, Copy)]
 struct Session<'a> {
     words: &'a [u32],
@@ -96,8 +96,8 @@ fn assert_answers(rt: &(impl Abort + AllocGlobal), commands: &[u8], piece: usize
     assert_session(rt, &session, 200_000, Debugged::Done, answers);
 }
 
-/// The commands of the first example, and what they answer: `addi` weighs 3 in stage 1 of 2, 4 as it is not done, and 4 as it is
-/// not launched where the longest siding has one cell.
+/// The commands of the first example, and what they answer: `addi` weighs 3 in stage 1 of 2, 4 as it is not done, and 4
+/// as it is not launched where the longest siding has one cell.
 const COMMANDS: &[u8] = b"move issue next\nbound\nmove leave\nback\nbound\nback\n\
     mem 7f0ffff0 4\nmem 00000000 4\nfrob\nend\n";
 
@@ -112,7 +112,8 @@ fn pieces(rt: HostRuntime) {
     assert_answers(&rt, COMMANDS, 4096, ANSWERS);
 }
 
-/// The session of those commands on `SEVEN`, given in pieces of 8 bytes, of which this take fails, is ended by that with these answers.
+/// The session of those commands on `SEVEN`, given in pieces of 8 bytes, of which this take fails, is ended by that
+/// with these answers.
 fn assert_take_fails(rt: &(impl Abort + AllocGlobal), take: u64, answers: &[u8]) {
     let session = Session {
         words: SEVEN,
@@ -124,8 +125,8 @@ fn assert_take_fails(rt: &(impl Abort + AllocGlobal), take: u64, answers: &[u8])
     assert_session(rt, &session, 200_000, Debugged::ReadFault, answers);
 }
 
-/// A take that fails leaves the answers to the lines that were taken whole before it: pieces of 8 bytes end in the first line, then in
-/// the first and then in the second.
+/// A take that fails leaves the answers to the lines that were taken whole before it: pieces of 8 bytes end in the
+/// first line, then in the first and then in the second.
 #[test]
 fn failing_takes(rt: HostRuntime) {
     assert_take_fails(&rt, 1, b"");
@@ -133,8 +134,8 @@ fn failing_takes(rt: HostRuntime) {
     assert_take_fails(&rt, 3, b"moved\n");
 }
 
-/// Each refusal, and each command in another spelling: blanks, tabs, carriage returns and digits of either case. What comes after
-/// `end` is not answered.
+/// Each refusal, and each command in another spelling: blanks, tabs, carriage returns and digits of either case. What
+/// comes after `end` is not answered.
 #[test]
 fn refusals(rt: HostRuntime) {
     let commands =
@@ -165,7 +166,8 @@ fn push_blanks(rt: &impl Abort, line: &mut Vec<u8>, count: u32) {
     }
 }
 
-/// A line of 256 bytes is read, even with a carriage return after it, and one of 257 is too long, even where it is the last.
+/// A line of 256 bytes is read, even with a carriage return after it, and one of 257 is too long, even where it is the
+/// last.
 #[test]
 fn long_lines(rt: HostRuntime) {
     let mut line = bytes_of(&rt, b"bound");
@@ -178,8 +180,8 @@ fn long_lines(rt: HostRuntime) {
     assert_answers(&rt, line.as_slice(), 300, b"bound 0\n? TooLong\n");
 }
 
-/// The program runs to its end in 19 moves, worked out by hand from the table of moves and the order of Round: Serve is the 17th, so two
-/// are taken back after it, and no more. Nothing is made after the end.
+/// The program runs to its end in 19 moves, worked out by hand from the table of moves and the order of Round: Serve is
+/// the 17th, so two are taken back after it, and no more. Nothing is made after the end.
 #[test]
 fn to_the_end(rt: HostRuntime) {
     let commands = b"auto 1000000\nauto 5\nmove emit\nmove serve\nback\nback\nback\nmove emit\n";
@@ -189,8 +191,8 @@ fn to_the_end(rt: HostRuntime) {
     assert_answers(&rt, commands, 4096, answers);
 }
 
-/// `auto` stops after the Issue at the break address, even where that is its first move. The first instruction is issued, climbs, is
-/// executed, sends its result and leaves before the second is issued.
+/// `auto` stops after the Issue at the break address, even where that is its first move. The first instruction is
+/// issued, climbs, is executed, sends its result and leaves before the second is issued.
 #[test]
 fn break_address(rt: HostRuntime) {
     let commands = b"break 00010000\nauto 100\nback\nbreak 00010004\nauto 100\nbreak none\nshow\n";
@@ -211,7 +213,8 @@ fn registers(rt: HostRuntime) {
     assert_answers(&rt, b"regs", 4096, answers);
 }
 
-/// One byte is written from address 00010000, and the output fails that: the four instructions before the call have retired.
+/// One byte is written from address 00010000, and the output fails that: the four instructions before the call have
+/// retired.
 #[test]
 fn failing_output(rt: HostRuntime) {
     let session = Session {
@@ -233,7 +236,7 @@ fn failing_output(rt: HostRuntime) {
     assert_session(&rt, &session, 1000, Debugged::WriteFault, answers);
 }
 
-/// A report of three bytes takes a front of the first answer, and the session ends.
+/// A report of three bytes takes a prefix of the first answer, and the session ends.
 #[test]
 fn failing_report(rt: HostRuntime) {
     let session = Session {

@@ -5,7 +5,7 @@ use Rattle.texts.specs.Hexadecimal.{hex8}
 abbrev pub newline : List ℕ
 newline = 10 ∷ []
 
--- a line of this text
+-- a line with this text
 abbrev pub line : List ℕ → List ℕ
 line text = text ++ newline
 
@@ -26,7 +26,7 @@ unfoldable pub registers_from : ℕ → List ℕ → List ℕ
 registers_from r [] = []
 registers_from r (w ∷ ws) = register_entry r w ++ registers_from (r + 1) ws
 
--- a line of a name and a number
+-- a line with a name and a number
 unfoldable pub counted_line : List ℕ → ℕ → List ℕ
 counted_line name n = name ++ decimal n ++ newline
 

@@ -8,7 +8,7 @@ abbrev pub written_register : ℕ → ℕ → List ℕ
 written_register r value =
     if r == 0 then codes "-" else register_name r ++ codes "=" ++ hex8 value
 
--- the number of the instruction among those that retired, its address, its word, and the register that it wrote; register 0 means none
+-- the instruction's retirement number, its address, its word, and the register that it wrote; register 0 means none
 unfoldable pub retirement_text : ℕ → ℕ → ℕ → ℕ → ℕ → List ℕ
 retirement_text number pc word r value =
     line (codes "retire " ++ decimal number ++ codes " " ++ hex8 pc ++ codes " " ++ hex8 word

@@ -1,4 +1,4 @@
--- How much a page has room for.
+-- The capacity of a page.
 use Rattle.std.specs.Prelude.{ℕ}
 use Rattle.texts.specs.declared.page.TheConstants.{ROOM}
 

@@ -1,4 +1,5 @@
-//! Texts: hexadecimal digits, names, and a page of lines with numbers, words, registers, traps and retired instructions.
+//! Text output: hexadecimal digits, names, and a page of lines with numbers, words, registers, traps and retired
+//! instructions.
 #![tactic(auto)]
 
 mod bytes;

@@ -4,7 +4,7 @@ ghost use Rattle.std.specs.Prelude.{◌≡◌, string_bytes};
 
 use std::marker::Model;
 
-/// A name, such as that of a label or of a key: made from a `String`, and lending it.
+/// A name, such as that of a label or of a key: made from a `String`, which it lends.
 #[derive(Drop)]
 pub struct Name {
     text: String,
@@ -26,7 +26,7 @@ impl Name {
         Name { text }
     }
 
-    /// The text, lent.
+    /// The text.
     pub fn as_str(&self) -> &str
         ensures { result.now ≡ self.now }
     {

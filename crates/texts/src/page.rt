@@ -14,8 +14,8 @@ use std::marker::Model;
 /// How many bytes a page has room for: 416 for the 32 registers, and 224 for the lines before them.
 const ROOM: usize = 640;
 
-/// A page of text, which takes no memory: there is room for a line of each kind, a count and the 32 registers. It is seen as
-/// its bytes.
+/// A page of text in a fixed buffer, which allocates no memory. It has room for a line of each kind, a count and the 32
+/// registers. Contracts see it as its bytes.
 #[derive(Drop)]
 pub struct Page {
     text: ArrayVec<u8, ROOM>,
@@ -53,7 +53,7 @@ impl Page {
         self.text.as_slice()
     }
 
-    /// Some bytes.
+    /// Appends bytes.
     pub fn push(&mut self, text: &[u8])
         requires { length self.old + length text.now ≤ page_room }
         ensures { self.new ≡ self.old ++ text.now }
@@ -63,7 +63,7 @@ impl Page {
         }
     }
 
-    /// A word as eight hexadecimal digits.
+    /// Appends a word in eight hexadecimal digits.
     pub fn push_hex(&mut self, word: u32)
         requires { length self.old + 8 ≤ page_room }
         ensures text { self.new ≡ self.old ++ hex8 word }
@@ -72,7 +72,7 @@ impl Page {
         self.push(&hex8(word));
     }
 
-    /// A number in decimal, of 20 digits at most.
+    /// Appends a number in decimal, at most 20 digits.
     pub fn push_decimal(&mut self, number: u64)
         requires { length self.old + 20 ≤ page_room }
         ensures text { self.new ≡ self.old ++ decimal number }
@@ -82,7 +82,7 @@ impl Page {
         self.push(buffer.format(number).as_bytes());
     }
 
-    /// A register's name: `x` and two digits.
+    /// Appends a register's name: `x` and two digits.
     #[tactic(auto, unfolding(crate::specs::Lines::register_name))]
     pub fn push_register_name(&mut self, register: u8)
         requires { length self.old + 3 ≤ page_room }
@@ -103,7 +103,7 @@ impl Page {
         self.push(&[separator(register)]);
     }
 
-    /// The 32 registers in eight lines.
+    /// Appends the 32 registers in eight lines.
     pub fn push_registers(&mut self, regs: &[u32; 32])
         requires { length self.old + 416 ≤ page_room }
         ensures text { self.new ≡ self.old ++ registers_from 0 regs.now }
@@ -116,7 +116,7 @@ impl Page {
         }
     }
 
-    /// A line of this text.
+    /// Appends a line with this text.
     pub fn push_line(&mut self, text: &[u8])
         requires { length self.old + length text.now + 1 ≤ page_room }
         ensures text { self.new ≡ self.old ++ line text.now }
@@ -126,7 +126,7 @@ impl Page {
         self.push(b"\n");
     }
 
-    /// A line of a name and a number.
+    /// Appends a line with a name and a number.
     pub fn push_counted(&mut self, name: &[u8], number: u64)
         requires { length self.old + length name.now + 21 ≤ page_room }
         ensures text { self.new ≡ self.old ++ counted_line name.now number }
@@ -137,7 +137,7 @@ impl Page {
         self.push(b"\n");
     }
 
-    /// The line of a trap.
+    /// Appends the line of a trap.
     pub fn push_trap(&mut self, cause: u8, pc: u32, detail: u32)
         requires { length self.old + 60 ≤ page_room }
         ensures text { self.new ≡ self.old ++ trap_line cause pc detail }

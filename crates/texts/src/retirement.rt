@@ -8,7 +8,7 @@ ghost use Rattle.texts.specs.Room.{page_room};
 use crate::page::Page;
 
 impl Page {
-    /// The register that an instruction wrote, with its value, or `-` where it wrote none.
+    /// Appends the register that an instruction wrote, with its value, or `-` where it wrote none.
     fn push_written(&mut self, register: u8, value: u32)
         requires { length self.old + 12 ≤ page_room }
         ensures text { self.new ≡ self.old ++ written_register register value }
@@ -24,8 +24,8 @@ impl Page {
     }
 }
 
-/// The line of an instruction that retired: its number among those that retired, its address, its word, and the
-/// register that it wrote with the value there, where register 0 means none.
+/// The line of an instruction that retired: its retirement number, its address, its word, and the register that it
+/// wrote with the new value. Register 0 means none.
 pub fn retirement_line(number: u64, pc: u32, word: u32, register: u8, value: u32) -> Page
     ensures { result ≡ retirement_text number pc word register value }
 {

@@ -19,7 +19,7 @@ use Rattle.cf_semantics.specs.claims.Weight.{is_issue}
 use Rattle.cf_semantics.specs.state.Drained.{IsStuck}
 use Rattle.theory_refinement.proofs.moves.Rows.{bar_row}
 
--- it stands in the list
+-- it is in the list
 pub record Has {A : Type 0} (xs : List A) (x : A) : Type 0 where
   pub place : ℕ
   pub there : slice_get xs place ≡ Some x

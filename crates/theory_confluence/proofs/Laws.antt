@@ -1,4 +1,5 @@
--- Drain and confluence: where every order of moves leads, for each accepted layout and each machine with its 32 registers.
+-- Drain and confluence: where every order of moves leads, for each accepted layout and each machine with its 32
+-- registers.
 use Rattle.std.proofs.Common.{◌≡◌, ℕ, ◌+◌, ◌*◌, ◌≤◌, suc, List, ◌∷◌, Option, Some, None, true, false, refl, sym, subst, ◌∙◌, arith, length}
 use Rattle.std.specs.Prelude.{slice_get}
 use Rattle.rv_machine.specs.Machine.{Machine}
@@ -61,7 +62,8 @@ pub run_bounded : (plan : Plan) (x : Machine) (moves : List Move) → IsAccepted
     length moves ≤ moves_per_issue plan * issues moves
 run_bounded plan x moves acc wide allowed = bounded_run plan x moves (accepted_suits plan acc) wide allowed
 
--- a reached state in which no move but Issue is allowed, and that has not ended, is drained where the machine is, and Issue is allowed there
+-- a reached state in which no move but Issue is allowed, and that has not ended, is drained where the machine is, and
+-- Issue is allowed there
 pub stuck_rests : (plan : Plan) (x : Machine) (m : Moment) → IsAccepted plan → length x.hart.regs ≡ 32 → IsReached plan x m → m.state.ending ≡ None →
     IsStuck plan m.state → Rests plan x m
 stuck_rests plan x m acc wide reached going stuck =
@@ -75,8 +77,8 @@ pub drain_bounded : (plan : Plan) (x : Machine) (m : Moment) (moves : List Move)
 drain_bounded plan x m moves acc wide reached allowed held = bounded_drain plan x m moves (accepted_suits plan acc)
     (reached_holds plan x m acc wide reached) allowed held
 
--- with Issue held back a run that cannot be extended retires the passengers on the path; it ends the program with the
--- next step where that stands on the path too, and else it ends drained
+-- with Issue held back a run that cannot be extended retires the instructions on the path; it ends the program with the
+-- next step where that is on the path too, and else it ends drained
 pub drain_ends : (plan : Plan) (x : Machine) (m t : Moment) → IsAccepted plan → length x.hart.regs ≡ 32 → IsReached plan x m → m.state.ending ≡ None →
     Drains plan m t → EndsAs plan x m t
 drain_ends plan x m t acc wide reached going d = ends_as plan x m t (accepted_suits plan acc) (reached_tidy plan x m reached)
@@ -131,7 +133,8 @@ kept_is_true plan x m acc wide reached going drained = kept_true plan x m (reach
 pub move_local : (plan : Plan) (m : Moment) (mv : Move) → IsLocal plan m mv
 move_local plan m mv = local plan m mv
 
--- two independent moves that are allowed in one state: each is allowed after the other, and both orders lead to the same moment
+-- two independent moves that are allowed in one state: each is allowed after the other, and both orders lead to the
+-- same moment
 pub independent_swap : (plan : Plan) (m : Moment) (a b : Move) → AreIndependent plan m.state a b → bar plan m.state a ≡ None → bar plan m.state b ≡ None →
     (bar plan (next plan m a).state b ≡ None) × (bar plan (next plan m b).state a ≡ None) × (next plan (next plan m a) b ≡ next plan (next plan m b) a)
 independent_swap plan m a b i e f =

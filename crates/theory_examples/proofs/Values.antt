@@ -26,7 +26,7 @@ seven = sample (0x13 ∷ 0x05 ∷ 0x70 ∷ 0x00 ∷ 0x93 ∷ 0x08 ∷ 0xd0 ∷ 0
 abbrev pub put_seven : Instr
 put_seven = instr.OpImm imm_op.Add 10 0 (pos 7)
 
--- The first instruction executes and sends its result: it stays in stage 1, beside the packet.
+-- The first instruction executes and sends its result: it stays in stage 1, beside the result.
 pub executed_and_sent : EndsIn tiny seven
     (Issue Next ∷ Execute 1 ∷ Send 1 ∷ [])
     (record (opened tiny seven)
@@ -49,7 +49,8 @@ counting = sample (0x93 ∷ 0x80 ∷ 0x10 ∷ 0x00 ∷ 0x93 ∷ 0x80 ∷ 0x10 �
 abbrev pub count_on : Instr
 count_on = instr.OpImm imm_op.Add 1 1 (pos 1)
 
--- The first meeting garners and kills; the second updates the packet with the new value; the third garners that value, and kills.
+-- The first meeting garners and kills; the second updates the result with the new value; the third garners that value,
+-- and kills.
 pub three_meetings : EndsIn tiny counting
     (Issue Next ∷ Climb 1 ∷ Issue Next ∷ Emit ∷ Meet 2 ∷ Emit ∷ Execute 2 ∷ Meet 2 ∷ Fall 2 ∷ Meet 1 ∷ [])
     (record (opened tiny counting) {
@@ -76,7 +77,7 @@ pub asked_and_sent_down : EndsIn tiny asking
 unfolding on_literals
 asked_and_sent_down = ends refl refl
 
--- A passenger beside a packet cannot leave before the two have met,
+-- An instruction beside a result cannot leave before the two have met,
 pub leaves_only_when_met : IsBarred tiny asking
     (Issue Next ∷ Climb 1 ∷ Emit ∷ [])
     (Leave) (bar.NotMet)

@@ -47,7 +47,7 @@ shifts_aside = record plain {
   sidings = memory_siding ∷ shift_siding ∷ [];
 }
 
--- a machine at the start of the program of these bytes, which stand at 00010000
+-- a machine at the start of the program of these bytes, which are at 00010000
 abbrev pub program : List ℕ → Memory
 program bytes = record {
   areas = record { base = 0x10000; write = false; exec = true; bytes = bytes; code = bytes }
@@ -65,7 +65,7 @@ unknown r = Some (record { reg = r; value = None })
 abbrev pub known : ℕ → ℕ → Option Binding
 known r v = Some (record { reg = r; value = Some v })
 
--- a passenger as it is issued, on the guess that the next word follows
+-- an instruction as it is issued, on the guess that the next word follows
 abbrev pub issued : ℕ → Instr → Option Binding → Option Binding → Option Binding → Passenger
 issued pc i src1 src2 dst = record {
   pc = pc;
@@ -87,7 +87,7 @@ issued pc i src1 src2 dst = record {
 abbrev pub done : Passenger → ℕ → Passenger
 done p next = record p { done = true; next = Some next }
 
--- a stage with a passenger alone, with a packet alone, and with both
+-- a stage with an instruction alone, with a result alone, and with both
 abbrev pub holds : Passenger → Cell
 holds p = record { passenger = Some p; packet = None; met = false }
 

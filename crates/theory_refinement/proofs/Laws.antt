@@ -44,7 +44,7 @@ finish_as : (p : Passenger) (answer : Option ℕ) (t : Option End) (n v : ℕ) �
 unfolding finish
 finish_as p answer t n v e f g = rw (e, f, g) refl
 
--- what finishing leads to, once the passenger has left
+-- what finishing leads to, once the instruction has left
 finish_departs : (p : Passenger) (i : Instr) (x : Machine) (answer : Option ℕ) (mem : Memory) → IsReadyPassenger p i x →
     departed (finish p answer) x mem
     ≡ on (finish_trap i x.hart.pc (value_read x.hart.regs (src1_of i)) (value_read x.hart.regs (src2_of i)))

@@ -1,4 +1,4 @@
--- Also over an input that does not tell what it has left, a run has a bounded number of moves for each Issue.
+-- Also over an input whose remaining bytes are unknown, a run has a bounded number of moves for each Issue.
 use Rattle.std.proofs.Common.{◌≡◌, ℕ, suc, ◌+◌, ◌*◌, ◌≤◌, List, [], ◌∷◌, ◌++◌, None, sym, ap, ◌∙◌, arith, length, ◌⊎◌, inl, inr}
 use Rattle.rv_machine.specs.Machine.{Machine}
 use Rattle.cf_layout.specs.Accepted.{IsAccepted}
@@ -62,7 +62,8 @@ run_bounded_anew plan x last moves written accepted wide leads =
     let z = opened_weight plan x in
     omega (arith, p, z)
 
--- with issue held back a run has at most as many moves as the weight of the state from which it starts, whatever each move finds of the input
+-- with issue held back a run has at most as many moves as the weight of the state from which it starts, whatever each
+-- move finds of the input
 pub drain_bounded_anew : (plan : Plan) (start : Machine) (m last : Moment) (moves : List Move) (written later : List Line) → IsAccepted plan →
     HoldsAnew plan start written m → LeadsTo plan m moves last later → issues moves ≡ 0 → length moves ≤ weight plan m.state
 drain_bounded_anew plan start m last moves written later accepted h leads held =

@@ -43,7 +43,7 @@ past (Down i k) w = w
 abbrev pub Ends : (ℕ → Bool) → List (Option ℕ) → Type 0
 Ends w cache = (r v : ℕ) → cached cache r ≡ Some v → w r ≡ false
 
--- no value of a register that an answer is still to give stands below that call, nor is one kept at the bottom
+-- no value of a register that an answer is still to give is below that call, nor is one kept at the bottom
 pub record IsClear (s : State) : Type 0 where
   pub fit : Everywhere Fits past (column s) none_awaited
   pub ends : Ends (walk past (column s) none_awaited) s.cache
@@ -85,17 +85,17 @@ clear_replaced s t above old new below was is c f h =
     fewer_end : (w v : ℕ → Bool) (cache : List (Option ℕ)) → Follows w v → Ends w cache → Ends v cache
     fewer_end w v cache f e = λ r n g. not_awaited w v r f (e r n g)
 
--- a passenger is replaced by one that gives no register that it did not
+-- an instruction is replaced by one that gives no register that it did not
 pub rider_clear : (i j : ℕ) (p q : Passenger) (w : ℕ → Bool) → ((r : ℕ) → gives q r ≡ true → gives p r ≡ true) →
     Replaces (ℕ → Bool) Fits past Follows (Up i p ∷ []) (Up j q ∷ []) w
 unfolding Fits past
 rider_clear i j p q w f = record { fit = λ h. h; follows = λ h. record { fewer = λ r e. grind (arith, f r) } }
 
--- a passenger is replaced by one that is not waited for
+-- an instruction is replaced by one that is not waited for
 pub quiet_clear : (i j : ℕ) (p q : Passenger) (w : ℕ → Bool) → awaits q ≡ false → Replaces (ℕ → Bool) Fits past Follows (Up i p ∷ []) (Up j q ∷ []) w
 quiet_clear i j p q w e = rider_clear i j p q w (λ r f. absurd (let z = e in grind arith))
 
--- a packet stands in another stage
+-- a result is in another stage
 pub packet_clear : (i j : ℕ) (k : Packet) (w : ℕ → Bool) → Replaces (ℕ → Bool) Fits past Follows (Down i k ∷ []) (Down j k ∷ []) w
 unfolding Fits past
 packet_clear i j k w = record { fit = λ h. grind arith; follows = λ h. record { fewer = λ r e. e } }

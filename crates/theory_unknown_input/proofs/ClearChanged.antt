@@ -35,7 +35,7 @@ use Rattle.rv_machine.specs.Call as called
 use Rattle.rv_machine.specs.Machine.{Machine}
 use Rattle.theory_unknown_input.proofs.Clear.{IsClear, awaits, clear_replaced, met_clear, packet_clear, quiet_clear, rider_clear}
 
--- Climb: a passenger stands one stage higher
+-- Climb: an instruction is one stage higher
 pub climb_clear : (l : Plan) (s : State) (i : ℕ) → bar l s (Climb i) ≡ None → IsClear s → IsClear (moved l s (Climb i))
 climb_clear l s i e h =
     let r = climb_ready l s i (bar_row l s (Climb i) e) in
@@ -51,12 +51,12 @@ fall_above l s i e h =
     rw (next_fall l s i r.high r.low r.at_high r.at_low, sub-one) (clear_replaced s (record s { cells = cells_fallen s i r.low r.high }) q.above
     (Down (suc i) r.what ∷ []) (Down i r.what ∷ []) q.below q.was q.is refl (packet_clear (suc i) i r.what _) h)
 
--- Fall: a packet stands one stage lower
+-- Fall: a result is one stage lower
 pub fall_clear : (l : Plan) (s : State) (i : ℕ) → bar l s (Fall i) ≡ None → IsClear s → IsClear (moved l s (Fall i))
 fall_clear l s zero e h = absurd (no_fall l s (bar_row l s (Fall zero) e))
 fall_clear l s (suc i) e h = fall_above l s i (bar_row l s (Fall (suc i)) e) h
 
--- Meet: a value of the register that the passenger is to give does not pass it
+-- Meet: a value of the register that the instruction is to give does not pass it
 pub meet_clear : {rest out : List ℕ} (l : Plan) (s : State) (x : Machine) (i : ℕ) → bar l s (Meet i) ≡ None → Sound l s rest out x → IsClear s →
     IsClear (moved l s (Meet i))
 meet_clear {rest} {out} l s x i e h n =
@@ -72,7 +72,7 @@ meet_clear {rest} {out} l s x i e h n =
 done_quiet : (p : Passenger) → p.done ≡ true → awaits p ≡ false
 done_quiet p e = grind arith
 
--- Execute: the passenger is executed
+-- Execute: the instruction is executed
 pub execute_clear : (l : Plan) (s : State) (i : ℕ) → bar l s (Execute i) ≡ None → IsClear s → IsClear (moved l s (Execute i))
 execute_clear l s i e h =
     let r = execute_ready l s i (bar_row l s (Execute i) e) in
@@ -81,7 +81,7 @@ execute_clear l s i e h =
     rw (next_execute l s i r.here r.who r.at_here r.sits) (clear_replaced s (with_cell s i (with_passenger r.here f)) q.above (Up i r.who ∷ []) (Up i f
     ∷ []) q.below q.was (q.is f) refl (quiet_clear i i r.who f _ (done_quiet f (finish_done r.who None))) h)
 
--- Launch: the passenger is launched, or it traps
+-- Launch: the instruction is launched, or it traps
 pub launch_clear : (l : Plan) (s : State) (i : ℕ) → bar l s (Launch i) ≡ None → IsClear s → IsClear (moved l s (Launch i))
 launch_clear l s i e h =
     let r = launch_ready l s i (bar_row l s (Launch i) e) in
@@ -108,7 +108,7 @@ back_quiet p o = go p.dead refl
     go true d = rw (in_dead p o d) (grind arith)
     go false d = rw (in_live p o d) (done_quiet (finish (back p) o) (finish_done (back p) o))
 
--- Recover: the passenger takes its operation back
+-- Recover: the instruction takes its operation back
 pub recover_clear : (l : Plan) (s : State) (i : ℕ) → bar l s (Recover i) ≡ None → IsClear s → IsClear (moved l s (Recover i))
 recover_clear l s i e h =
     let r = recover_ready l s i (bar_row l s (Recover i) e) in
@@ -118,7 +118,7 @@ recover_clear l s i e h =
     (with_siding (with_cell s i (with_passenger r.here p)) r.number (set_last (siding_at s r.number) None)) q.above (Up i r.who ∷ []) (Up i p
     ∷ []) q.below q.was (q.is p) refl (quiet_clear i i r.who p _ (back_quiet r.who r.what.answer)) h)
 
--- Serve: the passenger is answered, or ends the program
+-- Serve: the instruction is answered, or ends the program
 pub serve_clear : (l : Plan) (m : Moment) → bar l m.state Serve ≡ None → IsClear m.state → IsClear (next l m Serve).state
 serve_clear l m e h =
     let r = serve_ready l m.state (bar_row l m.state Serve e) in

@@ -40,7 +40,7 @@ clear_opened l x = let e = empty_column 1 l.stages in record { fit = rw e tt; en
 
 -- Leave
 
--- a passenger that is dead or done waits for nothing
+-- an instruction that is dead or done waits for nothing
 settled : (p : Passenger) → (p.dead ≡ false → p.done ≡ true) → awaits p ≡ false
 settled p f = go p.dead refl
   where
@@ -57,7 +57,7 @@ past_settled n p w e = ap {B = ℕ → Bool} (λ (b : Bool). λ (r : ℕ). (b &&
 left_cache : (s : State) (n : ℕ) (c : Cell) (p : Passenger) → (left s n c p).cache ≡ s.cache
 left_cache s n c p = grind arith
 
--- Leave keeps it: the passenger that leaves waits for nothing
+-- Leave keeps it: the instruction that leaves waits for nothing
 pub leave_clear : {rest out : List ℕ} (l : Plan) (s : State) (x : Machine) → Suits l → bar l s Leave ≡ None → Sound l s rest out x → IsClear s →
     IsClear (moved l s Leave)
 leave_clear l s x acc e h k =
@@ -80,14 +80,14 @@ leave_clear l s x acc e h k =
 
 -- Emit
 
--- at the top any packet fits
+-- at the top any result fits
 fits_first : (i : ℕ) (k : Packet) → Fits (Down i k) none_awaited
 unfolding Fits
 fits_first i (Value r v) = refl
 fits_first i (Turn pc) = tt
 fits_first i Halt = tt
 
--- a packet changes nothing that is waited for
+-- a result changes nothing that is waited for
 past_down : (i : ℕ) (k : Packet) (w : ℕ → Bool) → past (Down i k) w ≡ w
 unfolding past
 past_down i k w = refl
@@ -144,12 +144,12 @@ forget_ends i p w c h = of p.dst refl
 
 -- Issue
 
--- a passenger fits anywhere
+-- an instruction fits anywhere
 pub fits_up : (i : ℕ) (p : Passenger) (w : ℕ → Bool) → Fits (Up i p) w
 unfolding Fits
 fits_up i p w = tt
 
--- Issue keeps it: below the new passenger stands nothing, and its destination is forgotten
+-- Issue keeps it: below the new instruction is nothing, and its destination is forgotten
 pub issue_clear : {rest out : List ℕ} (l : Plan) (s : State) (x : Machine) (g : Guess) → Suits l → bar l s (Issue g) ≡ None → Sound l s rest out x → IsClear s →
     IsClear (moved l s (Issue g))
 issue_clear l s x g acc e h k =
@@ -169,7 +169,7 @@ issue_clear l s x g acc e h k =
 
 -- Exit
 
--- what is kept of a packet that fits is of no register that is waited for
+-- what is kept of a result that fits is of no register that is waited for
 exit_ends : (i : ℕ) (k : Packet) (b : Bool) (c : List (Option ℕ)) (w : ℕ → Bool) → Fits (Down i k) w → Ends (past (Down i k) w) c → Ends w (keeps b c k)
 unfolding Fits past
 exit_ends i (Value r v) true c w f h = keep_ends w c r v f h

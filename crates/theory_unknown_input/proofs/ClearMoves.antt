@@ -1,4 +1,4 @@
--- Every move keeps clear what stands below an instruction that is still to be answered.
+-- Every move keeps clear what is below an instruction that is still to be answered.
 use Rattle.std.proofs.Common.{◌≡◌, None}
 use Rattle.cf_bind.specs.declared.moves.Move.{Move}
 use Rattle.cf_bind.specs.declared.moves.Move.TheVariants.{Access, Climb, Emit, Execute, Exit, Fall, Issue, Launch, Leave, Meet, Recover, Send, Serve, Slide}

@@ -1,4 +1,4 @@
--- What is waited for, at Send: nothing above the passenger is, so that what it owes fits below it.
+-- What is waited for, at Send: nothing above the instruction is, so that what it owes fits below it.
 use Rattle.std.proofs.Common.{◌≡◌, ℕ, List, [], ◌∷◌, ◌++◌, Some, None, Bool, true, false, refl, subst, arith}
 use Rattle.rv_machine.specs.Machine.{Machine}
 use Rattle.cf_bind.specs.declared.cell.Cell.{Cell}
@@ -36,7 +36,7 @@ pub walk_unawaited : (l : Plan) (xs : List Item) (b : Bool) (w : ℕ → Bool) (
 walk_unawaited l [] b w r e f = f e
 walk_unawaited l (x ∷ xs) b w r e f = walk_unawaited l xs (lone.past l x b) (past x w) r e (λ z. past_unawaited l x b w r z f)
 
--- what it owes fits below a passenger that is done, where nothing above waits
+-- what it owes fits below an instruction that is done, where nothing above waits
 fits_sent : (i : ℕ) (p : Passenger) (k : Packet) (w : ℕ → Bool) → p.done ≡ true → ((r : ℕ) → w r ≡ false) → Fits (Down i k) (past (Up i p) w)
 unfolding Fits past
 fits_sent i p (Value r v) w d f = let u = f r in grind arith

@@ -1,4 +1,4 @@
--- What every move keeps over an input that does not tell what it has left.
+-- What every move keeps over an input whose remaining bytes are unknown.
 use Rattle.std.specs.Prelude.{◌≡◌, ◌+◌, ℕ, List}
 use Rattle.rv_machine.specs.Machine.{Machine}
 use Rattle.cf_layout.specs.Layout.{Plan}
@@ -12,7 +12,7 @@ use Rattle.theory_unknown_input.specs.UnknownInput.{GoesTo, finding}
 use Rattle.theory_unknown_input.proofs.Clear.{IsClear}
 
 -- steps that each find some input lead to a machine, as many as have retired; with some input left the moment is sound
--- over that machine, or ended by its next step; and no value stands below a call that is still to give it
+-- over that machine, or ended by its next step; and no value is below a call that is still to give it
 pub record HoldsAnew (plan : Plan) (start : Machine) (written : List Line) (m : Moment) : Type 0 where
   pub at : Machine
   pub count : m.state.retired ≡ start.hart.retired + gained start m.state

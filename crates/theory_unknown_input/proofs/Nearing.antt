@@ -1,4 +1,4 @@
--- Instructions that are sure to retire, over an input that does not tell what it has left.
+-- Instructions that are sure to retire, over an input whose remaining bytes are unknown.
 use Rattle.std.proofs.Common.{◌≡◌, ℕ, suc, ◌+◌, ◌≤◌, List, [], ◌∷◌, None, true, sym, ap, ◌∙◌, arith, ◌⊎◌, inl, inr}
 use Rattle.rv_inst.specs.declared.isa.Isa.{Isa}
 use Rattle.rv_machine.specs.Machine.{Machine}
@@ -31,7 +31,8 @@ use Rattle.theory_unknown_input.proofs.Found.{found}
 use Rattle.theory_unknown_input.proofs.Rechosen.{over}
 use Rattle.theory_unknown_input.proofs.Theorems.{held_anew, rebased}
 
--- with some input left n instructions are sure to retire, or the program is sure to end; n is at most one more than have retired
+-- with some input left n instructions are sure to retire, or the program is sure to end; n is at most one more than
+-- have retired
 pub record Nearing (plan : Plan) (m : Moment) (n : ℕ) : Type 0 where
   pub at : Machine
   pub rest : List ℕ
@@ -73,7 +74,7 @@ way_grows isa (i ∷ items) w =
     one (Up j p) = past_grows isa j p w
     one (Down j k) = unfold past in (omega arith, λ e. e)
 
--- a sure passenger at the top stands where the machine is
+-- a sure instruction at the top is where the machine is
 stands_there : (isa : Isa) (p : Passenger) (s : State) (x : Machine) → sure.SureAt isa p (trail.top s x) → p.pc ≡ x.hart.pc
 unfolding sure.SureAt
 stands_there isa p s x h = let e = h.0.path in cc

@@ -1,4 +1,5 @@
--- What a policy is offered: moves that are allowed, at least one while the program goes on, and no Issue except where the hold rule permits it.
+-- What a policy is offered: moves that are allowed, at least one while the program goes on, and no Issue except where
+-- the hold rule permits it.
 use Rattle.std.proofs.Common.{◌≡◌, ℕ, ◌≤◌, List, length, Option, Some, None, Bool, true, false, not, refl, subst}
 use Rattle.std.specs.Prelude.{slice_get, nat_lt, if◌then◌else◌}
 use Rattle.rv_machine.specs.Machine.{Machine}

@@ -1,4 +1,5 @@
--- Runs under the hold rule over an input that does not tell what it has left: such a run has at most as many moves as its retirements allow for.
+-- Runs under the hold rule over an input whose remaining bytes are unknown: such a run has at most as many moves as its
+-- retirements allow for.
 use Rattle.std.proofs.Common.{◌≡◌, ℕ, suc, ◌+◌, ◌*◌, ◌≤◌, ◌<◌, List, [], ◌∷◌, ◌++◌, length, Option, Some, None, Bool, true, false, refl, sym, ap, subst, ◌∙◌, arith, ◌⊎◌, inl, inr}
 use Rattle.std.specs.Prelude.{◌||◌, if◌then◌else◌}
 use Rattle.rv_machine.specs.Machine.{Machine}
@@ -45,7 +46,7 @@ paces_leads plan count m last (mv ∷ moves) written (rest, later, e, free, hold
   is,
 )
 
--- a run under the hold rule over an input that tells what it has left is one of them
+-- a run under the hold rule over an input whose remaining bytes are known is one of them
 pub told_paces : (plan : Plan) (count : ℕ) (m : Moment) (moves : List Move) → IsPaced plan count m moves →
     PacesTo plan count m moves (run plan m moves) (lines plan m moves)
 unfolding IsPaced PacesTo run lines
@@ -73,7 +74,8 @@ abbrev pub OnItsWay : Plan → Machine → Moment → ℕ → ℕ → Type 0
 OnItsWay plan start m count rests = ((is_drained m.state ≡ true) × (count ≡ 0) × (start.hart.retired + rests ≤ m.state.retired))
     ⊎ ((is_drained m.state ≡ false) × Since plan start m rests)
 
--- how many Issue moves there were: as many as retirements and drained moments allow for; and where the moment stands while the program goes on
+-- how many Issue moves there were: as many as retirements and drained moments allow for; and where the moment is while
+-- the program goes on
 pub record Pacing (plan : Plan) (start : Machine) (m : Moment) (count done : ℕ) : Type 0 where
   pub gone : ℕ
   pub rests : ℕ
@@ -100,7 +102,8 @@ rested_once plan start m rests s unended drained =
     let b = nearing_retired plan m (suc s.mark) s.nearing unended drained in
     omega (arith, a, b)
 
--- an Issue is counted only where fewer than 2N are: where the candidates are held it is made only where nothing else is allowed, and there nothing is counted
+-- an Issue is counted only where fewer than 2N are: where the candidates are held it is made only where nothing else is
+-- allowed, and there nothing is counted
 room : (plan : Plan) (start : Machine) (m : Moment) (mv : Move) (count rests : ℕ) (written : List Line) → Suits plan → HoldsAnew plan start written m →
     m.state.ending ≡ None → (is_held plan count ≡ true → is_issue mv ≡ true → IsStuck plan m.state) → OnItsWay plan start m count rests → is_issue mv ≡ true →
     count < 2 * plan.stages
@@ -261,7 +264,8 @@ few_issues n gone rests slack done fewer low bound =
     let b : (4 * n) * (gone + 1) ≡ (2 * n) * (gone + gone) + (2 * n + 2 * n) = grind arith in
     omega (arith, low, bound, a, b)
 
--- under the hold rule a run from the beginning has at most 4 N K (r + 1) moves, where r instructions have retired, whatever each move finds of the input
+-- under the hold rule a run from the beginning has at most 4 N K (r + 1) moves, where r instructions have retired,
+-- whatever each move finds of the input
 pub paced_bounded_anew : (plan : Plan) (x : Machine) (moves : List Move) (m : Moment) (written : List Line) → IsAccepted plan → length x.hart.regs ≡ 32 →
     PacesTo plan 0 (start plan x) moves m written → length moves ≤ 4 * plan.stages * moves_per_issue plan * (gained x m.state + 1)
 paced_bounded_anew plan x moves m written accepted wide paces =
@@ -276,7 +280,7 @@ paced_bounded_anew plan x moves m written accepted wide paces =
     turn : (a b c : ℕ) → a * (b * c) ≡ b * a * c
     turn a b c = grind arith
 
--- so has one over an input that tells what it has left
+-- so has one over an input whose remaining bytes are known
 pub paced_run_bounded : (plan : Plan) (x : Machine) (moves : List Move) → IsAccepted plan → length x.hart.regs ≡ 32 → IsPaced plan 0 (start plan x) moves →
     length moves ≤ 4 * plan.stages * moves_per_issue plan * (gained x (run plan (start plan x) moves).state + 1)
 paced_run_bounded plan x moves accepted wide paces = paced_bounded_anew plan x moves (run plan (start plan x) moves)

@@ -1,4 +1,5 @@
--- Where a call is to be served, the state is sound whatever the input has left: nothing in the processor depends on it yet.
+-- Where a call is to be served, the state is sound whatever the input has left: nothing in the processor depends on it
+-- yet.
 use Rattle.std.proofs.Common.{◌≡◌, ℕ, List, [], ◌∷◌, Option, Some, None, Bool, true, false, not, refl, sym, ap, ◌∙◌, arith}
 use Rattle.std.specs.Prelude.{slice_index}
 use Rattle.rv_inst.specs.declared.classes.Class.TheVariants.{Serial}
@@ -43,7 +44,7 @@ record Alike (awaited : ℕ → Bool) (w v : trail.Walk) : Type 0 where
   trapped : v.trapped ≡ w.trapped
   regs : (r : ℕ) → awaited r ≡ false → slice_index v.machine.hart.regs r ≡ slice_index w.machine.hart.regs r
 
--- a packet fits one where it fits the other
+-- a result fits one where it fits the other
 packet_alike : (isa : Isa) (i : ℕ) (k : Packet) (awaited : ℕ → Bool) (w v : trail.Walk) → Alike awaited w v → clear.Fits (Down i k) awaited →
     sure.Fits isa (Down i k) w → sure.Fits isa (Down i k) v
 unfolding sure.Fits clear.Fits
@@ -64,7 +65,7 @@ passed_alike isa i (Value r n) awaited w v a = record { barred = a.barred; goto 
 passed_alike isa i (Turn pc) awaited w v a = record { barred = refl; goto = a.goto; settled = a.settled; trapped = a.trapped; regs = a.regs }
 passed_alike isa i Halt awaited w v a = record { barred = refl; goto = a.goto; settled = a.settled; trapped = a.trapped; regs = a.regs }
 
--- so are all packets below the call
+-- so are all results below the call
 fit_alike : (isa : Isa) (xs : List Item) (awaited : ℕ → Bool) (w v : trail.Walk) → Idle xs → Alike awaited w v → Everywhere clear.Fits clear.past xs awaited →
     Everywhere (sure.Fits isa) (trail.past isa) xs w → Everywhere (sure.Fits isa) (trail.past isa) xs v
 fit_alike isa [] awaited w v q a c h = tt

@@ -1,4 +1,4 @@
--- The theorems: also over an input that does not tell what it has left, every run does what the sequential machine does.
+-- The theorems: also over an input whose remaining bytes are unknown, every run does what the sequential machine does.
 use Rattle.std.proofs.Common.{◌≡◌, ℕ, ◌+◌, List, [], ◌∷◌, ◌++◌, Some, None, refl, sym, ap, subst, ◌∙◌, arith, length, append_assoc, append-nil, ◌⊎◌, inl, inr}
 use Rattle.rv_inst.specs.declared.isa.Isa.{Isa}
 use Rattle.rv_machine.specs.After.{SameButInput, after}

@@ -1,5 +1,5 @@
--- Runs under the hold rule over an input that does not tell what it has left ("Counterflow Pipeline Processor
--- Architecture", 1994; the input stands outside the processor).
+-- Runs under the hold rule over an input whose remaining bytes are unknown ("Counterflow Pipeline Processor
+-- Architecture", 1994; the input is outside the processor).
 use Rattle.std.specs.Prelude.{◌≡◌, ℕ, List, [], ◌∷◌, ◌++◌, None, true}
 use Rattle.cf_layout.specs.Layout.{Plan}
 use Rattle.cf_bind.specs.declared.moves.Move.{Move}

@@ -1,5 +1,5 @@
--- Runs over an input that does not tell what it has left: each move, and each step of the sequential machine, finds
--- some of it ("Counterflow Pipeline Processor Architecture", 1994; the input stands outside the processor).
+-- Runs over an input whose remaining bytes are unknown: each move, and each step of the sequential machine, finds some
+-- of it ("Counterflow Pipeline Processor Architecture", 1994; the input is outside the processor).
 use Rattle.std.specs.Prelude.{◌≡◌, ℕ, zero, suc, ◌≤◌, List, [], ◌∷◌, ◌++◌, None}
 use Rattle.rv_inst.specs.declared.isa.Isa.{Isa}
 use Rattle.rv_machine.specs.After.{SameButInput}
@@ -18,7 +18,8 @@ use Rattle.cf_semantics.specs.state.State.{Moment}
 abbrev pub finding : List ℕ → Moment → Moment
 finding rest m = record m { rest = rest }
 
--- the moves lead from one moment to another, each allowed where it is made, and each finding some input; and these instructions retire
+-- the moves lead from one moment to another, each allowed where it is made, and each finding some input; and these
+-- instructions retire
 unfoldable pub LeadsTo : Plan → Moment → List Move → Moment → List Line → Type 0
 LeadsTo plan m [] last written = (last ≡ m) × (written ≡ [])
 LeadsTo plan m (mv ∷ moves) last written =

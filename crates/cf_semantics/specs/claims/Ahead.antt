@@ -1,4 +1,5 @@
--- How far the output and the memory are ahead of the retired count: by a call that was served, and by the accesses that have passed the memory port.
+-- How far the output and the memory are ahead of the retired count. The output is ahead by a served call, the memory by
+-- the accesses that have passed the memory port.
 use Rattle.std.specs.Prelude.{ℕ, ◌+◌, Option, None, Bool, true, false, ◌&&◌, ◌||◌, not, if◌then◌else◌}
 use Rattle.cf_layout.specs.Layout.{Plan}
 use Rattle.cf_bind.specs.declared.passenger.Passenger.{Passenger}
@@ -25,9 +26,9 @@ abbrev pub flies : Passenger → Bool
 flies p = is_memory (kind p) && p.launched && not p.recovered
 
 -- it is live and has passed the port: its call was served, or its load or store is recovered, or answered at the end of
--- the siding. Right only in reached states,
--- and with the answer at the siding's end given only for the highest passenger whose load or store is in the siding:
--- there that operation is its own, and what was recovered was answered
+-- the siding. Right only in reached states, and where the answer at the siding's end is given only for the highest
+-- instruction whose load or store is in the siding. There that operation is its own, and what was recovered was
+-- answered
 abbrev pub has_ported : Passenger → Option ℕ → Bool
 has_ported p answer = has_served p || (not p.dead && is_memory (kind p) && (p.recovered || (p.launched && is_some answer)))
 
@@ -39,8 +40,8 @@ answer_there plan s = on (last_op (siding_at s (port plan))) None (λ o. o.answe
 abbrev pub served_count : Plan → State → ℕ
 served_count plan s = on (cell_at s.cells plan.stages) 0 (λ c. on c.passenger 0 (λ p. one (has_served p)))
 
--- the live passengers so far, how many of these there are down to the lowest that has passed the port, and the answer
--- at the end of Memory's siding until its own passenger is passed
+-- so far from the top: the number of live instructions, their number down to the lowest that has passed the port, and
+-- the answer at the end of Memory's siding until its own instruction is passed
 pub record PortTally : Type 0 where
   pub live : ℕ
   pub ported : ℕ
@@ -59,6 +60,6 @@ counted (Down i k) t = t
 abbrev pub uncounted : Plan → State → PortTally
 uncounted plan s = record { live = 0; ported = 0; answer = answer_there plan s }
 
--- how many live passengers there are from the top down to the lowest that has passed the port, 0 where none has passed it
+-- the number of live instructions from the top down to the lowest that has passed the port, 0 where none has passed it
 abbrev pub ported_count : Plan → State → ℕ
 ported_count plan s = (walk counted (column s) (uncounted plan s)).ported

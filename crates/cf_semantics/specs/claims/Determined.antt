@@ -1,4 +1,4 @@
--- How a run ends that holds Issue back and cannot be extended: drained, or with the end of the program.
+-- How a run ends that holds Issue back and cannot be extended: drained, or at the end of the program.
 use Rattle.std.specs.Prelude.{◌≡◌, ℕ, ◌+◌, List, Some, None, Bool, true, false, slice_index}
 use Rattle.rv_machine.specs.Machine.{Machine}
 use Rattle.rv_machine.specs.After.{after}
@@ -26,7 +26,7 @@ pub record Drains (plan : Plan) (m t : Moment) : Type 0 where
   pub is : t ≡ run plan m moves
   pub stuck : IsStuck plan t.state
 
--- the two states are the same, but for what is kept at the bottom
+-- the two states are the same, apart from the cache at the bottom
 pub record IsSame (s t : State) : Type 0 where
   pub cells : s.cells ≡ t.cells
   pub sidings : s.sidings ≡ t.sidings
@@ -38,12 +38,12 @@ pub record IsSame (s t : State) : Type 0 where
   pub ending : s.ending ≡ t.ending
   pub failed : s.failed ≡ t.failed
 
--- each value that is kept at the bottom is its register's
+-- each cached value is its register's
 abbrev pub KeepsRegisters : State → Type 0
 KeepsRegisters s = (r v : ℕ) → cached s.cache r ≡ Some v → v ≡ slice_index s.regs r
 
 -- drained at the machine: the state is the one in which a processor starts on the machine, except that values may be
--- kept at the bottom, each its register's; input and output are the machine's
+-- cached, each its register's; input and output are the machine's
 pub record IsDrainedAt (plan : Plan) (x : Machine) (m : Moment) : Type 0 where
   pub same : IsSame m.state (opened plan x)
   pub kept : KeepsRegisters m.state
@@ -74,7 +74,8 @@ abbrev pub EndsAt : Bool → Plan → Machine → Moment → Type 0
 EndsAt true plan x t = IsEndedAt plan x t
 EndsAt false plan x t = IsDrainedAt plan x t
 
--- how a run from m ends: the passengers on the path retire; and where the next sure passenger stands on the path too, the program ends with its step
+-- how a run from m ends: the instructions on the path retire; and where the next sure instruction is on the path too,
+-- the program ends with its step
 pub record EndsAs (plan : Plan) (start : Machine) (m t : Moment) : Type 0 where
   pub at : Machine
   pub count : after (isa_of plan) start (gained start m.state) ≡ Some at
@@ -82,8 +83,8 @@ pub record EndsAs (plan : Plan) (start : Machine) (m t : Moment) : Type 0 where
   pub more : after (isa_of plan) start (gained start m.state + right (isa_of plan) m.state at) ≡ Some final
   pub ends : EndsAt (way (isa_of plan) m.state at).stop plan final t
 
--- two ends are alike: they agree in ending, count, registers, memory, input and output; and where the program has not
--- ended the two states are the same, but for what is kept at the bottom
+-- two ends are alike: they agree on ending, count, registers, memory, input and output; and where the program has not
+-- ended the two states are the same, apart from the cache at the bottom
 pub record EndAlike (t u : Moment) : Type 0 where
   pub ending : t.state.ending ≡ u.state.ending
   pub retired : t.state.retired ≡ u.state.retired

@@ -1,8 +1,7 @@
--- The four laws of single instructions: the step of the sequential machine is what the moves make of a passenger. They
--- are for a reader: the theory rests on the same
--- content without a passenger, and on some facts that do not follow from it, all in
--- `theory_refinement/proofs/instructions/Steps.antt`; docs/SOUNDNESS.md lists them. Whoever adds an instruction
--- to a class proves its case of `step_is` there, and of those facts that concern it.
+-- The four laws of single instructions: the step of the sequential machine is what the moves do to an instruction under
+-- way, a Passenger. They are for readers. The theory rests on the same content without a Passenger, and on some facts
+-- that do not follow from it, all in `theory_refinement/proofs/instructions/Steps.antt`; docs/SOUNDNESS.md lists them.
+-- To add an instruction to a class, prove its case of `step_is` there, and of those facts that concern it.
 use Rattle.std.specs.Prelude.{◌≡◌, ◌≢◌, ℕ, List, ◌++◌, Option, Some, None, Bool, true, ◌||◌, not, slice_index}
 use Rattle.mem_regions.specs.Memory.{Memory}
 use Rattle.mem_regions.specs.Access.{bounds_of}
@@ -27,7 +26,8 @@ use Rattle.cf_semantics.specs.moves.Moves.{operation, answered, written}
 use Rattle.cf_semantics.specs.claims.Soundness.{Holds}
 use Rattle.cf_semantics.specs.moves.Steps.{onward}
 
--- a passenger of the instruction at the machine's address, whose sources have the machine's values, and which has not ended
+-- the Passenger of the instruction i at the machine's address: its sources have the machine's values, and it has not
+-- ended
 pub record IsReadyPassenger (p : Passenger) (i : Instr) (x : Machine) : Type 0 where
   pub pc : p.pc ≡ x.hart.pc
   pub what : p.what ≡ Some i
@@ -36,15 +36,17 @@ pub record IsReadyPassenger (p : Passenger) (i : Instr) (x : Machine) : Type 0 w
   pub destination : reg_in p.dst ≡ dst_of i
   pub unended : p.ending ≡ None
 
--- an executed passenger has left: the program ends with its ending, or goes on at its next address, with its destination written
+-- an executed instruction has left: the program ends with its ending, or goes on at its next address, with its
+-- destination written
 abbrev pub departed : Passenger → Machine → Memory → StepResult
 departed p x mem = on p.ending (Goes (onward x (on p.next 0 (λ n. n)) (written x.hart.regs p.dst) mem)) Stops
 
--- neither a load or a store, nor what needs the whole machine, nor what needs no unit
+-- the classes that a unit computes: not loads and stores, not what needs the whole machine, not what needs no unit
 abbrev pub computes : Class → Bool
 computes c = not (is_memory c || is_serial c || is_free c)
 
--- first law: the step of what is computed is what finishing makes of the passenger, and leaves memory, input and output
+-- first law: the step of a computed instruction is what finishing makes of it, and leaves memory, input and output
+-- unchanged
 abbrev pub ComputesAsFinished : Type 0
 ComputesAsFinished = (isa : Isa) (x : Machine) (i : Instr) (p : Passenger) →
     fetched isa x.hart.mem x.hart.pc ≡ Got i → computes (kind_of i) ≡ true → IsReadyPassenger p i x →
@@ -55,7 +57,7 @@ abbrev pub returned : Passenger → Machine → StepResult
 returned p x = let op = operation p in
     departed (finish p (Some (answer_of op.instr op.a op.b x.hart.mem))) x (mem_after op.instr op.a op.b x.hart.mem)
 
--- second law: the step of a load or a store is the trap at its launch, or its access, with whose answer the passenger finishes
+-- second law: the step of a load or a store is the trap at its launch, or its access, with whose answer it finishes
 abbrev pub AccessesAsLaunched : Type 0
 AccessesAsLaunched = (isa : Isa) (x : Machine) (i : Instr) (p : Passenger) →
     fetched isa x.hart.mem x.hart.pc ≡ Got i → is_memory (kind_of i) ≡ true → IsReadyPassenger p i x →
@@ -66,7 +68,8 @@ abbrev pub replied : Passenger → Machine → Called → StepResult
 replied p x (called.Value a) = departed (answered p a.value) (record x { rest = a.rest; output = x.output ++ a.output }) a.mem
 replied p x (called.Exit status) = Stops (Exit status)
 
--- third law: the step of what needs the whole machine is what serving makes of the passenger, and the step of what needs no unit is what its issue makes of it
+-- third law: the step of an instruction that needs the whole machine is what serving makes of it, and the step of one
+-- that needs no unit is what its issue makes of it
 pub record ServesAndPasses : Type 0 where
   pub serves : (isa : Isa) (x : Machine) (i : Instr) (p : Passenger) →
       fetched isa x.hart.mem x.hart.pc ≡ Got i → is_serial (kind_of i) ≡ true → IsReadyPassenger p i x →
@@ -75,7 +78,8 @@ pub record ServesAndPasses : Type 0 where
       fetched isa x.hart.mem x.hart.pc ≡ Got i → is_free (kind_of i) ≡ true →
       step_here isa x ≡ departed (fresh cache (Got i) x.hart.pc g) x x.hart.mem
 
--- fourth law: issue and step read the same instruction, or the same trap, of the same code and address; and a step changes no register but the destination
+-- fourth law: issue and step read the same instruction, or the same trap, from the same code and address; and a step
+-- changes no register but the destination
 pub record ReadsAsIssued : Type 0 where
   pub issue : (cache : List (Option ℕ)) (f : Fetched) (pc : ℕ) (g : Guess) → Holds (fresh cache f pc g) f
   pub executes : (isa : Isa) (x : Machine) (i : Instr) → fetched isa x.hart.mem x.hart.pc ≡ Got i →

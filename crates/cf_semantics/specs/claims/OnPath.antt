@@ -1,4 +1,4 @@
--- Which passenger a move acts for, and whether this passenger is on the sequential path.
+-- Which instruction a move acts for, and whether this instruction is on the sequential path.
 use Rattle.std.specs.Prelude.{◌≡◌, ◌⊎◌, ℕ, List, ◌∷◌, ◌++◌, Option, Some, None, true}
 use Rattle.rv_inst.specs.declared.isa.Isa.{Isa}
 use Rattle.rv_machine.specs.Machine.{Machine}
@@ -20,13 +20,13 @@ use Rattle.cf_semantics.specs.claims.Right as right
 use Rattle.cf_semantics.specs.claims.Soundness.{NoneFlies}
 use Rattle.cf_semantics.specs.claims.Refines.{gained}
 
--- every sure passenger above it is on the path and goes on, and it stands where the machine then is
+-- every sure instruction above it is on the path and goes on, and its address is the machine's after them
 pub record OnWay (isa : Isa) (s : State) (x : Machine) (above : List Item) (p : Passenger) : Type 0 where
   pub sure : path.is_sure p (walk (right.past isa) above (right.begin s x)).path ≡ true
   pub on : (walk (right.past isa) above (right.begin s x)).on ≡ true
   pub pc : p.pc ≡ (walk (right.past isa) above (right.begin s x)).path.machine.hart.pc
 
--- memory, registers, input, output and ending stay
+-- memory, registers, input, output and ending are unchanged
 pub record Unmoved (m k : Moment) : Type 0 where
   pub regs : k.state.regs ≡ m.state.regs
   pub mem : k.state.mem ≡ m.state.mem
@@ -39,8 +39,8 @@ abbrev pub as_launched : Option Op → Option Op
 as_launched None = None
 as_launched (Some op) = Some (record op { answer = None })
 
--- the move acts for this passenger, above which these items stand: for Leave and Serve the one in the highest stage;
--- for Access the highest of those whose load or store is in Memory's siding, and its operation is the one at the
+-- the move acts for this instruction, below these items. For Leave and Serve it is the instruction in the highest
+-- stage; for Access the highest of those whose load or store is in Memory's siding, and its operation is the one at the
 -- siding's end
 abbrev pub ActsFor : Plan → State → Move → List Item → ℕ → Passenger → Type 0
 ActsFor plan s Leave above i p = i ≡ plan.stages
@@ -49,7 +49,7 @@ ActsFor plan s Access above i p =
     (flies p ≡ true) × NoneFlies above × (as_launched (last_op (siding_at s (port plan))) ≡ Some (operation p))
 ActsFor plan s mv above i p = ⊥
 
--- the move acts for a passenger of the column that is on the sequential path
+-- the move acts for an instruction of the column that is on the sequential path
 pub record Acted (plan : Plan) (s : State) (x : Machine) (mv : Move) : Type 0 where
   pub above : List Item
   pub below : List Item
@@ -59,7 +59,8 @@ pub record Acted (plan : Plan) (s : State) (x : Machine) (mv : Move) : Type 0 wh
   pub acts : ActsFor plan s mv above stage who
   pub way : OnWay (isa_of plan) s x above who
 
--- a move changes none of these, or acts for a passenger on the sequential path
+-- the move changes none of memory, registers, input, output and ending, or it acts for an instruction on the sequential
+-- path
 abbrev pub KeepsOrActsOnPath : Plan → Machine → Moment → Move → Type 0
 KeepsOrActsOnPath plan start m mv =
     Unmoved m (next plan m mv)

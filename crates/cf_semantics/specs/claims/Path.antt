@@ -1,6 +1,6 @@
--- The path of the program through the column. A passenger is sure where it is live and no barrier stands above it:
--- nothing can take it back any more. The machine after the sure passengers is the sequential machine after their
--- instructions.
+-- The path of the program through the column. An instruction is sure where it is live and no barrier is above it:
+-- nothing can cancel it any more. The machine after the sure instructions is the sequential machine once it has
+-- executed them.
 use Rattle.std.specs.Prelude.{ℕ, List, [], ◌∷◌, Option, Some, None, Bool, true, false, ◌&&◌, ◌||◌, not, ◌==◌}
 use Rattle.rv_inst.specs.declared.isa.Isa.{Isa}
 use Rattle.rv_machine.specs.Machine.{Machine}
@@ -16,9 +16,9 @@ use Rattle.cf_semantics.specs.state.State.{State}
 use Rattle.cf_semantics.specs.state.Column.{Item, Up, Down}
 use Rattle.cf_semantics.specs.state.Passengers.{goto}
 
--- what is known on the way down: the machine after the sure passengers so far; whether a barrier was passed; where the
--- program goes after the last of them, if anywhere; whether that one is executed without ending the program, or no sure
--- passenger was passed yet; whether it traps; and for which registers a sure passenger further down may wait
+-- what is known on the way down: the machine after the sure instructions so far; whether a barrier was passed; where
+-- the program goes after the last of them, if anywhere; whether that one is executed without ending the program (or
+-- none was passed yet); whether it traps; and for which registers a sure instruction further down may wait
 pub record Walk : Type 0 where
   pub machine : Machine
   pub barred : Bool
@@ -33,7 +33,7 @@ is_trap None = false
 is_trap (Some (Exit status)) = false
 is_trap (Some (Trap cause pc detail)) = true
 
--- a barrier: a packet that throws away what is below it
+-- a barrier: a turn or a halt, which cancels what is below it
 abbrev pub turns : Option Packet → Bool
 turns None = false
 turns (Some (Value r v)) = false
@@ -45,9 +45,8 @@ abbrev pub has_reg : Option Binding → ℕ → Bool
 has_reg None r = false
 has_reg (Some b) r = b.reg == r
 
--- a sure passenger below may wait for r, which is the destination of this one: it is not executed yet, or owes the
--- value; or it owes a turn or a halt, or ends the program,
--- and then no passenger below it is sure
+-- a sure instruction below may wait for r, which is the destination of this one: it is not executed yet, or owes the
+-- value; or it owes a turn or a halt, or ends the program, and then no instruction below it is sure
 abbrev pub brings : Passenger → ℕ → Bool
 brings p r = has_reg p.dst r && (not p.done || is_some p.owes || is_some p.ending)
 
@@ -55,7 +54,7 @@ brings p r = has_reg p.dst r && (not p.done || is_some p.owes || is_some p.endin
 abbrev pub is_sure : Passenger → Walk → Bool
 is_sure p w = not p.dead && not w.barred
 
--- after a passenger: if it is sure, the machine has made its step
+-- after an instruction: if it is sure, the machine has made its step
 abbrev pub past_passenger : Isa → Bool → Passenger → Walk → Walk
 past_passenger isa true p w = record {
   machine = after_step (step_at isa w.machine p.pc) w.machine;

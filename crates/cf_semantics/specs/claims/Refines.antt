@@ -1,4 +1,4 @@
--- What is seen of a run is what the sequential machine does.
+-- What a run shows from outside is what the sequential machine does.
 use Rattle.std.specs.Prelude.{◌≡◌, ℕ, ◌+◌, ◌-◌, ◌≤◌, List, ◌++◌, Some, true}
 use Rattle.rv_inst.specs.declared.isa.Isa.{Isa}
 use Rattle.rv_machine.specs.Machine.{Machine}
@@ -29,10 +29,10 @@ pub record Stored (isa : Isa) (start : Machine) (n : ℕ) (s : State) : Type 0 w
   pub count : after isa start n ≡ Some at
   pub mem : s.mem ≡ at.hart.mem
 
--- the count of retired instructions is not below that of the start; with n the difference: the machine has n steps; the
--- lines are those that its n steps give; the registers are its registers; an ending is that of its next step; the input
--- and the output are those after the instructions that were served, the memory is that after those that have passed the
--- port; and where the program has ended, or nothing stands in the processor, neither is ahead
+-- the retired count is not below that of the start; let n be the difference. The machine makes n steps, and the lines
+-- are those of these steps; the registers are the machine's; an ending is that of its next step. Input and output are
+-- those after the served instructions, and memory is that after those that have passed the port. Where the program has
+-- ended, or the processor is empty, neither is ahead
 pub record Refines (plan : Plan) (start : Machine) (written : List Line) (m : Moment) : Type 0 where
   pub at : Machine
   pub rises : start.hart.retired ≤ m.state.retired

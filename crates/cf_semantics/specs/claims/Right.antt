@@ -1,4 +1,5 @@
--- How many sure passengers stand on the sequential path: each where the machine is once those above it are executed.
+-- How many sure instructions are on the sequential path: the address of each is the machine's once those above it are
+-- executed.
 use Rattle.std.specs.Prelude.{ℕ, ◌+◌, Bool, true, false, ◌&&◌, ◌==◌, not, ◌||◌}
 use Rattle.rv_inst.specs.declared.isa.Isa.{Isa}
 use Rattle.rv_machine.specs.Machine.{Machine}
@@ -10,8 +11,8 @@ use Rattle.cf_semantics.specs.claims.Walks.{walk}
 use Rattle.cf_semantics.specs.claims.Path as path
 use Rattle.cf_semantics.specs.claims.Ahead.{one}
 
--- the path so far; whether all sure passengers so far are on it and go on; how many they are; and whether the first
--- passenger that does not go on ends the program there
+-- the path so far; whether all sure instructions so far are on it and go on; how many they are; and whether the first
+-- instruction that does not go on ends the program there
 pub record Way : Type 0 where
   pub path : path.Walk
   pub on : Bool
@@ -22,11 +23,11 @@ abbrev pub goes : StepResult → Bool
 goes (Goes m) = true
 goes (Stops e) = false
 
--- it stands where the machine is, and its step goes on
+-- its address is the machine's, and the step goes on
 unfoldable pub follows : Isa → Passenger → Machine → Bool
 follows isa p x = (p.pc == x.hart.pc) && goes (step_at isa x p.pc)
 
--- it stands where the machine is, and its step ends the program
+-- its address is the machine's, and the step ends the program
 unfoldable pub stops : Isa → Passenger → Machine → Bool
 stops isa p x = (p.pc == x.hart.pc) && not (goes (step_at isa x p.pc))
 
@@ -50,6 +51,6 @@ begin s x = record { path = path.top s x; on = true; count = 0; stop = false }
 abbrev pub way : Isa → State → Machine → Way
 way isa s x = walk (past isa) (column s) (begin s x)
 
--- how many sure passengers are on the path and go on
+-- how many sure instructions are on the path and go on
 abbrev pub right : Isa → State → Machine → ℕ
 right isa s x = (way isa s x).count

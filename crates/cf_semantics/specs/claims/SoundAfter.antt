@@ -8,7 +8,7 @@ use Rattle.cf_semantics.specs.claims.Refines.{gained}
 use Rattle.cf_semantics.specs.claims.Soundness.{IsSound}
 use Rattle.cf_semantics.specs.state.State.{Moment}
 
--- the machine makes as many steps as instructions have retired, and the moment is sound over the machine that they lead to
+-- the machine makes as many steps as instructions have retired, and the moment is sound over the machine after them
 pub record IsSoundAfter (plan : Plan) (start : Machine) (m : Moment) : Type 0 where
   pub at : Machine
   pub count : after (isa_of plan) start (gained start m.state) ≡ Some at

@@ -1,4 +1,5 @@
--- Soundness of a moment over the sequential machine: twelve claims, which every move keeps together. x is the machine after the instructions that have retired.
+-- Soundness of a moment over the sequential machine: twelve claims, which every move preserves together. x is the
+-- machine after the instructions that have retired.
 use Rattle.std.specs.Prelude.{◌≡◌, ◌≢◌, ℕ, ◌≤◌, ◌<◌, ◌==◌, if◌then◌else◌, List, [], ◌∷◌, ◌++◌, Option, Some, None, Bool, true, false, ◌&&◌, ◌||◌, not, slice_index}
 use Rattle.std.specs.List.{list_any}
 use Rattle.rv_inst.specs.declared.isa.Isa.{Isa}
@@ -42,7 +43,7 @@ abbrev pub OwesValue : Option Packet → Option Binding → Type 0
 OwesValue (Some (Value r v)) dst = dst ≡ Some (record { reg = r; value = Some v })
 OwesValue owed dst = Unit {0}
 
--- for a sure passenger, where x is the machine before it and s that machine's step at its address
+-- for a sure instruction, where x is the machine before it and s that machine's step at its address
 pub record HasValues (p : Passenger) (x : Machine) (s : StepResult) : Type 0 where
   pub first : HasValue p.src1 x.hart.regs
   pub second : HasValue p.src2 x.hart.regs
@@ -53,39 +54,42 @@ pub record HasValues (p : Passenger) (x : Machine) (s : StepResult) : Type 0 whe
   pub done : p.done ≡ true → p.ending ≡ None → IsKnown p.dst
   pub ends : (e : End) → p.ending ≡ Some e → s ≡ Stops e
 
--- for a packet, with what is known above it: a value is the register's
+-- for a result, with what is known above it: a value is the register's
 abbrev pub PacketHasValue : Packet → Walk → Type 0
 PacketHasValue (Value r v) w = v ≡ slice_index w.machine.hart.regs r
 PacketHasValue k w = Unit {0}
 
--- (a) Values: those of the register file, of passengers and of packets are the sequential machine's
+-- (a) Values: the values of the register file, of instructions and of results are the sequential machine's
 pub record Values (isa : Isa) (s : State) (x : Machine) : Type 0 where
   pub registers : s.regs ≡ x.hart.regs
   pub passengers : (p : Standing s) → When (is_sure p.who (known isa s x p.above)) (HasValues p.who (known isa s x p.above).machine
       (step_at isa (known isa s x p.above).machine p.who.pc))
   pub packets : (k : Lying s) → When (not (known isa s x k.above).barred) (PacketHasValue k.what (known isa s x k.above))
 
--- it holds the instruction that is fetched at its address, or the trap of that address
+-- it holds what is fetched at its address: the instruction, or the trap
 abbrev pub Holds : Passenger → Fetched → Type 0
 Holds p (Got i) = p.what ≡ Some i
 Holds p (Bad e) = (p.what ≡ None) × (p.ending ≡ Some e)
 
--- (b) Path: each sure passenger stands where the program goes after the one above it, and holds what the machine fetches there
+-- (b) Path: each sure instruction is where the program goes after the one above it, and holds what the machine fetches
+-- there
 abbrev pub IsPath : Isa → State → Machine → Type 0
 IsPath isa s x = (p : Standing s) → When (is_sure p.who (known isa s x p.above))
     (((known isa s x p.above).goto ≡ Some p.who.pc) × Holds p.who (fetched isa (known isa s x p.above).machine.hart.mem p.who.pc))
 
--- (c) Fetch: with no barrier fetch runs where the program goes after the last sure passenger, or waits if the program goes nowhere
+-- (c) Fetch: with no barrier fetch runs where the program goes after the last sure instruction, or waits if the program
+-- goes nowhere
 abbrev pub FetchesOn : Isa → State → Machine → Type 0
 FetchesOn isa s x = When (not (known isa s x (column s)).barred) (s.fetch ≡ fetch_at (known isa s x (column s)).goto)
 
--- the packet turns to where the machine is, after a sure passenger that is done without an ending; or it halts, after one that traps
+-- the result turns to where the machine is, after a sure instruction that is done without an ending; or it halts, after
+-- one that traps
 abbrev pub IsFirstBarrier : Packet → Machine → Bool → Bool → Type 0
 IsFirstBarrier (Value r v) x settled trapped = Unit {0}
 IsFirstBarrier (Turn pc) x settled trapped = (pc ≡ x.hart.pc) × (settled ≡ true)
 IsFirstBarrier Halt x settled trapped = trapped ≡ true
 
--- (d) First barrier: the first from the top is right, be it a packet or owed by a passenger
+-- (d) First barrier: the first from the top is right, whether it is a result or still owed
 pub record FirstBarrier (isa : Isa) (s : State) (x : Machine) : Type 0 where
   pub lying : (k : Lying s) → When (not (known isa s x k.above).barred)
       (IsFirstBarrier k.what (known isa s x k.above).machine (known isa s x k.above).settled (known isa s x k.above).trapped)
@@ -93,22 +97,22 @@ pub record FirstBarrier (isa : Isa) (s : State) (x : Machine) : Type 0 where
       (IsFirstBarrier k (after_step (step_at isa (known isa s x p.above).machine p.who.pc) (known isa s x p.above).machine)
       (p.who.done && not (is_some p.who.ending)) (is_trap p.who.ending))
 
--- (e) Stops: nobody has climbed past what it needs
+-- (e) Stops: no instruction has climbed past what it needs
 pub record StopsInTime (plan : Plan) (s : State) : Type 0 where
-  -- a live passenger that is neither executed nor launched stands at or below its last unit, or its siding's launch stage
+  -- a live instruction that is neither executed nor launched is at or below its last unit, or its siding's launch stage
   pub low : (p : Standing s) → p.who.dead ≡ false → p.who.done ≡ false → p.who.launched ≡ false →
       Where (siding_of plan (kind p.who)) (p.stage ≤ last_stage plan (kind p.who)) (λ k. p.stage ≤ launch_stage plan k)
-  -- a passenger whose operation is in a siding stands from its launch stage to its recovery stage
+  -- an instruction whose operation is in a siding is between its launch stage and its recovery stage, both included
   pub out : (p : Standing s) → p.who.launched ≡ true → p.who.recovered ≡ false →
       Where (siding_of plan (kind p.who)) ⊥ (λ k. (launch_stage plan k ≤ p.stage) × (p.stage ≤ recover_stage plan k))
-  -- a passenger whose operation is back stands at or above the recovery stage, and is done if it is live
+  -- an instruction whose operation is back is at or above the recovery stage, and is done if it is live
   pub back : (p : Standing s) → p.who.recovered ≡ true →
       Where (siding_of plan (kind p.who)) ⊥ (λ k. recover_stage plan k ≤ p.stage)
   pub back_done : (p : Standing s) → p.who.recovered ≡ true → p.who.dead ≡ false → p.who.done ≡ true
-  -- a passenger that owes is live and done
+  -- an instruction that owes a result is live and done
   pub owing : (p : Standing s) → is_some p.who.owes ≡ true → (p.who.dead ≡ false) × (p.who.done ≡ true)
 
--- the operation of a passenger that is in siding k
+-- the operation of an instruction that is in siding k
 abbrev pub in_siding : Plan → ℕ → Passenger → Bool
 in_siding plan k p = p.launched && not p.recovered && on (siding_of plan (kind p)) false (λ j. j == k)
 
@@ -148,14 +152,14 @@ abbrev pub IsAnswer : Option Binding → List ℕ → ℕ → Type 0
 IsAnswer None regs a = Unit {0}
 IsAnswer (Some b) regs a = slice_index regs b.reg ≡ a
 
--- nobody among the items has a load or a store in Memory's siding
+-- no item has a load or a store in Memory's siding
 abbrev pub NoneFlies : List Item → Type 0
 NoneFlies [] = Unit {0}
 NoneFlies (Up i p ∷ xs) = (flies p ≡ false) × NoneFlies xs
 NoneFlies (Down i k ∷ xs) = NoneFlies xs
 
--- (f) Sidings: their operations belong, in order, to the passengers that launched them; an answer stands only at the
--- end of Memory's siding, and is the sequential machine's
+-- (f) Sidings: their operations belong, in order, to the instructions that launched them; an answer is only at the end
+-- of Memory's siding, and is the sequential machine's
 pub record SidingsAgree (plan : Plan) (s : State) (x : Machine) : Type 0 where
   pub operations : (k : ℕ) → operations_in (siding_at s k) ≡ operations_of plan k (column s)
   pub memory_alone : (k : ℕ) → k ≢ port plan → AreUnanswered (siding_at s k)
@@ -172,34 +176,36 @@ owes_value (Some (Value q v)) r = q == r
 owes_value (Some (Turn pc)) r = false
 owes_value (Some Halt) r = false
 
--- a value of r comes from the item to those below it
+-- the item will give a value of r to those below it
 abbrev pub brings_value : ℕ → Item → Bool
 brings_value r (Up i p) = not p.dead && has_reg p.dst r && (not p.done || owes_value p.owes r)
 brings_value r (Down i (Value q v)) = q == r
 brings_value r (Down i (Turn pc)) = false
 brings_value r (Down i Halt) = false
 
--- (g) Sources: a value that a sure passenger waits for is requested, or comes from an item above it
+-- (g) Sources: a value that a sure instruction waits for is requested, or comes from an item above it
 abbrev pub IsOnItsWay : State → List Item → Option Binding → Type 0
 IsOnItsWay s above source = (r : ℕ) → missing source ≡ Some r → (among r s.lane || list_any (brings_value r) above) ≡ true
 
 abbrev pub SourcesCome : Isa → State → Machine → Type 0
 SourcesCome isa s x = (p : Standing s) → When (is_sure p.who (known isa s x p.above)) (IsOnItsWay s p.above p.who.src1 × IsOnItsWay s p.above p.who.src2)
 
--- the guess was to wait
+-- the guess is that fetch waits
 abbrev pub waits : Guess → Bool
 waits Wait = true
 waits _ = false
 
--- a live passenger that nothing may follow: it is not executed, and fetch waits for it, or it ended the program where it was issued or served
+-- a live instruction that nothing may follow: it is not executed, and fetch waits for it, or it ended the program where
+-- it was issued or served
 abbrev pub is_lone : Passenger → Bool
 is_lone p = not p.dead && ((not p.done && (is_serial (kind p) || waits p.guess)) || (is_some p.ending && (is_free (kind p) || is_serial (kind p))))
 
--- (h) No follower: below such a passenger stand no passenger and no barrier, and fetch waits
+-- (h) No follower: below such an instruction there is no instruction and no barrier, and fetch waits
 abbrev pub NoFollower : State → Type 0
 NoFollower s = (p : Standing s) → is_lone p.who ≡ true → IsHarmless p.below × (s.fetch ≡ Waiting)
 
--- (i) High barriers: below a barrier that is above the stage from which memory is reached stand no passenger and no other barrier, and fetch waits
+-- (i) High barriers: below a barrier that is above the stage where memory operations launch there is no instruction and
+-- no other barrier, and fetch waits
 pub record HighBarriers (plan : Plan) (s : State) : Type 0 where
   pub lying : (k : Lying s) → turns (Some k.what) ≡ true → memory_launch plan < k.stage → IsHarmless k.below × (s.fetch ≡ Waiting)
   pub owed : (p : Standing s) → turns p.who.owes ≡ true → memory_launch plan < p.stage → IsHarmless p.below × (s.fetch ≡ Waiting)
@@ -211,7 +217,7 @@ steers Jump = true
 steers Serial = true
 steers _ = false
 
--- a barrier, a live passenger that has still to decide where the program goes or that ends it
+-- a barrier, or a live instruction that still has to decide where the program goes or that ends it
 abbrev pub may_turn : Item → Bool
 may_turn (Up i p) = (not p.dead && ((not p.done && steers (kind p)) || is_some p.ending)) || turns p.owes
 may_turn (Down i k) = turns (Some k)
@@ -220,13 +226,14 @@ may_turn (Down i k) = turns (Some k)
 abbrev pub MemoryOrder : State → Type 0
 MemoryOrder s = (p : Standing s) → is_memory (kind p.who) ≡ true → p.who.launched ≡ true → (p.who.dead ≡ false) × (list_any may_turn p.above ≡ false)
 
--- (k) Port: memory is that of the machine after the passengers that have passed the port; input and output are those after the call that was served
+-- (k) Port: memory is that of the machine after the instructions that have passed the port; input and output are those
+-- after the call that was served
 pub record PortAgrees (plan : Plan) (m : Moment) (x : Machine) : Type 0 where
   pub memory : m.state.mem ≡ (machine_after (isa_of plan) (ported_count plan m.state) (column m.state) (top m.state x)).hart.mem
   pub input : m.rest ≡ (machine_after (isa_of plan) (served_count plan m.state) (column m.state) (top m.state x)).rest
   pub output : m.output ≡ (machine_after (isa_of plan) (served_count plan m.state) (column m.state) (top m.state x)).output
 
--- (l) Cache: with no barrier, each kept value is that of the machine after all sure passengers
+-- (l) Cache: with no barrier, each kept value is that of the machine after all sure instructions
 abbrev pub CacheAgrees : Isa → State → Machine → Type 0
 CacheAgrees isa s x = When (not (known isa s x (column s)).barred)
     ((r v : ℕ) → cached s.cache r ≡ Some v → v ≡ slice_index (known isa s x (column s)).machine.hart.regs r)

@@ -1,4 +1,5 @@
--- The refinement move by move, as a stuttering one: seen from outside a move is no step of the sequential machine, or it is exactly its next one.
+-- The refinement move by move, as a stuttering simulation: seen from outside, a move is no step of the sequential
+-- machine or exactly its next one.
 use Rattle.std.specs.Prelude.{◌≡◌, ◌⊎◌, ℕ, ◌+◌, ◌≤◌, Some}
 use Rattle.rv_inst.specs.declared.isa.Isa.{Isa}
 use Rattle.rv_machine.specs.Machine.{Machine}
@@ -13,7 +14,7 @@ use Rattle.cf_semantics.specs.state.Layouts.{isa_of}
 use Rattle.cf_semantics.specs.moves.Moves.{next}
 use Rattle.cf_semantics.specs.claims.Refines.{gained}
 
--- count, registers and ending stay
+-- count, registers and ending are unchanged
 pub record NothingRetires (s t : State) : Type 0 where
   pub retired : t.retired ≡ s.retired
   pub regs : t.regs ≡ s.regs
@@ -28,7 +29,7 @@ pub record OneRetires (isa : Isa) (x : Machine) (s t : State) : Type 0 where
   pub regs : t.regs ≡ later.hart.regs
   pub ending : t.ending ≡ s.ending
 
--- the machine's step ends the program, and so does the move; count and registers stay
+-- the machine's step ends the program, and so does the move; count and registers are unchanged
 pub record OneEnds (isa : Isa) (x : Machine) (s t : State) : Type 0 where
   pub end : End
   pub step : step_here isa x ≡ Stops end
@@ -41,7 +42,7 @@ abbrev pub StepsRetired : Isa → Machine → Moment → Move → Moment → Typ
 StepsRetired isa x m mv t =
     NothingRetires m.state t.state ⊎ ((mv ≡ Leave) × (OneRetires isa x m.state t.state ⊎ OneEnds isa x m.state t.state))
 
--- input and output stay
+-- input and output are unchanged
 pub record NothingSpoken (m t : Moment) : Type 0 where
   pub rest : t.rest ≡ m.rest
   pub output : t.output ≡ m.output
@@ -59,7 +60,8 @@ pub record OneSpoken (isa : Isa) (x : Machine) (m t : Moment) : Type 0 where
 abbrev pub StepsSpoken : Isa → Machine → Moment → Move → Moment → Type 0
 StepsSpoken isa x m mv t = NothingSpoken m t ⊎ ((mv ≡ Serve) × OneSpoken isa x m t)
 
--- a step of the machine that has not retired yet goes on: the memory, which was that before the step, becomes that after it
+-- a step of the machine that has not retired yet goes on: the memory, which was that before the step, becomes that
+-- after it
 pub record OneStored (isa : Isa) (start : Machine) (s t : State) : Type 0 where
   pub number : ℕ
   pub ahead : gained start s ≤ number
@@ -75,7 +77,8 @@ abbrev pub StepsStored : Isa → Machine → Moment → Move → Moment → Type
 StepsStored isa start m mv t =
     (t.state.mem ≡ m.state.mem) ⊎ (((mv ≡ Access) ⊎ (mv ≡ Serve)) × OneStored isa start m.state t.state)
 
--- of a move from a moment of a run: the machine after as many steps as have retired, and what each view sees of the move
+-- of a move from a moment of a run: the machine after as many steps as have retired, and what each view sees of the
+-- move
 pub record Stutters (plan : Plan) (start : Machine) (m : Moment) (mv : Move) : Type 0 where
   pub at : Machine
   pub count : after (isa_of plan) start (gained start m.state) ≡ Some at

@@ -19,18 +19,18 @@ counts false n = 0
 abbrev pub larger : ℕ → ℕ → ℕ
 larger a b = if nat_lt a b then b else a
 
--- the most cells of a siding
+-- the greatest number of cells of a siding
 unfoldable pub most_cells : List SidingPlan → ℕ
 most_cells [] = 0
 most_cells (siding ∷ sidings) = larger siding.cells (most_cells sidings)
 
--- a passenger in stage i of n, with d the most cells of a siding
+-- an instruction in stage i of n, where d is the greatest number of cells of a siding
 abbrev pub passenger_weight : ℕ → ℕ → ℕ → Passenger → ℕ
 passenger_weight n d i p =
     2 * (n - i) + 1 + counts (not p.dead && not p.done) (2 * n)
     + counts (not p.dead && not p.done && not p.launched) (d + 3) + counts (is_some p.owes) (2 * n)
 
--- a stage: its passenger, its packet, and 1 more while the two have not met
+-- a stage: the weights of its instruction and its result, and 1 more while the two have not met
 unfoldable pub cell_weight : ℕ → ℕ → ℕ → Cell → ℕ
 cell_weight n d i c =
     on c.passenger 0 (passenger_weight n d i) + on c.packet 0 (λ k. 2 * i - 1) + counts (is_full c) 1

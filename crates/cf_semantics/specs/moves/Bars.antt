@@ -1,6 +1,6 @@
--- The table of moves, first half: what bars each move. The tests of a row are made in the order in which they stand, and the comment above a row
--- lists its bars in that order, each with what holds where it is the answer. Before a row's own bars come two that every move has: the program
--- has ended (Halted), and the input or the output has failed (Failed).
+-- The table of moves, first half: what bars each move. The tests of a row are made in their order, and the comment
+-- above a row lists its bars in that order, each after its condition. Before a row's own bars come two that every move
+-- has: the program has ended (Halted), and the input or the output has failed (Failed).
 use Rattle.std.specs.Prelude.{ℕ, ◌+◌, ◌-◌, List, [], ◌∷◌, Option, Some, None, Bool, true, false, ◌&&◌, ◌||◌, not, slice_get, length, nat_lt}
 use Rattle.cf_layout.specs.Layout.{Plan, siding_of, unit_at}
 use Rattle.cf_bind.specs.declared.cell.Cell.{Cell}
@@ -21,7 +21,7 @@ use Rattle.cf_semantics.specs.state.State.{State, cell_at, siding_at}
 use Rattle.cf_semantics.specs.state.Passengers.{instruction, kind, missing, requests, fresh}
 use Rattle.cf_semantics.specs.state.Layouts.{isa_of, port, launches, recovers, ends_units}
 
--- a test that bars, before the rest of its row
+-- a test with its bar, before the rest of its row
 abbrev pub first : Bool → Bar → Option Bar → Option Bar
 first true bar rest = Some bar
 first false bar rest = rest
@@ -35,7 +35,7 @@ first_of (row ∷ rows) rest = first row.0 row.1 (first_of rows rest)
 abbrev pub at : List Cell → ℕ → (Cell → Option Bar) → Option Bar
 at cells i f = on (cell_at cells i) (Some NoSuchSite) f
 
--- what bars a move of the passenger in a stage: nobody is there (NoPassenger), else as f says
+-- what bars a move of the instruction in a stage: no instruction is there (NoPassenger), else as f says
 abbrev pub of_passenger : Cell → (Passenger → Option Bar) → Option Bar
 of_passenger c f = on c.passenger (Some NoPassenger) f
 
@@ -43,8 +43,8 @@ of_passenger c f = on c.passenger (Some NoPassenger) f
 abbrev pub is_full : Cell → Bool
 is_full c = is_some c.passenger && is_some c.packet && not c.met
 
--- a passenger must not climb out of the stage: its operation, launched before, is recovered here, or it is live,
--- neither executed nor launched, and this is the last stage that can execute it or launch its operation
+-- an instruction must not climb out of the stage: its launched operation is recovered here, or it is live, neither
+-- executed nor launched, and this is the last stage that can execute it or launch its operation
 abbrev pub stops_at : Plan → Passenger → ℕ → Bool
 stops_at plan p i =
     (p.launched && not p.recovered && recovers plan (kind p) i)
@@ -69,15 +69,16 @@ running Waiting = None
 abbrev pub source_bar : Passenger → Option Bar → Option Bar
 source_bar p rest = on (missing p.src1) (on (missing p.src2) rest (λ r. Some (SourceMissing r))) (λ r. Some (SourceMissing r))
 
--- only branches and jumps may be issued with a guess other than Next: JALR with an address, the others with their target
+-- only branches and jumps may be issued with a guess other than Next: JALR with an address, the others with their
+-- target
 abbrev pub may_guess : Guess → Passenger → Bool
 may_guess Next p = true
 may_guess Wait p = is_control (kind p)
 may_guess Taken p = is_control (kind p) && not (is_indirect (instruction p))
 may_guess (To t) p = is_control (kind p) && is_indirect (instruction p)
 
--- Issue: there is no stage 1 (NoSuchSite); fetch waits (FetchWaiting); stage 1 has a passenger (Occupied); this instruction cannot be issued with the
--- guess (BadGuess); the lane has no room for all that it requests (LaneFull)
+-- Issue: there is no stage 1 (NoSuchSite); fetch waits (FetchWaiting); stage 1 has an instruction (Occupied); this
+-- instruction cannot be issued with the guess (BadGuess); the lane has no room for all that it requests (LaneFull)
 abbrev pub issue_bar : Plan → State → Guess → Cell → Option Bar
 issue_bar plan s g c = on (running s.fetch) (Some FetchWaiting) (λ pc.
     let p = fresh s.cache (fetched (isa_of plan) s.mem pc) pc g in
@@ -86,13 +87,14 @@ issue_bar plan s g c = on (running s.fetch) (Some FetchWaiting) (λ pc.
     (not (may_guess g p), BadGuess) ∷
     (nat_lt plan.lane (length s.lane + length (requests p)), LaneFull) ∷ []) None)
 
--- Emit: there is no stage N (NoSuchSite); nothing is requested (LaneEmpty); stage N has a packet (Occupied)
+-- Emit: there is no stage N (NoSuchSite); nothing is requested (LaneEmpty); stage N has a result (Occupied)
 abbrev pub emit_bar : List ℕ → Cell → Option Bar
 emit_bar [] c = Some LaneEmpty
 emit_bar (r ∷ lane) c = first_of ((is_some c.packet, Occupied) ∷ []) None
 
--- Climb: there is no stage i, or none above it (NoSuchSite); nobody is there (NoPassenger); its packet has not met the passenger (NotMet); the passenger owes a
--- packet (Owes); it must be executed, launched or recovered here (NotDone); the stage above has a passenger (Occupied)
+-- Climb: there is no stage i, or none above it (NoSuchSite); no instruction is there (NoPassenger); it has not met the
+-- result of the stage (NotMet); it owes a result (Owes); it must be executed, launched or recovered here (NotDone); the
+-- stage above has an instruction (Occupied)
 abbrev pub climb_bar : Plan → Cell → ℕ → Option Cell → Option Bar
 climb_bar plan c i above = on above (Some NoSuchSite) (λ d. of_passenger c (λ p. first_of (
     (is_full c, NotMet) ∷
@@ -100,45 +102,45 @@ climb_bar plan c i above = on above (Some NoSuchSite) (λ d. of_passenger c (λ 
     (stops_at plan p i, NotDone) ∷
     (is_some d.passenger, Occupied) ∷ []) None))
 
--- Fall: there is no stage i, or none below it (NoSuchSite); no packet is there (NoPacket); it has not met the passenger
--- of the stage (NotMet); the stage below has
--- a packet (Occupied)
+-- Fall: there is no stage i, or none below it (NoSuchSite); no result is there (NoPacket); it has not met the
+-- instruction of the stage (NotMet); the stage below has a result (Occupied)
 abbrev pub fall_bar : Cell → Option Cell → Option Bar
 fall_bar c below = on below (Some NoSuchSite) (λ d. first_of (
     (not (is_some c.packet), NoPacket) ∷
     (is_full c, NotMet) ∷
     (is_some d.packet, Occupied) ∷ []) None)
 
--- Meet: there is no stage i (NoSuchSite); nobody is there (NoPassenger); no packet is there (NoPacket); they have met (AlreadyMet)
+-- Meet: there is no stage i (NoSuchSite); no instruction is there (NoPassenger); no result is there (NoPacket); they
+-- have met (AlreadyMet)
 abbrev pub meet_bar : Cell → Option Bar
 meet_bar c = of_passenger c (λ p. first_of (
     (not (is_some c.packet), NoPacket) ∷
     (c.met, AlreadyMet) ∷ []) None)
 
--- Execute: there is no stage i (NoSuchSite); nobody is there (NoPassenger); the passenger is dead (Dead); it is done
--- (AlreadyDone); no unit for its class is here
--- (NoUnit); a source has no value (SourceMissing)
+-- Execute: there is no stage i (NoSuchSite); no instruction is there (NoPassenger); the instruction is dead (Dead); it
+-- is done (AlreadyDone); no unit for its class is here (NoUnit); a source has no value (SourceMissing)
 abbrev pub execute_bar : Plan → Cell → ℕ → Option Bar
 execute_bar plan c i = of_passenger c (λ p. first_of (
     (p.dead, Dead) ∷
     (p.done, AlreadyDone) ∷
     (not (unit_at plan (kind p) i), NoUnit) ∷ []) (source_bar p None))
 
--- Send: there is no stage i (NoSuchSite); nobody is there (NoPassenger); the passenger owes no packet (OwesNothing); the stage has a packet (Occupied)
+-- Send: there is no stage i (NoSuchSite); no instruction is there (NoPassenger); the instruction owes no result
+-- (OwesNothing); the stage has a result (Occupied)
 abbrev pub send_bar : Cell → Option Bar
 send_bar c = of_passenger c (λ p. first_of (
     (not (is_some p.owes), OwesNothing) ∷
     (is_some c.packet, Occupied) ∷ []) None)
 
--- what bars entry to the class's siding: its first cell is taken (Occupied); a class without a siding has no bar here, since NoUnit has barred Launch before
+-- what bars entry to the class's siding: its first cell is taken (Occupied); a class without a siding has no bar here,
+-- since NoUnit has barred Launch before
 abbrev pub entry_bar : Plan → State → Passenger → Option Bar
 entry_bar plan s p = on (siding_of plan (kind p)) None (λ k. first_of ((is_taken (slice_get (siding_at s k) 0), Occupied) ∷ []) None)
 
--- Launch: there is no stage i (NoSuchSite); nobody is there (NoPassenger); the passenger is dead (Dead); it is done or
--- launched (AlreadyDone); no siding for its
--- class is entered from here (NoUnit); it is a load or a store and has not met the packet of the stage (NotMet); a
--- source has no value (SourceMissing); the first cell
--- of the siding is taken (Occupied)
+-- Launch: there is no stage i (NoSuchSite); no instruction is there (NoPassenger); the instruction is dead (Dead); it
+-- is done or launched (AlreadyDone); no siding for its class is entered from here (NoUnit); it is a load or a store and
+-- has not met the result of the stage (NotMet); a source has no value (SourceMissing); the first cell of the siding is
+-- taken (Occupied)
 abbrev pub launch_bar : Plan → State → Cell → ℕ → Option Bar
 launch_bar plan s c i = of_passenger c (λ p. first_of (
     (p.dead, Dead) ∷
@@ -146,7 +148,8 @@ launch_bar plan s c i = of_passenger c (λ p. first_of (
     (not (launches plan (kind p) i), NoUnit) ∷
     (is_memory (kind p) && is_full c, NotMet) ∷ []) (source_bar p (entry_bar plan s p)))
 
--- Slide: there is no such siding, or no cell after this one (NoSuchSite); no operation is in this cell (OpNotThere); one is in the next (Occupied)
+-- Slide: there is no such siding, or no cell after this one (NoSuchSite); no operation is in this cell (OpNotThere);
+-- one is in the next (Occupied)
 abbrev pub slide_bar : List (Option Op) → ℕ → Option Bar
 slide_bar ops c = on (slice_get ops (c + 1)) (Some NoSuchSite) (λ o. first_of (
     (not (is_taken (slice_get ops c)), OpNotThere) ∷
@@ -157,38 +160,38 @@ abbrev pub access_bar : Option Op → Option Bar
 access_bar o = on o (Some OpNotThere) (λ op. first_of ((is_some op.answer, AlreadyDone) ∷ []) None)
 
 -- what bars taking from the end of the class's siding: the class has no siding (NoUnit); no operation is there
--- (OpNotThere); it is a load or a store without an answer (NotDone).
--- Right only in reached states: nothing here asks whose operation this is. There it is the passenger's own, since a siding holds operations in the order
--- in which their passengers stand, and none of these climbs past the stage where it is to recover its own.
+-- (OpNotThere); it is a load or a store without an answer (NotDone). Right only in reached states: nothing here asks
+-- whose operation this is. There it is the instruction's own, since a siding holds operations in the order of their
+-- instructions, and none of these climbs past the stage where it is to recover its own.
 abbrev pub exit_op_bar : Plan → State → Passenger → Option Bar
 exit_op_bar plan s p = on (siding_of plan (kind p)) (Some NoUnit) (λ k.
     on (last_op (siding_at s k)) (Some OpNotThere) (λ op. first_of ((is_memory (kind p) && not (is_some op.answer), NotDone) ∷ []) None))
 
--- Recover: there is no stage i (NoSuchSite); nobody is there (NoPassenger); no siding of its class comes back here (NoUnit); the passenger has not launched, or
--- has recovered (AlreadyDone); no operation is at the siding's end (OpNotThere); it is a load or a store without an answer (NotDone)
+-- Recover: there is no stage i (NoSuchSite); no instruction is there (NoPassenger); no siding of its class is recovered
+-- here (NoUnit); the instruction has not launched, or has recovered (AlreadyDone); no operation is at the siding's end
+-- (OpNotThere); it is a load or a store without an answer (NotDone)
 abbrev pub recover_bar : Plan → State → Cell → ℕ → Option Bar
 recover_bar plan s c i = of_passenger c (λ p. first_of (
     (not (recovers plan (kind p) i), NoUnit) ∷
     (not p.launched || p.recovered, AlreadyDone) ∷ []) (exit_op_bar plan s p))
 
--- Leave: there is no stage N (NoSuchSite); nobody is there (NoPassenger); its packet has not met the passenger
--- (NotMet); the passenger owes a packet (Owes); it is live
--- and not done, or what it launched is not back (NotDone)
+-- Leave: there is no stage N (NoSuchSite); no instruction is there (NoPassenger); it has not met the result of the
+-- stage (NotMet); it owes a result (Owes); it is live and not done, or what it launched is not back (NotDone)
 abbrev pub leave_bar : Cell → Option Bar
 leave_bar c = of_passenger c (λ p. first_of (
     (is_full c, NotMet) ∷
     (is_some p.owes, Owes) ∷
     ((not p.dead && not p.done) || (p.launched && not p.recovered), NotDone) ∷ []) None)
 
--- Exit: there is no stage 1 (NoSuchSite); no packet is there (NoPacket); it has not met the passenger of the stage (NotMet)
+-- Exit: there is no stage 1 (NoSuchSite); no result is there (NoPacket); it has not met the instruction of the stage
+-- (NotMet)
 abbrev pub exit_bar : Cell → Option Bar
 exit_bar c = first_of (
     (not (is_some c.packet), NoPacket) ∷
     (is_full c, NotMet) ∷ []) None
 
--- Serve: there is no stage N (NoSuchSite); nobody is there (NoPassenger); the passenger is dead (Dead); it is done
--- (AlreadyDone); it is neither ECALL nor FENCE.I
--- (NoUnit); it has not met the packet of the stage (NotMet)
+-- Serve: there is no stage N (NoSuchSite); no instruction is there (NoPassenger); the instruction is dead (Dead); it is
+-- done (AlreadyDone); it is neither ECALL nor FENCE.I (NoUnit); it has not met the result of the stage (NotMet)
 abbrev pub serve_bar : Cell → Option Bar
 serve_bar c = of_passenger c (λ p. first_of (
     (p.dead, Dead) ∷
@@ -213,6 +216,7 @@ row_bar plan s Leave = at s.cells plan.stages leave_bar
 row_bar plan s Exit = at s.cells 1 exit_bar
 row_bar plan s Serve = at s.cells plan.stages serve_bar
 
--- the first bar of a move, or none where it is allowed; nothing is allowed once the program has ended, or the input or the output has failed
+-- the first bar of a move, or none where it is allowed; nothing is allowed once the program has ended, or the input or
+-- the output has failed
 unfoldable pub bar : Plan → State → Move → Option Bar
 bar plan s m = first_of ((is_some s.ending, Halted) ∷ (s.failed, Failed) ∷ []) (row_bar plan s m)

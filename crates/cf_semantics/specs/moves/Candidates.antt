@@ -39,6 +39,6 @@ candidates plan s = filter (λ mv. not (is_some (bar plan s mv))) (all_moves pla
 abbrev pub other_moves : List Move → List Move
 other_moves moves = filter (λ mv. not (is_issue mv)) moves
 
--- Issue is held back, unless no other move is there
+-- Issue is held back, unless there is no other move
 unfoldable pub held_back : List Move → List Move
 held_back moves = if nat_lt 0 (length (other_moves moves)) then other_moves moves else moves

@@ -1,4 +1,4 @@
--- The event of an allowed move: what is seen of it from outside.
+-- The event of an allowed move: what it shows from outside.
 use Rattle.std.specs.Prelude.{◌≡◌, ℕ, ◌<◌, ◌^◌, Option, Some, None, true, false, ◌&&◌, not, if◌then◌else◌}
 use Rattle.rv_inst.specs.Encoding.{Encodes}
 use Rattle.rv_machine.specs.declared.outcome.Retired.{Retired}
@@ -22,7 +22,7 @@ abbrev pub register_in : Option Binding → ℕ
 register_in None = 0
 register_in (Some b) = b.reg
 
--- the retirement shows the line: its word is the one that stands for the instruction
+-- the reported retirement is the line: its word stands for the instruction
 pub record Shows (line : Line) (shown : Retired) : Type 0 where
   pub pc : shown.pc ≡ line.pc
   pub word : Encodes shown.word line.what
@@ -30,13 +30,13 @@ pub record Shows (line : Line) (shown : Retired) : Type 0 where
   pub register : shown.reg ≡ register_in line.wrote
   pub value : shown.value ≡ value_in line.wrote
 
--- a meeting kills the packet, or makes a live passenger dead, or is not seen
+-- a meeting kills the result, or makes a live instruction dead, or is not seen
 abbrev pub meeting_event : Passenger → Packet → Event
 meeting_event p k =
     if not (is_some (meeting p k).packet) then event.Killed else
     if not p.dead && (meeting p k).passenger.dead then event.Died else event.Plain
 
--- a live passenger that leaves retires or ends the program; a dead one is not seen
+-- a live instruction that leaves retires or ends the program; a dead one is not seen
 abbrev pub IsLeaving : Passenger → Event → Type 0
 IsLeaving p (event.Retired shown) = (p.dead ≡ false) × (p.ending ≡ None) × Shows (record { pc = p.pc; what = instruction p; wrote = p.dst }) shown
 IsLeaving p (event.Ended e) = (p.dead ≡ false) × (p.ending ≡ Some e)

@@ -8,12 +8,13 @@ use Rattle.cf_semantics.specs.state.State.{State}
 use Rattle.cf_semantics.specs.claims.Weight.{is_issue}
 use Rattle.cf_semantics.specs.moves.Candidates.{candidates, held_back}
 
--- an instruction retired
+-- the event is a retirement
 abbrev pub is_retirement : Event → Bool
 is_retirement (event.Retired line) = true
 is_retirement _ = false
 
--- the count of Issue moves since the start, the last retirement, or the last drained state, whichever is latest, after one more move
+-- the count of Issue moves since the start, the last retirement, or the last drained state, whichever is latest, after
+-- one more move
 unfoldable pub paced : ℕ → Move → Event → Bool → ℕ
 paced count mv e drained = if is_retirement e || drained then 0 else (if is_issue mv then count + 1 else count)
 

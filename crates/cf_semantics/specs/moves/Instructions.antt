@@ -1,4 +1,5 @@
--- What the pipes do with an instruction, each thing as the sequential machine does it (RISC-V Unprivileged ISA Manual; the step of rv_machine).
+-- What the pipes do with an instruction, each part as the sequential machine does it (RISC-V Unprivileged ISA Manual;
+-- the step of rv_machine).
 use Rattle.std.specs.Prelude.{ℕ, ◌%◌, List, [], Option, Some, None, Bool, true, false, not, ◌&&◌, ◌==◌, if◌then◌else◌, Result, Ok, Err, slice_index, slice_set}
 use Rattle.mem_regions.specs.Memory.{Memory}
 use Rattle.mem_regions.specs.Fetching.{fetch_at, synced}
@@ -90,7 +91,7 @@ pub data Fetched : Type 0 where
   Got : Instr → Fetched
   Bad : End → Fetched
 
--- what a word is, once it was fetched: a trap of cause 2 where it is not an instruction
+-- what a fetched word is: a trap of cause 2 where it is not an instruction
 abbrev pub read_as : ℕ → ℕ → Option Instr → Fetched
 read_as pc word None = Bad (Trap 2 pc word)
 read_as pc word (Some i) = Got i
@@ -141,7 +142,8 @@ answer_of i a b mem =
     let access = access_made i a b in
     if access.write then 0 else extended i (number (load_at mem access.addr access.width))
 
--- the result of ECALL and FENCE.I, given the registers, the memory and the rest of the input; FENCE.I answers 0, and code is fetched from memory as it now is
+-- what ECALL and FENCE.I answer, given the registers, the memory and the rest of the input; FENCE.I answers 0, and code
+-- is fetched from memory as it now is
 unfoldable pub serve_of : Instr → List ℕ → Memory → List ℕ → Called
 serve_of i regs mem rest =
     if synchronizes i

@@ -1,4 +1,5 @@
--- What a move overwrites, kept so that the move can be taken back; Serve cannot be, for its output is gone.
+-- What a move overwrites, kept so that the move can be taken back. Serve cannot be taken back, since its output is
+-- gone.
 use Rattle.std.specs.Prelude.{ℕ, ◌+◌, ◌-◌, List, [], ◌∷◌, Option, Some, None, if◌then◌else◌, length, take, slice_get, slice_set, slice_index}
 use Rattle.mem_regions.specs.Memory.{Memory}
 use Rattle.mem_regions.specs.Ranges.{writable_of}
@@ -19,7 +20,8 @@ use Rattle.cf_semantics.specs.state.Passengers.{kind, reg_in, fresh, requests}
 use Rattle.cf_semantics.specs.state.Layouts.{isa_of, port}
 use Rattle.cf_semantics.specs.moves.Bars.{last_op, running}
 
--- a stage with what it held, a siding's cell with what it held, a register with its value, a range of memory with its bytes
+-- a stage with what it held, a siding's cell with what it held, a register with its value, a range of memory with its
+-- bytes
 pub record KeptCell : Type 0 where
   pub stage : ℕ
   pub cell : Cell
@@ -37,7 +39,7 @@ pub record KeptBytes : Type 0 where
   pub addr : ℕ
   pub bytes : List ℕ
 
--- of the lane: nothing, the request that was taken out, or how many were added
+-- for the lane: nothing, the request that was taken out, or how many were added
 pub data KeptLane : Type 0 where
   Same : KeptLane
   Taken : ℕ → KeptLane
@@ -81,7 +83,7 @@ kept_cells plan s Serve = []
 abbrev pub kept_op : State → ℕ → ℕ → List KeptOp
 kept_op s k c = on (slice_get (siding_at s k) c) [] (λ o. record { siding = k; place = c; op = o } ∷ [])
 
--- the siding of the passenger in a stage
+-- the siding of the instruction in a stage
 abbrev pub siding_there : Plan → State → ℕ → Option ℕ
 siding_there plan s i = on (cell_at s.cells i) None (λ c. on c.passenger None (λ p. siding_of plan (kind p)))
 
@@ -171,6 +173,6 @@ restored s k = record s {
   ending = k.ending;
 }
 
--- a moment with the kept contents put back; input and output stay
+-- a moment with the kept contents put back; input and output are unchanged
 abbrev pub taken_back : Moment → Kept → Moment
 taken_back m k = record m { state = restored m.state k }

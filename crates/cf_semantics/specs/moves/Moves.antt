@@ -1,5 +1,5 @@
--- The table of moves, second half: what each allowed move does. What a row does not name stays. Nothing is claimed of a barred move: where a cell,
--- a passenger or a packet is missing the state is left as it is.
+-- The table of moves, second half: what each allowed move does. What a row does not name is unchanged. Nothing is
+-- claimed of a barred move: where a cell, an instruction or a result is missing, the state is unchanged.
 use Rattle.std.specs.Prelude.{ℕ, ◌+◌, ◌-◌, List, [], ◌∷◌, ◌++◌, Option, Some, None, Bool, true, false, if◌then◌else◌, slice_get, slice_index, slice_set}
 use Rattle.mem_regions.specs.Access.{bounds_of}
 use Rattle.rv_machine.specs.Call.{Called}
@@ -41,11 +41,11 @@ set_last (o ∷ p ∷ ops) q = o ∷ set_last (p ∷ ops) q
 abbrev pub on_cell : State → ℕ → (Cell → State) → State
 on_cell s i f = on (cell_at s.cells i) s f
 
--- what f makes of stage i and its passenger; where either is missing, the state as it is
+-- what f makes of stage i and its instruction; where either is missing, the state as it is
 abbrev pub on_passenger : State → ℕ → (Cell → Passenger → State) → State
 on_passenger s i f = on_cell s i (λ c. on c.passenger s (f c))
 
--- the passenger of a stage is gone, or the packet; or another passenger stands in the same place
+-- a stage without its instruction; without its result; with another instruction
 abbrev pub without_passenger : Cell → Cell
 without_passenger c = record c { passenger = None; met = false }
 
@@ -55,7 +55,8 @@ without_packet c = record c { packet = None; met = false }
 abbrev pub with_passenger : Cell → Passenger → Cell
 with_passenger c p = record c { passenger = Some p }
 
--- Issue: a new passenger stands in stage 1, its missing sources are requested, nothing is kept for its destination any more, and fetch goes on after it
+-- Issue: a new instruction is in stage 1, its missing sources are requested, the cache forgets its destination, and
+-- fetch goes on after it
 abbrev pub issued : Plan → State → Guess → Cell → ℕ → State
 issued plan s g c pc =
     let p = fresh s.cache (fetched (isa_of plan) s.mem pc) pc g in
@@ -65,29 +66,29 @@ issued plan s g c pc =
       cache = forgets (reg_in p.dst) s.cache;
     }
 
--- Emit: the first request leaves the lane, and the register's value stands in the highest stage
+-- Emit: the first request leaves the lane, and the register's value is in the highest stage
 abbrev pub emitted : State → ℕ → List ℕ → Cell → State
 emitted s n [] c = s
 emitted s n (r ∷ lane) c =
     record (with_cell s n (record c { packet = Some (Value r (slice_index s.regs r)); met = false })) { lane = lane }
 
--- Climb: the passenger of stage i stands in the one above, not met
+-- Climb: the instruction of stage i is in the stage above, not met
 abbrev pub climbed : State → ℕ → Cell → Cell → State
 climbed s i c d = with_cell (with_cell s i (without_passenger c)) (i + 1) (record d { passenger = c.passenger; met = false })
 
--- Fall: the packet of stage i stands in the one below, not met
+-- Fall: the result of stage i is in the stage below, not met
 abbrev pub fallen : State → ℕ → Cell → Cell → State
 fallen s i c d = with_cell (with_cell s i (without_packet c)) (i - 1) (record d { packet = c.packet; met = false })
 
--- Meet: the stage has what the meeting leaves, and has met, or has lost its packet
+-- Meet: the stage has what the meeting leaves, and has met, or has lost its result
 abbrev pub cell_met : Cell → Passenger → Packet → Cell
 cell_met c p k = let m = meeting p k in record { passenger = Some m.passenger; packet = m.packet; met = is_some m.packet }
 
--- Send: what the passenger owes stands beside it, met; the move is allowed only where no packet is there
+-- Send: what the instruction owes is beside it, met; the move is allowed only where no result is there
 abbrev pub sent : Passenger → Cell
 sent p = record { passenger = Some (record p { owes = None }); packet = p.owes; met = true }
 
--- the operation of a passenger; Launch is allowed only where both its sources have values
+-- the operation of an instruction; Launch is allowed only where both its sources have values
 abbrev pub operation : Passenger → Op
 operation p = record { pc = p.pc; instr = instruction p; a = value_in p.src1; b = value_in p.src2; answer = None }
 
@@ -95,63 +96,66 @@ operation p = record { pc = p.pc; instr = instruction p; a = value_in p.src1; b 
 abbrev pub launch_trap : State → Passenger → Option End
 launch_trap s p = if is_memory (kind p) then access_trap (instruction p) p.pc (value_in p.src1) (bounds_of s.mem) else None
 
--- Launch: the operation enters the siding, or the passenger traps
+-- Launch: the operation enters the siding, or the instruction traps
 abbrev pub launched : Plan → State → ℕ → Cell → Passenger → State
 launched plan s i c p = on (launch_trap s p)
     (on (siding_of plan (kind p)) s (λ k.
     with_siding (with_cell s i (with_passenger c (record p { launched = true }))) k (slice_set (siding_at s k) 0 (Some (operation p)))))
     (λ e. with_cell s i (with_passenger c (trapped p e)))
 
--- Slide: the operation stands in the next cell
+-- Slide: the operation is in the next cell
 abbrev pub slid : State → ℕ → ℕ → State
 slid s k c = on (slice_get (siding_at s k) c) s (λ o. with_siding s k (slice_set (slice_set (siding_at s k) c None) (c + 1) o))
 
--- Access: the load or store at the end of Memory's siding is made and answered
+-- Access: the load or store at the end of Memory's siding is carried out and answered
 abbrev pub accessed : Plan → State → Op → State
 accessed plan s op =
     record (with_siding s (port plan) (set_last (siding_at s (port plan)) (Some (record op { answer = Some (answer_of op.instr op.a op.b s.mem) })))) {
       mem = mem_after op.instr op.a op.b s.mem;
     }
 
--- a passenger takes its operation back: a live one finishes. Right only in reached states: there what it launched has its source values, and is not done
+-- an instruction takes its operation back: a live one finishes. Right only in reached states: there what it launched
+-- has its source values, and is not done
 abbrev pub back_in : Passenger → Option ℕ → Passenger
 back_in p answer = if p.dead then record p { recovered = true } else finish (record p { recovered = true }) answer
 
--- Recover: the operation at the end of the siding is taken out. Right only in reached states, where it is the passenger's own (`exit_op_bar`)
+-- Recover: the operation at the end of the siding is taken out. Right only in reached states, where it is the
+-- instruction's own (`exit_op_bar`)
 abbrev pub recovered : Plan → State → ℕ → Cell → Passenger → State
 recovered plan s i c p = on (siding_of plan (kind p)) s (λ k. on (last_op (siding_at s k)) s (λ op.
     with_siding (with_cell s i (with_passenger c (back_in p op.answer))) k (set_last (siding_at s k) None)))
 
--- the registers with a destination's value written. Right only in reached states: there a live passenger that is done
+-- the registers with a destination's value written. Right only in reached states: there a live instruction that is done
 -- and does not end the program has this value
 abbrev pub written : List ℕ → Option Binding → List ℕ
 written regs None = regs
 written regs (Some b) = slice_set regs b.reg (value_in (Some b))
 
--- a live passenger that leaves ends the program, or it retires
+-- a live instruction that leaves ends the program, or it retires
 abbrev pub left_live : State → Passenger → State
 left_live s p = on p.ending (record s { regs = written s.regs p.dst; retired = s.retired + 1 }) (λ e. record s { ending = Some e })
 
--- Leave: the passenger of the highest stage is gone; a dead one leaves no trace
+-- Leave: the instruction of the highest stage is gone; a dead one leaves no trace
 abbrev pub left : State → ℕ → Cell → Passenger → State
 left s n c p =
     let t = with_cell s n (without_passenger c) in
     if p.dead then t else left_live t p
 
--- where fetch goes on when a packet leaves at the bottom
+-- where fetch goes on when a result leaves at the bottom
 abbrev pub turned : Fetch → Packet → Fetch
 turned f (Value r v) = f
 turned f (Turn pc) = Running pc
 turned f Halt = Waiting
 
--- what is kept at the bottom when a packet leaves there: a value, where the layout has the cache; and nothing once fetch is turned or halted
+-- the cache at the bottom when a result leaves there: it holds a value, where the layout has the cache; it is empty
+-- once fetch is turned or halted
 abbrev pub keeps : Bool → List (Option ℕ) → Packet → List (Option ℕ)
 keeps true cache (Value r v) = slice_set cache r (Some v)
 keeps false cache (Value r v) = cache
 keeps b cache (Turn pc) = cleared cache
 keeps b cache Halt = cleared cache
 
--- Exit: the packet of the lowest stage is gone
+-- Exit: the result of the lowest stage is gone
 abbrev pub exited : Plan → State → Cell → State
 exited plan s c = on c.packet s (λ k.
     record (with_cell s 1 (without_packet c)) { fetch = turned s.fetch k; cache = keeps plan.cache s.cache k })
@@ -173,12 +177,12 @@ moved plan s Leave = on_passenger s plan.stages (left s plan.stages)
 moved plan s Exit = on_cell s 1 (exited plan s)
 moved plan s Serve = s
 
--- a passenger that was answered: everything that was fetched after it must be fetched anew. Right only in reached
--- states: there a passenger that is not done owes nothing that would be lost
+-- the environment has answered an instruction: all that was fetched after it must be fetched again. Right only in
+-- reached states: there an instruction that is not done owes nothing that would be lost
 abbrev pub answered : Passenger → ℕ → Passenger
 answered p v = record p { done = true; dst = with_value v p.dst; next = Some (word_after p.pc); owes = Some (Turn (word_after p.pc)) }
 
--- Serve: the call is answered, or it ends the program once the passenger leaves
+-- Serve: the call is answered, or it ends the program once the instruction leaves
 abbrev pub served : Moment → ℕ → Cell → Passenger → Called → Moment
 served m n c p (called.Value a) = record {
   state = record (with_cell m.state n (with_passenger c (answered p a.value))) { mem = a.mem };
@@ -188,7 +192,7 @@ served m n c p (called.Value a) = record {
 served m n c p (called.Exit status) =
     record m { state = with_cell m.state n (with_passenger c (record p { done = true; ending = Some (ending.Exit status) })) }
 
--- the passenger in the highest stage asks the environment
+-- the instruction in the highest stage asks the environment
 abbrev pub asked : Moment → ℕ → Cell → Passenger → Moment
 asked m n c p = served m n c p (serve_of (instruction p) m.state.regs m.state.mem m.rest)
 

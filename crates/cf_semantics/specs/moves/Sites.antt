@@ -1,4 +1,5 @@
--- The sites of a moment, and which of them each move reads and may write. Moves at different sites can be made in either order.
+-- The sites of a moment, and which of them each move reads and may write. Moves at different sites can be made in
+-- either order.
 use Rattle.std.specs.Prelude.{◌≡◌, ℕ, ◌+◌, ◌-◌, List, [], ◌∷◌, length, map, Option, None, Bool, true, false, ◌==◌, ◌&&◌, ◌||◌, not, slice_get}
 use Rattle.mem_regions.specs.Memory as regions
 use Rattle.mem_regions.specs.Access.{bounds_of}
@@ -17,7 +18,7 @@ use Rattle.cf_semantics.specs.moves.Bars.{bar}
 use Rattle.cf_semantics.specs.moves.Moves.{next}
 use Rattle.cf_semantics.specs.moves.Events.{IsEvent}
 
--- a stage by its number; a cell of a siding, by the numbers of both; and the rest of a moment, part by part
+-- a stage, by its number; a cell of a siding, by the numbers of both; and the rest of a moment, part by part
 pub data Site : Type 0 where
   Stage : ℕ → Site
   SidingCell : ℕ → ℕ → Site
@@ -54,7 +55,8 @@ bytes_of m = map (λ a. a.bytes) m.areas
 unfoldable pub codes_of : regions.Memory → List (List ℕ)
 codes_of m = map (λ a. a.code) m.areas
 
--- what is at a site; the memory is the bytes of its regions and the break, and the bounds of regions are at no site, since no move changes them
+-- what is at a site; the memory is the bytes of its regions and the break, and the bounds of regions are at no site,
+-- since no move changes them
 abbrev pub content : Moment → Site → Content
 content m (Stage i) = OfStage (cell_at m.state.cells i)
 content m (SidingCell k c) = OfCell (slice_get (siding_at m.state k) c)
@@ -122,7 +124,8 @@ uses plan s Leave x = among x (Stage plan.stages ∷ Registers ∷ Count ∷ [])
 uses plan s Exit x = among x (Stage 1 ∷ Fetching ∷ Cache ∷ [])
 uses plan s Serve x = among x (Stage plan.stages ∷ Memory ∷ Code ∷ Input ∷ Output ∷ [])
 
--- the sites that a move reads in addition: every move reads whether the program has ended, and whether the input or the output has failed
+-- the sites that a move only reads: every move reads whether the program has ended, and whether the input or the output
+-- has failed
 abbrev pub only_reads : Move → Site → Bool
 only_reads (Issue g) x = among x (Code ∷ Ended ∷ Failure ∷ [])
 only_reads Emit x = among x (Registers ∷ Ended ∷ Failure ∷ [])
@@ -132,11 +135,11 @@ only_reads _ x = among x (Ended ∷ Failure ∷ [])
 abbrev pub reads : Plan → State → Move → Site → Bool
 reads plan s mv x = uses plan s mv x || only_reads mv x
 
--- the highest stage holds a live passenger that ends the program
+-- the highest stage holds a live instruction that ends the program
 abbrev pub ends_there : Plan → State → Bool
 ends_there plan s = on (cell_at s.cells plan.stages) false (λ c. on c.passenger false (λ p. not p.dead && is_some p.ending))
 
--- the sites that a move writes in addition: a passenger that ends the program ends it by its Leave; a Serve may fail
+-- the sites that a move only writes: Leave ends the program where the instruction does; a Serve may fail
 abbrev pub only_writes : Plan → State → Move → Site → Bool
 only_writes plan s Leave x = ends_there plan s && among x (Ended ∷ [])
 only_writes plan s Serve x = among x (Failure ∷ [])
@@ -155,12 +158,13 @@ pub record HasFrame (s t : State) : Type 0 where
   pub bounds : bounds_of s.mem ≡ bounds_of t.mem
   pub sizes : (k : ℕ) → length (siding_at s k) ≡ length (siding_at t k)
 
--- the two moments have the same at these sites
+-- the two moments have the same contents at these sites
 pub record AreAlike (at : Site → Bool) (m t : Moment) : Type 0 where
   pub frame : HasFrame m.state t.state
   pub sites : (x : Site) → at x ≡ true → content m x ≡ content t x
 
--- the move leaves the frame, and every site that it does not write; and its bar, its event and what it writes depend only on the sites that it reads
+-- the move leaves the frame unchanged, and every site that it does not write; its bar, its event and what it writes
+-- depend only on the sites that it reads
 pub record IsLocal (plan : Plan) (m : Moment) (mv : Move) : Type 0 where
   pub frame : bar plan m.state mv ≡ None → HasFrame m.state (next plan m mv).state
   pub leaves : bar plan m.state mv ≡ None → (x : Site) → writes plan m.state mv x ≡ false → content (next plan m mv) x ≡ content m x

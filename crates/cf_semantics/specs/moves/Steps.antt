@@ -1,4 +1,5 @@
--- The step of an instruction by its class, in the words of the table of moves: what a unit, the memory port and the environment make of it.
+-- The step of an instruction by its class, in the terms of the table of moves: what a unit, the memory port and the
+-- environment do with it.
 use Rattle.std.specs.Prelude.{ℕ, ◌+◌, List, ◌++◌, Option}
 use Rattle.mem_regions.specs.Memory.{Memory}
 use Rattle.mem_regions.specs.Access.{bounds_of}
@@ -18,7 +19,7 @@ use Rattle.cf_semantics.specs.moves.Instructions.{dst_of, value_written, word_af
 abbrev pub onward : Machine → ℕ → List ℕ → Memory → Machine
 onward m pc regs mem = record m { hart = record { pc = pc; regs = regs; mem = mem; retired = m.hart.retired + 1 } }
 
--- what the environment answers goes to the destination
+-- the environment's answer goes to the destination
 abbrev pub served : Called → Option ℕ → Machine → StepResult
 served (called.Value a) d m = Goes (record {
   hart = record {

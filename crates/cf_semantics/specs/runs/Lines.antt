@@ -1,4 +1,4 @@
--- Retirements: of a run of moves, and of the sequential machine.
+-- The retirements of a run of moves, and of the sequential machine.
 use Rattle.std.specs.Prelude.{ℕ, zero, suc, List, [], ◌∷◌, ◌++◌, Option, Some, None, if◌then◌else◌}
 use Rattle.rv_inst.specs.declared.instruction.Instr.{Instr}
 use Rattle.rv_inst.specs.declared.instruction.Instr.TheVariants.{Ebreak}
@@ -33,7 +33,7 @@ row pc what wrote = record { pc = pc; what = what; wrote = wrote }
 abbrev pub named : ℕ → ℕ → Option Binding
 named r v = on (register r) None (λ q. Some (record { reg = q; value = Some v }))
 
--- the machine's own line, its word read as the instruction of the set that it is
+-- the machine's own line, its word decoded in the instruction set
 abbrev pub line_read : Isa → Retired → Line
 line_read isa own = row own.pc (on (decoded_as isa own.word) Ebreak (λ i. i)) (named own.reg own.value)
 
@@ -52,7 +52,7 @@ unfoldable pub sequence : Isa → Machine → ℕ → List Line
 sequence isa m zero = []
 sequence isa m (suc n) = sequence isa m n ++ on (after isa m n) [] (lines_at isa)
 
--- the line of a passenger that leaves
+-- the line of an instruction that leaves
 abbrev pub line_of : Passenger → Line
 line_of p = row p.pc (instruction p) p.dst
 

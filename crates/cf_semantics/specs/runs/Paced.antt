@@ -1,5 +1,5 @@
--- Runs under the hold rule: once twice as many Issue moves as there are stages are counted since the last retirement or
--- the last drained state, no Issue is made while another move is allowed.
+-- Runs under the hold rule: once the Issue moves since the last retirement or the last drained state are twice as many
+-- as the stages, no Issue is made while another move is allowed.
 use Rattle.std.specs.Prelude.{◌≡◌, ℕ, List, [], ◌∷◌, None, true}
 use Rattle.cf_layout.specs.Layout.{Plan}
 use Rattle.cf_bind.specs.declared.moves.Move.{Move}

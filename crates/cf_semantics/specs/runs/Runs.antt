@@ -17,7 +17,8 @@ empty_cell = record { passenger = None; packet = None; met = false }
 abbrev pub empty_siding : SidingPlan → List (Option Op)
 empty_siding siding = replicate siding.cells None
 
--- the state in which a processor of this layout starts on the machine: nothing stands in the pipes, and fetch runs at the machine's address
+-- the state in which a processor of this layout starts on the machine: nothing is in the pipes, and fetch runs at the
+-- machine's address
 unfoldable pub opened : Plan → Machine → State
 opened plan m = record {
   cells = replicate plan.stages empty_cell;

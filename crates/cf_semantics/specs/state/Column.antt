@@ -1,11 +1,11 @@
--- The column: all that stands in the pipes, as one list from the top down. No move up or down changes it.
+-- The column: all that is in the pipes, as one list from the top down. No move up or down changes it.
 use Rattle.std.specs.Prelude.{ℕ, suc, List, [], ◌∷◌, ◌++◌, Option, Some, None, Bool, true, false}
 use Rattle.cf_bind.specs.declared.cell.Cell.{Cell}
 use Rattle.cf_bind.specs.declared.packet.Packet.{Packet}
 use Rattle.cf_bind.specs.declared.passenger.Passenger.{Passenger}
 use Rattle.cf_semantics.specs.state.State.{State}
 
--- an instruction on its way up, or a result on its way down, with the stage where it stands
+-- an instruction on its way up, or a result on its way down, with the stage where it is
 pub data Item : Type 0 where
   Up : ℕ → Passenger → Item
   Down : ℕ → Packet → Item
@@ -18,16 +18,16 @@ abbrev pub packet_in : ℕ → Option Packet → List Item
 packet_in i None = []
 packet_in i (Some k) = Down i k ∷ []
 
--- before they have met, the packet stands above the passenger; afterwards it stands below
+-- before they have met, the result is above the instruction; afterwards it is below
 abbrev pub in_order : Bool → List Item → List Item → List Item
 in_order true passengers packets = passengers ++ packets
 in_order false passengers packets = packets ++ passengers
 
--- what stands in one stage, from the top
+-- what is in one stage, from the top
 abbrev pub items : ℕ → Cell → List Item
 items i c = in_order c.met (passenger_in i c.passenger) (packet_in i c.packet)
 
--- what stands in the stages from number i on, from the highest down
+-- what is in the stages from number i on, from the highest down
 abbrev pub column_from : ℕ → List Cell → List Item
 column_from i [] = []
 column_from i (c ∷ cs) = column_from (suc i) cs ++ items i c

@@ -1,4 +1,4 @@
--- Drained: nothing stands in the pipes or beside them.
+-- Drained: nothing is in the pipes or beside them.
 use Rattle.std.specs.Prelude.{◌≡◌, ◌≢◌, ℕ, List, [], None, Bool, true, false, ◌&&◌, ◌||◌, not}
 use Rattle.std.specs.List.{list_any}
 use Rattle.cf_layout.specs.Layout.{Plan}
@@ -13,11 +13,11 @@ abbrev pub is_empty : List ℕ → Bool
 is_empty [] = true
 is_empty _ = false
 
--- someone or something stands in the stage
+-- an instruction or a result is in the stage
 abbrev pub is_occupied : Cell → Bool
 is_occupied c = is_some c.passenger || is_some c.packet
 
--- no passenger, packet, request or operation is anywhere
+-- no instruction, result, request or operation is anywhere
 unfoldable pub is_drained : State → Bool
 is_drained s = not (list_any is_occupied s.cells) && is_empty s.lane && not (list_any (list_any is_some) s.sidings)
 

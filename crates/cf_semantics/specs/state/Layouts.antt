@@ -1,4 +1,4 @@
--- What the moves ask of a layout.
+-- What the moves need to know about a layout.
 use Rattle.std.specs.Prelude.{ℕ, Bool, false, ◌==◌, if◌then◌else◌}
 use Rattle.rv_inst.specs.declared.classes.Class.{Class}
 use Rattle.rv_inst.specs.declared.classes.Class.TheVariants.{Memory}

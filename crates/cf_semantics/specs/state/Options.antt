@@ -1,7 +1,7 @@
--- What is said of a value where there is one, and where there is none.
+-- Statements about an optional value.
 use Rattle.std.specs.Prelude.{Option, Some, None, Bool, true, false}
 
--- what f says of the value, or d where there is none
+-- f of the value, or d where there is none
 abbrev pub on : {A B : Type 0} → Option A → B → (A → B) → B
 on None d f = d
 on (Some a) d f = f a

@@ -1,4 +1,5 @@
--- A passenger's life: it is issued, finds its sources, is executed, and knows where the program goes on ("Counterflow Pipeline Processor Architecture", 1994).
+-- An instruction's life: it is issued, gets its sources, is executed, and determines where the program goes on
+-- ("Counterflow Pipeline Processor Architecture", 1994).
 use Rattle.std.specs.Prelude.{ℕ, List, [], ◌∷◌, Option, Some, None, Bool, true, false, ◌==◌, if◌then◌else◌, slice_get, slice_set}
 use Rattle.rv_inst.specs.declared.classes.Class.{Class}
 use Rattle.rv_inst.specs.declared.classes.Class.TheVariants.{Serial, Free}
@@ -16,7 +17,8 @@ use Rattle.cf_bind.specs.declared.passenger.End.{End}
 use Rattle.cf_semantics.specs.state.Options.{on}
 use Rattle.cf_semantics.specs.moves.Instructions.{kind_of, src1_of, src2_of, dst_of, word_after, target_of, finish_trap, free_trap, Fetched, Got, Bad}
 
--- the instruction of a passenger; a passenger without an instruction ended when it was issued, and counts as EBREAK, which does so too
+-- the decoded instruction of a Passenger; one without it ended when it was issued, and counts as EBREAK, which does so
+-- too
 abbrev pub instruction : Passenger → Instr
 instruction p = on p.what Ebreak (λ i. i)
 
@@ -60,17 +62,19 @@ abbrev pub with_value : ℕ → Option Binding → Option Binding
 with_value v None = None
 with_value v (Some b) = Some (record b { value = Some v })
 
--- the packet of a destination's value
+-- the Packet of a destination's value
 abbrev pub value_packet : ℕ → Option Binding → Option Packet
 value_packet v None = None
 value_packet v (Some b) = Some (Value b.reg v)
 
--- it traps: it will halt what is below it. Right only in reached states: there a passenger that is not done owes nothing that would be lost
+-- it traps: it will halt what is below it. Right only in reached states: there an instruction that is not done owes
+-- nothing that would be lost
 abbrev pub trapped : Passenger → End → Passenger
 trapped p e = record p { done = true; ending = Some e; owes = Some Halt }
 
--- it is executed, with the value v, and the program goes on at n: what it owes is a turn where the guess was another address, else its value. Right only in
--- reached states: there a passenger that is not done owes nothing, and its destination has no value, so that nothing is lost
+-- it is executed, with the value v, and the program goes on at n: it owes a turn where the guess was another address,
+-- else its value. Right only in reached states: there an instruction that is not done owes nothing, and its destination
+-- has no value, so that nothing is lost
 abbrev pub finished : Passenger → ℕ → ℕ → Passenger
 finished p n v = record p {
   done = true;
@@ -79,7 +83,7 @@ finished p n v = record p {
   owes = if is_place (guessed p.guess (instruction p) p.pc) n then value_packet v p.dst else Some (Turn n);
 }
 
--- it finishes: by what its unit computes, or with the answer of memory where there is one. A source without a value
+-- it finishes, with what its unit computes or with the answer of memory where there is one. A source without a value
 -- counts as 0 here; Execute and Launch wait until every source has one
 unfoldable pub finish : Passenger → Option ℕ → Passenger
 finish p answer =
@@ -89,11 +93,11 @@ finish p answer =
     (finished p (next_pc (instruction p) p.pc a b) (on answer (value_of (instruction p) p.pc a b) (λ v. v)))
     (trapped p)
 
--- the value that is kept at the bottom for a register
+-- the value that the cache at the bottom holds for a register
 abbrev pub cached : List (Option ℕ) → ℕ → Option ℕ
 cached cache r = on (slice_get cache r) None (λ o. o)
 
--- a destination is about to change: nothing is kept for it any more
+-- a destination is about to change: the cache forgets it
 abbrev pub forgets : Option ℕ → List (Option ℕ) → List (Option ℕ)
 forgets None cache = cache
 forgets (Some r) cache = slice_set cache r None
@@ -103,7 +107,7 @@ abbrev pub cleared : List (Option ℕ) → List (Option ℕ)
 cleared [] = []
 cleared (o ∷ cache) = None ∷ cleared cache
 
--- a source, with the value that is kept for it, if any
+-- a source, with the cached value, if any
 abbrev pub source : List (Option ℕ) → Option ℕ → Option Binding
 source cache None = None
 source cache (Some r) = Some (record { reg = r; value = cached cache r })
@@ -113,7 +117,7 @@ abbrev pub destination : Option ℕ → Option Binding
 destination None = None
 destination (Some r) = Some (record { reg = r; value = None })
 
--- a new passenger that ends the program where it is issued
+-- a new instruction that ends the program where it is issued
 abbrev pub fresh_end : Option Instr → ℕ → Guess → End → Passenger
 fresh_end what pc g e = record {
   pc = pc;
@@ -171,26 +175,26 @@ abbrev pub fresh_as : Class → List (Option ℕ) → Instr → ℕ → Guess �
 fresh_as Free cache i pc g = on (free_trap i pc) (fresh_fence i pc g) (fresh_end (Some i) pc g)
 fresh_as _ cache i pc g = fresh_undone cache i pc g
 
--- the passenger that is issued at pc
+-- the instruction that is issued at pc
 unfoldable pub fresh : List (Option ℕ) → Fetched → ℕ → Guess → Passenger
 fresh cache (Bad e) pc g = fresh_end None pc g e
 fresh cache (Got i) pc g = fresh_as (kind_of i) cache i pc g
 
--- where the program goes after a passenger that is not executed yet: by its guess; after ECALL and FENCE.I nowhere
+-- where the program goes after an instruction that is not executed yet: by its guess; after ECALL and FENCE.I nowhere
 abbrev pub goto_undone : Class → Passenger → Option ℕ
 goto_undone Serial p = None
 goto_undone _ p = guessed p.guess (instruction p) p.pc
 
--- after a passenger that is executed: to its next address, or nowhere if it ends the program
+-- after an instruction that is executed: to its next address, or nowhere if it ends the program
 abbrev pub goto_done : Option End → Option ℕ → Option ℕ
 goto_done None n = n
 goto_done (Some e) n = None
 
--- where the program goes after a passenger, if anywhere
+-- where the program goes after an instruction, if anywhere
 abbrev pub goto : Passenger → Option ℕ
 goto p = if p.done then goto_done p.ending p.next else goto_undone (kind p) p
 
--- the registers to request, each once, the first source's first
+-- the registers to request, each once, that of the first source first
 abbrev pub both : Option ℕ → Option ℕ → List ℕ
 both None None = []
 both (Some r) None = r ∷ []

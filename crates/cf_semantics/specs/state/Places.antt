@@ -1,4 +1,4 @@
--- Places in the column: an item, with what stands above it and below it.
+-- Positions in the column: an item, with what is above it and below it.
 use Rattle.std.specs.Prelude.{◌≡◌, ℕ, zero, suc, List, [], ◌∷◌, ◌++◌, false, if◌then◌else◌, Some}
 use Rattle.rv_inst.specs.declared.isa.Isa.{Isa}
 use Rattle.rv_machine.specs.Machine.{Machine}
@@ -9,7 +9,7 @@ use Rattle.cf_semantics.specs.state.Column.{Item, Up, Down, column}
 use Rattle.cf_semantics.specs.claims.Walks.{walk}
 use Rattle.cf_semantics.specs.claims.Path.{Walk, past, top, turns, is_sure}
 
--- a passenger of the column: its stage, and the items above and below it
+-- an instruction of the column: its stage, and the items above and below it
 pub record Standing (s : State) : Type 0 where
   pub above : List Item
   pub stage : ℕ
@@ -17,7 +17,7 @@ pub record Standing (s : State) : Type 0 where
   pub below : List Item
   pub split : column s ≡ above ++ (Up stage who ∷ below)
 
--- a packet of the column
+-- a result of the column
 pub record Lying (s : State) : Type 0 where
   pub above : List Item
   pub stage : ℕ
@@ -29,13 +29,13 @@ pub record Lying (s : State) : Type 0 where
 abbrev pub known : Isa → State → Machine → List Item → Walk
 known isa s x above = walk (past isa) above (top s x)
 
--- neither a passenger nor a barrier is among the items
+-- neither an instruction nor a barrier is among the items
 abbrev pub IsHarmless : List Item → Type 0
 IsHarmless [] = Unit {0}
 IsHarmless (Up i p ∷ xs) = ⊥
 IsHarmless (Down i k ∷ xs) = (turns (Some k) ≡ false) × IsHarmless xs
 
--- the machine after the first n sure passengers of the items, or after all of them where there are fewer
+-- the machine after the first n sure instructions of the items, or after all of them where there are fewer
 abbrev pub machine_after : Isa → ℕ → List Item → Walk → Machine
 machine_after isa zero xs w = w.machine
 machine_after isa (suc n) [] w = w.machine

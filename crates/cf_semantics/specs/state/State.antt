@@ -1,4 +1,5 @@
--- The state of the processor: what stands in the two pipes and beside them ("Counterflow Pipeline Processor Architecture", 1994).
+-- The state of the processor: what is in the two pipes and beside them ("Counterflow Pipeline Processor Architecture",
+-- 1994).
 use Rattle.std.specs.Prelude.{ℕ, zero, suc, List, [], Option, None, Bool, slice_get, slice_set}
 use Rattle.mem_regions.specs.Memory.{Memory}
 use Rattle.cf_bind.specs.declared.cell.Cell.{Cell}
@@ -7,10 +8,10 @@ use Rattle.cf_bind.specs.declared.packet.Fetch.{Fetch}
 use Rattle.cf_bind.specs.declared.passenger.End.{End}
 use Rattle.cf_semantics.specs.state.Options.{on}
 
--- the stages from the lowest up; of each siding its cells, first the one by which operations enter; the registers that
--- were requested, first the one to be answered next; what fetch does; for each register the value that is kept at the
--- bottom, if any; the register file; the memory; how many instructions have retired; how the program ended; and whether
--- the input or the output has failed
+-- the stages from the lowest up; the cells of each siding, first the one at which operations enter; the requested
+-- registers, first the one to be answered next; what fetch does; for each register the value that the cache at the
+-- bottom holds, if any; the register file; the memory; how many instructions have retired; how the program ended; and
+-- whether the input or the output has failed
 pub record State : Type 0 where
   pub cells : List Cell
   pub sidings : List (List (Option Op))
@@ -34,7 +35,7 @@ abbrev pub cell_at : List Cell → ℕ → Option Cell
 cell_at cells zero = None
 cell_at cells (suc k) = slice_get cells k
 
--- the stages with other contents at this number
+-- the stages with new contents at this number
 abbrev pub put_cell : List Cell → ℕ → Cell → List Cell
 put_cell cells zero c = cells
 put_cell cells (suc k) c = slice_set cells k c

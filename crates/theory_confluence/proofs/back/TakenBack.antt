@@ -147,7 +147,7 @@ issue_back l s g e = go (cell_at s.cells 1) (running s.fetch) refl refl (bar_row
           failed = rw (a, b) refl;
         }
 
--- Emit: the request stands first again
+-- Emit: the request is first again
 emit_back : (l : Plan) (s : State) → bar l s Emit ≡ None → Back (kept l s Emit) s (moved l s Emit)
 unfolding moved kept
 emit_back l s e = go (cell_at s.cells l.stages) s.lane refl refl (bar_row l s Emit e)

@@ -97,12 +97,12 @@ grown {rest} {out} l s x g r h =
           λ e. ap (λ (z : List Item). walk (past (isa_of l)) z (begin t x)) e;
     })
 
--- one more passenger takes nothing from the way
+-- one more instruction takes nothing from the way
 pub past_grows : (isa : Isa) (i : ℕ) (p : Passenger) (w : Way) → (w.count ≤ (past isa (Up i p) w).count) × (w.stop ≡ true → (past isa (Up i p) w).stop ≡ true)
 unfolding past
 past_grows isa i p w = (grind arith, λ e. grind (arith, e))
 
--- a passenger that stands where the machine is adds to it, or ends it
+-- an instruction that is where the machine is adds to it, or ends it
 pub past_first : (isa : Isa) (i : ℕ) (p : Passenger) (s : State) (x : Machine) → p.dead ≡ false → p.pc ≡ x.hart.pc →
     (1 ≤ (past isa (Up i p) (begin s x)).count) ⊎ ((past isa (Up i p) (begin s x)).stop ≡ true)
 unfolding past follows stops

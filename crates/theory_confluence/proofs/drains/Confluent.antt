@@ -1,4 +1,5 @@
--- Two runs without Issue from one moment that cannot be extended end alike; and what is kept at the bottom of a drained state is the registers'.
+-- Two runs without Issue from one moment that cannot be extended end alike; and what is kept at the bottom of a drained
+-- state is the registers'.
 use Rattle.std.proofs.Common.{◌≡◌, ◌+◌, List, [], ◌∷◌, Some, None, Bool, true, false, refl, sym, ap, subst, ◌∙◌}
 use Rattle.rv_inst.specs.declared.isa.Isa.{Isa}
 use Rattle.rv_machine.specs.Machine.{Machine}

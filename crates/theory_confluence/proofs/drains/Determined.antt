@@ -146,7 +146,7 @@ off : (isa : Isa) (xs : List Item) (w : Way) → w.on ≡ false → ((walk (past
 off isa [] w o = (refl, refl)
 off isa (i ∷ xs) w o = let a = off_item isa i w o in let b = off isa xs (past isa i w) a.1 in (b.0 ∙ a.0, b.1 ∙ a.2)
 
--- for a state over its machine: what has retired and what stands on the path, together, and whether the way comes to an end
+-- for a state over its machine: what has retired and what is on the path, together, and whether the way comes to an end
 pub record Total (isa : Isa) (s : State) (x : Machine) (n : ℕ) (b : Bool) : Type 0 where
   pub sum : s.retired + (way isa s x).count ≡ n
   pub stop : (way isa s x).stop ≡ b

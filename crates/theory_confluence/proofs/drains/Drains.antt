@@ -1,4 +1,4 @@
--- The topmost passenger can always move, so that a stuck state has no passenger.
+-- The topmost instruction can always move, so that a stuck state has no instruction.
 use Rattle.std.proofs.Common.{◌≡◌, ◌≢◌, ℕ, zero, suc, ◌+◌, ◌-◌, ◌<◌, ◌≤◌, List, [], ◌∷◌, ◌++◌, Option, Some, None, Bool, true, false, ◌==◌, ◌&&◌, ◌||◌, not, refl, sym, ap, subst, ◌∙◌, arith, length, add-one, ◌⊎◌, inl, inr}
 use Rattle.std.specs.Prelude.{slice_get, nat_lt}
 use Rattle.cf_bind.specs.declared.cell.Cell.{Cell}
@@ -245,7 +245,7 @@ waits_moves {rest} {out} l s x i c p below acc b h a d u n = class (is_serial (k
             none_some a e = cc
         siding None g false y = execute (other_class (kind p) e f y) g
 
--- any topmost passenger moves
+-- any topmost instruction moves
 above_moves : {rest out : List ℕ} (l : Plan) (s : State) (x : Machine) (i : ℕ) (c : Cell) (p : Passenger) (below : List Item) → Suits l → Barred l s →
     Sound l s rest out x → Above l s i c p below → ⊥
 above_moves {rest} {out} l s x i c p below acc b h a = go p.launched p.recovered p.dead p.done refl refl refl refl
@@ -352,7 +352,7 @@ issue_free l s c pc acc e f g h =
     let room : nat_lt l.lane (0 + length (requests p)) ≡ false = let r = acc.lane in grind (arith, r, n) in
     rw (g, f) (rw (h, e, room) refl)
 
--- nothing stands anywhere, and fetch runs where the machine is
+-- nothing is anywhere, and fetch runs where the machine is
 pub record IsEmpty (plan : Plan) (s : State) (x : Machine) : Type 0 where
   pub column : column s ≡ []
   pub lane : s.lane ≡ []

@@ -1,4 +1,4 @@
--- A change leaves the number of passengers on the sequential path.
+-- A change leaves the number of instructions on the sequential path.
 use Rattle.std.proofs.Common.{◌≡◌, ℕ, Bool, true, false, ◌&&◌, refl, sym, ap, ◌∙◌, arith, true≢false}
 use Rattle.cf_bind.specs.declared.packet.Packet.{Packet}
 use Rattle.cf_bind.specs.declared.passenger.Passenger.{Passenger}
@@ -11,7 +11,7 @@ use Rattle.theory_refinement.proofs.walks.Path as paths
 use Rattle.theory_refinement.proofs.invariant.Sure as sure
 use Rattle.cf_semantics.specs.claims.Path as trail
 
--- the next sure passenger would be on the path
+-- the next sure instruction would be on the path
 abbrev pub ahead : Way → Bool
 ahead w = w.on && is_place w.path.goto w.path.machine.hart.pc
 
@@ -22,7 +22,7 @@ pub record Follows (w v : Way) : Type 0 where
   pub on : v.path.barred ≡ false → v.on ≡ w.on
   pub lost : w.path.barred ≡ false → v.path.barred ≡ true → ahead w ≡ false
 
--- off the path, or after a wrong guess, no passenger counts
+-- off the path, or after a wrong guess, no instruction counts
 after_lost : (isa : Isa) (i : ℕ) (p : Passenger) (w : Way) → w.path.barred ≡ false → ahead w ≡ false → sure.Fits isa (Up i p) w.path →
     ((past isa (Up i p) w).count ≡ w.count) × (ahead (past isa (Up i p) w) ≡ false) × ((past isa (Up i p) w).stop ≡ w.stop)
 unfolding past sure.Fits trail.past sure.SureAt follows stops

@@ -1,4 +1,4 @@
--- Each move's change leaves the number of passengers on the sequential path, and whether one of them ends.
+-- Each move's change leaves the number of instructions on the sequential path, and whether one of them ends.
 use Rattle.std.proofs.Common.{◌≡◌, ℕ, [], ◌∷◌, Option, Some, None, true, false, refl, arith}
 use Rattle.cf_bind.specs.Meeting.{meeting}
 use Rattle.cf_bind.specs.declared.packet.Packet.{Packet}

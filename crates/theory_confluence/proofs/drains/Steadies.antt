@@ -1,4 +1,4 @@
--- Each move but Issue keeps the sum of what has retired and what stands on the path.
+-- Each move but Issue keeps the sum of what has retired and what is on the path.
 use Rattle.std.proofs.Common.{◌≡◌, ℕ, zero, suc, List, [], ◌∷◌, Option, Some, None, Bool, true, false, ◌&&◌, refl, sym, ap, subst, ◌∙◌, arith, length, add-one, sub-one}
 use Rattle.std.specs.Prelude.{slice_set}
 use Rattle.cf_bind.specs.Meeting.{meeting}

@@ -22,7 +22,7 @@ pub bar_is : (l : Plan) (s : State) (m : Move) → s.ending ≡ None → s.faile
 unfolding bar
 bar_is l s m e f = rw (e, f) refl
 
--- packets, from the lowest stage up
+-- results, from the lowest stage up
 lowest : (c : Cell) → meet_bar c ≢ None → exit_bar c ≢ None → c.packet ≡ None
 lowest c m e = go c.packet refl
   where
@@ -64,7 +64,7 @@ no_packet l s h (suc i) c e =
     higher c b.0 (no_packet l s h i b.0 b.1) (λ z. h.row (Meet (suc (suc i))) refl (row_meet l s (suc (suc i)) c e ∙ z))
     (λ z. h.row (Fall (suc (suc i))) refl (row_fall l s (suc i) c b.0 e b.1 ∙ z))
 
--- the topmost passenger
+-- the topmost instruction
 pub record Head (i : ℕ) (cells : List Cell) : Type 0 where
   pub k : ℕ
   pub here : Cell
@@ -124,7 +124,7 @@ top_of i (c ∷ cs) f = go (top_of (suc i) cs (λ k d e. f (suc k) d e)) c.passe
           clear = h.clear;
         })
 
--- bars of the topmost passenger's moves
+-- bars of the topmost instruction's moves
 pub known : (o : Option Binding) (coming : ℕ → Bool) → ((r : ℕ) → coming r ≡ false) → sure.Comes o coming → missing o ≡ None
 known o coming f h = go (missing o) refl
   where
@@ -143,7 +143,7 @@ pub lane_none : (q : List ℕ) (c : Cell) → c.packet ≡ None → emit_bar q c
 lane_none [] c e n = refl
 lane_none (r ∷ q) c e n = absurd (n (grind arith))
 
--- a passenger that cannot go on is launched and not recovered, or live, not done and not launched
+-- an instruction that cannot go on is launched and not recovered, or live, not done and not launched
 pub record Held (p : Passenger) : Type 0 where
   pub how : ((p.launched ≡ true) × (p.recovered ≡ false)) ⊎ ((p.dead ≡ false) × (p.done ≡ false) × (p.launched ≡ false))
 

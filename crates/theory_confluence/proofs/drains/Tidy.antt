@@ -1,4 +1,5 @@
--- What else every move keeps: a stage that has met holds a passenger and a packet, no siding comes or goes, and nothing fails.
+-- What else every move keeps: a stage that has met holds an instruction and a result, no siding comes or goes, and
+-- nothing fails.
 use Rattle.std.proofs.Common.{◌≡◌, ℕ, zero, suc, ◌+◌, ◌-◌, List, [], ◌∷◌, length, Option, Some, None, Bool, true, false, ◌&&◌, ◌||◌, not, refl, ap, ◌∙◌, arith}
 use Rattle.std.specs.Prelude.{slice_get, slice_set, replicate, map}
 use Rattle.rv_machine.specs.Machine.{Machine}
@@ -72,7 +73,7 @@ neat_on : {A : Type 0} → (o : Option A) (d : State) (f : A → State) → all_
 neat_on None d f h g = h
 neat_on (Some a) d f h g = g a refl
 
--- another passenger in the same place
+-- another instruction in the same place
 seat_neat : (c : Cell) (p : Passenger) → is_neat c ≡ true → is_neat (with_passenger c p) ≡ true
 seat_neat c p h = grind arith
 

@@ -1,4 +1,5 @@
--- A move other than Issue and Leave changes neither how much stands on the path nor whether the sequential path comes to an end in the pipe.
+-- A move other than Issue and Leave changes neither how much is on the path nor whether the sequential path comes to an
+-- end in the pipe.
 use Rattle.std.proofs.Common.{◌≡◌, ℕ, List, [], ◌∷◌, ◌++◌, Option, Some, None, Bool, true, false, refl, sym, ap, subst, ◌∙◌, arith}
 use Rattle.cf_bind.specs.Meeting.{meeting}
 use Rattle.cf_bind.specs.declared.packet.Packet.{Packet}
@@ -112,7 +113,7 @@ meet_way isa i p k u h =
     (pathmeet.meet_walk isa i p k u.path h) in
     record { path = q; count = c.0; stop = c.2; on = λ _. c.1; lost = λ a b. absurd (meet_lost isa i p k u a b) }
 
--- a passenger that finishes
+-- an instruction that finishes
 pub finished_way : (isa : Isa) (i : ℕ) (p : Passenger) (a : Option ℕ) (u : Way) → p.done ≡ false → p.owes ≡ None →
     goto_undone (kind p) p ≡ guessed p.guess (instruction p) p.pc → (p.dead ≡ false → u.path.barred ≡ false →
     Finishes p u.path.machine (step_at isa u.path.machine p.pc) a) → Everywhere (Fits isa) (past isa) (Up i p ∷ []) u →

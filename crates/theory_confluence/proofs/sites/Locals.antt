@@ -1,4 +1,5 @@
--- A law for each kind of move: its bar and its effect depend only on the sites that it reads, and its effect is made at the sites that it writes.
+-- A law for each kind of move: its bar and its effect depend only on the sites that it reads, and its effect is made at
+-- the sites that it writes.
 use Rattle.std.proofs.Common.{◌≡◌, ℕ, suc, ◌+◌, ◌-◌, List, [], ◌∷◌, length, Option, Some, None, Bool, true, false, ◌==◌, ◌&&◌, ◌||◌, not, refl, sym, ap, subst, ◌∙◌, arith}
 use Rattle.std.specs.Prelude.{slice_get, if◌then◌else◌}
 use Rattle.mem_regions.specs.Access.{Bounds, bounds_of}

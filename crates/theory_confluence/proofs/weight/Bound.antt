@@ -31,7 +31,7 @@ use Rattle.rv_inst.specs.declared.classes.Class.TheVariants.{Serial}
 use Rattle.rv_machine.specs.Machine.{Machine}
 use Rattle.std.specs.Prelude.{map, replicate}
 
--- a rider stands where it may
+-- a rider is where it may
 pub stands_at : {rest out : List ℕ} (l : Plan) (s : State) (x : Machine) (i : ℕ) (c : Cell) (p : Passenger) → cell_at s.cells i ≡ Some c →
     c.passenger ≡ Some p → Sound l s rest out x → Stands l i p
 stands_at {rest} {out} l s x i c p e f h =

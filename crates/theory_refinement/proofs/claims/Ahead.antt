@@ -1,4 +1,4 @@
--- The core's memory is that of the machine after the passengers that have passed the port.
+-- The core's memory is that of the machine after the instructions that have passed the port.
 use Rattle.cf_semantics.specs.claims.Refines.{gained}
 use Rattle.theory_refinement.proofs.claims.Runs.{after_more}
 use Rattle.std.proofs.Common.{◌≡◌, ℕ, suc, ◌+◌, ◌≤◌, ◌<◌, List, [], ◌∷◌, Option, Some, Bool, true, false, ◌||◌, ◌&&◌, not, refl, sym, ap, ◌∙◌, arith}

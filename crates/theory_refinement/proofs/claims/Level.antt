@@ -1,4 +1,5 @@
--- Where output and memory are level with the retired count: in a drained state; the output also where an instruction has just retired.
+-- Where output and memory are level with the retired count: in a drained state; the output also where an instruction
+-- has just retired.
 use Rattle.std.proofs.Common.{◌≡◌, ℕ, zero, suc, ◌<◌, List, [], ◌∷◌, Option, Some, None, Bool, true, false, ◌&&◌, ◌||◌, not, refl, ap, arith}
 use Rattle.std.specs.Prelude.{slice_get, slice_set}
 use Rattle.std.specs.List.{list_any}
@@ -20,7 +21,7 @@ use Rattle.theory_refinement.proofs.moves.Leave.{Leaves, leave_ready, left_cells
 use Rattle.theory_refinement.proofs.claims.Runs as runs
 use Rattle.std.proofs.lemmas.Bool.{or_parts}
 
--- nothing stands in the pipes
+-- nothing is in the pipes
 vacant : (i : ℕ) (c : Cell) → is_occupied c ≡ false → items i c ≡ []
 vacant i c e = grind arith
 
@@ -41,7 +42,7 @@ vacant_cells s d = first (list_any is_occupied s.cells) (is_empty s.lane) (not (
 pub empty_column : (s : State) → is_drained s ≡ true → column s ≡ []
 empty_column s d = vacant_column 1 s.cells (vacant_cells s d)
 
--- so no call that was served stands in the highest stage
+-- so no call that was served is in the highest stage
 unserved : (o : Option Cell) → on o false is_occupied ≡ false → on o 0 (λ c. on c.passenger 0 (λ p. one (has_served p))) ≡ 0
 unserved None e = refl
 unserved (Some c) e = nobody c.passenger (is_some c.packet) e
@@ -82,7 +83,8 @@ leave_unserved plan s free =
     let r : Leaves plan s = leave_ready plan s (bar_row plan s Leave free) in
     rw (next_leave plan s r.here r.who r.at_here r.sits, left_cells s plan.stages r.here r.who) (left_unserved s.cells plan.stages r.here)
 
--- where an instruction has just retired no call was served, so that the output is level: as where a run stops at its limit
+-- where an instruction has just retired no call was served, so that the output is level: as where a run stops at its
+-- limit
 pub retired_unserved : (plan : Plan) (m : Moment) (mv : Move) → bar plan m.state mv ≡ None → m.state.retired < (next plan m mv).state.retired →
     served_count plan (next plan m mv).state ≡ 0
 unfolding next

@@ -1,4 +1,4 @@
--- Only passengers on the sequential path change memory, registers, output, or end the program.
+-- Only instructions on the sequential path change memory, registers, output, or end the program.
 use Rattle.std.proofs.Common.{◌≡◌, ◌≢◌, ℕ, ◌≤◌, ◌<◌, List, [], ◌∷◌, ◌++◌, Some, None, Bool, true, false, ◌==◌, ◌&&◌, not, refl, sym, ap, subst, ◌∙◌, arith, length, ◌⊎◌, inl, inr}
 use Rattle.cf_bind.specs.declared.moves.Move.{Move}
 use Rattle.cf_bind.specs.declared.moves.Move.TheVariants.{Access, Climb, Emit, Execute, Exit, Fall, Issue, Launch, Leave, Meet, Recover, Send, Serve, Slide}
@@ -122,7 +122,7 @@ way_on l (Down i k ∷ xs) w v ea fp fd g q o e out r =
     (past_safe (isa_of l) (Down i k) w g) (way_path (isa_of l) (Down i k) v ∙ ap (trail.past (isa_of l) (Down i k)) q
     ∙ sym (order.past_path (isa_of l) (Down i k) w)) (result_way (isa_of l) i k v o) (z.1 ∙ e ∙ ap (λ (y : Machine). Some y.hart.pc) (sym z.0)) out r
 
--- the highest passenger
+-- the highest instruction
 top_way : (isa : Isa) (s : State) (x : Machine) (n : ℕ) (p : Passenger) → p.dead ≡ false → sure.Fits isa (Up n p) (trail.top s x) → OnWay isa s x [] p
 top_way isa s x n p d f =
     let certain = sure_at isa n p (trail.top s x) d refl f in

@@ -118,7 +118,8 @@ pub record Silent (l : Plan) (s : State) (x : Machine) (rest out : List ℕ) : T
   pub is_rest : rest ≡ x.rest
   pub is_out : out ≡ x.output
 
--- the passenger of the highest stage was served: it is sure, no passenger stands above it, and input and output are those after its step
+-- the instruction of the highest stage was served: it is sure, no instruction is above it, and input and output are
+-- those after its step
 pub record Served (l : Plan) (s : State) (x : Machine) (rest out : List ℕ) : Type 0 where
   pub above : List Item
   pub below : List Item

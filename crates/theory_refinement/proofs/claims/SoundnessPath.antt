@@ -30,7 +30,7 @@ pub under : {A B : Type 0} (b : Bool) → (A → B) → When b A → When b B
 under true f a = f a
 under false f a = tt
 
--- what is known of each passenger
+-- what is known of each instruction
 pub certain : (isa : Isa) (i : ℕ) (p : Passenger) (w : Walk) → sure.Fits isa (Up i p) w → When (is_sure p w) (sure.SureAt isa p w)
 unfolding sure.Fits
 certain isa i p w h = h.1
@@ -73,7 +73,8 @@ path plan s x h p =
     let k = here plan s x p.above (Up p.stage p.who ∷ []) p.below p.split h in
     under (is_sure p.who w) (on_path (isa_of plan) p.who w) (certain (isa_of plan) p.stage p.who w k.path_fit.0)
 
--- (d) first barrier: where the last sure passenger is executed without ending the program, the program goes on where the machine is
+-- (d) first barrier: where the last sure instruction is executed without ending the program, the program goes on where
+-- the machine is
 Level : Walk → Type 0
 Level w = w.barred ≡ false → w.settled ≡ true → w.goto ≡ Some w.machine.hart.pc
 
@@ -154,7 +155,7 @@ first_barrier plan s x h = record {
     lying true k w e l h = tt
     lying false k w e l h = first_packet k w (l e) h
 
--- (g) sources: after an end no passenger is sure, so a value that comes is from an item without an ending
+-- (g) sources: after an end no instruction is sure, so a value that comes is from an item without an ending
 open_past : (isa : Isa) (i : Item) (w : Walk) → (trail.past isa i w).barred ≡ false → w.barred ≡ false
 unfolding trail.past
 open_past isa i w e = grind arith
@@ -203,7 +204,7 @@ ended_nowhere isa i p w h s e = go p.done refl
     go true d = grind arith
     go false d = absurd (let z = known.0.unended d in grind arith)
 
--- what a sure passenger owes, with no barrier, is its destination's value
+-- what a sure instruction owes, with no barrier, is its destination's value
 barred_by : (isa : Isa) (i : ℕ) (p : Passenger) (w : Walk) → is_sure p w ≡ true → turns p.owes ≡ true → (trail.past isa (Up i p) w).barred ≡ true
 unfolding trail.past
 barred_by isa i p w s t = rw s t

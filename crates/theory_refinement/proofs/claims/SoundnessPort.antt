@@ -47,7 +47,7 @@ memory_order plan s x h p m l =
     let q = launched_calm isa p.who w (docked_of isa p.stage p.who w k.port_fit.0) m l in
     (q.0, none_turns isa p.above (dock.top plan s x) q.1)
 
--- (k) port: a sure passenger counts, any other does not
+-- (k) port: a sure instruction counts, any other does not
 after_sure : (isa : Isa) (n i : ℕ) (p : Passenger) (xs : List Item) (w : trail.Walk) → trail.is_sure p w ≡ true →
     machine_after isa (suc n) (Up i p ∷ xs) w ≡ machine_after isa n xs (trail.past isa (Up i p) w)
 after_sure isa n i p xs w e = rw e refl
@@ -68,7 +68,8 @@ after_packet : (isa : Isa) (n i : ℕ) (k : Packet) (xs : List Item) (w : trail.
 after_packet isa zero i k xs w = sym (path_result isa i k w).0
 after_packet isa (suc n) i k xs w = refl
 
--- where nothing is risky, the live passengers so far are the sure ones: after them the column goes on as the rest does
+-- where nothing is risky, the live instructions so far are the sure ones: after them the column goes on as the rest
+-- does
 abbrev pub GoesOn : Isa → List Item → trail.Walk → List Item → dock.Dock → ahead.PortTally → Type 0
 GoesOn isa all from xs w t = w.risky ≡ false → (n : ℕ) → machine_after isa (t.live + n) all from ≡ machine_after isa n xs w.path
 
@@ -108,7 +109,7 @@ goes_on_rider isa all from i p xs w t safe g r n = by p.dead refl
         ap (λ (z : ℕ). machine_after isa z all from) c ∙ g calm n ∙ after_other isa n i p xs w.path (dead_is p w.path d)
         ∙ ap (machine_after isa n xs) (sym (past_path isa (Up i p) w))
 
--- a passenger that has passed the port is live
+-- an instruction that has passed the port is live
 ported_live : (p : Passenger) (answer : Option ℕ) → ahead.has_ported p answer ≡ true → p.dead ≡ false
 ported_live p answer e = go p.dead refl
   where
@@ -116,7 +117,7 @@ ported_live p answer e = go p.dead refl
     go false d = d
     go true d = absurd (grind arith)
 
--- memory so far is that of the machine after the passengers so far that have passed the port
+-- memory so far is that of the machine after the instructions so far that have passed the port
 abbrev pub Stored : Isa → List Item → trail.Walk → dock.Dock → ahead.PortTally → Type 0
 Stored isa all from w t = w.mem ≡ (machine_after isa t.ported all from).hart.mem
 
@@ -136,7 +137,7 @@ stored_rider isa all from i p xs w t fit safe same g h = by (ahead.has_ported p 
         let q = g calm 1 ∙ after_sure isa 0 i p xs w.path certain ∙ first_machine isa i p w.path certain in
         mem_past isa i p w true e ∙ ap (λ (z : Machine). z.hart.mem) (sym q) ∙ ap (λ (z : ℕ). (machine_after isa z all from).hart.mem) (sym (count true e))
 
--- a packet changes nothing of this
+-- a result changes nothing of this
 record Same (w v : dock.Dock) (t u : ahead.PortTally) : Type 0 where
   mem : v.mem ≡ w.mem
   answer : v.answer ≡ w.answer
@@ -167,14 +168,14 @@ stored isa all from (Down i k ∷ xs) w t fit safe same g h =
     (ap (λ (z : ahead.PortTally). z.answer) q.tally ∙ same ∙ sym q.answer) (goes_on_packet isa all from i k xs w t g) (q.mem ∙ h
     ∙ ap (λ (z : ahead.PortTally). (machine_after isa z.ported all from).hart.mem) (sym q.tally))
 
--- only packets are passed
+-- only results are passed
 after_idle : (isa : Isa) (n : ℕ) (xs ys : List Item) (w : trail.Walk) → Idle xs → machine_after isa n (xs ++ ys) w
     ≡ machine_after isa n ys (walk (trail.past isa) xs w)
 after_idle isa n [] ys w h = refl
 after_idle isa n (Up i p ∷ xs) ys w h = absurd h
 after_idle isa n (Down i k ∷ xs) ys w h = after_packet isa n i k (xs ++ ys) w ∙ after_idle isa n xs ys (trail.past isa (Down i k) w) h
 
--- after the served passenger
+-- after the served instruction
 after_served : {rest out : List ℕ} (plan : Plan) (s : State) (x : Machine) (q : Served plan s x rest out) →
     machine_after (isa_of plan) 1 (column s) (trail.top s x) ≡ after_step (step_at (isa_of plan) x q.who.pc) x
 after_served plan s x q =

@@ -33,8 +33,7 @@ stops {rest} {out} plan s x h = record {
     stands : (p : Standing s) → Stands plan p.stage p.who
     stands p = (here plan s x p.above (Up p.stage p.who ∷ []) p.below p.split h).stands.0
 
--- (f) sidings
--- above the first passenger whose operation is in Memory's siding the answer stays
+-- (f) sidings above the first instruction whose operation is in Memory's siding the answer stays
 answer_rider : (isa : Isa) (i : ℕ) (p : Passenger) (w : dock.Dock) → flies p ≡ false → (dock.past isa (Up i p) w).answer ≡ w.answer
 unfolding dock.past
 answer_rider isa i p w e = rw e refl
@@ -48,7 +47,7 @@ answer_kept isa [] w h = refl
 answer_kept isa (Up i p ∷ xs) w h = answer_kept isa xs (dock.past isa (Up i p) w) h.1 ∙ answer_rider isa i p w h.0
 answer_kept isa (Down i k ∷ xs) w h = answer_kept isa xs (dock.past isa (Down i k) w) h ∙ answer_packet isa i k w
 
--- the answer is the value of the first passenger whose operation is there
+-- the answer is the value of the first instruction whose operation is there
 answers_it : (isa : Isa) (i : ℕ) (p : Passenger) (w : dock.Dock) (v : Walk) (a : ℕ) → w.path ≡ v → flies p ≡ true → w.answer ≡ Some a →
     dock.Fits isa (Up i p) w → IsAnswer p.dst (after_step (step_at isa v.machine p.pc) v.machine).hart.regs a
 unfolding dock.Fits dock.DockedAt

@@ -33,7 +33,7 @@ operations_last (o ∷ []) op e = rw e
 operations_last (o ∷ p ∷ l) op e = ap (λ (q : List Op). q ++ as_launched o) (operations_last (p ∷ l) op e)
     ∙ append_assoc (as_launched (Some op)) (operations_in (set_last (p ∷ l) None)) (as_launched o)
 
--- below a siding's launch stage none of its passengers has its operation out
+-- below a siding's launch stage none of its instructions has its operation out
 abbrev pub Below : ℕ → List Item → Type 0
 Below n [] = Unit {0}
 Below n (Up i p ∷ xs) = (i < n) × Below n xs

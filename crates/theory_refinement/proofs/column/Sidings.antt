@@ -1,4 +1,4 @@
--- Sidings by number, and the operations of passengers by their stages.
+-- Sidings by number, and the operations of instructions by their stages.
 use Rattle.std.proofs.Common.{◌≡◌, ◌≢◌, ℕ, zero, suc, ◌≤◌, List, [], ◌∷◌, Option, Some, None, Bool, true, false, ◌==◌, refl, sym, ap, subst, ◌∙◌, arith, length}
 use Rattle.std.specs.Prelude.{slice_get, slice_set}
 use Rattle.cf_bind.specs.declared.cell.Op.{Op}
@@ -103,7 +103,7 @@ rehung l s t xs ys k q e n b z f g fr pl h =
     go4 j true d = ap length (here j d) ∙ z ∙ h.berths k ∙ ap (cells_of l) (sym (same j d))
     go4 j false d = ap length (other j d) ∙ h.berths j
 
--- outside its siding's stages no passenger has its operation out
+-- outside its siding's stages no instruction has its operation out
 out_range : (l : Plan) (k i : ℕ) (p : Passenger) → Stands l i p → ((launch_stage l k ≤ i) → (i ≤ recover_stage l k) → ⊥) → in_siding l k p ≡ false
 out_range l k i p h n = go p.launched p.recovered (siding_of l (kind p)) refl refl refl
   where

@@ -1,4 +1,4 @@
--- The riders of the column, from the top, stand at ever lower stages.
+-- The riders of the column, from the top, are at ever lower stages.
 use Rattle.std.proofs.Common.{ℕ, suc, ◌+◌, ◌<◌, ◌≤◌, List, [], ◌∷◌, ◌++◌, Option, Some, None, Bool, true, false, arith, length}
 use Rattle.cf_bind.specs.declared.cell.Cell.{Cell}
 use Rattle.cf_bind.specs.declared.packet.Packet.{Packet}

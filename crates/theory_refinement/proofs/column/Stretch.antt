@@ -1,4 +1,4 @@
--- A stretch of the column that a move replaces, between what stands above it and below it.
+-- A stretch of the column that a move replaces, between what is above it and below it.
 use Rattle.std.proofs.Common.{◌≡◌, ℕ, suc, List, ◌∷◌, ◌++◌, Some, ap, ◌∙◌, arith, append_assoc, length, length-append}
 use Rattle.cf_bind.specs.declared.cell.Cell.{Cell}
 use Rattle.cf_semantics.specs.state.Column.{Item, column, column_from, items}
@@ -13,7 +13,7 @@ pub record Stretch (s : State) (cells : List Cell) (old new : List Item) : Type 
   pub is : column_from 1 cells ≡ above ++ (new ++ below)
   pub size : length cells ≡ length s.cells
 
--- what stands in one stage
+-- what is in one stage
 pub stage_stretch : (s : State) (i : ℕ) (c d : Cell) (old new : List Item) → cell_at s.cells i ≡ Some c → items i c ≡ old → items i d ≡ new →
     Stretch s (put_cell s.cells i d) old new
 stage_stretch s i c d old new at was is =
@@ -32,7 +32,7 @@ stage_stretch s i c d old new at was is =
 regroup : (a r m k b : List Item) → a ++ ((r ++ (m ++ k)) ++ b) ≡ (a ++ r) ++ (m ++ (k ++ b))
 regroup a r m k b = rw (append_assoc r (m ++ k) b, append_assoc m k b, append_assoc a r (m ++ (k ++ b)))
 
--- what stands in two stages, between what stays there before and after it
+-- what is in two stages, between what stays there before and after it
 pub pair_stretch : (s : State) (i : ℕ) (c d a b : Cell) (p : Pair s.cells i c d) (cells : List Cell) (front old new last : List Item) →
     cells ≡ p.below ++ a ∷ b ∷ p.above → items (suc i) d ++ items i c ≡ front ++ (old ++ last) → items (suc i) b ++ items i a ≡ front ++ (new ++ last) →
     Stretch s cells old new

@@ -64,7 +64,7 @@ next_here : (isa : Isa) (x : Machine) → next_machine (step isa x) ≡ onward_o
 unfolding step_at
 next_here isa x = next_is (step isa x)
 
--- a machine of RV32I that goes on stands at an instruction
+-- a machine of RV32I that goes on is at an instruction
 stands_at : (x y : Machine) → next_machine (step Rv32i x) ≡ Some y → (i : Instr) × (fetched Rv32i x.hart.mem x.hart.pc ≡ Got i)
 stands_at x y e = go (fetched Rv32i x.hart.mem x.hart.pc) refl
   where

@@ -1,4 +1,4 @@
--- The second law: the step of a passenger of class Memory.
+-- The second law: the step of an instruction of class Memory.
 use Rattle.rv_inst.specs.declared.instruction.Instr.{Instr}
 use Rattle.std.proofs.Common.{◌≡◌, ℕ, Option, Some, None, true, refl, sym, ap, ◌∙◌}
 use Rattle.cf_bind.specs.declared.passenger.Passenger.{Passenger}

@@ -1,4 +1,5 @@
--- The line that the sequential machine gives with a step: the address, the word that was fetched, and the destination with the value that it got.
+-- The line that the sequential machine gives with a step: the address, the word that was fetched, and the destination
+-- with the value that it got.
 use Rattle.std.proofs.Common.{◌≡◌, ℕ, ◌%◌, ◌<◌, List, [], ◌∷◌, Option, Some, None, Bool, true, false, Result, Ok, Err, refl, sym, ap, ◌∙◌, arith, length}
 use Rattle.std.proofs.lemmas.List.{get_or-set_same}
 use Rattle.std.specs.Prelude.{◌==◌, slice_index, if◌then◌else◌}
@@ -32,7 +33,8 @@ use Rattle.cf_semantics.specs.moves.Instructions.{kind_of, Got, fetched, registe
 use Rattle.cf_semantics.specs.runs.Lines.{Line, row, named, line_read, lines_in, lines_at}
 use Rattle.theory_refinement.proofs.instructions.Steps.{IsFetched, fetched_is, step_executes, dst_below, store_bare, serial_destination, call_destination}
 
--- the line has the address, the word and the register; its value is the one that the register gets, and 0 where that is x0
+-- the line has the address, the word and the register; its value is the one that the register gets, and 0 where that is
+-- x0
 pub record IsOwn (x : Machine) (w r : ℕ) (n : Machine) (own : Retired) : Type 0 where
   pub pc : own.pc ≡ x.hart.pc
   pub word : own.word ≡ w
@@ -179,7 +181,8 @@ unfolding dst_of
 read_own isa x n i word own d b h =
     rw (h.pc, h.word, h.reg, h.value, h.regs, d) (ap (λ (q : Option Binding). row x.hart.pc i q) (named_got x.hart.regs (dest_of i) h.got b))
 
--- of an instruction that retires, the machine's own line is its address, what it is, and its destination with the value after the step
+-- of an instruction that retires, the machine's own line is its address, what it is, and its destination with the value
+-- after the step
 pub own_line : (isa : Isa) (x y : Machine) (i : Instr) → length x.hart.regs ≡ 32 → fetched isa x.hart.mem x.hart.pc ≡ Got i → step_here isa x ≡ Goes y →
     lines_at isa x ≡ row x.hart.pc i (got y.hart.regs (dst_of i)) ∷ []
 unfolding step_at

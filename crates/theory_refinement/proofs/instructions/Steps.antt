@@ -632,7 +632,7 @@ pub step_writes : (isa : Isa) (x : Machine) (pc : ℕ) (i : Instr) (n : Machine)
 step_writes isa x pc i n f e = class_writes (kind_of i) i (value_read x.hart.regs (src1_of i)) (value_read x.hart.regs (src2_of i)) (at_pc x pc) n refl
     (sym (step_is isa x pc i f) ∙ e)
 
--- the destination of a sure passenger is one of the 32 registers
+-- the destination of a sure instruction is one of the 32 registers
 pub sure_dst_below : (isa : Isa) (p : Passenger) (x : Machine) (s : StepResult) (g : Option ℕ) (i : Instr) → p.what ≡ Some i → IsSure isa p x s g → (r : ℕ) →
     dst_of i ≡ Some r → r < 32
 sure_dst_below isa p x s g i w h = go (fetched isa x.hart.mem p.pc) refl h.reads

@@ -18,7 +18,8 @@ use Rattle.theory_refinement.proofs.invariant.Lone as lone
 use Rattle.theory_refinement.proofs.invariant.Stands.{Each}
 use Rattle.theory_refinement.proofs.invariant.Operations.{IsMoored}
 
--- the state is sound over the sequential machine after the instructions that have retired, with the rest of the input and the output so far
+-- the state is sound over the sequential machine after the instructions that have retired, with the rest of the input
+-- and the output so far
 pub record Sound (plan : Plan) (s : State) (rest out : List ℕ) (x : Machine) : Type 0 where
   pub regs : s.regs ≡ x.hart.regs
   pub wide : length x.hart.regs ≡ 32

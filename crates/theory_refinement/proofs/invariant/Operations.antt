@@ -1,4 +1,4 @@
--- The operations of a siding are those of the passengers that launched them, in their order.
+-- The operations of a siding are those of the instructions that launched them, in their order.
 use Rattle.std.specs.Prelude.{◌≡◌, ◌≢◌, ℕ, List, length}
 use Rattle.cf_layout.specs.Layout.{Plan, cells_of}
 use Rattle.cf_semantics.specs.state.State.{State, siding_at}

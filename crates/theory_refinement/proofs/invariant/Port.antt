@@ -16,7 +16,7 @@ use Rattle.cf_semantics.specs.moves.Fetches.{Text, code_of}
 use Rattle.cf_semantics.specs.claims.Soundness.{IsAnswer, may_turn}
 
 -- what is known on the way down, besides the path: whether memory may not be touched further down; what has become of
--- memory, code, input and output; and the answer at the end of Memory's siding until its own passenger is passed
+-- memory, code, input and output; and the answer at the end of Memory's siding until its own instruction is passed
 pub record Dock : Type 0 where
   pub path : path.Walk
   pub risky : Bool
@@ -26,7 +26,7 @@ pub record Dock : Type 0 where
   pub out : List ℕ
   pub answer : Option ℕ
 
--- what holds of a passenger at the memory port
+-- what holds of an instruction at the memory port
 pub record IsDocked (isa : Isa) (p : Passenger) (x : Machine) (risky : Bool) (answer : Option ℕ) : Type 0 where
   pub live : is_memory (kind p) ≡ true → (p.launched || p.recovered) ≡ true → p.dead ≡ false
   pub order : is_memory (kind p) ≡ true → (p.launched || p.recovered) ≡ true → risky ≡ false

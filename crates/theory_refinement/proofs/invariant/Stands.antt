@@ -1,4 +1,4 @@
--- Where a passenger may stand, and what holds of it there.
+-- Where an instruction may be, and what holds of it there.
 use Rattle.std.specs.Prelude.{◌≡◌, ℕ, ◌≤◌, List, [], ◌∷◌, Option, Some, None, true, false, ◌||◌}
 use Rattle.rv_inst.specs.declared.classes.Class.{Class}
 use Rattle.cf_layout.specs.Layout.{Plan, siding_of, launch_stage, recover_stage, last_stage, is_homed}
@@ -30,7 +30,7 @@ abbrev pub Blank : Option Binding → Type 0
 Blank None = Unit {0}
 Blank (Some b) = b.value ≡ None
 
--- what holds of a passenger in stage i
+-- what holds of an instruction in stage i
 pub record Stands (plan : Plan) (i : ℕ) (p : Passenger) : Type 0 where
   pub low : p.dead ≡ false → p.done ≡ false → p.launched ≡ false → Low plan (kind p) i
   pub out : p.launched ≡ true → p.recovered ≡ false → Between plan (kind p) i
@@ -51,7 +51,7 @@ pub record Stands (plan : Plan) (i : ℕ) (p : Passenger) : Type 0 where
   pub sourced2 : p.launched ≡ true → missing p.src2 ≡ None
   pub homed : is_plain (kind p) ≡ true → is_homed plan (kind p) ≡ true
 
--- each passenger of the items
+-- each instruction of the items
 abbrev pub Each : Plan → List Item → Type 0
 Each plan [] = Unit {0}
 Each plan (Up i p ∷ xs) = Stands plan i p × Each plan xs

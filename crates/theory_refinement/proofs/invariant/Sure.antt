@@ -1,4 +1,5 @@
--- What holds of each passenger and packet on the path of the program: their values, addresses and endings are those of the sequential machine.
+-- What holds of each instruction and result on the path of the program: their values, addresses and endings are those
+-- of the sequential machine.
 use Rattle.std.specs.Prelude.{◌≡◌, ℕ, List, Option, Some, None, Bool, true, false, not, slice_index}
 use Rattle.rv_inst.specs.declared.isa.Isa.{Isa}
 use Rattle.rv_inst.specs.declared.instruction.Instr.{Instr}
@@ -34,7 +35,7 @@ pub record IsShaped (p : Passenger) (i : Instr) : Type 0 where
   pub two : reg_in p.src2 ≡ src2_of i
   pub three : reg_in p.dst ≡ dst_of i
 
--- a sure passenger: x is the machine before it, s the step there, and the program goes on at g
+-- a sure instruction: x is the machine before it, s the step there, and the program goes on at g
 pub record IsSure (isa : Isa) (p : Passenger) (x : Machine) (s : StepResult) (g : Option ℕ) : Type 0 where
   pub path : g ≡ Some p.pc
   pub reads : Holds p (fetched isa x.hart.mem p.pc)

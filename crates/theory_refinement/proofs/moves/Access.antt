@@ -68,7 +68,7 @@ pub next_access : (l : Plan) (s : State) (op : Op) → last_op (siding_at s (por
 unfolding moved
 next_access l s op e = rw e refl
 
--- the first operation is that of the topmost passenger whose operation is out
+-- the first operation is that of the topmost instruction whose operation is out
 pub record First (l : Plan) (k : ℕ) (xs : List Item) (o : Op) : Type 0 where
   pub above : List Item
   pub below : List Item
@@ -214,7 +214,8 @@ access_alike : {A : Type 0} → (f : Instr → ℕ → ℕ → memory.Memory →
     f i a b m ≡ f j c d n
 access_alike f e g h k = rw (e, g, h, k) refl
 
--- the scene of an access: the operation, its passenger, which is the topmost whose operation is out, and the machine where that stands
+-- the scene of an access: the operation, its instruction, which is the topmost whose operation is out, and the machine
+-- where that is
 pub record Scene (l : Plan) (s : State) (x : Machine) : Type 0 where
   pub ready : Accesses l s
   pub first : First l (port l) (column s) (record ready.what { answer = None })

@@ -117,11 +117,11 @@ port_label isa i j p w s =
     safe : (dock.past isa (Up i p) w).path.barred ≡ true → (dock.past isa (Up i p) w).risky ≡ true
     safe b = grind (arith, s)
 
--- the cells once the passenger has climbed
+-- the cells once the instruction has climbed
 abbrev pub cells_climbed : State → ℕ → Cell → Cell → List Cell
 cells_climbed s i low high = put_cell (put_cell s.cells i (without_passenger low)) (suc i) (record high { passenger = low.passenger; met = false })
 
--- the passenger stands one stage higher
+-- the instruction is one stage higher
 pub climb_stretch : (l : Plan) (s : State) (i : ℕ) (r : Climbs l s i) → Stretch s (cells_climbed s i r.low r.high) (Up i r.who ∷ []) (Up (suc i) r.who ∷ [])
 climb_stretch l s i r =
     let p = pair s.cells i r.low r.high r.at_low r.at_high in

@@ -49,7 +49,7 @@ pub next_emit : (l : Plan) (s : State) (c : Cell) (r : ℕ) (lane : List ℕ) �
 unfolding moved
 next_emit l s c r lane e f = rw (e, f)
 
--- the packet stands above all
+-- the result is above all
 pub emit_is : (l : Plan) (s : State) (r : Emits l s) (k : Packet) → length s.cells ≡ l.stages →
     column_from 1 (put_cell s.cells l.stages (record r.here { packet = Some k; met = false })) ≡ Down l.stages k ∷ column s
 emit_is l s r k size =

@@ -56,7 +56,7 @@ next_exit l s c cs k e f = rw (e, f)
 exit_items : (c : Cell) (k : Packet) → c.packet ≡ Some k → is_full c ≡ false → items 1 c ≡ passenger_in 1 c.passenger ++ Down 1 k ∷ []
 exit_items c k e f = grind arith
 
--- the packet stands below all
+-- the result is below all
 abbrev pub above_exit : {s : State} → Exits s → List Item
 above_exit r = column_from 2 r.others ++ passenger_in 1 r.here.passenger
 

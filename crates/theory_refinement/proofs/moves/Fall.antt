@@ -105,11 +105,11 @@ port_label isa i j k w s =
 pub no_fall : (l : Plan) (s : State) → row_bar l s (Fall zero) ≡ None → ⊥
 no_fall l s e = cc
 
--- the cells once the packet has fallen
+-- the cells once the result has fallen
 abbrev pub cells_fallen : State → ℕ → Cell → Cell → List Cell
 cells_fallen s i low high = put_cell (put_cell s.cells (suc i) (without_packet high)) i (record low { packet = high.packet; met = false })
 
--- the packet stands one stage lower
+-- the result is one stage lower
 pub fall_stretch : (s : State) (i : ℕ) (r : Falls s i) → Stretch s (cells_fallen s i r.low r.high) (Down (suc i) r.what ∷ []) (Down i r.what ∷ [])
 fall_stretch s i r =
     let p = pair s.cells i r.low r.high r.at_low r.at_high in

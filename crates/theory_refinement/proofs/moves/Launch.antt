@@ -240,7 +240,7 @@ pub refused : (s : State) (p : Passenger) (b : End) → launch_trap s p ≡ Some
     × (access_trap (instruction p) p.pc (value_in p.src1) (bounds_of s.mem) ≡ Some b)
 refused s p b e = (grind arith, grind arith)
 
--- Launch of a passenger that memory permits
+-- Launch of an instruction that memory permits
 out_kept : {rest out : List ℕ} (l : Plan) (s : State) (x : Machine) (i : ℕ) → Suits l → (r : Launches l s i) → launch_trap s r.who ≡ None →
     Sound l s rest out x → Sound l (with_siding (with_cell s i (with_passenger r.here (sent_out r.who))) r.number
     (slice_set (siding_at s r.number) 0 (Some (operation r.who)))) rest out x
@@ -302,7 +302,7 @@ out_kept {rest} {out} l s x i acc r e h =
     launches_at : (l : Plan) (p : Passenger) (k i : ℕ) → siding_of l (kind p) ≡ Some k → launch_stage l k ≡ i → launches l (kind p) i ≡ true
     launches_at l p k i e f = rw e (grind (arith, f))
 
--- Launch of a passenger that it does not permit
+-- Launch of an instruction that it does not permit
 pub trap_at : (isa : Isa) (p : Passenger) (w : trail.Walk) (e : End) → p.done ≡ false → is_memory (kind p) ≡ true → missing p.src1 ≡ None →
     missing p.src2 ≡ None → access_trap (instruction p) p.pc (value_in p.src1) (bounds_of w.machine.hart.mem) ≡ Some e → sure.SureAt isa p w →
     sure.SureAt isa (trapped p e) w

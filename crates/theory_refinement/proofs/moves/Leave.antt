@@ -98,7 +98,7 @@ sure_regs : (isa : Isa) (p : Passenger) (w : trail.Walk) → length w.machine.ha
 unfolding sure.SureAt
 sure_regs isa p w l d n h = leave_regs isa p w.machine w.goto l d n h.0
 
--- the machine's step is that of the passenger
+-- the machine's step is that of the instruction
 pub at_top : (isa : Isa) (p : Passenger) (w : trail.Walk) → w.goto ≡ Some w.machine.hart.pc → sure.SureAt isa p w →
     step_here isa w.machine ≡ step_at isa w.machine p.pc
 unfolding sure.SureAt
@@ -162,7 +162,7 @@ not_out l k p f = go p.launched refl
     go true e = let z = f e in rw (e, z) refl
     go false e = rw e refl
 
--- a dead passenger
+-- a dead instruction
 pub dead_path : (isa : Isa) (s t : State) (n : ℕ) (p : Passenger) (x : Machine) → t.lane ≡ s.lane → p.dead ≡ true →
     paths.Follows (trail.past isa (Up n p) (trail.top s x)) (trail.top t x)
 unfolding trail.past
@@ -194,7 +194,7 @@ not_flies p f = go p.launched refl
     go true e = let z = f e in grind arith
     go false e = grind arith
 
--- a live passenger that goes on
+-- a live instruction that goes on
 pub live_path : (isa : Isa) (s t : State) (n : ℕ) (p : Passenger) (x y : Machine) → y ≡ after_step (step_at isa x p.pc) x → t.lane ≡ s.lane → p.dead ≡ false →
     p.done ≡ true → p.ending ≡ None → p.owes ≡ None → p.next ≡ Some y.hart.pc → paths.Follows (trail.past isa (Up n p) (trail.top s x)) (trail.top t y)
 unfolding trail.past
@@ -253,7 +253,7 @@ live_port l s t n p x e d u z b k h q =
       answer = rw (e, f) refl;
     }
 
--- a passenger that ends the program has not passed the port
+-- an instruction that ends the program has not passed the port
 ended_out : (isa : Isa) (p : Passenger) (w : dock.Dock) (e : End) → p.ending ≡ Some e → sure.SureAt isa p w.path → dock.DockedAt isa p w →
     missing p.src1 ≡ None → missing p.src2 ≡ None → is_memory (kind p) ≡ true → (p.launched || p.recovered) ≡ true → ⊥
 unfolding sure.SureAt dock.DockedAt
@@ -310,7 +310,7 @@ past_risk : (isa : Isa) (i : ℕ) (p : Passenger) (w : dock.Dock) → w.risky �
 unfolding dock.past
 past_risk isa i p w r = rw r refl
 
--- below a risk no passenger has passed the port
+-- below a risk no instruction has passed the port
 none_ported : (isa : Isa) (xs : List Item) (w : dock.Dock) (t : ahead.PortTally) → w.risky ≡ true → Everywhere (dock.Fits isa) (dock.past isa) xs w →
     t.answer ≡ w.answer → (walk ahead.counted xs t).ported ≡ t.ported
 none_ported isa [] w t r h e = refl
@@ -476,6 +476,6 @@ leave_kept {rest} {out} l s x e h =
           ));
         })
 
--- the cells once the highest passenger has left
+-- the cells once the highest instruction has left
 pub left_cells : (s : State) (n : ℕ) (c : Cell) (p : Passenger) → (left s n c p).cells ≡ put_cell s.cells n (without_passenger c)
 left_cells s n c p = grind arith

@@ -103,7 +103,7 @@ sources_out l i p h e = go p.launched refl
     go true f = h.sourced1 f
     go false f = h.sourced1 (h.back_launched (rw f at e))
 
--- the packet stands above the passenger, and what is left of it below
+-- the result is above the instruction, and what is left of it below
 pub meet_stretch : (s : State) (i : ℕ) (r : Meets s i) → Stretch s (put_cell s.cells i (cell_met r.here r.who r.what)) (Down i r.what ∷ Up i r.who ∷ [])
     (pathmeet.met_items i (meeting r.who r.what).passenger (meeting r.who r.what).packet)
 meet_stretch s i r =

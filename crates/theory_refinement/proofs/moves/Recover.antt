@@ -140,7 +140,7 @@ dead_kept {rest} {out} l s x i acc r d h =
     (back_moored l s t i r q (back p) g refl (q.is (back p)) refl h.moored)
     h
 
--- a live passenger of another class than Memory
+-- a live instruction of another class than Memory
 pub plain_class : (l : Plan) (p : Passenger) (k : ℕ) → Suits l → siding_of l (kind p) ≡ Some k → is_memory (kind p) ≡ false → is_plain (kind p) ≡ true
 plain_class l p k acc e m = let z = acc.sided (kind p) k e in grind arith
 

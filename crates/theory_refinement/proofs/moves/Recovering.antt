@@ -98,7 +98,7 @@ pub next_recover : (l : Plan) (s : State) (i : ℕ) (c : Cell) (p : Passenger) (
 unfolding moved
 next_recover l s i c p k op e f g h = rw (e, f) (rw g (rw h refl))
 
--- the siding's part: the last operation is that of the passenger
+-- the siding's part: the last operation is that of the instruction
 pub record Hauls (l : Plan) (s : State) (i : ℕ) (r : Recovers l s i) (q : Spot s i r.here r.who) : Type 0 where
   pub cells : ℕ
   pub size : length (siding_at s r.number) ≡ suc cells
@@ -136,7 +136,7 @@ hauls {rest} {out} l s x i acc r q h =
     halves : (a b : Op) (u v : List Op) → a ∷ u ≡ b ∷ v → (a ≡ b) × (u ≡ v)
     halves a b u v e = (cc, cc)
 
--- the passenger comes back as b, which is out of the siding
+-- the instruction comes back as b, which is out of the siding
 pub back_moored : (l : Plan) (s t : State) (i : ℕ) (r : Recovers l s i) (q : Spot s i r.here r.who) (b : Passenger) → Hauls l s i r q →
     t.sidings ≡ (with_siding s r.number (set_last (siding_at s r.number) None)).sidings → column t ≡ q.above ++ ((Up i b ∷ []) ++ q.below) →
     b.recovered ≡ true → IsMoored l s (column s) → IsMoored l t (column t)

@@ -66,7 +66,7 @@ send_port : (isa : Isa) (i : ℕ) (p : Passenger) (k : Packet) (w : dock.Dock) �
 send_port isa i p k w e s f =
     record { fit = portmoves.send_fits isa i p k w e; follows = portmoves.send_walk isa i p k w e s (paths.send_walk isa i p k w.path e f) }
 
--- what is owed stands below its owner
+-- what is owed is below its owner
 pub send_stretch : (s : State) (i : ℕ) (r : Sends s i) → Stretch s (put_cell s.cells i (record
     { passenger = Some (record r.who { owes = None }); packet = Some r.what; met = true })) (Up i r.who ∷ []) (Up i (record r.who { owes = None })
     ∷ Down i r.what ∷ [])

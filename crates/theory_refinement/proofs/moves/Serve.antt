@@ -161,7 +161,7 @@ quit_path isa n p w e d b u k o f =
       };
     }
 
--- nothing stands below it
+-- nothing is below it
 serve_lone : (l : Plan) (n : ℕ) (p q : Passenger) → is_lone p ≡ true → Replaces Bool lone.Fits (lone.past l) lones.Follows (Up n p ∷ []) (Up n q ∷ []) false
 unfolding lone.Fits lone.past
 serve_lone l n p q e = record { fit = λ h. h; follows = λ h. record { shut = λ _. rw e refl } }

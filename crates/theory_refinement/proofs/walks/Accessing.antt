@@ -62,7 +62,7 @@ fit_waiting isa (Down i k ∷ xs) w m h e f = (
       (fit_waiting isa xs (past isa (Down i k) w) m h (none_past isa (Down i k) w e) f.1),
 )
 
--- at the passenger whose operation is answered
+-- at the instruction whose operation is answered
 at_port : (isa : Isa) (i : ℕ) (p : Passenger) (w : Dock) (a : ℕ) → p.dead ≡ false → flies p ≡ true → w.answer ≡ None →
     past isa (Up i p) (record w { answer = Some a }) ≡ record
     (past isa (Up i p) w) { mem = (after_step (step_at isa w.path.machine p.pc) w.path.machine).hart.mem }

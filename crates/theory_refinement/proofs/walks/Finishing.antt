@@ -1,4 +1,4 @@
--- A passenger that a unit finishes: what that leaves of each walk.
+-- An instruction that a unit finishes: what that leaves of each walk.
 use Rattle.cf_semantics.specs.moves.Instructions.{at_pc}
 use Rattle.cf_semantics.specs.moves.Steps.{onward}
 use Rattle.rv_inst.specs.declared.instruction.Instr.{Instr}
@@ -64,7 +64,7 @@ execute_finishes isa p x g d m1 m2 c h = go (fetched isa x.hart.mem p.pc) refl h
     go (Got i) f k = got i f k
     go (Bad b) f k = let u = h.unended d in absurd (cc)
 
--- what a plain passenger owes once it is finished turns nothing, except at a branch or a jump
+-- what a plain instruction owes once it is finished turns nothing, except at a branch or a jump
 pub finish_turns : (p : Passenger) → is_plain (kind p) ≡ true → is_control (kind p) ≡ false → p.guess ≡ Next → trail.turns (finish p None).owes ≡ false
 unfolding finish
 finish_turns p c n g = grind (arith, straight_trap, straight_next)
@@ -104,7 +104,7 @@ pub finish_lone : (l : Plan) (i : ℕ) (p : Passenger) (w : Bool) → lone.shuts
 unfolding lone.Fits lone.past
 finish_lone l i p w s = record { fit = λ h. h; follows = λ h. record { shut = rw s (λ e. grind arith) } }
 
--- the port takes no notice of a plain passenger but for its turn or its trap, which was to be expected
+-- the port takes no notice of a plain instruction but for its turn or its trap, which was to be expected
 plain_port : (c : Class) → is_plain c ≡ true → (is_memory c ≡ false) × (is_serial c ≡ false)
 plain_port c e = grind arith
 

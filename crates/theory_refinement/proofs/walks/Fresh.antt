@@ -1,4 +1,4 @@
--- A new passenger, on the path.
+-- A new instruction, on the path.
 use Rattle.rv_inst.specs.declared.instruction.Instr.{Instr}
 use Rattle.std.proofs.Common.{◌≡◌, ℕ, List, [], ◌∷◌, ◌++◌, Option, Some, None, Bool, true, false, ◌==◌, ◌||◌, refl, sym, ap, subst, ◌∙◌, arith}
 use Rattle.cf_bind.specs.declared.passenger.End.{End}
@@ -49,7 +49,7 @@ bound_reg o = grind arith
 bound_agrees : (o : Option ℕ) (regs : List ℕ) → HasValue (destination o) regs
 bound_agrees o regs = grind arith
 
--- the three kinds of new passengers
+-- the three kinds of new instructions
 end_sure : (isa : Isa) (x : Machine) (pc : ℕ) (g : Guess) (w : Option Instr) (e : End) (t : Option ℕ) → t ≡ Some pc →
     Holds (fresh_end w pc g e) (fetched isa x.hart.mem pc) → ((i : Instr) → w ≡ Some i → kind_of i ≡ Free) → step_at isa x pc ≡ Stops e →
     IsSure isa (fresh_end w pc g e) x (step_at isa x pc) t
@@ -115,7 +115,7 @@ undone_sure isa c x pc g i t h p r = record {
   owed = tt;
 }
 
--- a new passenger of a class
+-- a new instruction of a class
 pub fresh_usual : (k : Class) (c : List (Option ℕ)) (i : Instr) (pc : ℕ) (g : Guess) → is_free k ≡ false → fresh_as k c i pc g ≡ fresh_undone c i pc g
 fresh_usual Free c i pc g e = absurd (cc)
 fresh_usual _ c i pc g e = refl

@@ -1,4 +1,5 @@
--- A sure passenger that may not turn the program is on the sequential path: its step goes on, to where the program goes.
+-- A sure instruction that may not turn the program is on the sequential path: its step goes on, to where the program
+-- goes.
 use Rattle.std.proofs.Common.{◌≡◌, ℕ, Option, Some, None, Bool, true, false, ◌||◌, ◌&&◌, not, refl, sym, ap, ◌∙◌, arith}
 use Rattle.cf_bind.specs.declared.passenger.End.{End}
 use Rattle.cf_bind.specs.declared.passenger.Guess.TheVariants.{Next}
@@ -54,7 +55,7 @@ memory_goto p m d g = grind arith
 step_on : (s : StepResult) (x y : Machine) (g : Option ℕ) → s ≡ Goes y → g ≡ Some y.hart.pc → On s x g
 step_on s x y g e f = record { goes = rw e refl; next = rw e f }
 
--- a plain passenger that is neither a branch nor a jump
+-- a plain instruction that is neither a branch nor a jump
 plain_on : (isa : Isa) (p : Passenger) (w : trail.Walk) → is_plain (kind p) ≡ true → is_control (kind p) ≡ false → p.done ≡ false → p.guess ≡ Next →
     sure.SureAt isa p w → On (step_at isa w.machine p.pc) w.machine (goto p)
 unfolding sure.SureAt
@@ -77,7 +78,7 @@ plain_on isa p w c k d g h = go (fetched isa w.machine.hart.mem p.pc) refl h.0.r
         ∙ ap Some (sym (straight_next i p.pc a b k')))
     go (Bad b) f r = absurd (let z = h.0.unended d in let y = r.1 in cc)
 
--- a passenger that has passed the port
+-- an instruction that has passed the port
 pub ported_on : (l : Plan) (i : ℕ) (p : Passenger) (w : dock.Dock) → Stands l i p → sure.SureAt (isa_of l) p w.path → dock.DockedAt (isa_of l) p w →
     ahead.has_ported p w.answer ≡ true → step_at (isa_of l) w.path.machine p.pc ≡ Goes (after_step (step_at (isa_of l) w.path.machine p.pc) w.path.machine)
 unfolding dock.DockedAt
@@ -102,7 +103,7 @@ ported_on l i p w s h k e = go (ahead.has_served p) refl
         out false true x y z = s.back_launched y
         out false false x y z = absurd (grind arith)
 
--- a passenger that may not turn the program, and is not a memory operation that is still to be launched
+-- an instruction that may not turn the program, and is not a memory operation that is still to be launched
 pub quiet_on : (l : Plan) (i : ℕ) (p : Passenger) (w : dock.Dock) → Stands l i p → sure.SureAt (isa_of l) p w.path → dock.DockedAt (isa_of l) p w →
     p.dead ≡ false → may_turn (Up i p) ≡ false → (is_memory (kind p) && not p.done && not p.launched) ≡ false →
     On (step_at (isa_of l) w.path.machine p.pc) w.path.machine (goto p)

@@ -1,4 +1,4 @@
--- Launch: the answer is taken by the passengers above, the operation comes last, and the order of memory is kept.
+-- Launch: the answer is taken by the instructions above, the operation comes last, and the order of memory is kept.
 use Rattle.std.proofs.Common.{◌≡◌, ◌≢◌, ℕ, List, [], ◌∷◌, ◌++◌, Option, Some, None, Bool, true, false, refl, sym, ap, ◌∙◌, arith}
 use Rattle.std.specs.Prelude.{if◌then◌else◌}
 use Rattle.cf_bind.specs.declared.cell.Op.{Op}
@@ -30,7 +30,7 @@ use Rattle.theory_refinement.proofs.invariant.Sure as sure
 use Rattle.cf_semantics.specs.claims.Path as trail
 use Rattle.cf_semantics.specs.claims.Soundness.{as_launched, in_siding, operations_in, operations_of}
 
--- launched: the passenger after Launch
+-- launched: the instruction after Launch
 abbrev pub sent_out : Passenger → Passenger
 sent_out p = record p { launched = true }
 
@@ -147,7 +147,7 @@ launch_port isa i p w d u r n s m = record {
         go true e = let a = (m e).1 in grind arith
         go false e = grind arith
 
--- the answer is taken by the first passenger that flies
+-- the answer is taken by the first instruction that flies
 pub flies_out : (l : Plan) (acc : Suits l) (p : Passenger) → in_siding l (port l) p ≡ true → ahead.flies p ≡ true
 flies_out l acc p e = go (siding_of l (kind p)) refl
   where

@@ -1,4 +1,4 @@
--- Memory order at Launch: what stands above a live passenger at Memory's launch stage.
+-- Memory order at Launch: what is above a live instruction at Memory's launch stage.
 use Rattle.std.proofs.Common.{◌≡◌, ℕ, suc, ◌<◌, ◌≤◌, List, [], ◌∷◌, ◌++◌, Option, Some, None, Bool, true, false, refl, sym, subst, ◌∙◌, arith}
 use Rattle.cf_bind.specs.declared.cell.Cell.{Cell}
 use Rattle.cf_bind.specs.declared.packet.Packet.{Packet}
@@ -20,7 +20,7 @@ use Rattle.theory_refinement.proofs.invariant.Sure as sure
 use Rattle.cf_semantics.specs.claims.Path as trail
 use Rattle.cf_semantics.specs.claims.Soundness.{is_lone, steers}
 
--- each item stands at a stage from n on
+-- each item is at a stage from n on
 abbrev pub From : ℕ → List Item → Type 0
 From n [] = Unit {0}
 From n (Up i p ∷ xs) = (n ≤ i) × From n xs
@@ -63,7 +63,7 @@ pub open_packet : (l : Plan) (i : ℕ) (k : Packet) (b : Bool) → launch_stage 
 unfolding lone.past
 open_packet l i k b n e = grind arith
 
--- after the point from which the program goes nowhere, no passenger is sure
+-- after the point from which the program goes nowhere, no instruction is sure
 pub nowhere_rider : (isa : Isa) (i : ℕ) (p : Passenger) (w : trail.Walk) → w.barred ≡ false → w.goto ≡ None → sure.Fits isa (Up i p) w →
     trail.past isa (Up i p) w ≡ w
 unfolding sure.Fits trail.past sure.SureAt
@@ -86,7 +86,7 @@ nowhere l (Down i k ∷ xs) w b f h o c g =
     let e = nowhere_packet (isa_of l) i k w (open_packet l i k b f.0 (walk_open l xs _ o)) in
     nowhere l xs (trail.past (isa_of l) (Down i k) w) (lone.past l (Down i k) b) f.1 h.1 o (e.0 ∙ c) (e.1 ∙ g)
 
--- no live branch, jump or environment call that is not done stands above Memory's launch stage
+-- no live branch, jump or environment call that is not done is above Memory's launch stage
 steady : (l : Plan) (i : ℕ) (p : Passenger) → Suits l → launch_stage l (port l) < i → Stands l i p → is_lone p ≡ false → p.dead ≡ false → p.done ≡ false →
     steers (kind p) ≡ false
 steady l i p acc n h o d u = go (is_control (kind p)) (is_serial (kind p)) refl refl
@@ -132,7 +132,7 @@ calm_packet : (isa : Isa) (i : ℕ) (k : Packet) (w : dock.Dock) → w.path.barr
 unfolding dock.past trail.past
 calm_packet isa i k w b r t = grind arith
 
--- part (j), at Launch: above a live passenger with nothing shut above it, nothing is risky
+-- part (j), at Launch: above a live instruction with nothing shut above it, nothing is risky
 pub calm : (l : Plan) (xs : List Item) (w : dock.Dock) (b : Bool) (pc : ℕ) → Suits l → From (suc (launch_stage l (port l))) xs → Each l xs →
     Everywhere (sure.Fits (isa_of l)) (trail.past (isa_of l)) xs w.path → walk (lone.past l) xs b ≡ false →
     (walk (trail.past (isa_of l)) xs w.path).goto ≡ Some pc → w.path.barred ≡ false → w.risky ≡ false →

@@ -67,7 +67,7 @@ pub send_walk : (isa : Isa) (i : ℕ) (p : Passenger) (k : Packet) (w : Walk) �
 unfolding Fits past SureAt
 send_walk isa i p k w e h = grind arith
 
--- a live passenger with no barrier above it is sure
+-- a live instruction with no barrier above it is sure
 pub sure_at : (isa : Isa) (i : ℕ) (p : Passenger) (w : Walk) → p.dead ≡ false → w.barred ≡ false → Fits isa (Up i p) w → SureAt isa p w
 unfolding Fits
 sure_at isa i p w d b h = grind arith

@@ -1,4 +1,4 @@
--- A passenger that finishes, on the path.
+-- An instruction that finishes, on the path.
 use Rattle.rv_inst.specs.declared.instruction.Instr.{Instr}
 use Rattle.std.proofs.Common.{◌≡◌, ℕ, ◌<◌, List, [], ◌∷◌, Option, Some, None, Bool, true, false, refl, sym, ap, subst, ◌∙◌, arith, length}
 use Rattle.std.specs.Prelude.{if◌then◌else◌}
@@ -96,7 +96,7 @@ trapped_sure isa p x s g e d i w f t h = record {
     reads (Got j) k = k
     reads (Bad b) k = absurd (cc)
 
--- what finishing leaves, for a passenger whose step it is
+-- what finishing leaves, for an instruction whose step it is
 pub record Finishes (p : Passenger) (x : Machine) (s : StepResult) (answer : Option ℕ) : Type 0 where
   pub what : p.what ≡ Some (instruction p)
   pub goes : finish_trap (instruction p) p.pc (value_in p.src1) (value_in p.src2) ≡ None →

@@ -1,4 +1,4 @@
--- Serve, on the path: the passenger at the top.
+-- Serve, on the path: the instruction at the top.
 use Rattle.rv_inst.specs.declared.instruction.Instr.{Instr}
 use Rattle.rv_inst.specs.declared.instruction.Instr.TheVariants.{Ebreak}
 use Rattle.std.proofs.Common.{◌≡◌, ℕ, ◌+◌, ◌++◌, Option, Some, false, refl, sym, ap, ◌∙◌, length}
@@ -20,7 +20,7 @@ use Rattle.rv_machine.specs.Call as called
 use Rattle.rv_machine.specs.Machine.{Machine}
 use Rattle.theory_refinement.proofs.invariant.Sure as sure
 
--- the step of a passenger of class Serial
+-- the step of an instruction of class Serial
 pub serial_steps : (isa : Isa) (p : Passenger) (x : Machine) (g : Option ℕ) → kind p ≡ Serial → sure.IsSure isa p x (step_at isa x p.pc) g →
     (i : Instr) × (p.what ≡ Some i) × (kind_of i ≡ Serial) × (step_at isa x p.pc ≡ served (serve_of i x.hart.regs x.hart.mem x.rest) (dst_of i) (at_pc x p.pc))
 serial_steps isa p x g c h = go (fetched isa x.hart.mem p.pc) refl h.reads

@@ -1,4 +1,4 @@
--- A passenger that is marked as recovered, before it finishes.
+-- An instruction that is marked as recovered, before it finishes.
 use Rattle.std.proofs.Common.{◌≡◌, ℕ, Option, Bool, true, false, ◌||◌, refl, sym, ap, ◌∙◌, arith}
 use Rattle.std.specs.Prelude.{if◌then◌else◌}
 use Rattle.cf_bind.specs.declared.passenger.Passenger.{Passenger}
@@ -67,7 +67,7 @@ back_port isa i p w m =
     let b : ahead.flies p ≡ ahead.flies (back p) = grind arith in
     rw (back_past isa i p w.path, a, b) refl
 
--- its stage: of a dead passenger, and of one that has finished
+-- its stage: of a dead instruction, and of one that has finished
 pub back_dead : (l : Plan) (i : ℕ) (p : Passenger) → p.dead ≡ true → p.launched ≡ true → Behind l (kind p) i → Stands l i p → Stands l i (back p)
 back_dead l i p d o b h = record {
   low = λ z. absurd (cc);

@@ -1,4 +1,4 @@
--- Where passengers stand: each move's change.
+-- Where instructions are: each move's change.
 use Rattle.std.proofs.Common.{◌≡◌, ℕ, ◌<◌, List, [], ◌∷◌, ◌++◌, None, true, false, arith, suc}
 use Rattle.cf_bind.specs.Meeting.{meeting}
 use Rattle.cf_bind.specs.declared.packet.Packet.{Packet}

@@ -1,4 +1,4 @@
--- What was read of the two pipes and the word is what stands in the stage.
+-- What was read of the two pipes and the word is what is in the stage.
 use Rattle.std.proofs.Common.{◌∙◌, ap, List}
 use Rattle.cf_bind.specs.declared.cell.Cell.{Cell}
 use Rattle.cf_semantics.specs.state.State.{cell_at}
