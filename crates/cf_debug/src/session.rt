@@ -117,7 +117,7 @@ fn finish<K: Sink, R: Sink>(
 }
 
 /// A session of the debugger on an opened processor: answers the commands, one a line, until one of them is `end` or
-/// there are no more. The ring has to be empty. It takes no memory.
+/// there are no more. The ring has to be empty. It allocates no memory.
 ///
 /// The lines are answered in order, and a refused one changes nothing. The answers are put to the report, and the
 /// guest's output to the output; the guest's input is empty. The ring is left with what is kept of the moves that were

@@ -15,7 +15,7 @@ retired_line n r = retirement_text n r.pc r.word r.reg r.value
 unfoldable pub numbered_move : ℕ → Move → List ℕ
 numbered_move n mv = (codes "move " ++ decimal n ++ codes " ") ++ line (move_line mv)
 
--- what was counted, a line each
+-- the counts, a line each
 unfoldable pub tally_text : Tally → List ℕ
 tally_text t =
     counted_line (codes "moves ") t.moves ++ counted_line (codes "meets ") t.meets

@@ -1,4 +1,4 @@
--- What a picture says of an instruction, of a result, and of the stage where they are (a format of this project).
+-- The text of an instruction, of a result, and of their stage in a picture (a format of this project).
 use Rattle.std.specs.Prelude.{ℕ, ◌&&◌, not, List, [], ◌++◌, Option, Some, None, Bool, true, false, codes, decimal, is_none, if◌then◌else◌}
 use Rattle.cf_bind.specs.declared.binding.Binding.{Binding}
 use Rattle.cf_bind.specs.declared.packet.Packet.{Packet}
@@ -29,7 +29,7 @@ guess_text Taken = codes "taken"
 guess_text Wait = codes "wait"
 guess_text (To t) = codes "to:" ++ hex8 t
 
--- a register with its value, or `?` where that is not known
+-- a register with its value, or `?` where the value is unknown
 abbrev pub known_text : ℕ → Option ℕ → List ℕ
 known_text r (Some v) = value_text r v
 known_text r None = register_name r ++ codes "=?"
@@ -50,13 +50,13 @@ progress_text (Some (end.Trap cause pc detail)) done launched = codes "trap"
 progress_text (Some (end.Exit status)) done launched = codes "exit"
 progress_text None done launched = if done then codes "done" else if launched then codes "out" else codes "new"
 
--- how an instruction is; a dead one may have its operation still in a siding
+-- the state of an instruction; a dead one may still have its operation in a siding
 unfoldable pub flag_text : Passenger → List ℕ
 flag_text p =
     if p.dead then (if p.launched && not p.recovered then codes "dead-out" else codes "dead")
     else progress_text p.ending p.done p.launched
 
--- its address, its guess and how it is
+-- its address, its guess and its state
 abbrev pub standing_text : Passenger → List ℕ
 standing_text p = hex8 p.pc ++ codes " " ++ guess_text p.guess ++ codes " " ++ flag_text p ++ codes " "
 
@@ -74,7 +74,7 @@ abbrev pub met_text : Bool → List ℕ
 met_text true = codes " complete | "
 met_text false = codes " full | "
 
--- what a stage holds
+-- the contents of a stage
 unfoldable pub held_text : Option Passenger → Option Packet → Bool → List ℕ
 held_text (Some p) (Some k) met = met_text met ++ passenger_text p ++ codes " | " ++ packet_text k
 held_text (Some p) None met = codes " instruction | " ++ passenger_text p

@@ -18,7 +18,7 @@ unfoldable pub fetch_line : Fetch → List ℕ
 fetch_line (Running pc) = line (codes "fetch " ++ hex8 pc)
 fetch_line Waiting = line (codes "fetch wait")
 
--- what is listed, or `-`
+-- the list, or `-` where it is empty
 abbrev pub or_dash : List ℕ → List ℕ
 or_dash [] = codes " -"
 or_dash (byte ∷ listed) = byte ∷ listed
@@ -28,21 +28,21 @@ abbrev pub requests_text : List ℕ → List ℕ
 requests_text [] = []
 requests_text (r ∷ lane) = codes " " ++ register_name r ++ requests_text lane
 
--- the registers that were requested, the next to be answered first
+-- the requested registers, the next to be answered first
 unfoldable pub lane_line : List ℕ → List ℕ
 lane_line lane = line (codes "lane" ++ or_dash (requests_text lane))
 
--- a register that is kept at the bottom, after a space
+-- a register after a space where it is cached
 abbrev pub kept_text : ℕ → Option ℕ → List ℕ
 kept_text r None = []
 kept_text r (Some v) = codes " " ++ value_text r v
 
--- the registers of a smaller number than n that are kept there, ascending
+-- the cached registers with numbers below n, ascending
 unfoldable pub kept_below : ℕ → List (Option ℕ) → List ℕ
 kept_below zero cache = []
 kept_below (suc r) cache = kept_below r cache ++ kept_text r (cached cache r)
 
--- the registers that are kept at the bottom, of all 32
+-- the cached registers among all 32
 unfoldable pub cache_line : List (Option ℕ) → List ℕ
 cache_line cache = line (codes "cache" ++ or_dash (kept_below 32 cache))
 

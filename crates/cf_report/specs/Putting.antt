@@ -1,10 +1,10 @@
--- What a call that puts a text to a report does (a convention of this project).
+-- What a call that writes a text to a report does (a convention of this project).
 use Rattle.std.specs.Prelude.{ℕ, List, Option, Result, OnOk, OnErr}
 use Rattle.cf_io.specs.Causes.{HasCause}
 use Rattle.cf_io.specs.Puts.{Writes, WritesFront}
 
 -- what the report exposes before and after, its count of faults before and after, the text and the answer: the whole
--- text was put, or it failed, a prefix of the text was put, and the count rose
+-- text was written; or the call failed, a prefix of the text was written, and the count rose
 pub record PutsText {T E : Type 0} (written after : Option (List ℕ)) (before now : ℕ) (text : List ℕ) (result : Result T E) : Type 0 where
   pub all : OnOk result (Writes written after text)
   pub front : OnErr result (WritesFront written after text)

@@ -1,4 +1,4 @@
-//! The lines of what is beside the stages: fetch, the lane, the cache and the sidings.
+//! The lines of the parts beside the stages: fetch, the lane, the cache and the sidings.
 #![tactic(auto, unfolding(crate::specs::Picture::fetch_line, crate::specs::Picture::lane_line, crate::specs::Picture::cache_line, crate::specs::Picture::op_text, crate::specs::Picture::siding_line))]
 
 ghost use Rattle.std.specs.Prelude.{◌≡◌, ◌+◌, ◌*◌, ◌≤◌, ◌++◌, length, is_some};
@@ -29,7 +29,7 @@ fn fetch_page(fetch: Fetch) -> Page
     page
 }
 
-/// Puts where fetch runs, or that it waits.
+/// Writes where fetch runs, or that it waits.
 pub fn put_fetch<R: Sink>(fetch: Fetch, report: &mut R) -> Result<(), Failed>
     ensures { PutsText (R.written report.old) (R.written report.new)
         (R.faults report.old) (R.faults report.new) (fetch_line fetch) result }
@@ -38,7 +38,7 @@ pub fn put_fetch<R: Sink>(fetch: Fetch, report: &mut R) -> Result<(), Failed>
     put_text(page.bytes(), report)
 }
 
-/// The registers that were requested, each after a space.
+/// Appends the requested registers, each after a space.
 #[tactic(auto, using(crate::proofs::Listed::listing))]
 fn push_requests(page: &mut Page, core: &Core)
     requires { length page.old + 4 * length core.now.state.lane ≤ page_room }
@@ -51,7 +51,7 @@ fn push_requests(page: &mut Page, core: &Core)
     }
 }
 
-/// The registers that were requested, or `-`.
+/// Appends the requested registers, or `-`.
 #[tactic(auto, using(crate::proofs::Listed::listed))]
 fn push_lane(page: &mut Page, core: &Core)
     requires { length page.old + 258 ≤ page_room }
@@ -75,7 +75,7 @@ fn lane_page(core: &Core) -> Page
     page
 }
 
-/// Puts the registers that were requested, the next to be answered first.
+/// Writes the requested registers, the next to be answered first.
 pub(crate) fn put_lane<R: Sink>(core: &Core, report: &mut R) -> Result<(), Failed>
     ensures { PutsText (R.written report.old) (R.written report.new)
         (R.faults report.old) (R.faults report.new) (lane_line core.now.state.lane) result }
@@ -84,7 +84,7 @@ pub(crate) fn put_lane<R: Sink>(core: &Core, report: &mut R) -> Result<(), Faile
     put_text(page.bytes(), report)
 }
 
-/// A register that is kept, after a space, or nothing.
+/// Appends a register after a space where it is cached.
 fn push_kept(page: &mut Page, register: u8, kept: Option<u32>)
     requires { length page.old + 13 ≤ page_room }
     ensures text { page.new ≡ page.old ++ kept_text register kept }
@@ -96,7 +96,7 @@ fn push_kept(page: &mut Page, register: u8, kept: Option<u32>)
     }
 }
 
-/// The registers that are kept.
+/// Appends the cached registers.
 fn push_cache(page: &mut Page, core: &Core)
     requires { length page.old + 416 ≤ page_room }
     ensures text { page.new ≡ page.old ++ kept_below 32 core.now.state.cache }
@@ -120,7 +120,7 @@ fn cache_page(core: &Core) -> Page
     page
 }
 
-/// Puts the registers that are kept at the bottom, ascending.
+/// Writes the cached registers, ascending.
 pub(crate) fn put_cache<R: Sink>(core: &Core, report: &mut R) -> Result<(), Failed>
     ensures { PutsText (R.written report.old) (R.written report.new)
         (R.faults report.old) (R.faults report.new) (cache_line core.now.state.cache) result }
@@ -146,7 +146,7 @@ fn push_op(page: &mut Page, cell: &Option<Op>)
     }
 }
 
-/// The cells of a siding in order.
+/// Appends the cells of a siding in order.
 fn push_ops(page: &mut Page, ops: &[Option<Op>])
     requires { length page.old + 10 * length ops.now ≤ page_room }
     ensures text { page.new ≡ page.old ++ ops_text ops.now }
@@ -178,7 +178,7 @@ fn siding_page(siding: u32, ops: &[Option<Op>]) -> Page
     page
 }
 
-/// Puts the line of a siding with its cells, at most eight, and nothing for one without an operation.
+/// Writes the line of a siding with its cells, at most eight, and nothing for one without an operation.
 pub fn put_siding<R: Sink>(siding: u32, ops: &[Option<Op>], report: &mut R) -> Result<(), Failed>
     requires { length ops.now ≤ 8 }
     ensures { PutsText (R.written report.old) (R.written report.new)

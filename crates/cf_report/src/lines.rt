@@ -14,7 +14,7 @@ use cf_io::{Failed, Sink};
 use rv_machine::Retired;
 use texts::{Page, retirement_line};
 
-/// Puts the line of the instruction that retired as the `n`th.
+/// Writes the line of the instruction that retired as the `n`th.
 pub fn put_retired<R: Sink>(n: u64, r: &Retired, report: &mut R) -> Result<(), Failed>
     ensures { PutsText (R.written report.old) (R.written report.new)
         (R.faults report.old) (R.faults report.new) (retired_line n r.now) result }
@@ -33,7 +33,7 @@ fn put_move_text<R: Sink>(mv: Move, report: &mut R) -> Result<(), Failed>
     put_text(b"\n", report)
 }
 
-/// What is before the `n`th move in its line.
+/// The text before the `n`th move in its line.
 pub fn move_number(n: u64) -> Page
     ensures { result ≡ codes "move " ++ decimal n ++ codes " " }
 {
@@ -44,7 +44,7 @@ pub fn move_number(n: u64) -> Page
     page
 }
 
-/// Puts the line of the `n`th move.
+/// Writes the line of the `n`th move.
 pub fn put_move<R: Sink>(n: u64, mv: Move, report: &mut R) -> Result<(), Failed>
     ensures { PutsText (R.written report.old) (R.written report.new)
         (R.faults report.old) (R.faults report.new) (numbered_move n mv) result }
@@ -65,7 +65,7 @@ fn tally_page(tally: &Tally) -> Page
     page
 }
 
-/// Puts what was counted, a line each.
+/// Writes the counts, a line each.
 pub fn put_tally<R: Sink>(t: &Tally, report: &mut R) -> Result<(), Failed>
     ensures { PutsText (R.written report.old) (R.written report.new)
         (R.faults report.old) (R.faults report.new) (text_of_tally t.now) result }
@@ -74,7 +74,7 @@ pub fn put_tally<R: Sink>(t: &Tally, report: &mut R) -> Result<(), Failed>
     put_text(page.bytes(), report)
 }
 
-/// Puts the registers, four a line.
+/// Writes the registers, four a line.
 pub fn put_registers<R: Sink>(regs: &[u32; 32], report: &mut R) -> Result<(), Failed>
     ensures { PutsText (R.written report.old) (R.written report.new)
         (R.faults report.old) (R.faults report.new) (registers_text regs.now) result }

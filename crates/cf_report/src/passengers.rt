@@ -1,4 +1,4 @@
-//! What a picture says of an instruction and of a result.
+//! The text of an instruction and of a result in a picture.
 #![tactic(auto, unfolding(crate::specs::Passengers::packet_text, crate::specs::Passengers::guess_text, crate::specs::Passengers::binding_text, crate::specs::Passengers::owed_text, crate::specs::Passengers::flag_text))]
 
 ghost use Rattle.std.specs.Prelude.{◌≡◌, ◌+◌, ◌≤◌, ◌++◌, length, codes};
@@ -8,7 +8,7 @@ ghost use Rattle.texts.specs.Room.{page_room};
 use cf_bind::{Binding, End, Guess, Packet, Passenger};
 use texts::Page;
 
-/// A register with its value.
+/// Appends a register with its value.
 pub(crate) fn push_value(page: &mut Page, register: u8, value: u32)
     requires { length page.old + 12 ≤ page_room }
     ensures text { page.new ≡ page.old ++ value_text register value }
@@ -19,7 +19,7 @@ pub(crate) fn push_value(page: &mut Page, register: u8, value: u32)
     page.push_hex(value);
 }
 
-/// A result.
+/// Appends a result.
 pub(crate) fn push_packet(page: &mut Page, packet: Packet)
     requires { length page.old + 13 ≤ page_room }
     ensures text { page.new ≡ page.old ++ packet_text packet }
@@ -51,7 +51,7 @@ fn push_guess(page: &mut Page, guess: Guess)
     }
 }
 
-/// A binding, or `-` where there is none, with a space after it.
+/// Appends a binding, or `-` where there is none, and a space.
 fn push_binding(page: &mut Page, binding: Option<Binding>)
     requires { length page.old + 13 ≤ page_room }
     ensures text { page.new ≡ page.old ++ binding_text binding ++ codes " " }
@@ -98,7 +98,7 @@ fn progress(ending: Option<End>, done: bool, launched: bool) -> &'static [u8]
     }
 }
 
-/// How an instruction is.
+/// The state of an instruction.
 fn flag(passenger: &Passenger) -> &'static [u8]
     ensures text { result.now ≡ flag_text passenger.now }
     ensures short { length result.now ≤ 8 }
@@ -135,7 +135,7 @@ fn push_bindings(page: &mut Page, passenger: &Passenger)
     push_binding(page, passenger.dst);
 }
 
-/// An instruction: its address, guess and flag, its sources and destination, and what it still has to send.
+/// Appends an instruction: its address, guess and flag, its sources and destination, and what it still has to send.
 #[tactic(auto, unfolding(crate::specs::Passengers::passenger_text))]
 pub(crate) fn push_passenger(page: &mut Page, passenger: &Passenger)
     requires { length page.old + 82 ≤ page_room }

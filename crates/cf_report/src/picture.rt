@@ -10,7 +10,7 @@ use crate::stages::put_stage;
 use cf_core::Core;
 use cf_io::{Failed, Sink};
 
-/// Puts what is kept at the bottom, where the layout keeps values there.
+/// Writes the cached registers, where the layout has the cache.
 fn put_kept<R: Sink>(core: &Core, report: &mut R) -> Result<(), Failed>
     ensures { PutsText (R.written report.old) (R.written report.new)
         (R.faults report.old) (R.faults report.new)
@@ -23,7 +23,7 @@ fn put_kept<R: Sink>(core: &Core, report: &mut R) -> Result<(), Failed>
     }
 }
 
-/// Puts the stages, the highest first.
+/// Writes the stages, the highest first.
 fn put_stages<R: Sink>(core: &Core, report: &mut R) -> Result<(), Failed>
     ensures { PutsText (R.written report.old) (R.written report.new)
         (R.faults report.old) (R.faults report.new) (stage_lines 1 core.now.state.cells) result }
@@ -36,7 +36,7 @@ fn put_stages<R: Sink>(core: &Core, report: &mut R) -> Result<(), Failed>
     Ok(())
 }
 
-/// Puts the sidings.
+/// Writes the sidings.
 fn put_sidings<R: Sink>(core: &Core, report: &mut R) -> Result<(), Failed>
     ensures { PutsText (R.written report.old) (R.written report.new)
         (R.faults report.old) (R.faults report.new) (siding_lines 0 core.now.state.sidings) result }
@@ -47,9 +47,9 @@ fn put_sidings<R: Sink>(core: &Core, report: &mut R) -> Result<(), Failed>
     Ok(())
 }
 
-/// Puts a picture of the processor: where fetch runs, the lane of requests, what is kept at the bottom where the layout
-/// keeps values there, the stages that are not empty from the highest down, and the sidings with an operation. After
-/// `Failed` a prefix of it was put.
+/// Writes a picture of the processor: where fetch runs, the lane of requests, the cached registers where the layout has
+/// the cache, the stages that are not empty from the highest down, and the sidings with an operation. After `Failed` a
+/// prefix of it was written.
 pub fn put_picture<R: Sink>(core: &Core, report: &mut R) -> Result<(), Failed>
     ensures { PutsText (R.written report.old) (R.written report.new)
         (R.faults report.old) (R.faults report.new) (picture core.now.plan core.now.state) result }

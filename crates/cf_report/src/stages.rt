@@ -19,7 +19,7 @@ fn met_text(met: bool) -> &'static [u8]
     if met { b" complete | " } else { b" full | " }
 }
 
-/// An instruction and a result.
+/// Appends an instruction and a result.
 fn push_both(page: &mut Page, passenger: &Passenger, packet: Packet, met: bool)
     requires { length page.old + 110 ≤ page_room }
     ensures text { page.new ≡ page.old
@@ -32,7 +32,7 @@ fn push_both(page: &mut Page, passenger: &Passenger, packet: Packet, met: bool)
     push_packet(page, packet);
 }
 
-/// An instruction that is alone.
+/// Appends an instruction alone in its stage.
 fn push_instruction(page: &mut Page, passenger: &Passenger)
     requires { length page.old + 110 ≤ page_room }
     ensures text { page.new ≡ page.old ++ (codes " instruction | " ++ passenger_text passenger.now) }
@@ -42,7 +42,7 @@ fn push_instruction(page: &mut Page, passenger: &Passenger)
     push_passenger(page, passenger);
 }
 
-/// A result that is alone.
+/// Appends a result alone in its stage.
 fn push_result(page: &mut Page, packet: Packet)
     requires { length page.old + 23 ≤ page_room }
     ensures text { page.new ≡ page.old ++ (codes " result | " ++ packet_text packet) }
@@ -52,7 +52,7 @@ fn push_result(page: &mut Page, packet: Packet)
     push_packet(page, packet);
 }
 
-/// What a stage holds.
+/// Appends the contents of a stage.
 fn push_held(page: &mut Page, cell: &Cell)
     requires { length page.old + 110 ≤ page_room }
     ensures text { page.new ≡ page.old ++ held_text cell.now.passenger cell.now.packet cell.now.met }
@@ -94,7 +94,7 @@ fn stage_page(stage: u32, cell: &Cell) -> Page
     page
 }
 
-/// Puts the line of a stage, and nothing for an empty one.
+/// Writes the line of a stage, and nothing for an empty one.
 pub fn put_stage<R: Sink>(stage: u32, cell: &Cell, report: &mut R) -> Result<(), Failed>
     ensures { PutsText (R.written report.old) (R.written report.new)
         (R.faults report.old) (R.faults report.new) (stage_line stage cell.now) result }

@@ -1,6 +1,6 @@
-//! What is counted of a run.
+//! The counts of a run.
 
-/// What was counted over a list of moves.
+/// The counts over a list of moves.
 #[derive(Clone, Copy, Debug, PartialEq, Eq)]
 pub struct Tally {
     /// The moves that were made.

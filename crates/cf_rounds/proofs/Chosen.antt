@@ -86,7 +86,7 @@ pub all_after : (test : Move → Type 0) (round : List Move) (mv : Move) → All
 all_after test [] mv h k = (k, tt)
 all_after test (first ∷ round) mv (h, hs) k = (h, all_after test round mv hs k)
 
--- a move that shares a place with none of a round
+-- a move that shares a site with none of a round
 pub unshared : (plan : Plan) (round : List Move) (mv : Move) → shares_any plan round mv ≡ false → AllByRecursion (λ other. shares plan mv other ≡ false) round
 unshared plan [] mv e = tt
 unshared plan (first ∷ round) mv e = by (shares plan mv first) refl (λ g. unshared plan round mv g) e
@@ -136,7 +136,7 @@ taken_more plan round (mv ∷ moves) = by (shares_any plan round mv) (λ next. t
     by true go = go round
     by false go = let h = go (round ++ mv ∷ []) in (mv ∷ h.0, h.1 ∙ append_assoc round (mv ∷ []) h.0)
 
--- and each candidate is taken, or shares a place with one that is
+-- and each candidate is taken, or shares a site with one that is
 pub taken_full : (plan : Plan) (round moves : List Move) → AllByRecursion (IsTaken plan (taken plan round moves)) moves
 unfolding taken
 taken_full plan round [] = tt

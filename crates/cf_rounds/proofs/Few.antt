@@ -102,7 +102,7 @@ same_home plan (AtCell k c) (AtCell j d) accepted a b e =
     let cells : c ≡ d = omega (arith, e, sidings) in
     ap (λ (n : ℕ). AtCell n c) sidings ∙ ap (λ (n : ℕ). AtCell j n) cells
 
--- moves that share no place have different numbers
+-- moves that share no site have different numbers
 apart_numbers : (plan : Plan) (a b : Move) → IsAccepted plan → HasSites plan a → HasSites plan b → shares plan a b ≡ false →
     eqb (number_of (home plan a)) (number_of (home plan b)) ≡ false
 apart_numbers plan a b accepted p q e = go (eqb (number_of (home plan a)) (number_of (home plan b))) refl

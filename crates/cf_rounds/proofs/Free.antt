@@ -1,4 +1,4 @@
--- A round whose moves can be made, none of them alone, and share no place, is a run in each order, and all orders lead
+-- A round whose moves can be made, none of them alone, and share no site, is a run in each order, and all orders lead
 -- to one moment.
 use Rattle.std.proofs.Common.{◌≡◌, List, [], ◌∷◌, ◌++◌, Bool, true, false, Option, None, refl, sym, ap, subst, ◌∙◌}
 use Rattle.std.specs.Prelude.{◌||◌}

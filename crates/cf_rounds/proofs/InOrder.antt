@@ -14,7 +14,7 @@ use Rattle.cf_rounds.specs.Rounds.{AreApart, AreCandidates, IsAllowed, IsRound, 
 use Rattle.cf_rounds.proofs.Chosen.{apart_after, candidates_allowed, all_after, taken_more, unshared}
 use Rattle.cf_rounds.proofs.Few.{few}
 
--- the moves from a place on
+-- the moves from a site on
 pub drop_at : (moves : List Move) (place : ℕ) (mv : Move) → Some mv ≡ slice_get moves place → drop place moves ≡ mv ∷ drop (place + 1) moves
 drop_at [] place mv e = absurd (cc)
 drop_at (first ∷ moves) zero mv e = let same : first ≡ mv = cc in ap (λ (m : Move). m ∷ moves) same
@@ -60,8 +60,8 @@ pub candidate_there : (plan : Plan) (s : State) (moves : List Move) (place : ℕ
     Some mv ≡ slice_get moves place → HasSites plan mv
 candidate_there plan s moves place mv p are e = there_allowed plan s mv p (all_at (IsAllowed plan s) moves place mv (candidates_allowed plan s moves are) e)
 
--- the moves that are taken so far: the layout has what they use, no two share a place, and with the candidates from the
--- place on they make the round
+-- the moves that are taken so far: the layout has what they use, no two share a site, and with the candidates from the
+-- site on they make the round
 pub record TakenSoFar (plan : Plan) (moves round : List Move) (place : ℕ) : Type 0 where
   pub there : AllByRecursion (HasSites plan) round
   pub apart : AreApart plan round

@@ -47,7 +47,7 @@ unwritten plan s n Leave e = grind (arith, nat_tests)
 unwritten plan s n Exit e = grind (arith, nat_tests)
 unwritten plan s n Serve e = grind (arith, nat_tests)
 
--- a move that shares no place with a Leave does not use the highest stage
+-- a move that shares no site with a Leave does not use the highest stage
 unused_top : (plan : Plan) (mv : Move) → shares plan Leave mv ≡ false → uses_place plan mv (Stage plan.stages) ≡ false
 unused_top plan mv apart = by (uses_place plan mv (Stage plan.stages)) refl
   where
@@ -86,7 +86,7 @@ level_stays plan limit m mv free apart over =
     }
 
 -- where the moves of a round have led: the count is below the limit; or the run is level there, and none of the moves
--- that are left shares a place with a Leave
+-- that are left shares a site with a Leave
 abbrev Stands : Plan → ℕ → State → List Move → Type 0
 Stands plan limit s round = (s.retired < limit) ⊎ (Over plan limit s × AllByRecursion (λ other. shares plan Leave other ≡ false) round)
 
@@ -108,7 +108,7 @@ stands_on plan limit m mv e round f is (inl low) = by (is_leave mv) refl
     )
 stands_on plan limit m mv e round f is (inr (over, (one, rest))) = inr (level_stays plan limit m mv f.plain.0.allowed one over, rest)
 
--- all of a round whose moves share no place
+-- all of a round whose moves share no site
 free_level : (plan : Plan) (limit : ℕ) (trace : List Made) (now new : RunPlace) → now.core.plan ≡ plan → IsFree plan now.core.state (moves_of trace) →
     MakesAll trace now new → Stands plan limit now.core.state (moves_of trace) → Over plan limit new.core.state
 unfolding MakesAll

@@ -1,4 +1,4 @@
--- Rounds: the moves that a clocked processor makes at one tick. No two of them use a place in common, so they can be
+-- Rounds: the moves that a clocked processor makes at one tick. No two of them use a site in common, so they can be
 -- made in any order.
 use Rattle.std.specs.Prelude.{◌≡◌, ◌⊎◌, ℕ, ◌≤◌, List, length, [], ◌∷◌, ◌++◌, Bool, true, false, None, if◌then◌else◌}
 use Rattle.std.specs.List.{AllByRecursion, find, list_any}
@@ -16,11 +16,11 @@ pub record IsHeld (count : ℕ) (places : List Move) : Type 0 where
   pub room : length places ≡ 128
   pub few : count ≤ 128
 
--- the move shares a place with one of these
+-- the move shares a site with one of these
 abbrev pub shares_any : Plan → List Move → Move → Bool
 shares_any plan round mv = list_any (shares plan mv) round
 
--- some moves are taken; after them each move of a list that shares no place with one that is taken, in order
+-- some moves are taken; after them each move of a list that shares no site with one that is taken, in order
 unfoldable pub taken : Plan → (round moves : List Move) → List Move
 taken plan round [] = round
 taken plan round (mv ∷ moves) = taken plan (if shares_any plan round mv then round else round ++ mv ∷ []) moves
@@ -43,16 +43,16 @@ pub record IsRound (plan : Plan) (s : State) (round : List Move) : Type 0 where
 abbrev pub IsAllowed : Plan → State → Move → Type 0
 IsAllowed plan s mv = bar plan s mv ≡ None
 
--- no two of the moves share a place
+-- no two of the moves share a site
 abbrev pub AreApart : Plan → List Move → Type 0
 AreApart plan [] = Unit {0}
 AreApart plan (mv ∷ round) = AllByRecursion (λ other. shares plan mv other ≡ false) round × AreApart plan round
 
--- the move is one of the round, or shares a place with one in it
+-- the move is one of the round, or shares a site with one in it
 abbrev pub IsTaken : Plan → List Move → Move → Type 0
 IsTaken plan round mv = ((front : List Move) × (after : List Move) × (round ≡ front ++ mv ∷ after)) ⊎ (shares_any plan round mv ≡ true)
 
--- the round is one move that is made alone; or no two of its moves share a place, and each candidate that it leaves out
+-- the round is one move that is made alone; or no two of its moves share a site, and each candidate that it leaves out
 -- shares one with a move that it has
 abbrev pub IsFull : Plan → State → (moves round : List Move) → Type 0
 IsFull plan s moves round =

@@ -48,7 +48,7 @@ fn alone(core: &Core, c: &Candidates) -> Option<Move>
     None
 }
 
-/// Whether the move shares a place with one of the round.
+/// Whether the move shares a site with one of the round.
 #[tactic(auto, using(crate::proofs::InOrder::any_next, crate::proofs::InOrder::any_here, crate::proofs::InOrder::any_past))]
 fn shares_any(core: &Core, set: &RoundSet, mv: Move) -> bool
     requires there { HasSites core.now.plan mv }
@@ -63,7 +63,7 @@ fn shares_any(core: &Core, set: &RoundSet, mv: Move) -> bool
     false
 }
 
-/// Takes the move, unless it shares a place with one that is taken.
+/// Takes the move, unless it shares a site with one that is taken.
 fn take(core: &Core, set: &mut RoundSet, mv: Move)
     requires there { HasSites core.now.plan mv }
     requires others { AllByRecursion (HasSites core.now.plan) set.old }
@@ -75,7 +75,7 @@ fn take(core: &Core, set: &mut RoundSet, mv: Move)
     }
 }
 
-/// Takes each candidate, in order, that shares no place with one that is taken.
+/// Takes each candidate, in order, that shares no site with one that is taken.
 fn take_all(core: &Core, c: &Candidates, set: &mut RoundSet)
     requires candidates { AreCandidates core.now.plan core.now.state c.now }
     requires empty { set.old ≡ [] }
@@ -88,9 +88,9 @@ fn take_all(core: &Core, c: &Candidates, set: &mut RoundSet)
 }
 
 /// Makes the set hold the round of the candidates, held back or not: where one of them is Serve, or the Leave of a live
-/// instruction that ends the program, that one alone; else, in their order, each that shares no place with those
-/// already taken. So no two moves of a round share a place, and each candidate that it leaves out shares one with a
-/// move that it has.
+/// instruction that ends the program, that one alone; else, in their order, each that shares no site with those already
+/// taken. So no two moves of a round share a site, and each candidate that it leaves out shares one with a move that it
+/// has.
 pub fn choose(core: &Core, c: &Candidates, set: &mut RoundSet)
     requires candidates { AreCandidates core.now.plan core.now.state c.now }
     requires some { 0 < length c.now }

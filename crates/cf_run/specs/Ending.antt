@@ -20,8 +20,8 @@ use Rattle.cf_run.specs.declared.answer.Scripted.TheVariants.{Ran, ScriptEnd, Ba
 use Rattle.cf_run.specs.Headline.{machine_on}
 use Rattle.cf_run.specs.Moving.{RunPlace}
 
--- n steps lead to this machine from the one that starts on the hart with what the input exposes; where it does not
--- expose that, each step finds some input
+-- n steps lead to this machine from the one that starts on the hart with what the input exposes; where it exposes
+-- nothing, each step finds some input
 abbrev pub IsAfterSteps : Isa → Option (List ℕ) → Hart → ℕ → Machine → Type 0
 IsAfterSteps isa (Some rest) hart n at = after isa (machine_on hart rest) n ≡ Some at
 IsAfterSteps isa None hart n at = (written : List Line) × GoesTo isa (machine_on hart []) n at written
@@ -35,9 +35,8 @@ EndsUnderLimit isa limit at ran.ReadFault = ⊥
 EndsUnderLimit isa limit at ran.WriteFault = ⊥
 EndsUnderLimit isa limit at ran.ReportFault = ⊥
 
--- the run of a processor that was opened on this hart ends as that machine does: in its ending, the retired count, the
--- registers, what is left of the input and what was written to the output; it multiplies and divides where the layout
--- does
+-- the run of a processor that was opened on this hart ends as that machine does: it has the same ending, retired count,
+-- registers, remaining input and output; the machine multiplies and divides where the layout does
 pub record EndsAsMachine (limit : ℕ) (hart : Hart) (begin new : RunPlace) (answer : Answer) : Type 0 where
   pub at : Machine
   pub comes : IsAfterSteps (isa_of begin.core.plan) begin.streams.input hart (new.core.state.retired - hart.retired) at

@@ -14,7 +14,8 @@ use Rattle.cf_run.specs.Made.{Made, moves_of}
 abbrev pub moment_of : Processor → List ℕ → Moment
 moment_of core rest = record { state = core.state; rest = rest; output = [] }
 
--- the input that a move finds: what the moves before it have left, where the input exposes that, and else any input
+-- the input that a move finds: what the moves before it have left, where the input exposes that, and otherwise any
+-- input
 abbrev pub Finds : Option (List ℕ) → (left rest : List ℕ) → Type 0
 Finds None left rest = Unit {0}
 Finds (Some told) left rest = rest ≡ left

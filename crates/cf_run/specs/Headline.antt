@@ -1,6 +1,6 @@
--- The headline: a run leaves what the sequential machine on which the processor was opened leaves, whether or not the
--- input exposes what it has left, and comes to rest ("Counterflow Pipeline Processor Architecture", 1994: the order of
--- the local actions is free).
+-- The headline: a run leaves what the sequential machine leaves on which the processor was opened, whether or not the
+-- input's remaining bytes are known; and the processor can drain ("Counterflow Pipeline Processor Architecture", 1994:
+-- the order of the local actions is free).
 use Rattle.std.specs.Prelude.{◌≡◌, ℕ, ◌+◌, ◌≤◌, List, [], ◌∷◌, ◌++◌, length, Option, Some, None}
 use Rattle.run_options.specs.declared.show.Show.{Show}
 use Rattle.run_options.specs.declared.show.Show.TheVariants as show
@@ -33,21 +33,21 @@ use Rattle.cf_run.specs.declared.answer.Scripted.TheVariants.{Ran}
 use Rattle.cf_run.specs.Made.{Made, all_shown}
 use Rattle.cf_run.specs.Moving.{RunPlace}
 
--- The sequential machine as a run begins: the hart on which the processor was opened, with this input before it and
--- nothing written.
+-- The sequential machine as a run begins: the hart on which the processor was opened, with this input and nothing
+-- written.
 abbrev pub machine_on : Hart → List ℕ → Machine
 machine_on hart rest = record { hart = hart; rest = rest; output = [] }
 
--- The moment to which moves lead from the machine.
+-- The moment to which the moves lead from the machine.
 abbrev pub moment_after : Plan → Machine → List Move → Moment
 moment_after plan x moves = run plan (start_on plan x) moves
 
--- The instructions that the machine retires, as many as have retired there.
+-- The instructions that the machine retires: as many as have retired there.
 abbrev pub lines_after : Plan → Machine → List Move → List Line
 lines_after plan x moves = sequence (isa_of plan) x (gained x (moment_after plan x moves).state)
 
--- With issue held back the processor drains, within a stated number of moves, to one end: drained, but for what is kept
--- at the bottom in one state, or with the end of the program.
+-- With issue held back the processor drains, within a stated number of moves, to one end: drained, in one state apart
+-- from the cache at the bottom, or with the end of the program.
 pub record Settles (plan : Plan) (x : Machine) (m : Moment) : Type 0 where
   -- every run without Issue has at most as many moves as the weight of the state
   pub bounded : (moves : List Move) → IsRun plan m moves → issues moves ≡ 0 → length moves ≤ weight plan m.state
@@ -68,7 +68,7 @@ pub record IsRight (plan : Plan) (x : Machine) (moves : List Move) : Type 0 wher
   pub refines : Refines plan x (lines plan (start_on plan x) moves) (moment_after plan x moves)
   pub settles : Settles plan x (moment_after plan x moves)
 
--- The processor is at the moment: what is left of the input and what was written to the output are the moment's.
+-- The processor is at the moment: the remaining input and the output are the moment's.
 pub record StandsAt (m : Moment) (begin new : RunPlace) : Type 0 where
   pub core : new.core ≡ in_state begin.core m.state
   pub streams : Leaves begin.streams new.streams m.rest m.output
@@ -126,8 +126,8 @@ unfoldable pub Gets : Option (List ℕ) → Option (List ℕ) → Scripted → L
 Gets before after (Ran ran.ReportFault) text = WritesFront before after text
 Gets before after answer text = Writes before after text
 
--- What the report got of these instructions: where retirements alone are shown, their lines; where moves are shown, a
--- group for each move, and the lines of retirement in these groups are theirs.
+-- What the report got about these instructions: where retirements alone are shown, their lines; where moves are shown,
+-- a group for each move, and the lines of retirement in these groups are theirs.
 abbrev pub ReportsLines : Show → ℕ → List Line → (begin new : RunPlace) → Scripted → Type 0
 ReportsLines show.Retired n written begin new answer =
     (text : List ℕ) × AreTexts n written text × Gets begin.report new.report answer text
@@ -137,15 +137,15 @@ ReportsLines show.Moves n written begin new answer =
 ReportsLines show.Report n written begin new answer = Unit {0}
 
 -- The run is a run of this machine, by these moves: they are right, it stops at the moment to which they lead, and the
--- instructions that it reports are those that the machine retires, numbered by the machine's count.
+-- instructions that it reports are those that the machine retires, numbered by its count.
 pub record RunsAs (shows : Show) (x : Machine) (moves : List Move) (begin new : RunPlace) (answer : Scripted) : Type 0 where
   pub right : IsRight begin.core.plan x moves
   pub stops : StopsAt x (moment_after begin.core.plan x moves) begin new answer
   pub report : ReportsLines shows (x.hart.retired + 1) (lines_after begin.core.plan x moves) begin new answer
 
 -- The run is a run of the machine that starts on this hart, over an input whose remaining bytes are unknown: as many
--- steps as have retired, each of which finds some input, lead to a machine, with these lines; and with some input left,
--- what is seen of the moment where the run stops is what that machine does, and from there the processor drains.
+-- steps as instructions have retired, each of which finds some input, lead to a machine, with these lines. With some
+-- input left, what the moment where the run stops shows is what that machine does, and from there the processor drains.
 pub record RunsOverUnknownInput (shows : Show) (hart : Hart) (begin new : RunPlace) (answer : Scripted) : Type 0 where
   pub at : Machine
   pub written : List Line
@@ -154,20 +154,20 @@ pub record RunsOverUnknownInput (shows : Show) (hart : Hart) (begin new : RunPla
   pub goes : GoesTo (isa_of begin.core.plan) (machine_on hart []) (gained (machine_on hart []) last.state) at written
   pub refines : Refines begin.core.plan at [] last
   pub settles : Settles begin.core.plan at last
-  -- whatever the moves find of the input, without Issue they are at most as many as the weight of the state
+  -- whatever input the moves find, without Issue there are at most as many as the weight of the state
   pub bounded : (moves : List Move) (t : Moment) (more : List Line) → LeadsTo begin.core.plan last moves t more → issues moves ≡ 0 →
       length moves ≤ weight begin.core.plan last.state
   pub stops : StopsAt at last begin new answer
   pub report : ReportsLines shows (hart.retired + 1) written begin new answer
 
 -- The run is a run of the machine that starts on this hart with what the input exposes, by these moves; where the input
--- does not expose that, of the machine each of whose calls finds some input.
+-- exposes nothing, a run of the machine each of whose calls finds some input.
 abbrev pub RunsOver : Option (List ℕ) → Show → Hart → List Move → (begin new : RunPlace) → Scripted → Type 0
 RunsOver (Some rest) shows hart moves begin new answer = RunsAs shows (machine_on hart rest) moves begin new answer
 RunsOver None shows hart moves begin new answer = RunsOverUnknownInput shows hart begin new answer
 
 -- The headline, of a run that made these moves, whatever chose them: on whatever hart the processor was opened, and
--- whatever the input exposes or does not tell, the run is a run of the machine that starts on that hart.
+-- whatever the input exposes, the run is a run of the machine that starts on that hart.
 unfoldable pub RunsSequentially : Show → List Move → (begin new : RunPlace) → Scripted → Type 0
 RunsSequentially shows moves begin new answer =
     (plan : Plan) (hart : Hart) → begin.core ≡ opened plan hart → RunsOver begin.streams.input shows hart moves begin new answer

@@ -1,4 +1,4 @@
--- Moves that were made: what is counted of them, and what a report shows.
+-- Moves that were made: the counts, and what a report shows.
 use Rattle.std.specs.Prelude.{ℕ, ◌+◌, ◌<◌, ◌^◌, List, [], ◌∷◌, ◌++◌, length, map, count_by, Bool, true, false, if◌then◌else◌}
 use Rattle.run_options.specs.declared.show.Show.{Show}
 use Rattle.run_options.specs.declared.show.Show.TheVariants as show
@@ -23,7 +23,7 @@ pub record Made : Type 0 where
 abbrev pub moves_of : List Made → List Move
 moves_of trace = map (λ made. made.move) trace
 
--- it is a meeting
+-- the move is a meeting
 abbrev pub is_meeting : Move → Bool
 is_meeting (Meet i) = true
 is_meeting mv = false

@@ -22,11 +22,11 @@ pub record RunPlace : Type 0 where
   pub report : Option (List ℕ)
   pub tally : Tally
 
--- the place with these
+-- the RunPlace with these parts
 abbrev pub place_of : Processor → Streams → Option (List ℕ) → Tally → RunPlace
 place_of core streams report tally = record { core = core; streams = streams; report = report; tally = tally }
 
--- the place with what these objects expose, given what a source and two sinks expose
+-- the RunPlace with what these objects expose, given how a source and two sinks expose it
 abbrev pub place_by : {S K R : Type 0} → (S → Option (List ℕ)) → (K → Option (List ℕ)) → (R → Option (List ℕ)) →
     Processor → S → K → R → Tally → RunPlace
 place_by unread written reported core input output report tally =

@@ -28,14 +28,14 @@ pub record IsOpened (core : Processor) : Type 0 where
   pub hart : Hart
   pub is : core ≡ opened core.plan hart
 
--- a run under a policy may begin: its limit may be asked for and is not passed, and the processor was opened and has
--- made no move since
+-- a run under a policy may begin: its limit is permitted and not passed, and the processor was opened and has made no
+-- move since
 pub record CanRun (limit : ℕ) (core : Processor) : Type 0 where
   pub limit_allowed : limit ≤ most_limit
   pub within : core.state.retired ≤ limit
   pub is_opened : IsOpened core
 
--- a policy in a run: what it is, and how many Issue moves the hold rule has counted
+-- a policy in a run: its state, and how many Issue moves the hold rule has counted
 pub record Chooser (P : Type 0) : Type 0 where
   pub policy : P
   pub count : ℕ
@@ -48,23 +48,23 @@ chooser policy count = record { policy = policy; count = count }
 abbrev pub fresh : {P : Type 0} → P → Chooser P
 fresh policy = chooser policy 0
 
--- what it is offered in a state
+-- the moves that it is offered in a state
 abbrev pub offered_to : {P : Type 0} → Plan → Chooser P → State → List Move
 offered_to plan at s = offered plan at.count s
 
--- the move that it picks there, by its place among those
+-- the move that it picks there, by its index among them
 abbrev pub choice : {P : Type 0} → (picked : P → List Move → ℕ) → Plan → Chooser P → State → Option Move
 choice picked plan at s = slice_get (offered_to plan at s) (picked at.policy (offered_to plan at s))
 
--- what it is after that pick, with the move that was made counted
+-- the policy after that pick, with the move counted
 abbrev pub after_choice : {P : Type 0} → (onward : P → List Move → P) → Plan → Chooser P → State → Made → Chooser P
 after_choice onward plan at s made = record {
   policy = onward at.policy (offered_to plan at s);
   count = paced at.count made.move made.event (is_drained made.state);
 }
 
--- the moves are, one after the other, the picks of the policy, the first of them in that state; and they lead it on to
--- the last
+-- the moves are, one after the other, the picks of the policy, the first of them in that state; and they lead to the
+-- policy's last state
 unfoldable pub Picks : {P : Type 0} → (picked : P → List Move → ℕ) → (onward : P → List Move → P) → Plan → Chooser P → State → List Made → Chooser P → Type 0
 Picks picked onward plan at s [] last = last ≡ at
 Picks picked onward plan at s (made ∷ trace) last =
@@ -96,7 +96,7 @@ pub record StopsAtPick {P : Type 0} (picked : P → List Move → ℕ) (onward :
   pub later_is : later ≡ onward at.policy (offered_to now.core.plan at now.core.state)
   pub does : MoveDoes show move now new (Err answer)
 
--- the run stops here: it is over, and all stays; or the next move that the policy picks is the last that it tries
+-- the run stops here: it is over, and nothing changes; or the next move that the policy picks is the last that it tries
 abbrev pub StopsPolicy : {P : Type 0} → (picked : P → List Move → ℕ) → (onward : P → List Move → P) → ℕ → Show → Chooser P → (now new : RunPlace) → P → Answer →
     Type 0
 StopsPolicy picked onward limit show at now new later (ran.Exit status) = IsOver limit now.core.state (ran.Exit status) × (new ≡ now) × (later ≡ at.policy)
@@ -107,7 +107,7 @@ StopsPolicy picked onward limit show at now new later ran.ReadFault = StopsAtPic
 StopsPolicy picked onward limit show at now new later ran.WriteFault = StopsAtPick picked onward limit show at now new later ran.WriteFault
 StopsPolicy picked onward limit show at now new later ran.ReportFault = StopsAtPick picked onward limit show at now new later ran.ReportFault
 
--- one turn of the run, by a pace that counts up to where the candidates are held: the policy picks a move and it is
+-- one turn of the run, by a pace that stops counting once the candidates are held: the policy picks a move and it is
 -- made
 pub record Turned {P : Type 0} (picked : P → List Move → ℕ) (onward : P → List Move → P) (limit : ℕ) (show : Show) (now new : RunPlace)
     (at later : Chooser P) : Type 0 where
@@ -167,7 +167,7 @@ report_stopped answer = Ok tt
 abbrev pub most_moves : Plan → ℕ → ℕ
 most_moves plan r = 4 * plan.stages * moves_per_issue plan * (r + 1)
 
--- the run goes on to the move that the policy picks, which asks this
+-- the run goes on to the move that the policy picks, which uses the stream
 pub record ChoiceAsks {P : Type 0} (asks : Processor → Move → Type 0) (picked : P → List Move →
     ℕ) (limit : ℕ) (at : Chooser P) (core : Processor) : Type 0 where
   pub goes : GoesOn limit core.state
@@ -175,7 +175,7 @@ pub record ChoiceAsks {P : Type 0} (asks : Processor → Move → Type 0) (picke
   pub choice_is : choice picked core.plan at core.state ≡ Some move
   pub asked : asks core move
 
--- a move of the run asks this: one of those that lead to where it stops, or the next one there
+-- a move of the run uses the stream: one of those that lead to where it stops, or the next one there
 abbrev pub PolicyAsks : {P : Type 0} (asks : Processor → Move → Type 0) (picked : P → List Move → ℕ) (onward : P → List Move →
     P) (limit : ℕ) (show : Show) (start new : RunPlace) (policy later : P) (moves : List Move) (answer : Answer) →
     RunsPolicy picked onward limit show start new policy later moves answer → Type 0
@@ -183,7 +183,7 @@ PolicyAsks asks picked onward limit show start new policy later moves answer run
     SomeAsks asks start.core.plan start.core.state runs.reaches.trace
     ⊎ ChoiceAsks asks picked limit runs.at runs.now.core
 
--- a run, with a claim about the input that holds unless a move of the run asks it, and one about the output
+-- a run, with a claim about the input that holds unless a move of the run uses it, and one about the output
 pub record PolicyUnasked {P : Type 0} (picked : P → List Move → ℕ) (onward : P → List Move →
     P) (limit : ℕ) (show : Show) (start new : RunPlace) (policy later : P) (answer : Answer) (input output : Type 0) : Type 0 where
   pub moves : List Move

@@ -17,7 +17,7 @@ use Rattle.cf_run.specs.Moving.{RunPlace}
 abbrev pub no_tally : Tally
 no_tally = record { moves = 0; meets = 0; kills = 0; dead = 0 }
 
--- moves lead from one place to another: they were counted, and shown after what the report told
+-- moves lead from one RunPlace to another: they were counted, and shown after what the report had
 pub record Reaches (limit : ℕ) (show : Show) (start now : RunPlace) : Type 0 where
   -- these moves were made, from a moment whose input agrees with what is known to another
   pub trace : List Made

@@ -13,12 +13,12 @@ use Rattle.cf_run.specs.Made.{moves_of}
 use Rattle.cf_run.specs.Moving.{RunPlace, MoveDoes}
 use Rattle.cf_run.specs.Reaching.{Reaches, GoesOn, IsOver}
 
--- where the run of a script is: the place that it has reached, and what is left of the script
+-- where the run of a script has arrived: its RunPlace, and what is left of the script
 pub record ScriptRun : Type 0 where
   pub place : RunPlace
   pub script : ScriptLines
 
--- the stand with these
+-- the ScriptRun with these parts
 abbrev pub stand_of : RunPlace → ScriptLines → ScriptRun
 stand_of place script = record { place = place; script = script }
 
@@ -26,14 +26,14 @@ stand_of place script = record { place = place; script = script }
 abbrev pub first_moves : ScriptLines → Tally → List Move
 first_moves script tally = map (λ line. line.1) (take tally.moves script.moves)
 
--- the run has followed the script from one are to another
+-- the run has followed the script from one ScriptRun to another
 pub record Follows (limit : ℕ) (show : Show) (start now : ScriptRun) : Type 0 where
   pub reaches : Reaches limit show start.place now.place
   -- its moves are the first of the script, and the others are left of it
   pub moves : moves_of reaches.trace ≡ map (λ line. line.1) (take (length reaches.trace) start.script.moves)
   pub script : now.script ≡ record start.script { moves = drop (length reaches.trace) start.script.moves }
 
--- what the move of this line does: it is made, or its first bar or another answer says why the run stops
+-- the effect of the move of this line: it is made, or its first bar or another answer says why the run stops
 unfoldable pub DoesLine : Show → ℕ → Move → (now new : RunPlace) → Option Scripted → Type 0
 DoesLine show line mv now new None = (event : Event) × MoveDoes show mv now new (Ok event)
 DoesLine show line mv now new (Some (Ran answer)) = MoveDoes show mv now new (Err answer)
@@ -51,8 +51,8 @@ pub record ScriptTries (limit : ℕ) (show : Show) (now new : ScriptRun) (answer
   pub script : new.script ≡ after_next now.script
   pub does : DoesLine show line move now.place new.place answer
 
--- the run stops here: it is over, or the script has no further move or a line that is no move, and all stays; or its
--- next move is the last that it tries
+-- the run stops here: it is over, or the script has no further move or a line that is not a move, and nothing changes;
+-- or its next move is the last that it tries
 unfoldable pub ScriptStops : ℕ → Show → (now new : ScriptRun) → Scripted → Type 0
 ScriptStops limit show now new ScriptEnd =
     GoesOn limit now.place.core.state × (next_of now.script ≡ Ok None) × (new ≡ now)

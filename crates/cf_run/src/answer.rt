@@ -28,13 +28,13 @@ pub enum Ran {
 /// How the run of a script finishes.
 #[derive(Clone, Copy)]
 pub enum Scripted {
-    /// As any run may.
+    /// As any run may finish.
     Ran(Ran),
 
     /// The script has no further move.
     ScriptEnd,
 
-    /// The line that was reached is no move.
+    /// The line that was reached is not a move.
     BadScript(ScriptErr),
 
     /// The move of this line cannot be made: the bar is the first of its row in the table of moves.

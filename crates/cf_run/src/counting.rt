@@ -1,4 +1,4 @@
-//! A move is counted.
+//! Counting a move.
 
 ghost use Rattle.std.specs.Prelude.{◌≡◌};
 ghost use Rattle.cf_run.specs.Made.{CanCount, counted, is_meeting as meets, is_killed as kills, is_died as dies};
@@ -7,7 +7,7 @@ use cf_bind::Move;
 use cf_core::Event;
 use cf_report::Tally;
 
-/// Counts a move that was made, and what is seen of it.
+/// Counts a move that was made, with its event.
 #[inline(always)]
 pub(crate) fn count(tally: &mut Tally, mv: Move, event: &Event)
     requires { CanCount tally.old }

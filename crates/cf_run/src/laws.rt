@@ -1,5 +1,5 @@
 //! The laws of runs: what holds of every run, whatever chose its moves. Each is the contract of a function that does
-//! nothing; docs/PROMISES.md says each in plain words.
+//! nothing; docs/PROMISES.md states each in words.
 
 ghost use Rattle.std.specs.Prelude.{◌≡◌, ◌≤◌, ◌<◌, ◌-◌, ℕ, List, None, Some, length, slice_get};
 ghost use Rattle.run_options.specs.declared.show.Show.{Show};
@@ -21,7 +21,7 @@ ghost use Rattle.cf_run.specs.Reaching.{GoesOn, Reaches};
 ghost use Rattle.cf_run.specs.Scripts.{ScriptRun, RunsScript, first_moves};
 
 /// The run of a script or of a policy on an opened processor is a run of the sequential machine: retired instructions,
-/// registers and ending are those after as many instructions, input, output and memory those after the instructions
+/// registers and ending are those after as many instructions. Input, output and memory are those after the instructions
 /// that were served or have passed the memory port.
 pub fn t4_2()
     ensures scripts { (limit : ℕ) (show : Show) (start new : ScriptRun) (answer : Scripted) → IsAccepted start.place.core.plan →
@@ -46,7 +46,7 @@ pub fn t4_5()
 {}
 
 /// The run of a policy on an opened processor has at most 4 N K (r + 1) moves, where r instructions retire in it,
-/// whatever the policy picks and whatever the input exposes; and until it is over a move is offered, so it ends.
+/// whatever the policy picks and whatever the input exposes. Until the run is over a move is offered, so it ends.
 pub fn t5_6()
     ensures bounded { (limit : ℕ) (show : Show) (start new : RunPlace) (picks later : List ℕ) (moves : List Move)
         (answer : Answer) → IsAccepted start.core.plan → length start.core.state.regs ≡ 32 → IsOpened start.core →

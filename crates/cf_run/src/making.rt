@@ -17,7 +17,7 @@ use cf_io::{Sink, Source};
 use cf_report::Tally;
 use run_options::Show;
 
-/// Makes an allowed move, counts it and shows it, and gives what is seen of it; or says why the run stops there.
+/// Makes an allowed move, counts it, shows it and returns its event; or returns why the run stops there.
 #[inline(always)]
 pub fn make_and_show<S: Source, K: Sink, R: Sink>(
     core: &mut Core,

@@ -37,7 +37,7 @@ fn choose<P: Policy>(core: &Core, candidates: &mut Candidates, policy: &mut P, p
     policy.choose(core, candidates, pace)
 }
 
-/// Makes the move that the policy picks, or says why the run stops.
+/// Makes the move that the policy picks, or returns why the run stops.
 #[inline(always)]
 fn advance<P: Policy, S: Source, K: Sink, R: Sink>(
     core: &mut Core,
@@ -83,16 +83,16 @@ fn advance<P: Policy, S: Source, K: Sink, R: Sink>(
 }
 
 /// Runs a policy on an opened processor: makes the moves that it picks, one after another, until the program ends, as
-/// many instructions have retired as the limit allows, or a fault occurs. These are looked at in this order before each
-/// move. The policy is offered the allowed moves in the order of all moves, but for the issue with an address, and
-/// under the hold rule without Issue; what `show` says is put to the report as the run goes on. It takes no memory, and
-/// always comes to an end.
+/// many instructions have retired as the limit allows, or a fault occurs. These are tested in this order before each
+/// move. The policy is offered the allowed moves in the order of all moves, except an issue with an address; where the
+/// hold rule holds Issue back, without Issue. What `show` selects is written to the report during the run. It allocates
+/// no memory and always terminates.
 ///
 /// `ReadFault` and `WriteFault` come only where the input or the output failed a call of the environment; that move is
 /// not counted. `ReportFault` comes only where the report failed, after a move that was made and counted. In each case
 /// that object's count of faults rose.
 ///
-/// Where no move of the run asks the input, the input is left as it was, whatever it exposes; the output likewise.
+/// Where no move of the run asks the input, what the input exposes is unchanged; the output likewise.
 pub fn run_policy<P: Policy, S: Source, K: Sink, R: Sink>(
     core: &mut Core,
     candidates: &mut Candidates,

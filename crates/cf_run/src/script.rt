@@ -23,7 +23,7 @@ use cf_report::Tally;
 use run_options::Show;
 use run_scripts::Script;
 
-/// Makes the next move of the script, counts it and shows it; or says why the run stops.
+/// Makes the next move of the script, counts it and shows it; or returns why the run stops.
 #[inline(always)]
 fn advance<S: Source, K: Sink, R: Sink>(
     core: &mut Core,
@@ -69,20 +69,20 @@ fn advance<S: Source, K: Sink, R: Sink>(
 }
 
 /// Runs a script: makes its moves one after another until the program ends, as many instructions have retired as the
-/// limit allows, or the next move cannot be read or made. These are looked at in this order before each move, and no
-/// line after that point is read. What `show` says is put to the report as the run goes on.
+/// limit allows, or the next move cannot be read or made. These are tested in this order before each move, and no line
+/// after that point is read. What `show` says is put to the report as the run goes on.
 ///
 /// `ReadFault` and `WriteFault` come only where the input or the output failed a call of the environment; that move is
 /// not counted. `ReportFault` comes only where the report failed, after a move that was made and counted. In each case
 /// that object's count of faults rose.
 ///
-/// Where no move of the run asks the input, the input is left as it was, whatever it exposes; the output likewise. Only
-/// Serve asks them, for an ECALL whose call does.
+/// Where no move of the run asks the input, what the input exposes is unchanged; the output likewise. Only Serve uses
+/// them, for an ECALL that reads or writes.
 ///
 /// Where the processor was opened on a machine, the run is a run of that machine, in whatever order the script makes
-/// its moves: over what the input exposes that it has left, and where it does not expose, with each call finding some
-/// input. Where it ends with Exit, Trap or Limit, its ending, the retired count, the registers, and what it took and
-/// wrote are those of that machine under the same limit.
+/// its moves: over the bytes that the input exposes, and where it exposes none, with each call finding some input.
+/// Where it ends with Exit, Trap or Limit, its ending, the retired count, the registers, and what it took and wrote are
+/// those of that machine under the same limit.
 pub fn run_script<S: Source, K: Sink, R: Sink>(
     core: &mut Core,
     script: &mut Script<'_>,

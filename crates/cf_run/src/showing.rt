@@ -1,4 +1,4 @@
-//! A move is shown.
+//! Showing a move.
 #![tactic(auto, unfolding(crate::specs::Made::shown))]
 
 ghost use Rattle.std.specs.Prelude.{◌≡◌};
@@ -11,7 +11,7 @@ use cf_io::{Failed, Sink};
 use cf_report::{put_move, put_picture, put_retired};
 use run_options::Show;
 
-/// A move that was made: how many were made with it, and what is seen of it.
+/// A move that was made: its number, and its event.
 #[derive(Clone, Copy)]
 struct NumberedMove {
     number: u64,
@@ -19,7 +19,7 @@ struct NumberedMove {
     event: Event,
 }
 
-/// Puts the line of the instruction that retired as the `n`th, if one did.
+/// Writes the line of the instruction that retired as the `n`th, if one did.
 fn put_retirement<R: Sink>(n: u64, event: &Event, report: &mut R) -> Result<(), Failed>
     ensures { PutsText (R.written report.old) (R.written report.new)
         (R.faults report.old) (R.faults report.new) (retirement n event.now) result }
@@ -30,8 +30,8 @@ fn put_retirement<R: Sink>(n: u64, event: &Event, report: &mut R) -> Result<(), 
     }
 }
 
-/// Puts the lines that are shown of a move that left the processor as it is.
-// A page is large, and would slow the run down if it were a local of its loop.
+/// Writes the lines that are shown for a move that left the processor in this state.
+// A page is large; as a local of the run's loop it would slow the loop down.
 #[inline(never)]
 fn put_lines<R: Sink>(
     core: &Core,
@@ -54,8 +54,8 @@ fn put_lines<R: Sink>(
     }
 }
 
-/// Puts what is to be shown of a move, the `n`th, that left the processor as it is. Most runs show nothing.
-// The move and the event are copied, so that they need not be in memory where nothing is shown.
+/// Writes what is to be shown of the `n`th move, which left the processor in this state. Most runs show nothing.
+// The move and the event are passed by copy, so that they can stay in registers where nothing is shown.
 #[inline(always)]
 pub(crate) fn put_shown<R: Sink>(
     core: &Core,

@@ -1,4 +1,4 @@
--- The hold rule with a count that stops where Issue is held back: it answers as the whole count does.
+-- The hold rule with a count that stops where Issue is held back: it gives the same answers as the whole count.
 use Rattle.std.specs.Prelude.{◌≡◌, ℕ, ◌*◌, List, min, Bool, nat_le, if◌then◌else◌}
 use Rattle.cf_layout.specs.Layout.{Plan}
 use Rattle.cf_bind.specs.declared.moves.Move.{Move}

@@ -1,5 +1,4 @@
--- What the policies pick, and what they are after the pick: each as a function of what the policy was and of the
--- candidates.
+-- The picks of the policies, and their next states: each a function of the policy's state and of the candidates.
 use Rattle.std.specs.Prelude.{ℕ, ◌%◌, List, length, slice_get, Option}
 use Rattle.rand_pcg.specs.Lcg.{Lcg, increment_of, started}
 use Rattle.rand_pcg.specs.Pcg.{multiplier_64, pcg32}

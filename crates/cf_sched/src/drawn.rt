@@ -1,4 +1,4 @@
-//! The policy that draws lots.
+//! The random policy.
 
 ghost use Rattle.std.specs.Prelude.{◌≡◌, ◌<◌, length};
 ghost use Rattle.rand_pcg.specs.Pcg.{pcg32};
@@ -10,7 +10,8 @@ use rand_core::utils::NextWord;
 use rand_pcg::Lcg64Xsh32;
 use std::marker::Model;
 
-/// Picks by the next 32-bit word of a PCG generator, modulo the number of candidates. It is seen as the generator.
+/// Picks by the next 32-bit word of a PCG generator, modulo the number of candidates. Contracts see it as the
+/// generator.
 #[derive(Drop)]
 pub struct Drawn {
     generator: Lcg64Xsh32,
@@ -25,7 +26,7 @@ impl Model for Drawn {
 }
 
 impl Drawn {
-    /// The generator begins with the seed, in stream 1.
+    /// A generator that begins with the seed, in stream 1.
     pub fn new(seed: u32) -> Drawn
         ensures { result ≡ drawn seed }
     {

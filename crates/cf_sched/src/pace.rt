@@ -11,7 +11,7 @@ use cf_semantics::Event;
 use std::marker::Model;
 
 /// Counts the Issue moves since the start, the last retirement, or the last drained state, whichever is latest. Once
-/// there are twice as many as stages, Issue is held back. The count stops there, so that it never overflows.
+/// there are twice as many as stages, Issue is held back. The count stops there, so it cannot overflow.
 #[derive(Drop)]
 pub struct Pace {
     stages: u32,
@@ -37,7 +37,7 @@ fn is_retirement(event: &Event) -> bool
     matches!(event, Event::Retired(_))
 }
 
-/// Whether it is an Issue.
+/// Whether the move is an Issue.
 #[inline(always)]
 fn is_issue(mv: Move) -> bool
     ensures { result ≡ is_issue mv }
@@ -46,7 +46,7 @@ fn is_issue(mv: Move) -> bool
 }
 
 impl Pace {
-    /// No Issue was counted yet.
+    /// A pace that has counted no Issue.
     pub fn new(stages: u32) -> Pace
         ensures { HasCounted stages 0 result }
     {
@@ -62,7 +62,7 @@ impl Pace {
         2 * self.stages as u64 <= self.count
     }
 
-    /// Takes note of a move: what is seen of it, and whether the state after it is drained.
+    /// Records a move: its event, and whether the state after it is drained.
     #[inline(always)]
     #[tactic(auto, unfolding(cf_semantics::specs::moves::Holding::paced))]
     pub fn saw(&mut self, mv: Move, event: &Event, drained: bool)

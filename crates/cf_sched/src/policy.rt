@@ -1,4 +1,4 @@
-//! What picks the next move of a run.
+//! Policies: they pick the next move of a run.
 
 ghost use Rattle.std.specs.Prelude.{◌≡◌, ℕ, ◌<◌, List, Some, length, slice_get};
 ghost use Rattle.cf_bind.specs.declared.moves.Move.{Move as Step};
@@ -9,24 +9,24 @@ use cf_bind::Move;
 use cf_core::Core;
 use cf_index::Candidates;
 
-/// What picks one of the candidates after another. What it picks, and what it is afterwards, depends only on what it
-/// was and on the list of the candidates.
+/// Picks one candidate after another. The pick, and the policy's next state, depend only on the policy's state and on
+/// the list of candidates.
 pub trait Policy {
-    /// The place in the list of what it picks.
+    /// The index of its pick in the list.
     ghost picked: { Self → List Step → ℕ };
 
     /// The policy after the pick.
     ghost onward: { Self → List Step → Self };
 
-    /// Picks one of the candidates, by its place.
+    /// Picks one of the candidates, by its index.
     fn pick(&mut self, candidates: &Candidates) -> usize
         requires { 0 < length candidates.now }
         ensures within { result < length candidates.now }
         ensures picked { result ≡ picked self.old candidates.now }
         ensures onward { self.new ≡ onward self.old candidates.now };
 
-    /// Picks one of the moves that a processor offers under the hold rule. Nothing is said of what it leaves in the
-    /// candidates, so that a policy that needs few of them need not look for all.
+    /// Picks one of the moves that a processor offers under the hold rule. Nothing is promised of what it leaves in
+    /// `candidates`, so that a policy that needs few of them need not fill in all.
     #[inline(always)]
     fn choose(&mut self, core: &Core, candidates: &mut Candidates, pace: &Pace) -> Move
         requires { 0 < length (offers pace.now core.now.plan core.now.state) }

@@ -12,8 +12,8 @@ use cf_index::{Candidates, Rank};
 use std::marker::Model;
 
 /// Picks the first candidate after the last one that it picked in the order of all moves, or the first of all where
-/// none comes after it or nothing was picked yet. It is seen as the last one that it picked. The rank of that is kept
-/// beside it; where nothing was picked that is the rank of a Slide, after which all candidates are looked at.
+/// none comes after it or nothing was picked yet. Contracts see it as the last one that it picked. It also keeps the
+/// rank of that pick; where nothing was picked, the rank of a Slide, after which all candidates are searched.
 #[derive(Drop)]
 pub struct Round {
     last: Option<Move>,
@@ -34,7 +34,7 @@ impl Model for Round {
 }
 
 impl Round {
-    /// Nothing was picked yet.
+    /// A policy that has picked nothing.
     pub fn new() -> Round
         ensures { result ≡ None }
     {
@@ -44,8 +44,8 @@ impl Round {
         }
     }
 
-    /// Keeps the pick.
-    // The rank comes first, so that the compiler knows it where it knows what was picked.
+    /// Records the pick.
+    // The rank is set first, so that the compiler knows it where it knows the pick.
     #[inline(always)]
     fn keep(&mut self, mv: Move)
         ensures { self.new ≡ Some mv }
@@ -55,7 +55,7 @@ impl Round {
         self.rank = rank;
     }
 
-    /// Picks one of the moves that a processor offers, by a look at all of them.
+    /// Picks one of the moves that a processor offers, from the list of all.
     #[inline(always)]
     fn choose_of_all(&mut self, core: &Core, candidates: &mut Candidates, pace: &Pace) -> Move
         requires { 0 < length (offers pace.now core.now.plan core.now.state) }
@@ -69,9 +69,9 @@ impl Round {
     }
 }
 
-/// The first of the moves that a processor offers after the last one, by a look at all of them.
-// That is rare, and a call, so that the search after the last move is part of the loop of a run. The policy is not lent
-// to it, so that it need not be in memory.
+/// The first of the moves that a processor offers after the last one, from the list of all.
+// This path is rare, and not inlined, so that the search after the last move is part of a run's loop. The policy is not
+// borrowed, so that it need not be in memory.
 #[inline(never)]
 fn first_of_all(last: Option<Move>, core: &Core, candidates: &mut Candidates, pace: &Pace) -> Move
     requires { 0 < length (offers pace.now core.now.plan core.now.state) }

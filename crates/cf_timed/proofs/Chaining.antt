@@ -28,7 +28,7 @@ part_last (p ∷ part) [] mv h = absurd h
 part_last (p ∷ part) (first ∷ moves) mv (inl h) = inl (h.0, part_last part moves mv h.1)
 part_last (p ∷ part) (first ∷ moves) mv (inr h) = inr (part_last (p ∷ part) moves mv h)
 
--- a chain that ends with a move, and a next one that shares a place with that
+-- a chain that ends with a move, and a next one that shares a site with that
 pub linked_last : (plan : Plan) (chain : List Move) (last mv : Move) → AreLinked plan (chain ++ last ∷ []) → shares plan last mv ≡ true →
     AreLinked plan ((chain ++ last ∷ []) ++ mv ∷ [])
 linked_last plan [] last mv h e = (e, tt)

@@ -1,4 +1,4 @@
--- Two neighbouring moves of a run that share no place are a run in the other order too.
+-- Two neighbouring moves of a run that share no site are a run in the other order too.
 use Rattle.std.proofs.Common.{◌≡◌, ◌∙◌, refl, sym, ap, subst, ℕ, zero, suc, List, [], ◌∷◌, ◌++◌, map, replicate, length, false, Option, None}
 use Rattle.std.specs.Prelude.{slice_get, unwrap_or}
 use Rattle.rv_machine.specs.Machine.{Machine}

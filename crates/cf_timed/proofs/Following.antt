@@ -1,4 +1,4 @@
--- A clock that was told some moves of a run has for each place the greatest time of those that use it.
+-- A clock that has recorded some moves of a run has for each site the greatest time of those that use it.
 use Rattle.std.proofs.Common.{◌≡◌, ◌∙◌, refl, sym, ap, subst, ℕ, zero, suc, ◌+◌, ◌<◌, ◌≤◌, List, [], ◌∷◌, length, map, max, Bool, true, false, cond, nat_eq, arith}
 use Rattle.std.specs.Prelude.{replicate, slice_set, ◌&&◌, ◌||◌}
 use Rattle.std.specs.List.{AllByRecursion}
@@ -16,7 +16,7 @@ use Rattle.cf_timed.specs.Clocks.{SiteTimes, ClockKnows, allowed, finish, made, 
 use Rattle.cf_timed.proofs.SiteTimes.{at_start, put_delays, put_latest, put_same, same_times}
 use Rattle.cf_timed.proofs.Greatest.{greatest_where, where_any, where_more, where_none}
 
--- a place for which the clock has room
+-- a site for which the clock has room
 abbrev pub IsKept : Site → Type 0
 IsKept (Stage i) = i < 34
 IsKept (SidingCell k c) = (k < 8) × (c < 8)
@@ -26,7 +26,7 @@ IsKept Memory = Unit {0}
 IsKept Code = Unit {0}
 IsKept _ = ⊥
 
--- it has room for each place that the move uses
+-- it has room for each site that the move uses
 abbrev pub AreKept : Plan → Move → Type 0
 AreKept plan mv = AllByRecursion IsKept (used plan mv)
 
@@ -36,11 +36,11 @@ pub record HasRoom (c : SiteTimes) : Type 0 where
   pub sidings : length c.cells ≡ 8
   pub cells : (k : ℕ) → k < 8 → length (row_at c.cells k) ≡ 8
 
--- the greatest time of the moves that use the place
+-- the greatest time of the moves that use the site
 abbrev pub last_at : Plan → List Done → Site → ℕ
 last_at plan moves x = greatest_where (λ done. uses_place plan done.move x) moves
 
--- the clock was told the moves
+-- the clock has recorded the moves
 pub record Follows (plan : Plan) (delays : List ℕ) (moves : List Done) (c : SiteTimes) : Type 0 where
   pub plan_is : c.plan ≡ plan
   pub delays_are : c.delays ≡ delays
@@ -48,7 +48,7 @@ pub record Follows (plan : Plan) (delays : List ℕ) (moves : List Done) (c : Si
   pub latest_is : c.latest ≡ greatest_time moves
   pub times_are : (x : Site) → IsKept x → time_at c x ≡ last_at plan moves x
 
--- two functions that agree on the places of a list
+-- two functions that agree on the sites of a list
 map_same : (f g : Site → ℕ) (xs : List Site) → AllByRecursion IsKept xs → ((x : Site) → IsKept x → f x ≡ g x) → map f xs ≡ map g xs
 map_same f g [] kept same = refl
 map_same f g (x ∷ xs) kept same =
@@ -93,7 +93,7 @@ cell_put rows k i m j t within inside = ap (λ (row : List ℕ). number_at row j
     by true e = let q : m ≡ k = grind (arith, nat_tests) in rw q (number_put (row_at rows k) i j t inside)
     by false e = refl
 
--- the time of a place after one was put
+-- the time of a site after one was put
 pub time_put : (c : SiteTimes) (t : ℕ) (y x : Site) → HasRoom c → IsKept y → IsKept x → time_at (put_time c t y) x ≡ cond (same_site x y) t (time_at c x)
 time_put c t (Stage i) (Stage j) room ky kx = number_put c.stages i j t (omega (arith, room.stages, ky))
 time_put c t (SidingCell k i) (SidingCell m j) room ky kx = cell_put c.cells k i m j t (omega (arith, room.sidings, ky.0))
@@ -167,7 +167,7 @@ room_put c t Memory room kept = record { stages = room.stages; sidings = room.si
 room_put c t Code room kept = record { stages = room.stages; sidings = room.sidings; cells = room.cells }
 room_put c t _ room kept = absurd (search kept)
 
--- what is put at each of some places
+-- what is put at each of some sites
 pub times_put : (c : SiteTimes) (t : ℕ) (ys : List Site) (x : Site) → HasRoom c → AllByRecursion IsKept ys → IsKept x →
     time_at (put_times c t ys) x ≡ cond (among x ys) t (time_at c x)
 times_put c t [] x room kept here = refl
@@ -186,7 +186,7 @@ pub room_times : (c : SiteTimes) (t : ℕ) (ys : List Site) → HasRoom c → Al
 room_times c t [] room kept = room
 room_times c t (y ∷ ys) room kept = room_times (put_time c t y) t ys (room_put c t y room kept.0) kept.1
 
--- a place that is used is no later than the latest of those that are
+-- a site that is used is no later than the latest of those that are
 reaches : (f : Site → ℕ) (x : Site) (xs : List Site) → among x xs ≡ true → f x ≤ greatest (map f xs)
 reaches f x [] e = absurd (cc)
 reaches f x (y ∷ ys) e = by (same_site x y) refl (reaches f x ys)
@@ -195,7 +195,7 @@ reaches f x (y ∷ ys) e = by (same_site x y) refl (reaches f x ys)
     by true s rest = let q = same_site_is x y s in rw q (omega arith)
     by false s rest = let r = rest (rw s at e) in omega (arith, r)
 
--- the time of a place after one more move
+-- the time of a site after one more move
 place_more : (plan : Plan) (moves : List Done) (c : SiteTimes) (mv : Move) (t : ℕ) (x : Site) → HasRoom c → AreKept plan mv → IsKept x →
     time_at c x ≡ last_at plan moves x → (uses_place plan mv x ≡ true → last_at plan moves x ≤ t) →
     time_at (put_times (allowed c t) t (used plan mv)) x ≡ last_at plan (done_at mv t ∷ moves) x
@@ -215,7 +215,7 @@ latest_more : (moves : List Done) (mv : Move) (t : ℕ) → max (greatest_time m
 unfolding greatest_time
 latest_more moves mv t = omega arith
 
--- no place that a move uses has a later time than the move
+-- no site that a move uses has a later time than the move
 pub no_later : (plan : Plan) (delays : List ℕ) (moves : List Done) (mv : Move) (x : Site) → uses_place plan mv x ≡ true →
     last_at plan moves x ≤ time_after plan delays moves mv
 unfolding time_after shares uses_place
@@ -224,7 +224,7 @@ no_later plan delays moves mv x e =
     let a = where_any (λ y done. uses_place plan done.move y) (used plan mv) moves in
     omega (arith, r, a)
 
--- a clock that is told one more move
+-- a clock that records one more move
 pub follows_more : (plan : Plan) (delays : List ℕ) (moves : List Done) (c : SiteTimes) (mv : Move) → Follows plan delays moves c → AreKept plan mv →
     Follows plan delays (done_after plan delays moves mv ∷ moves) (stamped c mv (time_after plan delays moves mv))
 follows_more plan delays moves c mv h kept =
@@ -287,7 +287,7 @@ follows_tells plan delays moves c a h = record {
   finishes = λ mv there. finish_follows plan delays moves c mv h (moves_kept plan mv a there);
 }
 
--- and so does a clock that is told the moves of a run
+-- and so does a clock that records the moves of a run
 pub follows_all : (plan : Plan) (delays : List ℕ) (earlier : List Done) (c : SiteTimes) (moves : List Move) → IsAccepted plan →
     AllByRecursion (HasSites plan) moves → Follows plan delays earlier c → Follows plan delays (times_after plan delays earlier moves) (made_all c moves)
 unfolding made

@@ -1,4 +1,4 @@
--- A run by the clock is a run of the policy by times, and the clock was told its moves.
+-- A run by the clock is a run of the policy by times, and the clock has recorded its moves.
 use Rattle.std.proofs.Common.{◌≡◌, ◌≢◌, ◌∙◌, refl, sym, ap, subst, ℕ, ◌+◌, ◌-◌, ◌*◌, ◌^◌, ◌<◌, ◌≤◌, List, [], ◌∷◌, ◌++◌, length, Option, Some, None, arith, append-nil}
 use Rattle.std.specs.Prelude.{slice_get}
 use Rattle.run_options.specs.Limits.{most_limit}
@@ -140,7 +140,7 @@ stopped plan delays limit now new at to later ran.WriteFault e acc few count ahe
     }
 stopped plan delays limit now new at to later ran.ReportFault e acc few count ahead none stops = absurd (none refl)
 
--- the run is a run of the policy by times, the clock was told its moves, and this holds of them
+-- the run is a run of the policy by times, the clock has recorded its moves, and this holds of them
 pub record IsTimed (Holds : List Move → Type 0) (delays : List ℕ) (limit : ℕ) (begin new : RunPlace) (answer : Answer) (clock : SiteTimes) : Type 0 where
   pub picked : List Done
   pub right : RunsRight (earliest begin.core.plan delays) (after_earliest begin.core.plan delays) limit show.Report begin new [] picked answer

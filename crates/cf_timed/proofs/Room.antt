@@ -1,4 +1,4 @@
--- The clock has room for the places of every candidate.
+-- The clock has room for the sites of every candidate.
 use Rattle.std.proofs.Common.{◌≡◌, subst, ℕ, zero, suc, ◌+◌, ◌-◌, ◌<◌, ◌≤◌, List, [], ◌∷◌, ◌++◌, length, map, All, Bool, true, false, cond, Some, nat_lt, arith}
 use Rattle.std.specs.Prelude.{filter, slice_get, not, ◌==◌}
 use Rattle.std.specs.List.{AllByRecursion}
@@ -35,7 +35,7 @@ all_passed P test (x ∷ xs) h = by (test x) (all_passed P test xs h.1)
     by true r = (h.0, r)
     by false r = r
 
--- and of the one at a place
+-- and of the one at a site
 pub one_of_all : {X : Type 0} (P : X → Type 0) (xs : List X) (k : ℕ) (x : X) → AllByRecursion P xs → slice_get xs k ≡ Some x → P x
 one_of_all P [] k x h e = absurd (cc)
 one_of_all P (y ∷ ys) zero x h e = let q : y ≡ x = cc in subst P q h.0

@@ -54,8 +54,8 @@ pub time_few : (plan : Plan) (delays : List ℕ) (moves : List Done) (mv : Move)
 unfolding time_after
 time_few plan delays moves mv h = let k = kept_time (λ done. shares plan mv done.move) moves in let d = delay_few delays mv h in omega (arith, k, d)
 
--- the clock was told what the policy by times has picked, and n more moves are no later than the greatest number of 64
--- bits
+-- the clock has recorded what the policy by times has picked, and n more moves are no later than the greatest number of
+-- 64 bits
 pub record Ahead (n : ℕ) (plan : Plan) (delays : List ℕ) (p : PendingMove) (picked : List Done) : Type 0 where
   pub follows : Follows plan delays picked (told p)
   pub early : greatest_time picked + 1000 * n < 2 ^ 64

@@ -1,4 +1,4 @@
--- The times of places, one more and one put.
+-- The times of sites, one more and one put.
 use Rattle.std.proofs.Common.{◌≡◌, ◌∙◌, refl, ap, ℕ, zero, suc, ◌+◌, ◌≤◌, List, [], ◌∷◌, ◌++◌, length, get_or, map, max, Bool, true, false, cond, arith}
 use Rattle.std.specs.Prelude.{filter, replicate, slice_set}
 use Rattle.cf_layout.specs.Layout.{Plan}
@@ -33,7 +33,7 @@ pub numbers_more : (test : ℕ → Bool) (k : ℕ) → filter test (counted_from
 numbers_more test k = ap (filter test) (counted_split 0 k 1) ∙ filter-append test (counted_from 0 k) (counted_from (0 + k) 1)
     ∙ ap (λ (i : ℕ). filter test (counted_from 0 k) ++ filter test (counted_from i 1)) (omega arith)
 
--- the greatest time, with one more place or without
+-- the greatest time, with one more site or without
 pub greatest_more : (c : SiteTimes) (place : ℕ → Site) (test : ℕ → Bool) (k : ℕ) → greatest (map (time_at c) (map place (filter test (counted_from 0 (k + 1)))))
     ≡ max (greatest (map (time_at c) (map place (filter test (counted_from 0 k))))) (cond (test k) (time_at c (place k)) 0)
 greatest_more c place test k =
@@ -49,7 +49,7 @@ greatest_more c place test k =
     by true = omega arith
     by false = refl
 
--- a time that is put at some places and then at others
+-- a time that is put at some sites and then at others
 pub put_times-append : (c : SiteTimes) (t : ℕ) (xs ys : List Site) → put_times c t (xs ++ ys) ≡ put_times (put_times c t xs) t ys
 put_times-append c t [] ys = refl
 put_times-append c t (x ∷ xs) ys = put_times-append (put_time c t x) t xs ys
@@ -144,14 +144,14 @@ cell_put c k i t h g Memory = h.each Memory
 cell_put c k i t h g Code = h.each Code
 cell_put c k i t h g _ = omega arith
 
--- so what is put, if it is no later than the greatest time, leaves no place later
+-- so what is put, if it is no later than the greatest time, leaves no site later
 pub put_stage_within : (c : SiteTimes) (i t : ℕ) → NoneLater c → t ≤ c.latest → NoneLater (put_time c t (Stage i))
 put_stage_within c i t h g = record { each = stage_put c i t h g }
 
 pub put_cell_within : (c : SiteTimes) (k i t : ℕ) → NoneLater c → t ≤ c.latest → NoneLater (put_time c t (SidingCell k i))
 put_cell_within c k i t h g = record { each = cell_put c k i t h g }
 
--- and so at the other places
+-- and so at the other sites
 other_put : (c : SiteTimes) (lane fetch memory code : ℕ) → NoneLater c → lane ≤ c.latest → fetch ≤ c.latest → memory ≤ c.latest → code ≤ c.latest → (x : Site) →
     time_at (record c { lane = lane; fetch = fetch; memory = memory; code = code }) x ≤ c.latest
 other_put c lane fetch memory code h l f m d (Stage j) = h.each (Stage j)
@@ -174,7 +174,7 @@ put_memory_within c t h g = record { each = other_put c c.lane c.fetch t c.code 
 pub put_code_within : (c : SiteTimes) (t : ℕ) → NoneLater c → t ≤ c.latest → NoneLater (put_time c t Code)
 put_code_within c t h g = record { each = other_put c c.lane c.fetch c.memory t h (h.each Lane) (h.each Fetching) (h.each Memory) g }
 
--- a later greatest time leaves no place later
+-- a later greatest time leaves no site later
 pub same_times : (c : SiteTimes) (t : ℕ) (x : Site) → time_at (allowed c t) x ≡ time_at c x
 same_times c t (Stage j) = refl
 same_times c t (SidingCell k j) = refl
@@ -212,7 +212,7 @@ pub started_within : (plan : Plan) (delays : List ℕ) → NoneLater (started pl
 unfolding started
 started_within plan delays = record { each = at_start plan delays }
 
--- no place that a move uses has a later time
+-- no site that a move uses has a later time
 pub reach_within : (c : SiteTimes) (xs : List Site) → NoneLater c → greatest (map (time_at c) xs) ≤ c.latest
 reach_within c [] h = omega arith
 reach_within c (x ∷ xs) h = let r = reach_within c xs h in let g = h.each x in omega (arith, r, g)

@@ -24,7 +24,7 @@ use Rattle.cf_timed.specs.declared.soonest.Due.{Due}
 use Rattle.cf_timed.proofs.Leasts.{least-after, least-front, least-of_all}
 use Rattle.cf_timed.proofs.Sought.{found-bound, found-least}
 
--- all that issue use the same places, and are of one kind
+-- all that issue use the same sites, and are of one kind
 issue_time : (c : SiteTimes) (g : Guess) → capped c (Issue g) ≡ capped c (Issue Next)
 unfolding finish delay
 issue_time c g = refl

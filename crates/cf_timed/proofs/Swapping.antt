@@ -1,4 +1,4 @@
--- Two neighbouring moves that share no place, exchanged: each move keeps its time.
+-- Two neighbouring moves that share no site, exchanged: each move keeps its time.
 use Rattle.std.proofs.Common.{◌≡◌, ◌∙◌, refl, sym, ap, ℕ, ◌+◌, List, [], ◌∷◌, ◌++◌, max, false, cond, arith}
 use Rattle.cf_layout.specs.Layout.{Plan}
 use Rattle.cf_bind.specs.declared.moves.Move.{Move}
@@ -52,7 +52,7 @@ alike_turned plan a b xs = λ mv.
     let s = where_more t b xs in
     omega (arith, p, q, r, s)
 
--- a move keeps its time after one with which it shares no place
+-- a move keeps its time after one with which it shares no site
 time_apart : (plan : Plan) (delays : List ℕ) (done : Done) (xs : List Done) (mv : Move) → shares plan mv done.move ≡ false →
     time_after plan delays (done ∷ xs) mv ≡ time_after plan delays xs mv
 unfolding time_after

@@ -1,4 +1,4 @@
--- Chains of a run: moves of it in its order, each of which uses a place that the next one uses.
+-- Chains of a run: moves of it in its order, each of which uses a site that the next one uses.
 use Rattle.std.specs.Prelude.{◌≡◌, ℕ, ◌+◌, ◌≤◌, List, [], ◌∷◌, true, ◌⊎◌}
 use Rattle.cf_layout.specs.Layout.{Plan}
 use Rattle.cf_bind.specs.declared.moves.Move.{Move}
@@ -11,7 +11,7 @@ ArePart [] moves = Unit {0}
 ArePart (mv ∷ part) [] = ⊥
 ArePart (mv ∷ part) (first ∷ moves) = ((mv ≡ first) × ArePart part moves) ⊎ ArePart (mv ∷ part) moves
 
--- each uses a place that the next one uses
+-- each uses a site that the next one uses
 abbrev pub AreLinked : Plan → List Move → Type 0
 AreLinked plan [] = Unit {0}
 AreLinked plan (mv ∷ []) = Unit {0}

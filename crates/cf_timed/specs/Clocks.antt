@@ -1,4 +1,4 @@
--- A clock: for each place of a processor the time of the last move that used it.
+-- A clock: for each site of a processor the time of the last move that used it.
 use Rattle.std.specs.Prelude.{◌≡◌, ◌≤◌, ℕ, ◌+◌, List, [], ◌∷◌, map, max, min, ◌-◌, ◌^◌, replicate, slice_get, slice_set, unwrap_or}
 use Rattle.cf_layout.specs.Layout.{Plan}
 use Rattle.cf_bind.specs.declared.moves.Move.{Move}
@@ -34,7 +34,7 @@ started plan delays = record {
   latest = 0;
 }
 
--- the number at a place of a list, and 0 where the list has no such place
+-- the number at a place of a list, and 0 where the list has no such site
 abbrev pub number_at : List ℕ → ℕ → ℕ
 number_at numbers i = unwrap_or (slice_get numbers i) 0
 
@@ -42,7 +42,7 @@ number_at numbers i = unwrap_or (slice_get numbers i) 0
 abbrev pub row_at : List (List ℕ) → ℕ → List ℕ
 row_at rows k = unwrap_or (slice_get rows k) []
 
--- the time of a place
+-- the time of a site
 abbrev pub time_at : SiteTimes → Site → ℕ
 time_at c (Stage i) = number_at c.stages i
 time_at c (SidingCell k i) = number_at (row_at c.cells k) i
@@ -52,11 +52,11 @@ time_at c Memory = c.memory
 time_at c Code = c.code
 time_at c _ = 0
 
--- no place has a later time than the greatest
+-- no site has a later time than the greatest
 pub record NoneLater (c : SiteTimes) : Type 0 where
   pub each : (x : Site) → time_at c x ≤ c.latest
 
--- the clock with another time at a place
+-- the clock with another time at a site
 abbrev pub put_time : SiteTimes → ℕ → Site → SiteTimes
 put_time c t (Stage i) = record c { stages = slice_set c.stages i t }
 put_time c t (SidingCell k i) = record c { cells = slice_set c.cells k (slice_set (row_at c.cells k) i t) }
@@ -66,12 +66,12 @@ put_time c t Memory = record c { memory = t }
 put_time c t Code = record c { code = t }
 put_time c t _ = c
 
--- and at each of some places
+-- and at each of some sites
 abbrev pub put_times : SiteTimes → ℕ → List Site → SiteTimes
 put_times c t [] = c
 put_times c t (x ∷ xs) = put_times (put_time c t x) t xs
 
--- when a move that is made now is done: the greatest time of the places that it uses, and its delay
+-- when a move that is made now is done: the greatest time of the sites that it uses, and its delay
 unfoldable pub finish : SiteTimes → Move → ℕ
 finish c mv = greatest (map (time_at c) (used c.plan mv)) + delay c.delays mv
 
@@ -96,7 +96,7 @@ abbrev pub made_all : SiteTimes → List Move → SiteTimes
 made_all c [] = c
 made_all c (mv ∷ moves) = made_all (made c mv) moves
 
--- the clock was told these moves of a run, each with its time, in any order
+-- the clock has recorded these moves of a run, each with its time, in any order
 pub record ClockKnows (plan : Plan) (delays : List ℕ) (moves : List Done) (c : SiteTimes) : Type 0 where
   -- it is a clock of this layout and of these delays
   pub plan_is : c.plan ≡ plan

@@ -52,7 +52,7 @@ pub record RunsUnreported {P : Type 0} (picked : P → List Move → ℕ) (onwar
   pub reports : answer ≢ ran.ReportFault
 
 -- from there it is a run of the policy that picks what finishes earliest, right by the sequential machine; this many
--- moves were made, and the clock was told exactly these
+-- moves were made, and the clock has recorded exactly these
 pub record RunsTimed (delays : List ℕ) (limit : ℕ) (begin : RunPlace) (core : Processor) (streams : Streams) (clock : SiteTimes) (moves : ℕ)
     (answer : Timed) : Type 0 where
   pub tally : Tally

@@ -1,4 +1,4 @@
--- Times of the moves of a run: a move begins when all earlier moves that use a place which it uses are done.
+-- Times of the moves of a run: a move begins when all earlier moves that use a site which it uses are done.
 use Rattle.std.specs.Prelude.{ℕ, ◌+◌, List, [], ◌∷◌, map, filter, max}
 use Rattle.cf_layout.specs.Layout.{Plan}
 use Rattle.cf_bind.specs.declared.moves.Move.{Move}
@@ -23,11 +23,11 @@ greatest (t ∷ ts) = max t (greatest ts)
 unfoldable pub greatest_time : List Done → ℕ
 greatest_time moves = greatest (map (λ done. done.time) moves)
 
--- those of the earlier moves that use a place which the move uses
+-- those of the earlier moves that use a site which the move uses
 abbrev pub before : Plan → Move → List Done → List Done
 before plan mv earlier = filter (λ done. shares plan mv done.move) earlier
 
--- the time of a move after earlier ones: the greatest time of those that use a place which it uses, and its delay
+-- the time of a move after earlier ones: the greatest time of those that use a site which it uses, and its delay
 unfoldable pub time_after : Plan → List ℕ → List Done → Move → ℕ
 time_after plan delays earlier mv = greatest_time (before plan mv earlier) + delay delays mv
 

@@ -1,4 +1,4 @@
--- The policy of a timed run as it is carried out: by a clock, which is told of a move once it was made.
+-- The policy of a timed run as it is carried out: by a clock, which records a move once it was made.
 use Rattle.std.specs.Prelude.{ℕ, List, Option, slice_get}
 use Rattle.cf_bind.specs.declared.moves.Move.{Move}
 use Rattle.cf_semantics.specs.state.Options.{on}
@@ -7,7 +7,7 @@ use Rattle.cf_run.specs.declared.answer.Ran.TheVariants as ran
 use Rattle.cf_timed.specs.Clocks.{SiteTimes, capped, stamped}
 use Rattle.cf_timed.specs.Earliest.{first_least}
 
--- the clock, and the last move that was picked, if there was one, of which the clock has not been told yet
+-- the clock, and the last move that was picked, if there was one, of which the clock has not recorded yet
 pub record PendingMove : Type 0 where
   pub clock : SiteTimes
   pub last : Option Move
@@ -16,7 +16,7 @@ pub record PendingMove : Type 0 where
 unfoldable pub marked : SiteTimes → Move → SiteTimes
 marked c mv = stamped c mv (capped c mv)
 
--- the clock, told of the last move
+-- the clock with the last move recorded
 unfoldable pub told : PendingMove → SiteTimes
 told p = on p.last p.clock (marked p.clock)
 

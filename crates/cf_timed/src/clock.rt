@@ -10,7 +10,7 @@ use cf_bind::Move;
 use cf_layout::Layout;
 use std::marker::Model;
 
-/// For each place of a processor the time of the last move that used it: of each stage by its number, of each cell of a
+/// For each site of a processor the time of the last move that used it: of each stage by its number, of each cell of a
 /// siding, of the lane, of what fetch does, of the memory and of the code.
 #[derive(Clone, Copy)]
 pub struct Clock {
@@ -56,7 +56,7 @@ impl Clock {
         }
     }
 
-    /// The greatest time so far, or 0. No place has a later one.
+    /// The greatest time so far, or 0. No site has a later one.
     pub fn greatest(&self) -> u64
         ensures greatest { result ≡ self.now.latest }
         ensures none_later { NoneLater self.now }
@@ -97,7 +97,7 @@ impl Clock {
         self.reach(mv).saturating_add(self.delay(mv))
     }
 
-    /// Takes note of a move that is done at this time.
+    /// Records a move that is done at this time.
     #[inline(always)]
     pub(crate) fn stamp(&mut self, mv: Move, time: u64)
         ensures { self.new ≡ stamped self.old mv time }
@@ -114,7 +114,7 @@ impl Clock {
         self.latest = self.latest.max(time);
     }
 
-    /// When the move is done if it is made now: the greatest time of the places that it uses, and its delay. The layout
+    /// When the move is done if it is made now: the greatest time of the sites that it uses, and its delay. The layout
     /// has each stage and each cell that the move uses.
     #[tactic(auto, using(crate::proofs::SiteTimes::reach_within), unfolding(crate::specs::Clocks::finish))]
     pub fn finish(&self, mv: Move) -> u64
@@ -126,7 +126,7 @@ impl Clock {
         self.reach(mv) + self.delay(mv)
     }
 
-    /// Takes note of a move that is made now. The layout has each stage and each cell that it uses.
+    /// Records a move that is made now. The layout has each stage and each cell that it uses.
     #[tactic(auto, unfolding(crate::specs::Clocks::made))]
     pub fn made(&mut self, mv: Move)
         requires sites { HasSites self.old.plan mv }

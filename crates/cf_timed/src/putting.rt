@@ -1,4 +1,4 @@
-//! The times of the places that a move uses are put.
+//! The times of the sites that a move uses are put.
 
 ghost use Rattle.std.specs.Prelude.{◌≡◌, ◌+◌, ◌-◌, ◌≤◌, if◌then◌else◌, slice_set};
 ghost use Rattle.cf_semantics.specs.moves.Sites.{Code, Fetching, Lane, Memory, SidingCell, Stage};
@@ -132,7 +132,7 @@ impl Clock {
         self.code = time;
     }
 
-    /// Puts another time for each place that the move uses.
+    /// Puts another time for each site that the move uses.
     #[inline(always)]
     pub(crate) fn put(&mut self, mv: Move, time: u64)
         requires { time ≤ self.old.latest }

@@ -1,4 +1,4 @@
-//! The times of the places that a move uses are read.
+//! The times of the sites that a move uses are read.
 
 ghost use Rattle.std.specs.Prelude.{◌≡◌, ◌+◌, ◌-◌, ◌<◌, ◌^◌, if◌then◌else◌, map};
 ghost use Rattle.cf_semantics.specs.moves.Sites.{SidingCell, Stage};
@@ -27,7 +27,7 @@ pub fn port(layout: &Layout) -> (usize, usize)
     }
 }
 
-/// The time at a place of a list, and 0 where the list has no such place.
+/// The time at a place of a list, and 0 where the list has no such site.
 #[inline(always)]
 fn time_in(times: &[u64], i: usize) -> u64
     ensures { result ≡ number_at times.now i }
@@ -103,7 +103,7 @@ impl Clock {
         self.cell(k, c)
     }
 
-    /// The greatest time of the places that the move uses.
+    /// The greatest time of the sites that the move uses.
     #[inline(always)]
     pub(crate) fn reach(&self, mv: Move) -> u64
         ensures { result ≡ greatest (map (time_at self.now) (used self.now.plan mv)) }

@@ -24,7 +24,7 @@ fn delay_word(word: &[u8]) -> Option<u32>
     }
 }
 
-/// Takes note of what the words give: a kind of move that no line above has given, and its delay.
+/// Records what the words give: a kind of move that no line above has given, and its delay.
 #[tactic(auto, unfolding(crate::specs::DelayLines::words_told))]
 fn read_words(named: &mut [Option<u32>; 14], mut words: Words<'_>) -> Result<(), DelayKind>
     ensures told { MatchResult result (λ _. words_told named.old words.entry ≡ Ok named.new) (λ e. words_told named.old words.entry ≡ Err e) }
@@ -42,7 +42,7 @@ fn read_words(named: &mut [Option<u32>; 14], mut words: Words<'_>) -> Result<(),
     Ok(())
 }
 
-/// Takes note of what the line gives.
+/// Records what the line gives.
 #[tactic(auto, unfolding(crate::specs::DelayLines::line_told))]
 fn read_line(named: &mut [Option<u32>; 14], line: &[u8]) -> Result<(), DelayKind>
     ensures told { MatchResult result (λ _. line_told named.old line.now ≡ Ok named.new) (λ e. line_told named.old line.now ≡ Err e) }

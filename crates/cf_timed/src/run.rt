@@ -20,7 +20,7 @@ use cf_run::{Ran, Show, known, run_policy};
 use cf_sched::Policy;
 
 /// Runs an opened processor by a policy as `run_policy` of cf_run does, and reports nothing. The number of the moves
-/// that were made is given. It takes no memory, and always comes to an end.
+/// that were made is given. It allocates no memory and always terminates.
 #[inline(always)]
 pub fn run_unreported<P: Policy, S: Source, K: Sink>(
     core: &mut Core,
@@ -60,11 +60,11 @@ pub fn run_unreported<P: Policy, S: Source, K: Sink>(
     ran
 }
 
-/// Runs an opened processor by a clock that was told of no move: of the candidates that any policy would be offered,
+/// Runs an opened processor by a clock that has recorded no move: of the candidates that any policy would be offered,
 /// the one that finishes earliest is made, and the first in the order of all moves where several are. Until the program
-/// ends, as many instructions have retired as the limit allows, or a fault occurs; these are looked at in this order
-/// before each move. The clock is told the moves that were made, and their number is given. It takes no memory, and
-/// always comes to an end.
+/// ends, as many instructions have retired as the limit allows, or a fault occurs; these are tested in this order
+/// before each move. The clock records the moves that were made, and their number is given. It allocates no memory and
+/// always terminates.
 ///
 /// `ReadFault` and `WriteFault` come only where the input or the output failed a call of the environment; the count of
 /// its faults rose, and that move is neither counted nor told to the clock.

@@ -20,7 +20,7 @@ pub(crate) struct Due {
 
 impl Clock {
     /// The first Issue that is allowed and not held back, where it is done by this time. It is looked for only where an
-    /// Issue would be done by then, since an instruction must be decoded for it; all Issues use the same places.
+    /// Issue would be done by then, since an instruction must be decoded for it; all Issues use the same sites.
     #[inline(always)]
     #[tactic(auto, using(crate::proofs::Sooner::issue_due))]
     fn issue_by(&self, core: &Core, held: bool, by: u64) -> Option<Due>

@@ -16,8 +16,8 @@ use cf_index::Candidates;
 use cf_sched::{Pace, Policy};
 use std::marker::Model;
 
-/// Picks the candidate that finishes earliest, and the first in the order of all moves where several are. The clock is
-/// told of a move once the next one is to be picked, since a call of the environment may fail. It is seen as the clock
+/// Picks the candidate that finishes earliest, and the first in the order of all moves where several are. The clock
+/// records a move once the next one is to be picked, since a call of the environment may fail. It is seen as the clock
 /// and the last pick, beside which it keeps when that is done, in ticks.
 #[derive(Drop)]
 pub struct Timing {
@@ -48,7 +48,7 @@ impl Clock {
         ensures mv { Some result.1 ≡ slice_get candidates.now result.0 }
     {
         let mut least = Least::new(self);
-        // Their number fits, so no place is counted wrongly.
+        // Their number fits, so no site is counted wrongly.
         let _count = candidates.len();
         candidates.visit(&mut least);
         // Where no time is below the greatest, all are equal.
@@ -99,7 +99,7 @@ impl Timing {
         }
     }
 
-    /// The last pick, of which the clock has not been told yet.
+    /// The last pick, of which the clock has not recorded yet.
     #[inline(always)]
     pub fn last(&self) -> Option<Move>
         ensures { result ≡ self.now.last }
@@ -114,7 +114,7 @@ impl Timing {
         self.clock
     }
 
-    /// The clock, told of the last pick.
+    /// The clock with the last pick recorded.
     #[inline(always)]
     #[tactic(auto, unfolding(crate::specs::Timings::told, crate::specs::Timings::marked))]
     pub fn told(&self) -> Clock
@@ -127,7 +127,7 @@ impl Timing {
         clock
     }
 
-    /// Tells the clock of the last pick.
+    /// Records the last pick in the clock.
     #[inline(always)]
     #[tactic(auto, unfolding(crate::specs::Timings::told, crate::specs::Timings::marked))]
     fn tell(&mut self)
@@ -149,7 +149,7 @@ impl Timing {
         self.time = due.time;
     }
 
-    /// Tells the clock of the last pick, and picks one of the candidates, by its place.
+    /// Records the last pick in the clock, and picks one of the candidates, by its place.
     #[inline(always)]
     #[tactic(auto, unfolding(crate::specs::Timings::pending_pick, crate::specs::Timings::after_pick))]
     fn place_of_pick(&mut self, candidates: &Candidates) -> usize
@@ -165,7 +165,7 @@ impl Timing {
         place
     }
 
-    /// Tells the clock of the last pick, and picks one of the moves that are offered.
+    /// Records the last pick in the clock, and picks one of the moves that are offered.
     #[inline(always)]
     #[tactic(auto, unfolding(crate::specs::Timings::pending_pick, crate::specs::Timings::after_pick))]
     fn earliest(&mut self, core: &Core, candidates: &mut Candidates, pace: &Pace) -> Move

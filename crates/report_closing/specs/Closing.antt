@@ -21,19 +21,19 @@ is_report_fault answer = false
 unfoldable pub head_text : (limit moves : ℕ) → Scripted → (retired : ℕ) → List ℕ
 head_text limit moves answer retired = first_line limit moves answer ++ counted_line (codes "retired ") retired
 
--- what closes a run of the sequential machine: this, and the registers
+-- the report that closes a run of the sequential machine: the head, and the registers
 unfoldable pub machine_closing : (limit : ℕ) → Answer → (retired : ℕ) → (regs : List ℕ) → List ℕ
 machine_closing limit answer retired regs = head_text limit 0 (Ran answer) retired ++ registers_text regs
 
--- what was counted, the registers, and the picture of the processor
+-- the counts, the registers, and the picture of the processor
 unfoldable pub rest_text : Plan → State → Tally → List ℕ
 rest_text plan s tally = tally_text tally ++ registers_text s.regs ++ picture plan s
 
--- what closes a run of the processor: the head, and all of that
+-- the report that closes a run of the processor: the head, and all of that
 unfoldable pub closing : (limit : ℕ) → Scripted → Plan → State → Tally → List ℕ
 closing limit answer plan s tally = head_text limit tally.moves answer s.retired ++ rest_text plan s tally
 
--- what closes a run in rounds: the same, with the number of rounds after that of the retired instructions
+-- the report that closes a run in rounds: the same, with the number of rounds after that of the retired instructions
 unfoldable pub closing_in_rounds : (limit : ℕ) → Scripted → (rounds : ℕ) → Plan → State → Tally → List ℕ
 closing_in_rounds limit answer rounds plan s tally =
     head_text limit tally.moves answer s.retired ++ counted_line (codes "rounds ") rounds ++ rest_text plan s tally

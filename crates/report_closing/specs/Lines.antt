@@ -10,11 +10,11 @@ use Rattle.cf_run.specs.declared.answer.Ran.TheVariants as ran
 use Rattle.cf_run.specs.declared.answer.Scripted.{Scripted}
 use Rattle.cf_run.specs.declared.answer.Scripted.TheVariants.{Ran, ScriptEnd, BadScript, BarredAt}
 
--- what happened at the line of a script of this number, before the cause
+-- what happened at this line of a script, before the cause
 unfoldable pub place_in_script : List ℕ → ℕ → List ℕ
 place_in_script what number = what ++ decimal number ++ codes ": "
 
--- a line of the script is no move
+-- a line of the script is not a move
 unfoldable pub bad_line : ScriptErr → List ℕ
 bad_line refusal = line (place_in_script (codes "bad script line ") refusal.line ++ script_refusal refusal.kind)
 

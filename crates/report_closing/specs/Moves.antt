@@ -12,7 +12,7 @@ use Rattle.cf_semantics.specs.moves.Candidates.{counted_from, at_stages}
 use Rattle.cf_semantics.specs.state.State.{State}
 use Rattle.report_refusals.specs.Bars.{bar_text}
 
--- the moves from each cell of a siding, among them the last one, which leads nowhere
+-- the moves from each cell of a siding, also from the last one, which leads nowhere
 abbrev pub cell_moves : ℕ → ℕ → List Move
 cell_moves siding cells = map (Slide siding) (counted_from 0 cells)
 
@@ -21,7 +21,7 @@ abbrev pub siding_moves : ℕ → List SidingPlan → List Move
 siding_moves k [] = []
 siding_moves k (siding ∷ sidings) = cell_moves k siding.cells ++ siding_moves (suc k) sidings
 
--- all moves but the issue with an address, in their order: with each stage, and with each cell of each siding
+-- all moves except an issue with an address, in their order: at each stage, and at each cell of each siding
 unfoldable pub every_move : Plan → List Move
 every_move plan =
     Issue guess.Next ∷ Issue guess.Taken ∷ Issue guess.Wait ∷ Emit ∷
@@ -33,7 +33,7 @@ every_move plan =
 abbrev pub between : List ℕ → Move → List ℕ → List ℕ
 between before mv after = before ++ (move_line mv ++ after)
 
--- the line of a move that nothing bars, or whose first bar this is
+-- the line of a move that nothing bars, or that has this first bar
 unfoldable pub standing_line : Option Bar → Move → List ℕ
 standing_line None mv = between (codes "allowed ") mv (codes "\n")
 standing_line (Some bar) mv = between (codes "barred ") mv (codes " " ++ bar_text bar ++ codes "\n")

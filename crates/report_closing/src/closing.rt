@@ -24,7 +24,7 @@ fn head_page(limit: u64, moves: u64, answer: Scripted, retired: u64) -> Page
     page
 }
 
-/// The same of the sequential machine, and its registers.
+/// The same for the sequential machine, and its registers.
 fn machine_page(limit: u64, answer: Ran, retired: u64, regs: &[u32; 32]) -> Page
     ensures { result ≡ machine_closing limit answer retired regs.now }
 {
@@ -67,9 +67,9 @@ fn put_rest<R: Sink>(core: &Core, tally: &Tally, report: &mut R) -> Result<(), F
     put_picture(core, report)
 }
 
-/// Puts the report that closes a run of the sequential machine under this limit, which finished with this answer, with
-/// this many instructions retired and these registers: the line that says how it finished, the count and the registers.
-/// After `Failed` a prefix of it was put.
+/// Writes the report that closes a run of the sequential machine under this limit, which finished with this answer,
+/// this many retired instructions and these registers: the line that says how it finished, the count and the registers.
+/// After `Failed` a prefix of it was written.
 pub fn put_machine_closing<R: Sink>(
     limit: u64,
     answer: Ran,
@@ -84,9 +84,9 @@ pub fn put_machine_closing<R: Sink>(
     put_all(report, page.bytes())
 }
 
-/// Puts the report that closes a run of the processor under this limit, which finished with this answer and left this
-/// processor and these counts: the line that says how it finished, how many instructions have retired, what was
-/// counted, the registers, and the picture of the processor. After `Failed` a prefix of it was put.
+/// Writes the report that closes a run of the processor under this limit, which finished with this answer and left this
+/// processor and these counts: the line that says how it finished, how many instructions have retired, the counts, the
+/// registers, and the picture of the processor. After `Failed` a prefix of it was written.
 pub fn put_closing<R: Sink>(
     core: &Core,
     limit: u64,
@@ -102,8 +102,8 @@ pub fn put_closing<R: Sink>(
     put_rest(core, tally, report)
 }
 
-/// Puts the report that closes a run in this many rounds: that of any run of the processor, with their number after
-/// that of the retired instructions. After `Failed` a prefix of it was put.
+/// Writes the report that closes a run in this many rounds: the report of any run of the processor, with the number of
+/// rounds after that of the retired instructions. After `Failed` a prefix of it was written.
 pub fn put_closing_in_rounds<R: Sink>(
     core: &Core,
     limit: u64,

@@ -12,7 +12,7 @@ use report_refusals::{push_bar, push_script};
 use run_scripts::ScriptErr;
 use texts::Page;
 
-/// What happened at the line of a script of this number, before the cause.
+/// Appends what happened at this line of a script, before the cause.
 #[tactic(auto, unfolding(crate::specs::Lines::place_in_script))]
 fn push_place(page: &mut Page, what: &[u8], number: u32)
     requires { length page.old + length what.now + 22 ≤ page_room }
@@ -24,7 +24,7 @@ fn push_place(page: &mut Page, what: &[u8], number: u32)
     page.push(b": ");
 }
 
-/// The line of a script that is no move, and why.
+/// Appends the line of a script that is not a move, and why.
 fn push_bad_line(page: &mut Page, refusal: ScriptErr)
     requires { length page.old + 80 ≤ page_room }
     ensures text { page.new ≡ page.old ++ bad_line refusal }
@@ -35,7 +35,7 @@ fn push_bad_line(page: &mut Page, refusal: ScriptErr)
     page.push(b"\n");
 }
 
-/// The line of a script whose move is barred, and what bars it.
+/// Appends the line of a script whose move is barred, and its bar.
 fn push_barred(page: &mut Page, number: u32, bar: Bar)
     requires { length page.old + 80 ≤ page_room }
     ensures text { page.new ≡ page.old ++ barred_line number bar }
@@ -46,7 +46,7 @@ fn push_barred(page: &mut Page, number: u32, bar: Bar)
     page.push(b"\n");
 }
 
-/// How many moves a script had.
+/// Appends how many moves a script had.
 fn push_script_end(page: &mut Page, moves: u64)
     requires { length page.old + 80 ≤ page_room }
     ensures text { page.new ≡ page.old ++ line_of (codes "script end after " ++ decimal moves ++ codes " moves") }
@@ -57,7 +57,7 @@ fn push_script_end(page: &mut Page, moves: u64)
     page.push(b" moves\n");
 }
 
-/// How a run finished, whatever its schedule.
+/// Appends how a run finished, whatever its schedule.
 fn push_ran(page: &mut Page, limit: u64, answer: Ran)
     requires { length page.old + 80 ≤ page_room }
     ensures text { page.new ≡ page.old ++ line_of_run limit answer }
@@ -84,7 +84,8 @@ pub fn run_line(limit: u64, answer: Ran) -> Page
     page
 }
 
-/// The first line of a closing report: how the run of a script finished under a limit, with this many moves made.
+/// Appends the first line of a closing report: how the run of a script finished under a limit, with this many moves
+/// made.
 pub(crate) fn push_first_line(page: &mut Page, limit: u64, moves: u64, answer: Scripted)
     requires { length page.old + 80 ≤ page_room }
     ensures text { page.new ≡ page.old ++ first_line limit moves answer }

@@ -1,5 +1,5 @@
-//! The report that closes a run, of the sequential machine or of the processor: how it finished, what retired, what was
-//! counted, the registers and the picture; and the moves that can be made where a run of the processor stopped.
+//! The report that closes a run, of the sequential machine or of the processor: how it finished, what retired, the
+//! counts, the registers and the picture; and the moves that can be made where a run of the processor stopped.
 #![tactic(auto)]
 
 mod closing;

@@ -16,7 +16,7 @@ use cf_io::{Failed, Sink, put_all};
 use report_refusals::push_bar;
 use texts::Page;
 
-/// What follows the move in the line of a move that is barred.
+/// The end of the line of a barred move, after the move.
 fn bar_page(bar: Bar) -> Page
     ensures { result ≡ codes " " ++ bar_text bar ++ codes "\n" }
 {
@@ -27,7 +27,7 @@ fn bar_page(bar: Bar) -> Page
     page
 }
 
-/// Puts a move, and a text after it.
+/// Writes a move, and a text after it.
 fn put_move<R: Sink>(mv: Move, after: &[u8], report: &mut R) -> Result<(), Failed>
     ensures { PutsText (R.written report.old) (R.written report.new)
         (R.faults report.old) (R.faults report.new) (move_line mv ++ after.now) result }
@@ -38,7 +38,7 @@ fn put_move<R: Sink>(mv: Move, after: &[u8], report: &mut R) -> Result<(), Faile
     put_all(report, after)
 }
 
-/// Puts a move between two texts.
+/// Writes a move between two texts.
 fn put_between<R: Sink>(before: &[u8], mv: Move, after: &[u8], report: &mut R) -> Result<(), Failed>
     ensures { PutsText (R.written report.old) (R.written report.new)
         (R.faults report.old) (R.faults report.new) (between before.now mv after.now) result }
@@ -47,7 +47,7 @@ fn put_between<R: Sink>(before: &[u8], mv: Move, after: &[u8], report: &mut R) -
     put_move(mv, after, report)
 }
 
-/// Puts the line of a move.
+/// Writes the line of a move.
 fn put_line<R: Sink>(core: &Core, mv: Move, report: &mut R) -> Result<(), Failed>
     ensures { PutsText (R.written report.old) (R.written report.new)
         (R.faults report.old) (R.faults report.new) (line_in core.now.plan core.now.state mv) result }
@@ -61,7 +61,7 @@ fn put_line<R: Sink>(core: &Core, mv: Move, report: &mut R) -> Result<(), Failed
     }
 }
 
-/// Puts the lines of the moves of a kind at each stage, ascending.
+/// Writes the lines of the moves of a kind at each stage, ascending.
 fn put_stages<R: Sink>(core: &Core, kind: StageMove, report: &mut R) -> Result<(), Failed>
     ensures { PutsText (R.written report.old) (R.written report.new)
         (R.faults report.old) (R.faults report.new)
@@ -73,7 +73,7 @@ fn put_stages<R: Sink>(core: &Core, kind: StageMove, report: &mut R) -> Result<(
     Ok(())
 }
 
-/// Puts the lines of the moves from each cell of a siding, ascending.
+/// Writes the lines of the moves from each cell of a siding, ascending.
 fn put_cells<R: Sink>(core: &Core, siding: u32, cells: u32, report: &mut R) -> Result<(), Failed>
     ensures { PutsText (R.written report.old) (R.written report.new)
         (R.faults report.old) (R.faults report.new)
@@ -85,7 +85,7 @@ fn put_cells<R: Sink>(core: &Core, siding: u32, cells: u32, report: &mut R) -> R
     Ok(())
 }
 
-/// Puts those of all sidings, ascending.
+/// Writes those of all sidings, ascending.
 fn put_slides<R: Sink>(core: &Core, report: &mut R) -> Result<(), Failed>
     ensures { PutsText (R.written report.old) (R.written report.new)
         (R.faults report.old) (R.faults report.new)
@@ -97,7 +97,7 @@ fn put_slides<R: Sink>(core: &Core, report: &mut R) -> Result<(), Failed>
     Ok(())
 }
 
-/// Puts the lines of a part of the order of all moves.
+/// Writes the lines of a part of the order of all moves.
 fn put_part<R: Sink>(core: &Core, part: ClosingPart, report: &mut R) -> Result<(), Failed>
     ensures { PutsText (R.written report.old) (R.written report.new)
         (R.faults report.old) (R.faults report.new)
@@ -110,8 +110,9 @@ fn put_part<R: Sink>(core: &Core, part: ClosingPart, report: &mut R) -> Result<(
     }
 }
 
-/// Puts a line for each move but the issue with an address, with each stage and each cell of each siding, in the order
-/// of all moves: that the processor can make it now, or what bars it. After `Failed` a prefix of the lines was put.
+/// Writes a line for each move, except an issue with an address, at each stage and each cell of each siding, in the
+/// order of all moves: that the processor can make it now, or its bar. After `Failed` a prefix of the lines was
+/// written.
 pub fn put_moves<R: Sink>(core: &Core, report: &mut R) -> Result<(), Failed>
     ensures { PutsText (R.written report.old) (R.written report.new)
         (R.faults report.old) (R.faults report.new) (moves_text core.now.plan core.now.state) result }

@@ -22,13 +22,13 @@ pub(crate) enum StageMove {
 pub(crate) enum ClosingPart {
     /// One move.
     One(Move),
-    /// Those of a kind at each stage.
+    /// The moves of a kind at each stage.
     Stages(StageMove),
-    /// Those from each cell of each siding.
+    /// The moves from each cell of each siding.
     Slides,
 }
 
-/// All moves but the issue with an address.
+/// All moves except an issue with an address.
 pub(crate) const PARTS: [ClosingPart; 16] = [
     ClosingPart::One(Move::Issue(Guess::Next)),
     ClosingPart::One(Move::Issue(Guess::Taken)),

@@ -1,10 +1,10 @@
--- What bars a move, as reports name it (a format of this project).
+-- The bars of moves, as reports name them (a format of this project).
 use Rattle.std.specs.Prelude.{ℕ, List, [], ◌++◌, codes}
 use Rattle.cf_bind.specs.declared.moves.Bar.{Bar}
 use Rattle.cf_bind.specs.declared.moves.Bar.TheVariants as bar
 use Rattle.texts.specs.Lines.{register_name}
 
--- what bars a move: its name, and after a space the register of a source without a value
+-- a bar: its name, and after a space the register of a source without a value
 unfoldable pub bar_text : Bar → List ℕ
 bar_text bar.Halted = codes "Halted"
 bar_text bar.Failed = codes "Failed"
@@ -27,7 +27,7 @@ bar_text bar.BadGuess = codes "BadGuess"
 bar_text bar.Dead = codes "Dead"
 bar_text bar.AlreadyDone = codes "AlreadyDone"
 
--- the register of a source without a value, which the text of what bars a move ends with
+-- the register of a source without a value, with which the text of a bar ends
 abbrev pub source_text : Bar → List ℕ
 source_text (bar.SourceMissing r) = register_name r
 source_text b = []

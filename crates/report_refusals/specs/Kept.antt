@@ -5,7 +5,7 @@ use Rattle.layout_file.specs.Names.{class_name}
 use Rattle.report_refusals.specs.declared.kept.KeptValue.{KeptValue}
 use Rattle.report_refusals.specs.declared.kept.KeptValue.TheVariants as kept
 
--- a class by its word, a number in decimal
+-- a class by its name, a number in decimal
 abbrev pub kept_text : KeptValue → List ℕ
 kept_text (kept.Class c) = class_name c
 kept_text (kept.Number n) = decimal n

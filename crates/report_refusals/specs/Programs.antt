@@ -1,4 +1,4 @@
--- The report of a file that is no program (a format of this project).
+-- The report of a file that is not a program (a format of this project).
 use Rattle.std.specs.Prelude.{ℕ, List, [], ◌∷◌, ◌++◌, codes, decimal}
 use Rattle.elf_view.specs.declared.refusal.ElfErr.{ElfErr}
 use Rattle.elf_view.specs.declared.refusal.ElfErr.TheVariants.{TooShort, NotElf, Not32Little, NotRiscv, NotExecutable, NeedsCompressed, NeedsFloat, NeedsRve, BadHeaderSize, OutsideFile, FileLargerThanMemory, NeedsInterpreter, BadSymbols}
@@ -33,7 +33,7 @@ load_refusal (TooLarge size) = variant (codes "TooLarge") (decimal size ∷ [])
 load_refusal (WrapsAround index) = variant (codes "WrapsAround") (decimal index ∷ [])
 load_refusal NoMemory = variant (codes "NoMemory") []
 
--- why a file is no program
+-- why a file is not a program
 unfoldable pub program_refusal : ProgramErr → List ℕ
 program_refusal program.TooLong = codes "TooLong"
 program_refusal (program.Elf error) = codes "Elf " ++ elf_refusal error

@@ -7,7 +7,7 @@ ghost use Rattle.report_refusals.specs.Bars.{bar_text, source_text};
 use cf_bind::Bar;
 use texts::Page;
 
-/// The name of what bars a move, and a space after it where the register of a source follows.
+/// The name of a bar, with a space where the register of a source follows.
 #[tactic(auto, unfolding(crate::specs::Bars::bar_text))]
 fn bar_name(bar: Bar) -> &'static [u8]
     ensures text { bar_text bar ≡ result.now ++ source_text bar }
@@ -37,7 +37,7 @@ fn bar_name(bar: Bar) -> &'static [u8]
     }
 }
 
-/// What bars a move: its name, and the register of a source without a value.
+/// Appends a bar: its name, and the register of a source without a value.
 #[tactic(auto, using(crate::proofs::Sourceless::no_source))]
 pub fn push_bar(page: &mut Page, bar: Bar)
     requires { length page.old + 20 ≤ page_room }

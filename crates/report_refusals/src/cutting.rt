@@ -1,9 +1,9 @@
-//! Texts that are cut.
+//! Truncated texts.
 
 ghost use Rattle.std.specs.Prelude.{◌≡◌, ◌≤◌, length};
 ghost use Rattle.report_refusals.specs.Variants.{cut};
 
-/// The text, or its prefix where it has over 40 bytes: at most 40 of them, with no character split.
+/// The text, or where it has over 40 bytes a prefix of at most 40, with no character split.
 #[tactic(auto, using(crate::proofs::Cuts::cut_here))]
 pub(crate) fn cut(text: &str) -> &str
     ensures front { result.now ≡ cut text.now }

@@ -1,34 +1,34 @@
-//! Why files are refused, by what they were to be.
+//! Why files are refused, by the kind that was expected.
 
 use elf_view::ElfErr;
 use mem_regions::LoadErr;
 use run_scripts::{DelayErr, ScriptErr, TraceKind};
 
-/// Why a file is no program.
+/// Why a file is not a program.
 #[derive(Clone, Copy)]
 pub enum ProgramErr {
     /// It is longer than a program may be.
     TooLong,
 
-    /// It begins as an ELF file does, and is not one that can be viewed.
+    /// It begins as an ELF file does, but cannot be viewed as one.
     Elf(ElfErr),
 
-    /// The parts of memory that it describes cannot be loaded. A part is named by its index among the segments that
-    /// take room in memory, after which the stack comes.
+    /// The parts of memory that it describes cannot be loaded. A part is named by its index among the segments of a
+    /// size above 0; the stack comes after them.
     Load(LoadErr),
 }
 
-/// Why a file is no script of moves that can be made.
+/// Why a file is not a script of moves that can be made.
 #[derive(Clone, Copy)]
 pub enum ScriptFault {
     /// It is longer than a script may be.
     TooLong,
 
-    /// The line that was reached is no move.
+    /// The line that was reached is not a move.
     Line(ScriptErr),
 }
 
-/// Why a file does not say how long moves take.
+/// Why a file is not a file of delays.
 #[derive(Clone, Copy)]
 pub enum DelaysFault {
     /// It is longer than a file of delays may be.

@@ -19,7 +19,7 @@ pub(crate) enum KeptValue {
     Integer(i64),
 }
 
-/// A class by its word in layout files, a number in decimal.
+/// Appends a class by its name in layout files, a number in decimal.
 #[tactic(auto, using(crate::proofs::Cuts::short_name))]
 fn push_kept(page: &mut Page, value: KeptValue)
     requires { length page.old + 20 ≤ page_room }
@@ -33,7 +33,7 @@ fn push_kept(page: &mut Page, value: KeptValue)
     }
 }
 
-/// Values, each after one space.
+/// Appends values, each after one space.
 #[tactic(auto, unfolding(crate::specs::Variants::spaced))]
 fn push_spaced(page: &mut Page, kept: &[KeptValue])
     requires { length page.old + 21 * length kept.now ≤ page_room }
@@ -46,7 +46,7 @@ fn push_spaced(page: &mut Page, kept: &[KeptValue])
     }
 }
 
-/// A variant's name and the values that it keeps.
+/// Appends a variant's name and the values that it keeps.
 #[tactic(auto, unfolding(crate::specs::Variants::variant))]
 pub(crate) fn push_variant(page: &mut Page, name: &[u8], kept: &[KeptValue])
     requires { length page.old + length name.now + 21 * length kept.now ≤ page_room }
@@ -57,7 +57,7 @@ pub(crate) fn push_variant(page: &mut Page, name: &[u8], kept: &[KeptValue])
     push_spaced(page, kept);
 }
 
-/// A variant's name and the text that it keeps, which is cut.
+/// Appends a variant's name and the text that it keeps, truncated.
 #[tactic(auto, unfolding(crate::specs::Variants::spaced, crate::specs::Variants::variant))]
 pub(crate) fn push_text(page: &mut Page, name: &[u8], text: &str)
     requires { length page.old + length name.now + 41 ≤ page_room }

@@ -82,8 +82,8 @@ fn push_fault(page: &mut Page, error: &FileErr)
     }
 }
 
-/// The report of a file that is not a layout: one line with the name of the fault and what it keeps,
-/// such as `bad layout: Refused MissingUnit shift`. Texts are cut after 40 bytes.
+/// The report of a file that is not a layout: one line with the name of the fault and what it keeps, such as `bad
+/// layout: Refused MissingUnit shift`. Texts are truncated after 40 bytes.
 pub fn bad_layout(error: &FileErr) -> Page
     ensures { result ≡ report_of error.now }
 {

@@ -1,4 +1,4 @@
-//! Refusals as reports name them: what bars a move, and why a file, or a line of one, is refused.
+//! Refusals as reports name them: the bars of moves, and why a file, or a line of one, is refused.
 #![tactic(auto)]
 
 mod bars;

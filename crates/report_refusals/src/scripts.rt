@@ -1,4 +1,4 @@
-//! Why a line of a script is no move.
+//! Why a line of a script is not a move.
 
 ghost use Rattle.std.specs.Prelude.{◌≡◌, ◌+◌, ◌≤◌, ◌++◌, length};
 ghost use Rattle.texts.specs.Room.{page_room};
@@ -7,7 +7,7 @@ ghost use Rattle.report_refusals.specs.Scripts.{script_refusal};
 use run_scripts::ScriptKind;
 use texts::Page;
 
-/// The name of why a line of a script is no move.
+/// The name of the reason why a line of a script is not a move.
 #[tactic(auto, unfolding(crate::specs::Scripts::script_refusal))]
 fn script_name(kind: ScriptKind) -> &'static [u8]
     ensures text { result.now ≡ script_refusal kind }
@@ -21,7 +21,7 @@ fn script_name(kind: ScriptKind) -> &'static [u8]
     }
 }
 
-/// Why a line of a script is no move.
+/// Why a line of a script is not a move.
 pub fn push_script(page: &mut Page, kind: ScriptKind)
     requires { length page.old + 20 ≤ page_room }
     ensures text { page.new ≡ page.old ++ script_refusal kind }

@@ -10,7 +10,7 @@ use crate::faults::TraceFault;
 use run_scripts::TraceKind;
 use texts::Page;
 
-/// Why a text is not the trace of a run: the name, and what bars the move.
+/// Appends why a text is not the trace of a run: the name, and the bar of the move.
 fn push_kind(page: &mut Page, kind: TraceKind)
     requires { length page.old + 30 ≤ page_room }
     ensures text { page.new ≡ page.old ++ trace_refusal kind }
@@ -27,7 +27,7 @@ fn push_kind(page: &mut Page, kind: TraceKind)
     }
 }
 
-/// The line in which that is seen.
+/// Appends the line that shows it.
 fn push_place(page: &mut Page, number: u32)
     requires { length page.old + 30 ≤ page_room }
     ensures text { page.new ≡ page.old ++ line_number number }

@@ -1,4 +1,4 @@
--- A ledger that was told the moves of a run tells what its time is made of.
+-- A ledger that has recorded the moves of a run tells what its time is made of.
 use Rattle.std.proofs.Common.{◌≡◌, ◌∙◌, refl, sym, ap, subst, ℕ, zero, suc, ◌+◌, ◌-◌, ◌*◌, ◌^◌, ◌<◌, List, [], ◌∷◌, ◌++◌, length, map, Bool, true, false, cond, nat_eq, arith, append-nil, append_assoc}
 use Rattle.std.specs.Prelude.{replicate, ◌&&◌}
 use Rattle.std.specs.List.{AllByRecursion}
@@ -25,7 +25,7 @@ use Rattle.run_ledger.proofs.Latests.{latest_any, latest_kinds, latest_never, la
 use Rattle.run_ledger.proofs.Marked.{marks_put, put_size}
 use Rattle.run_ledger.proofs.Numbered.{charged_numbered}
 
--- the done moves that use the place
+-- the done moves that use the site
 abbrev pub at_place : Plan → Site → Done → Bool
 at_place plan x done = uses_place plan done.move x
 
@@ -33,7 +33,7 @@ at_place plan x done = uses_place plan done.move x
 abbrev pub any_move : Done → Bool
 any_move done = true
 
--- the ledger was told the moves of a run
+-- the ledger has recorded the moves of a run
 pub record Keeps (plan : Plan) (delays : List ℕ) (moves : List Move) (l : Ledger) : Type 0 where
   pub layout_is : l.layout ≡ plan
   pub delays_are : l.delays ≡ delays
@@ -45,7 +45,7 @@ pub record Keeps (plan : Plan) (delays : List ℕ) (moves : List Move) (l : Ledg
   pub sidings_are : l.sidings ≡ map (λ k. busy delays (uses_siding plan k) moves) (counted_from 0 8)
   pub kinds_are : l.kinds ≡ kinds moves
 
--- the marks of some places
+-- the marks of some sites
 marks_same : (f g : Site → ChainMark) (xs : List Site) → AllByRecursion IsKept xs → ((x : Site) → IsKept x → f x ≡ g x) → map f xs ≡ map g xs
 marks_same f g [] kept same = refl
 marks_same f g (x ∷ xs) kept same =
@@ -57,7 +57,7 @@ map_twice : (marks : List ChainMark) (xs : List Site) → map (mark_at marks) (m
 map_twice marks [] = refl
 map_twice marks (x ∷ xs) = ap (λ (l : List ChainMark). mark_at marks (place_number x) ∷ l) (map_twice marks xs)
 
--- the mark that a move follows is that of the latest that uses a place which it uses
+-- the mark that a move follows is that of the latest that uses a site which it uses
 follows_latest : (plan : Plan) (delays : List ℕ) (moves : List Move) (l : Ledger) (mv : Move) → Keeps plan delays moves l → AreKept plan mv →
     followed l mv ≡ latest_where plan delays (λ d. shares plan mv d.move) (times plan delays moves)
 unfolding followed shares
@@ -115,7 +115,7 @@ mark_now plan delays moves l mv h kept few small =
         ≡ mark_after plan delays (done_after plan delays (times plan delays moves) mv) (times plan delays moves)
     all ds count first old a b c t n k = rw (a, b, c, t, n, k) refl
 
--- the mark of a place after it
+-- the mark of a site after it
 marks_more : (plan : Plan) (delays : List ℕ) (moves : List Move) (l : Ledger) (mv : Move) (x : Site) → Keeps plan delays moves l → AreKept plan mv → IsKept x →
     mark_of l mv ≡ mark_after plan delays (done_after plan delays (times plan delays moves) mv) (times plan delays moves)
     → mark_at (put_marks (mark_of l mv) l.marks (place_numbers plan mv)) (place_number x) ≡ latest_where plan delays (at_place plan x)

@@ -43,7 +43,7 @@ part-of plan delays test (d ∷ earlier) = by (test d) (part-of plan delays (lea
     by true h g = part_last (chain_to plan delays (leads_to plan delays d) earlier) (run_of earlier) d.move h
     by false h g = part_more (chain_to plan delays test earlier) (run_of earlier) d.move g
 
--- each move of it uses a place that the next one uses
+-- each move of it uses a site that the next one uses
 both-hold : (a b : Bool) → (a && b) ≡ true → a ≡ true
 both-hold true b e = refl
 both-hold false b e = e

@@ -1,4 +1,4 @@
--- Marks that are put at the places that a move uses.
+-- Marks that are put at the sites that a move uses.
 use Rattle.std.proofs.Common.{◌≡◌, ◌∙◌, refl, sym, ap, ℕ, zero, suc, ◌+◌, ◌*◌, ◌<◌, List, [], ◌∷◌, drop, get_or, length, map, Bool, true, false, cond, nat_eq, arith}
 use Rattle.std.specs.Prelude.{slice_set, ◌&&◌, ◌||◌}
 use Rattle.std.specs.List.{AllByRecursion}
@@ -9,7 +9,7 @@ use Rattle.run_ledger.specs.Ledgers.{mark_at, place_number, put_marks, with_mark
 use Rattle.run_ledger.specs.declared.ledger.Ledger.{Ledger}
 use Rattle.run_ledger.specs.declared.mark.ChainMark.{ChainMark}
 
--- places have different numbers
+-- sites have different numbers
 same_number : (x y : Site) → IsKept x → IsKept y → nat_eq (place_number x) (place_number y) ≡ same_site x y
 same_number (Stage i) (Stage j) kx ky = grind (arith, nat_tests)
 same_number (Stage i) (SidingCell m j) kx ky = grind (arith, nat_tests)
@@ -57,7 +57,7 @@ same_number Code Memory kx ky = refl
 same_number Code Code kx ky = refl
 same_number _ _ kx ky = absurd (search (kx, ky))
 
--- the number of a place is among those of the ledger
+-- the number of a site is among those of the ledger
 number_within : (x : Site) → IsKept x → place_number x < 102
 number_within (Stage i) kept = omega (arith, kept)
 number_within (SidingCell k c) kept = omega (arith, kept.0, kept.1)
@@ -87,7 +87,7 @@ pub put_size : (mark : ChainMark) (marks : List ChainMark) (places : List ℕ) �
 put_size mark marks [] = refl
 put_size mark marks (place ∷ places) = put_size mark (slice_set marks place mark) places ∙ set_size marks place mark
 
--- the mark at a place, after one was put at some places
+-- the mark at a site, after one was put at some sites
 pub marks_put : (mark : ChainMark) (marks : List ChainMark) (ys : List Site) (x : Site) → length marks ≡ 102 → AllByRecursion IsKept ys → IsKept x →
     mark_at (put_marks mark marks (map place_number ys)) (place_number x) ≡ cond (among x ys) mark (mark_at marks (place_number x))
 marks_put mark marks [] x room kept here = refl
@@ -104,7 +104,7 @@ marks_put mark marks (y ∷ ys) x room kept here =
     both false true = refl
     both false false = refl
 
--- what is put at the next of some places
+-- what is put at the next of some sites
 pub put_next : (mark : ChainMark) (marks : List ChainMark) (places : List ℕ) (i : ℕ) → i < length places →
     put_marks mark (slice_set marks (get_or places i 0) mark) (drop (i + 1) places) ≡ put_marks mark marks (drop i places)
 put_next mark marks [] i within = absurd (omega arith)

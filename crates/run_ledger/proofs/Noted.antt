@@ -1,4 +1,4 @@
--- A run with a ledger is a timed run, and its ledger was told the moves of it.
+-- A run with a ledger is a timed run, and its ledger has recorded the moves of it.
 use Rattle.std.proofs.Common.{◌≡◌, ◌≢◌, ◌∙◌, refl, sym, ap, subst, ℕ, suc, ◌≤◌, List, [], ◌∷◌, ◌++◌, length, Some, None, arith, append-nil}
 use Rattle.std.specs.Prelude.{slice_get}
 use Rattle.std.specs.List.{AllByRecursion}
@@ -76,7 +76,7 @@ none-last picked onward limit at now new later ran.ReadFault stops none = refl
 none-last picked onward limit at now new later ran.WriteFault stops none = refl
 none-last picked onward limit at now new later ran.ReportFault stops none = absurd (none refl)
 
--- the ledger is told the moves that are made
+-- the ledger records the moves that are made
 told-next : (w : Watched) (moves : List Move) (mv : Move) → slice_get moves (pending_pick w.pending moves) ≡ Some mv →
     ledger_told (after_watched w moves) ≡ noted (ledger_told w) mv
 unfolding ledger_told after_pick
@@ -90,7 +90,7 @@ told-trace plan at s (made ∷ trace) last (pick, picks) =
     told-trace plan (after_choice after_watched plan at s made) made.state trace last picks
     ∙ ap (λ (l : Ledger). noted_all l (moves_of trace)) (told-next at.policy (offered_to plan at s) made.move pick)
 
--- it has room for their places
+-- it has room for their sites
 kept-trace : (plan : Plan) (at : Chooser Watched) (s : State) (trace : List Made) (last : Chooser Watched) → IsAccepted plan →
     Picks watched_pick after_watched plan at s trace last → AllByRecursion (AreKept plan) (moves_of trace)
 unfolding Picks

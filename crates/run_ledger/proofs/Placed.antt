@@ -1,4 +1,4 @@
--- The places of sidings, one more siding.
+-- The sites of sidings, one more siding.
 use Rattle.std.proofs.Common.{◌≡◌, ◌∙◌, refl, sym, ap, ℕ, ◌+◌, List, [], ◌∷◌, ◌++◌, map, append_assoc, Bool, true, false, cond}
 use Rattle.std.specs.Prelude.{filter}
 use Rattle.std.proofs.lemmas.List.{map-append}
@@ -7,7 +7,7 @@ use Rattle.cf_semantics.specs.moves.Sites.{Site}
 use Rattle.cf_timed.proofs.SiteTimes.{numbers_more}
 use Rattle.run_ledger.specs.Ledgers.{place_number}
 
--- the number of one more place, or none
+-- the number of one more site, or none
 pub places_more : (place : ℕ → Site) (test : ℕ → Bool) (k : ℕ) → map place_number (map place (filter test (counted_from 0 (k + 1))))
     ≡ map place_number (map place (filter test (counted_from 0 k))) ++ cond (test k) (place_number (place k) ∷ []) []
 places_more place test k =
@@ -20,7 +20,7 @@ places_more place test k =
     by true = refl
     by false = refl
 
--- so some places, and those of the sidings that were gone over, with one more siding
+-- so some sites, and those of the sidings that were gone over, with one more siding
 pub places_next : (place : ℕ → Site) (test : ℕ → Bool) (k : ℕ) (first now next : List ℕ) (taken : Bool) (number : ℕ) →
     now ≡ first ++ map place_number (map place (filter test (counted_from 0 k))) → next ≡ now ++ cond taken (number ∷ []) [] → taken ≡ test k →
     number ≡ place_number (place k) → next ≡ first ++ map place_number (map place (filter test (counted_from 0 (k + 1))))

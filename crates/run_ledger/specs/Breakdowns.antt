@@ -1,4 +1,4 @@
--- What the time of a run is made of: how long each place of the processor is in use, how many moves of each kind are
+-- What the time of a run is made of: how long each site of the processor is in use, how many moves of each kind are
 -- made, and a longest chain.
 use Rattle.std.specs.Prelude.{ℕ, ◌-◌, List, [], ◌∷◌, ◌++◌, length, map, filter, Bool, false, ◌==◌, ◌&&◌, if◌then◌else◌}
 use Rattle.std.specs.List.{list_any}
@@ -38,7 +38,7 @@ of_kind moves kind = length (filter (λ mv. kind_place mv == kind) moves)
 abbrev pub kinds : List Move → List ℕ
 kinds moves = map (of_kind moves) (counted_from 0 14)
 
--- the earlier move uses a place that the later one uses, and is done when the later one begins
+-- the earlier move uses a site that the later one uses, and is done when the later one begins
 abbrev pub leads_to : Plan → List ℕ → Done → Done → Bool
 leads_to plan delays later earlier =
     shares plan later.move earlier.move && (earlier.time == (later.time - delay delays later.move))

@@ -1,4 +1,4 @@
--- How a ledger of a run is kept: at each place of the processor is a mark of the last move that used it.
+-- How a ledger of a run is kept: at each site of the processor is a mark of the last move that used it.
 use Rattle.std.specs.Prelude.{ℕ, ◌+◌, ◌-◌, ◌*◌, ◌^◌, List, [], ◌∷◌, length, map, min, replicate, slice_get, slice_set, unwrap_or, Bool, ◌&&◌, ◌||◌, nat_lt, nat_eq, if◌then◌else◌}
 use Rattle.cf_layout.specs.Layout.{Plan}
 use Rattle.cf_bind.specs.declared.moves.Move.{Move}
@@ -23,11 +23,11 @@ place_number (Stage i) = 4 + i
 place_number (SidingCell k c) = 38 + 8 * k + c
 place_number _ = 102
 
--- the mark of a place that no move has used
+-- the mark of a site that no move has used
 abbrev pub no_mark : ChainMark
 no_mark = record { time = 0; number = 0; kinds = replicate 14 0 }
 
--- the mark at a place
+-- the mark at a site
 abbrev pub mark_at : List ChainMark → ℕ → ChainMark
 mark_at marks place = unwrap_or (slice_get marks place) no_mark
 
@@ -60,7 +60,7 @@ charged counts more numbers = map (λ i. plus_if (counts i) (number_at numbers i
 abbrev pub one_more : List ℕ → Move → List ℕ
 one_more numbers mv = slice_set numbers (kind_place mv) (plus (number_at numbers (kind_place mv)) 1)
 
--- the mark is put at each of some places
+-- the mark is put at each of some sites
 abbrev pub put_marks : ChainMark → List ChainMark → List ℕ → List ChainMark
 put_marks mark marks [] = marks
 put_marks mark marks (place ∷ places) = put_marks mark (slice_set marks place mark) places
@@ -82,11 +82,11 @@ opened plan delays = record {
   kinds = replicate 14 0;
 }
 
--- the places that a move uses, by their numbers
+-- the sites that a move uses, by their numbers
 abbrev pub place_numbers : Plan → Move → List ℕ
 place_numbers plan mv = map place_number (used plan mv)
 
--- the mark that the move follows: the latest at the places that it uses
+-- the mark that the move follows: the latest at the sites that it uses
 unfoldable pub followed : Ledger → Move → ChainMark
 followed l mv = latest_of no_mark (map (mark_at l.marks) (place_numbers l.layout mv))
 

@@ -1,5 +1,5 @@
--- The policy of a timed run of which a ledger is kept: the clock picks, and the ledger is told of each move when the
--- clock is.
+-- The policy of a timed run of which a ledger is kept: the clock picks, and the ledger records each move when the clock
+-- does.
 use Rattle.std.specs.Prelude.{ℕ, List}
 use Rattle.cf_bind.specs.declared.moves.Move.{Move}
 use Rattle.cf_semantics.specs.state.Options.{on}
@@ -9,12 +9,12 @@ use Rattle.cf_timed.specs.Timings.{PendingMove, after_pick, pending_pick}
 use Rattle.run_ledger.specs.Ledgers.{noted}
 use Rattle.run_ledger.specs.declared.ledger.Ledger.{Ledger}
 
--- the clock with the last move that was picked, and the ledger, which has not been told of that move yet
+-- the clock with the last move that was picked, and the ledger, which has not recorded yet
 pub record Watched : Type 0 where
   pub pending : PendingMove
   pub ledger : Ledger
 
--- the ledger, told of the last move
+-- the ledger with the last move recorded
 unfoldable pub ledger_told : Watched → Ledger
 ledger_told w = on w.pending.last w.ledger (noted w.ledger)
 

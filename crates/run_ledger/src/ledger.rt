@@ -12,15 +12,15 @@ use cf_bind::Move;
 use cf_layout::Layout;
 use cf_timed::Delays;
 
-/// For each place of a processor the last move that used it, with the moves by kind on the chain that ends with it; how
-/// long each stage and siding was in use; and the moves by kind. It takes no memory.
+/// For each site of a processor the last move that used it, with the moves by kind on the chain that ends with it; how
+/// long each stage and siding was in use; and the moves by kind. It allocates no memory.
 #[derive(Clone, Copy)]
 pub struct Ledger {
     pub(crate) layout: Layout,
     pub(crate) delays: Delays,
     /// How many moves were made.
     pub(crate) count: u64,
-    /// Of each place, by its number.
+    /// Of each site, by its number.
     pub(crate) marks: [ChainMark; 102],
     /// Of the last move that is done last.
     pub(crate) last: ChainMark,
@@ -55,7 +55,7 @@ impl Ledger {
         u64::from(self.delays.of(mv))
     }
 
-    /// The mark at a place.
+    /// The mark at a site.
     #[inline(always)]
     fn mark(&self, place: usize) -> ChainMark
         ensures { result ≡ mark_at self.now.marks place }
@@ -63,7 +63,7 @@ impl Ledger {
         self.marks.get(place).copied().unwrap_or(ChainMark::none())
     }
 
-    /// The latest mark at some places.
+    /// The latest mark at some sites.
     fn latest(&self, places: &[usize]) -> ChainMark
         ensures { result ≡ latest_of no_mark (map (mark_at self.now.marks) places.now) }
     {
@@ -74,7 +74,7 @@ impl Ledger {
         latest
     }
 
-    /// Puts the mark at a place.
+    /// Puts the mark at a site.
     #[inline(always)]
     fn put_at(&mut self, mark: ChainMark, place: usize)
         ensures { self.new ≡ with_marks self.old (slice_set self.old.marks place mark) }
@@ -84,7 +84,7 @@ impl Ledger {
         }
     }
 
-    /// Puts the mark at some places.
+    /// Puts the mark at some sites.
     fn put(&mut self, mark: ChainMark, places: &[usize])
         ensures { self.new ≡ with_marks self.old (put_marks mark self.old.marks places.now) }
     {
@@ -107,7 +107,7 @@ impl Ledger {
         }
     }
 
-    /// Takes note of a move that is made now. Numbers stop at the greatest u64.
+    /// Records a move that is made now. Numbers stop at the greatest u64.
     #[tactic(auto, unfolding(crate::specs::Ledgers::noted))]
     pub fn note(&mut self, mv: Move)
         ensures { self.new ≡ noted self.old mv }

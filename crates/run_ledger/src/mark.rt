@@ -1,4 +1,4 @@
-//! What is kept of the last move that used a place.
+//! What is kept of the last move that used a site.
 
 ghost use Rattle.std.specs.Prelude.{◌≡◌};
 ghost use Rattle.run_ledger.specs.Ledgers.{later as later_mark, no_mark};

@@ -1,4 +1,4 @@
-//! The places that a move uses, by their numbers.
+//! The sites that a move uses, by their numbers.
 
 ghost use Rattle.std.specs.Prelude.{◌≡◌, ◌+◌, ◌-◌, ◌≤◌, ◌<◌, ◌^◌, ◌++◌, ◌∷◌, [], length, map, if◌then◌else◌};
 ghost use Rattle.cf_semantics.specs.moves.Sites.{SidingCell, Stage};
@@ -41,7 +41,7 @@ fn cell(k: usize, c: usize) -> usize
     38 + 8 * k + c
 }
 
-/// One more place, unless it is passed over.
+/// One more site, unless it is passed over.
 #[inline(always)]
 fn push_if(places: &mut ArrayVec<usize, 10>, taken: bool, place: usize)
     requires { length places.old.items < 10 }
@@ -80,7 +80,7 @@ fn push_exits(layout: &Layout, i: u32, places: &mut ArrayVec<usize, 10>)
     }
 }
 
-/// Some more places.
+/// Some more sites.
 fn push_all(places: &mut ArrayVec<usize, 10>, more: &[usize])
     requires { length places.old.items + length more.now ≤ 10 }
     ensures { places.new.items ≡ places.old.items ++ more.now }
@@ -90,7 +90,7 @@ fn push_all(places: &mut ArrayVec<usize, 10>, more: &[usize])
     }
 }
 
-/// The places that the move uses, put into an empty list.
+/// The sites that the move uses, put into an empty list.
 fn push_places(layout: &Layout, mv: Move, places: &mut ArrayVec<usize, 10>)
     requires { places.old.items ≡ [] }
     ensures { places.new.items ≡ place_numbers layout.now mv }
@@ -130,7 +130,7 @@ fn push_places(layout: &Layout, mv: Move, places: &mut ArrayVec<usize, 10>)
     }
 }
 
-/// The places that the move uses, by their numbers.
+/// The sites that the move uses, by their numbers.
 pub(crate) fn places_of(layout: &Layout, mv: Move) -> ArrayVec<usize, 10>
     ensures { result.items ≡ place_numbers layout.now mv }
 {

@@ -15,8 +15,8 @@ use cf_io::{Sink, Source};
 use cf_run::known;
 use cf_timed::{Clock, Timed, clock_after, run_unreported, timed};
 
-/// Runs an opened processor as `run_timed` of cf_timed does, by a clock and with a ledger that were told of no move.
-/// The ledger is told the moves that the clock is told. It takes no memory, and always comes to an end.
+/// Runs an opened processor as `run_timed` of cf_timed does, by a clock and with a ledger that have recorded no move.
+/// The ledger records the moves that the clock is told. It allocates no memory and always terminates.
 pub fn run_noted<S: Source, K: Sink>(
     core: &mut Core,
     candidates: &mut Candidates,

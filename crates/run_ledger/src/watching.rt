@@ -45,7 +45,7 @@ impl Watching {
         &self.timing
     }
 
-    /// Tells the ledger of the last pick.
+    /// Records the last pick in the ledger.
     #[inline(always)]
     #[tactic(auto, unfolding(crate::specs::Watchings::ledger_told))]
     fn tell(&mut self)

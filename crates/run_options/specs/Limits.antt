@@ -1,4 +1,4 @@
--- The limits of what can be asked.
+-- The limits of the options.
 use Rattle.std.specs.Prelude.{ℕ}
 
 -- the greatest limit of a run, which is a number of retired instructions

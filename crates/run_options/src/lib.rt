@@ -1,5 +1,5 @@
-//! What can be asked: what a run shows, at how many retired instructions it stops at the latest, and how many
-//! statements a drawn program has at most.
+//! Options of a run: what it shows, and the greatest limits of retired instructions and of the statements of a drawn
+//! program.
 #![tactic(auto)]
 
 mod show;

@@ -1,6 +1,6 @@
-//! What is shown of a run.
+//! What a run shows.
 
-/// What a run puts to the report as it goes on, before the lines that close it.
+/// What a run writes to the report while it runs, before the lines that close it.
 #[derive(Clone, Copy, PartialEq, Eq)]
 pub enum Show {
     /// Nothing.

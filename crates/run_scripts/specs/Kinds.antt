@@ -27,11 +27,11 @@ kinds =
     Issue ∷ Emit ∷ Climb ∷ Fall ∷ Meet ∷ Execute ∷ Send
     ∷ Launch ∷ Slide ∷ Access ∷ Recover ∷ Leave ∷ Exit ∷ Serve ∷ []
 
--- the kind whose name a word is
+-- the kind with this name
 unfoldable pub kind_named : List ℕ → Option Kind
 kind_named word = find (λ kind. bytes_eq (name_of kind) word) kinds
 
--- the place of that kind among all
+-- the index of that kind among all
 unfoldable pub place_named : List ℕ → Option ℕ
 place_named word = position (λ kind. bytes_eq (name_of kind) word) kinds
 
@@ -39,6 +39,6 @@ place_named word = position (λ kind. bytes_eq (name_of kind) word) kinds
 unfoldable pub names : List (List ℕ)
 names = map name_of kinds
 
--- the name of the kind at a place among all
+-- the name of the kind at an index among all
 unfoldable pub name_at : ℕ → List ℕ
 name_at place = unwrap_or (slice_get names place) []

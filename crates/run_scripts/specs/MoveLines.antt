@@ -1,4 +1,4 @@
--- How the line of a move is read (a format of this project).
+-- Reading the line of a move (a format of this project).
 use Rattle.std.specs.Prelude.{◌≡◌, ◌==◌, ◌<◌, ◌^◌, ℕ, Bool, Option, Some, None, Result, Ok, Err, MatchResult, List, length, drop, codes, nat_lt, if◌then◌else◌}
 use Rattle.std.specs.List.{list_all}
 use Rattle.std.specs.Str.{bytes_eq}
@@ -15,7 +15,7 @@ use Rattle.run_scripts.specs.declared.kind.Kind.TheVariants as kind
 use Rattle.run_scripts.specs.Kinds.{kind_named}
 use Rattle.run_scripts.specs.Words.{words_of, first_word, first_number, first_address}
 
--- a kind that must be there
+-- the kind, or a refusal where it is missing
 abbrev pub named : Option Kind → Result Kind ScriptKind
 named (Some k) = Ok k
 named None = Err UnknownMove
@@ -47,7 +47,7 @@ slide_read words =
     and_then (first_number words) (λ k.
     and_then (first_number (drop 1 words)) (λ c. read_with (Slide k c) (drop 1 (drop 1 words))))
 
--- the move of a kind, with what has to follow
+-- the move of a kind, with the words that have to follow
 abbrev pub kind_read : Kind → List (List ℕ) → Result (Move × List (List ℕ)) ScriptKind
 kind_read kind.Issue words = issue_read words
 kind_read kind.Emit words = read_with Emit words

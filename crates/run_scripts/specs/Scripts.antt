@@ -1,4 +1,4 @@
--- What a script says (a format of this project): one move a line, comments and lines without words aside.
+-- What a script says (a format of this project): one move a line; comments and lines without words are skipped.
 use Rattle.std.specs.Prelude.{ℕ, ◌+◌, ◌==◌, ◌||◌, Bool, Option, Some, None, Result, Ok, Err, List, [], ◌∷◌, length, drop, codes, nat_eq, if◌then◌else◌}
 use Rattle.std.specs.List.{starts_with}
 use Rattle.rv_text.specs.Lines.{text_lines}
@@ -18,7 +18,7 @@ pub record ScriptLines : Type 0 where
 unfoldable pub is_skipped : List ℕ → Bool
 is_skipped line = starts_with nat_eq line (codes "#") || length (words_of line) == 0
 
--- what a script says from a line on, where that line gives this
+-- what a script says from a line on, where this line gives that move or refusal
 abbrev pub told_by : ℕ → Result Move ScriptKind → ScriptLines → ScriptLines
 told_by line (Ok mv) after = record after { moves = (line, mv) ∷ after.moves }
 told_by line (Err kind) after = record { moves = []; refused = Some (record { line = line; kind = kind }) }
@@ -34,7 +34,7 @@ told_from above (line ∷ lines) =
 unfoldable pub script_of : List ℕ → ScriptLines
 script_of text = told_from 0 (text_lines text)
 
--- the first of some moves, or what is after them
+-- the first of some moves, or what comes after them
 abbrev pub first_of : List (ℕ × Move) → Option ScriptErr → Result (Option (ℕ × Move)) ScriptErr
 first_of (mv ∷ moves) refused = Ok (Some mv)
 first_of [] (Some e) = Err e
@@ -44,6 +44,6 @@ first_of [] None = Ok None
 abbrev pub next_of : ScriptLines → Result (Option (ℕ × Move)) ScriptErr
 next_of told = first_of told.moves told.refused
 
--- what is left after that; the end and a refusal stay
+-- what is left after that; the end and a refusal do not change
 abbrev pub after_next : ScriptLines → ScriptLines
 after_next told = record told { moves = drop 1 told.moves }

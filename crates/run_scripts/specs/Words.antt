@@ -7,12 +7,12 @@ use Rattle.rv_text.specs.Numbers.{numeral}
 use Rattle.run_scripts.specs.declared.refusal.ScriptKind.{ScriptKind}
 use Rattle.run_scripts.specs.declared.refusal.ScriptKind.TheVariants.{BadNumber}
 
--- a piece with something in it
+-- a piece that is not empty
 abbrev pub is_word : List ℕ → Bool
 is_word [] = false
 is_word (byte ∷ piece) = true
 
--- the words of a line: what is between spaces and tabs
+-- the words of a line, which spaces and tabs separate
 unfoldable pub words_of : List ℕ → List (List ℕ)
 words_of line = filter is_word (slice_split is_blank line)
 
@@ -21,7 +21,7 @@ abbrev pub first_word : List (List ℕ) → List ℕ
 first_word [] = []
 first_word (word ∷ words) = word
 
--- the number of a stage, a siding or a cell that the first word spells: from one to nine decimal digits
+-- the number of a stage, a siding or a cell that the first word spells: one to nine decimal digits
 unfoldable pub first_number : List (List ℕ) → Result ℕ ScriptKind
 first_number words = needed BadNumber (numeral 10 9 (first_word words))
 

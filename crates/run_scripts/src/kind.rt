@@ -61,7 +61,7 @@ impl Kind {
         }
     }
 
-    /// The kind whose name the word is.
+    /// The kind with this name.
     #[tactic(auto, unfolding(crate::specs::Kinds::kind_named))]
     pub(crate) fn named(word: &[u8]) -> Option<Kind>
         ensures { result ≡ kind_named word.now }
@@ -70,7 +70,7 @@ impl Kind {
     }
 }
 
-/// The place of the kind whose name the word is, among the kinds in the order of `Move`, from 0.
+/// The index of the kind with this name, among the kinds in the order of `Move`, from 0.
 #[tactic(auto, unfolding(crate::specs::Kinds::place_named))]
 pub fn place_named(word: &[u8]) -> Option<usize>
     ensures place { result ≡ place_named word.now }
@@ -79,7 +79,7 @@ pub fn place_named(word: &[u8]) -> Option<usize>
     KINDS.iter().position(|kind| kind.name() == word)
 }
 
-/// The name of the kind at a place among the kinds in the order of `Move`, from 0: the first word of its lines, of at
+/// The name of the kind at an index among the kinds in the order of `Move`, from 0: the first word of its lines, of at
 /// most seven letters.
 #[tactic(auto, using(crate::proofs::Names::named))]
 pub fn kind_name(place: usize) -> &'static [u8]

@@ -4,8 +4,8 @@ ghost use Rattle.cf_bind.specs.declared.moves.Move.{Move as AnyMove};
 ghost use Rattle.cf_bind.specs.MoveTexts.{move_line};
 ghost use Rattle.run_scripts.specs.MoveLines.{NumbersBelow, move_in};
 
-/// The line of a move, read again, gives that move, where each number of a stage, a siding or a cell has at most
-/// nine digits.
+/// The line of a move, read back, gives that move, where each number of a stage, a siding or a cell has at most nine
+/// digits.
 #[tactic(auto, using(crate::proofs::ReadBack::reading_back))]
 pub fn read_back()
     ensures { (mv : AnyMove) → NumbersBelow (10 ^ 9) mv → move_in (move_line mv) ≡ Ok mv }

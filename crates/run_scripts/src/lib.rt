@@ -1,5 +1,4 @@
-//! The schedule of a run: moves as a script has them, line by line; and why a line of a script, of delays or of a trace
-//! is refused.
+//! Scripts, the schedules of runs: moves, line by line; and why a line of a script, of delays or of a trace is refused.
 #![tactic(auto)]
 
 mod delay_refusal;

@@ -1,4 +1,4 @@
-//! The line of a move is read.
+//! Reading the line of a move.
 #![tactic(auto, unfolding(crate::specs::MoveLines::guess_read, crate::specs::MoveLines::move_read))]
 
 ghost use Rattle.std.specs.Prelude.{◌≡◌};
@@ -28,7 +28,7 @@ fn read_guess(words: &mut Words<'_>) -> Result<Guess, ScriptKind>
     }
 }
 
-/// The move of a kind, with what has to follow.
+/// The move of a kind, with the words that have to follow.
 fn read_kind(kind: Kind, words: &mut Words<'_>) -> Result<Move, ScriptKind>
     ensures { ReadsWords result words.new (kind_read kind words.old) }
 {
@@ -58,7 +58,7 @@ fn read_next(words: &mut Words<'_>) -> Result<Move, ScriptKind>
     read_kind(kind, words)
 }
 
-/// The move that all of the words give.
+/// The move that the words give, with none left.
 #[tactic(auto, unfolding(crate::specs::MoveLines::words_read))]
 fn read_words(mut words: Words<'_>) -> Result<Move, ScriptKind>
     ensures { result ≡ words_read words.entry }

@@ -1,4 +1,4 @@
-//! A script is read, line by line.
+//! Reading a script, line by line.
 
 ghost use Rattle.std.specs.Prelude.{◌≡◌, ◌<◌, ◌≤◌, ◌^◌, length};
 ghost use Rattle.run_scripts.specs.Limits.{most_script};
@@ -14,11 +14,11 @@ use std::marker::Model;
 /// The greatest length of a script's text, in bytes.
 pub const MOST_SCRIPT: usize = 16_777_216;
 
-/// A script, whose text is lent. It is seen as what is left of it: the moves, and the refusal or the end after
+/// A script over a borrowed text. Contracts see it as what is left of it: the moves, and the refusal or the end after
 /// them.
 #[derive(Drop)]
 pub struct Script<'a> {
-    /// How many lines have been passed.
+    /// The number of lines that have been read.
     above: u32,
 
     /// The text after them.
@@ -59,7 +59,7 @@ impl<'a> Script<'a> {
         }
     }
 
-    /// The next move with its line, counted from 1; `None` exactly at the end. After a refusal each later call gives
+    /// The next move with its line, counted from 1; `None` exactly at the end. After a refusal each later call returns
     /// the same.
     #[tactic(auto, using(crate::proofs::Counted::counting))]
     pub fn next(&mut self) -> Result<Option<(u32, Move)>, ScriptErr>

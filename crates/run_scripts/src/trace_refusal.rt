@@ -2,8 +2,8 @@
 
 use cf_bind::Bar;
 
-/// Why a trace is not that of a run. The tests of the next group of lines are made in this order, except that a trace
-/// which has no line feed left is `Cut` before all of them.
+/// Why a text is not the trace of a run. The next group of lines is tested in this order, except that a text without a
+/// further line feed is `Cut` before all other tests.
 #[derive(Clone, Copy, PartialEq, Eq)]
 pub enum TraceKind {
     /// The group does not begin with a line that is written for a move, with the next number.
@@ -12,7 +12,7 @@ pub enum TraceKind {
     /// The move cannot be made: the bar is the first of its row in the table of moves.
     Barred(Bar),
 
-    /// A byte differs from the one that is shown for the move.
+    /// A byte differs from what is shown for the move.
     Differs,
 
     /// The trace ends within a group.

@@ -7,7 +7,7 @@ use crate::refusal::ScriptKind;
 use rv_text::{numeral, split_name, trim};
 use std::marker::Model;
 
-/// The words of a line that are left to read: what is between spaces and tabs.
+/// The words of a line that are left to read. Words are separated by spaces and tabs.
 #[derive(Drop)]
 pub struct Words<'a> {
     rest: &'a [u8],
@@ -49,7 +49,7 @@ impl<'a> Words<'a> {
         word
     }
 
-    /// The number that the next word spells: from one to nine decimal digits.
+    /// The number that the next word spells: one to nine decimal digits.
     #[tactic(auto, unfolding(crate::specs::Words::first_number))]
     pub fn number(&mut self) -> Result<u32, ScriptKind>
         ensures number { result ≡ first_number self.old }

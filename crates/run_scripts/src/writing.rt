@@ -1,4 +1,4 @@
-//! The line of a move is written.
+//! Writing the line of a move.
 #![tactic(auto, using(crate::proofs::Sizes::sizes))]
 
 ghost use Rattle.std.specs.Prelude.{◌≡◌, ◌<◌, ◌^◌};
@@ -8,14 +8,14 @@ ghost use Rattle.run_scripts.specs.MoveLines.{NumbersBelow};
 use cf_bind::{Guess, Move, MoveLine, move_text};
 use rv_text::TextLine;
 
-/// Tells the prover that a number is a word.
+/// A fact for the prover: a `u32` is a word.
 fn is_word(number: u32)
     ensures { number < 2 ^ 32 }
 {
     let _ = number;
 }
 
-/// Tells the prover that the numbers of a move are words, so that its line is short.
+/// A fact for the prover: the numbers of a move are words, so its line is short.
 fn has_words(mv: Move)
     ensures { NumbersBelow (2 ^ 32) mv }
 {
