@@ -1,4 +1,4 @@
--- What an audit of a recorded trace answers, and what a trace that agrees tells of the sequential machine.
+-- The outcome of an audit of a recorded trace, and what a trace that agrees says about the sequential machine.
 use Rattle.std.specs.Prelude.{◌≡◌, ℕ, ◌+◌, List, Option, Some, None}
 use Rattle.run_options.specs.declared.show.Show.TheVariants as show
 use Rattle.rv_machine.specs.Hart.{Hart}
@@ -27,15 +27,15 @@ IsAgreement n (Agrees m) = m ≡ n
 IsAgreement n (Wrong line kind) = ⊥
 IsAgreement n ReadFault = Unit {0}
 
--- over an input whose remaining bytes are known, each trace of a run is answered in this way
+-- over an input whose remaining bytes are known, each trace of a run gets this answer
 abbrev pub AgreesWithAll : Processor → Option (List ℕ) → List ℕ → Audit → Type 0
 AgreesWithAll core None text answer = Unit {0}
 AgreesWithAll core (Some rest) text answer =
     (n : ℕ) (last : Moment) → IsTrace core (Some rest) text n last → IsAgreement n answer
 
 -- The retirement lines of the run whose trace the text is are those of the sequential machine that starts on this hart
--- with this input: for some number of its first instructions a line each, in their order, numbered by the machine's
--- count.
+-- with this input: a line for each of its first instructions, up to some number, in their order, numbered by the
+-- machine's count.
 pub record RetiresAs (core : Processor) (hart : Hart) (rest text : List ℕ) (n : ℕ) : Type 0 where
   pub last : Moment
   pub is : IsTrace core (Some rest) text n last

@@ -1,23 +1,23 @@
 -- A sink that compares what is put to it with a text (a convention of this project).
 use Rattle.std.specs.Prelude.{◌≡◌, ℕ, ◌≤◌, ◌<◌, suc, List, [], ◌∷◌, ◌++◌, length, take, map, slice_get, Option, Some, None, IfSome, IsSome}
 
--- the text, how many of its bytes were put, the byte after them that differs, if one does, and how often the sink has
--- failed since
+-- the text, how many of its bytes were written, the byte after them that differs, if there is one, and how often the
+-- sink has failed since
 pub record Comparison : Type 0 where
   pub text : List ℕ
   pub agreed : ℕ
   pub other : Option ℕ
   pub faults : ℕ
 
--- before the first put
+-- before the first byte
 abbrev pub fresh : List ℕ → Comparison
 fresh text = record { text = text; agreed = 0; other = None; faults = 0 }
 
--- the byte is not at this place of the text
+-- the text does not have the byte at this index
 abbrev pub IsOther : List ℕ → ℕ → ℕ → Type 0
 IsOther text place byte = slice_get text place ≡ Some byte → ⊥
 
--- two texts have no byte in common at this place
+-- the two texts do not have the same byte at this index
 abbrev pub DifferAt : (one other : List ℕ) → ℕ → Type 0
 DifferAt one other place = (byte : ℕ) → slice_get other place ≡ Some byte → IsOther one place byte
 
@@ -27,29 +27,29 @@ pub record IsComparison (c : Comparison) : Type 0 where
   pub other : IfSome c.other (λ byte. IsOther c.text c.agreed byte)
   pub failed : 0 < c.faults → IsSome c.other
 
--- a byte that was put is not in the text where it should
+-- a byte was written that the text does not have at that index
 pub record HasOther (seen : Comparison) : Type 0 where
   pub other : ℕ
   pub is : seen.other ≡ Some other
   pub differs : IsOther seen.text seen.agreed other
   pub within : seen.agreed ≤ length seen.text
 
--- all that was put agrees, and the comparison has not failed
+-- all that was written agrees, and the comparison has not failed
 pub record AllAgrees (seen : Comparison) : Type 0 where
   pub none : seen.other ≡ None
   pub works : seen.faults ≡ 0
   pub within : seen.agreed ≤ length seen.text
 
--- a byte alone, where there is one
+-- the byte as a list, empty where there is none
 abbrev pub alone : Option ℕ → List ℕ
 alone None = []
 alone (Some byte) = byte ∷ []
 
--- what was put
+-- what was written
 abbrev pub put_of : Comparison → List ℕ
 put_of c = take c.agreed c.text ++ alone c.other
 
--- what the sink exposes: the text, in bytes raised by one, so that the first 0 ends it; and after that 0 what was put.
--- So whatever puts to it is known to leave its text as it is
+-- what the sink exposes: the text, in bytes raised by one, so that the first 0 ends it; and after that 0 what was
+-- written. So whatever puts to it is known to leave its text as it is
 unfoldable pub told_by : Comparison → List ℕ
 told_by c = map suc c.text ++ 0 ∷ put_of c

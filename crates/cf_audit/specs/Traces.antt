@@ -28,7 +28,7 @@ most_retired = 2 ^ 64 - 1
 abbrev pub IsReadBack : Move → Type 0
 IsReadBack mv = move_in (move_line mv) ≡ Ok mv
 
--- so is that of each of these moves
+-- the same for each of these moves
 abbrev pub AreReadBack : List Made → Type 0
 AreReadBack [] = Unit {0}
 AreReadBack (made ∷ trace) = IsReadBack made.move × AreReadBack trace
@@ -55,22 +55,22 @@ pub record BeginsWithMove (text : List ℕ) (n : ℕ) (mv : Move) : Type 0 where
   pub after : List ℕ
   pub is : text ≡ numbered_move n mv ++ after
 
--- a line feed is in the text
+-- the text has a line feed
 abbrev pub has_line : List ℕ → Bool
 has_line text = list_any is_line_feed text
 
--- the line in which the byte at a place is, counted from 1
+-- the line of the byte at an index, counted from 1
 unfoldable pub line_of : List ℕ → ℕ → ℕ
 line_of text place = 1 + count_by is_line_feed (take place text)
 
--- a prefix of the text is the trace of a run of n moves that leads to this moment, and this is left of the text, which
--- is not at its end
+-- a prefix of the text is the trace of a run of n moves that leads to this moment; this is left of the text, and it is
+-- not empty
 pub record AgreesSoFar (core : Processor) (told : Option (List ℕ)) (text front left : List ℕ) (n : ℕ) (last : Moment) : Type 0 where
   pub parts : text ≡ front ++ left
   pub some : 0 < length left
   pub is : IsTrace core told front n last
 
--- the next move, of this number, is made at the moment, and this is its group: all that is shown of it
+-- the next move, of this number, is made at the moment, and this is its group: all that is shown for it
 pub record IsGroup (plan : Plan) (told : Option (List ℕ)) (last : Moment) (n : ℕ) (mv : Move) (group : List ℕ) : Type 0 where
   pub rest : List ℕ
   pub finds : Finds told last.rest rest
@@ -80,7 +80,7 @@ pub record IsGroup (plan : Plan) (told : Option (List ℕ)) (last : Moment) (n :
   pub is : group ≡ shown show.Moves plan n made
 
 -- what is left begins with the line of a move that can be made, which leads to the moment `stop`, and it is the move's
--- group up to this place, at which the group has another byte or the text has ended
+-- group up to this index, at which the group has another byte or the text has ended
 pub record PartsAt (plan : Plan) (told : Option (List ℕ)) (last : Moment) (n : ℕ) (left : List ℕ) (place : ℕ) (stop : Moment) : Type 0 where
   pub move : Move
   pub begins : BeginsWithMove left n move
@@ -93,9 +93,9 @@ pub record PartsAt (plan : Plan) (told : Option (List ℕ)) (last : Moment) (n :
   pub differs : slice_get left place ≡ Some other → ⊥
 
 -- why what is left, which is not empty, is not the trace of further moves from the moment, the next of which has this
--- number; the place is that of the byte that shows it. The tests are in the order in which they are made: no line feed
--- is left; the first line is that of no move; the move is barred; what follows is not its group. Only for the last is a
--- move made: all stops at the moment to which it leads, and else at this one
+-- number; the index is that of the byte that shows it. The tests, in their order: no line feed is left; the first line
+-- is no move's; the move is barred; what follows is not its group. Only the last makes a move: then all stops at the
+-- moment to which it leads, and otherwise at this one
 unfoldable pub TraceFails : Plan → Option (List ℕ) → Moment → ℕ → List ℕ → ℕ → TraceKind → (stop : Moment) → Type 0
 TraceFails plan told last n left place Cut stop =
     ((has_line left ≡ false) × (place ≡ 0) × (stop ≡ last))
@@ -119,8 +119,8 @@ pub record GoesWrong (core : Processor) (told : Option (List ℕ)) (text : List 
   pub fails : TraceFails core.plan told last (n + 1) left place kind stop
   pub line_is : line ≡ line_of text (length front + place)
 
--- After the groups of a run comes the line of Serve, which nothing bars: this call is the one that failed, and the
--- processor and the input are what it leaves.
+-- After the groups of a run comes the line of Serve, which nothing bars: this call failed, and the processor and the
+-- input are as it leaves them.
 pub record StopsAtCall (core new : Processor) (told now : Option (List ℕ)) (text : List ℕ) : Type 0 where
   pub front : List ℕ
   pub left : List ℕ

@@ -16,16 +16,16 @@ use Rattle.run_scripts.specs.declared.trace_refusal.TraceKind.TheVariants.{NotAM
 use Rattle.cf_audit.specs.Compared.{Comparison, told_by, HasOther, AllAgrees}
 use Rattle.cf_audit.specs.Traces.{BeginsWithMove, has_line, line_of}
 
--- where an audit has arrived: the place of its run, and the comparison that is its report
+-- where an audit has arrived: the RunPlace of its run, and the comparison that is its report
 pub record AuditRun : Type 0 where
   pub place : RunPlace
   pub seen : Comparison
 
--- the stand with these
+-- the AuditRun with these parts
 abbrev pub stand_of : RunPlace → Comparison → AuditRun
 stand_of place seen = record { place = place; seen = seen }
 
--- the stand with these, given what a source exposes; what the program writes goes nowhere
+-- the AuditRun with these parts, given how a source exposes its bytes; the program's output is discarded
 abbrev pub stand_by : {S : Type 0} → (S → Option (List ℕ)) → Processor → S → Comparison → Tally → AuditRun
 stand_by unread core input seen tally = stand_of (place_of core (streams_of (unread input) None) (Some (told_by seen)) tally) seen
 
@@ -46,17 +46,17 @@ ComparisonAnswers text seen (Some (Wrong line Cut)) =
     HasOther seen × (seen.agreed ≡ length seen.text) × (line ≡ line_of text seen.agreed)
 ComparisonAnswers text seen (Some answer) = ⊥
 
--- the move was made, and all that is shown of it is next in the text
+-- the move was made, and all that is shown for it comes next in the text
 pub record Advances (mv : Move) (now new : AuditRun) : Type 0 where
   pub event : Event
   pub makes : MakesAndShows show.Moves mv event now.place new.place
   pub same : AllAgrees new.seen
 
--- a prefix of these bytes was put, or all of them
+-- a prefix of these bytes was written, or all of them
 abbrev pub PutsSome : Option (List ℕ) → Option (List ℕ) → List ℕ → Type 0
 PutsSome before after bytes = (n : ℕ) × (n ≤ length bytes) × Writes before after (take n bytes)
 
--- the move was made, and a byte of what is shown of it is not in the text where it should
+-- the move was made, and a byte of what is shown for it does not agree with the text
 pub record ShownDiffers (mv : Move) (now new : AuditRun) : Type 0 where
   pub event : Event
   pub makes : MakesMove mv event now.place new.place

@@ -1,14 +1,14 @@
-//! What an audit answers.
+//! The outcome of an audit.
 
 use run_scripts::TraceKind;
 
-/// What an audit answers.
+/// The outcome of an audit.
 #[derive(Clone, Copy)]
 pub enum Audit {
     /// The trace is that of a run of this many moves.
     Agrees(u64),
 
-    /// It is not: the line, counted from 1, in which that is seen, and why.
+    /// Mismatch: the first line that differs, counted from 1, and the reason.
     Wrong { line: u32, kind: TraceKind },
 
     /// The input failed in a call of the environment.

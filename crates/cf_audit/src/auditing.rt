@@ -1,4 +1,4 @@
-//! A recorded trace is audited.
+//! Auditing a recorded trace.
 #![tactic(auto, unfolding(crate::specs::Turns::AuditTries, crate::specs::Turns::Tests))]
 
 ghost use Rattle.std.specs.Prelude.{◌≡◌, ◌+◌, ◌<◌, ◌≤◌, ◌^◌, None, Some, count_by, length};
@@ -29,7 +29,7 @@ fn has_line(text: &[u8]) -> bool
     text.iter().any(|byte| *byte == b'\n')
 }
 
-/// How many line feeds are in a text.
+/// The number of line feeds in a text.
 fn count_lines(text: &[u8]) -> usize
     ensures count { result ≡ count_by is_line_feed text.now }
     ensures within { result ≤ length text.now }
@@ -43,7 +43,7 @@ fn count_lines(text: &[u8]) -> usize
     count
 }
 
-/// The line in which the byte at a place is, counted from 1.
+/// The line of the byte at an index, counted from 1.
 #[tactic(auto, using(crate::proofs::Parting::fronts), unfolding(crate::specs::Traces::line_of))]
 fn line_of(text: &[u8], place: usize) -> u32
     requires { length text.now ≤ most_trace }
@@ -53,7 +53,7 @@ fn line_of(text: &[u8], place: usize) -> u32
     count_lines(&text[..end]) as u32 + 1
 }
 
-/// The answer for a trace that is wrong at this place.
+/// The answer for a trace that is wrong at this index.
 fn wrong(trace: &[u8], place: usize, kind: TraceKind) -> Audit
     requires { length trace.now ≤ most_trace }
     ensures { result ≡ Audit.Wrong (line_of trace.now place) kind }
@@ -64,7 +64,7 @@ fn wrong(trace: &[u8], place: usize, kind: TraceKind) -> Audit
     }
 }
 
-/// The answer where a byte that was put does not agree with the trace.
+/// The answer where a byte that was written does not agree with the trace.
 #[tactic(auto, unfolding(crate::specs::Turns::ComparisonAnswers))]
 fn compared(trace: &[u8], report: &Compared<'_>) -> Option<Audit>
     requires { length trace.now ≤ most_trace }
@@ -79,8 +79,8 @@ fn compared(trace: &[u8], report: &Compared<'_>) -> Option<Audit>
     }
 }
 
-/// Tests the next group of the trace, makes its move, if nothing bars it, and compares all that is shown of it with the
-/// trace; or says how the audit ends.
+/// Tests the next group of the trace, makes its move, if nothing bars it, and compares all that is shown for it with
+/// the trace; or returns how the audit ends.
 fn advance<S: Source>(
     core: &mut Core,
     trace: &[u8],
@@ -122,19 +122,19 @@ fn advance<S: Source>(
 /// Audits a recorded trace: what `--show moves` writes of a run, without the report that closes it. The processor is an
 /// opened one on which nothing has retired, and the trace has at most `MOST_TRACE` bytes.
 ///
-/// Group after group the move that the trace names is made, and all that is shown of it is compared with the trace,
-/// byte by byte; nothing of it is kept. `Agrees` comes exactly where the trace is that of a run, of this many moves,
-/// which leads to where the processor and the input then are. `Wrong` comes exactly where it is not, by the first test
-/// that fails, in the order of [`TraceKind`]. The line is that of the group's first line; for `Differs` that of the
-/// first byte that differs, and for `Cut` that in which the trace ends. The processor and the input then are where the
-/// moves that were made lead: those of the groups before, and for `Differs`, and for `Cut` within a group, the one of
-/// this group too.
+/// Group by group, the audit makes the move that the trace names and compares all that is shown for it with the trace,
+/// byte by byte; it stores none of it. The answer is `Agrees` exactly where the trace is that of a run of this many
+/// moves; the processor and the input are then at its end. It is `Wrong` exactly where the trace is not, with the first
+/// test that fails, in the order of [`TraceKind`]. The line is the group's first; for `Differs` that of the first byte
+/// that differs, and for `Cut` the one in which the trace ends. The processor and the input are then where the moves
+/// that were made lead: those of the groups before, and for `Differs`, and for `Cut` within a group, also the move of
+/// this group.
 ///
 /// So the lines of retired instructions in a trace that agrees are those of the sequential machine, in its order,
-/// whoever has made the trace and in whatever order its moves were made.
+/// whatever made the trace and in whatever order its moves were made.
 ///
-/// `ReadFault` comes only where the input failed a call of the environment, and its count of faults rose. What the
-/// program writes goes nowhere.
+/// `ReadFault` comes only where the input failed a call of the environment, and its count of faults rose. The program's
+/// output is discarded.
 pub fn audit<S: Source>(core: &mut Core, trace: &[u8], input: &mut S) -> Audit
     requires opened { IsOpened core.old }
     requires retired { core.old.state.retired ≡ 0 }

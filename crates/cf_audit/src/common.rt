@@ -3,7 +3,7 @@
 ghost use Rattle.std.specs.Prelude.{◌≡◌, ◌≤◌, length, slice_get, take};
 ghost use Rattle.cf_audit.specs.Compared.{DifferAt};
 
-/// How many bytes the two have in common from their front on.
+/// The length of the longest common prefix of the two.
 pub(crate) fn common(one: &[u8], other: &[u8]) -> usize
     ensures within_one { result ≤ length one.now }
     ensures within_other { result ≤ length other.now }
@@ -17,7 +17,7 @@ pub(crate) fn common(one: &[u8], other: &[u8]) -> usize
     same
 }
 
-/// The byte at a place of a text, where it has one.
+/// The byte at an index of a text, where it has one.
 pub(crate) fn byte_at(text: &[u8], place: usize) -> Option<u8>
     ensures { result ≡ slice_get text.now place }
 {

@@ -9,8 +9,8 @@ use crate::common::{byte_at, common};
 use cf_io::{Failed, Sink};
 use std::marker::Model;
 
-/// A sink that takes what is put to it while it agrees with a text, and the first byte that differs or comes after
-/// the text's end. Then it fails.
+/// A sink that accepts bytes while they agree with a text, and then the first byte that differs or comes after the
+/// text's end. From then on it fails.
 #[derive(Drop)]
 pub(crate) struct Compared<'a> {
     text: &'a [u8],
@@ -30,7 +30,7 @@ impl<'a> Model for Compared<'a> {
 }
 
 impl<'a> Compared<'a> {
-    /// A comparison with a text to which nothing has been put yet.
+    /// A comparison with a text, before the first byte.
     pub(crate) fn with(text: &'a [u8]) -> Compared<'a>
         ensures { result ≡ fresh text.now }
     {
@@ -57,14 +57,14 @@ impl<'a> Compared<'a> {
         &self.text[self.agreed..]
     }
 
-    /// Whether all of the text agrees.
+    /// Whether the whole text has been matched.
     pub(crate) fn is_whole(&self) -> bool
         ensures { IsTrue result ↔ (self.now.agreed ≡ length self.now.text) }
     {
         self.agreed == self.text.len()
     }
 
-    /// Whether a byte was put that does not agree.
+    /// Whether a byte was written that does not agree.
     pub(crate) fn differs(&self) -> bool
         ensures yes { result ≡ true → HasOther self.now }
         ensures no { result ≡ false → AllAgrees self.now }

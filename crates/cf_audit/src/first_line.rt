@@ -28,7 +28,7 @@ fn after_number(text: &[u8], n: u64) -> Option<&[u8]>
     after(text, front.bytes())
 }
 
-/// What is before the first line feed.
+/// The text before the first line feed.
 fn first_line(text: &[u8]) -> Option<&[u8]>
     ensures { MatchOption result ((line : List ℕ) → IsFirstLine text.now line → ⊥) (λ line. IsFirstLine text.now line.now) }
 {
@@ -57,7 +57,7 @@ fn move_of(line: &[u8]) -> Option<Move>
     if is_line_of(line, mv) { Some(mv) } else { None }
 }
 
-/// The move with whose line, the `n`th, the text begins.
+/// The move with which the text begins: its first line is the `n`th move's.
 pub(crate) fn recorded_move(text: &[u8], n: u64) -> Option<Move>
     ensures { MatchOption result ((mv : AnyMove) → BeginsWithMove text.now n mv → ⊥) (λ mv. BeginsWithMove text.now n mv) }
 {

@@ -1,4 +1,4 @@
--- What a line tells the debugger (a format of this project): a command by its first word, and what has to follow that.
+-- The commands of the debugger, one a line (a format of this project): a name, and what has to follow it.
 use Rattle.std.specs.Prelude.{ℕ, ◌≤◌, ◌==◌, ◌&&◌, List, [], drop, length, Option, Some, None, Result, Ok, Err, codes, nat_le, nat_lt, if◌then◌else◌}
 use Rattle.std.specs.Str.{bytes_eq}
 use Rattle.texts.specs.Answers.{and_then, needed}
@@ -15,7 +15,7 @@ use Rattle.cf_debug.specs.declared.command.Refusal.{Refusal}
 use Rattle.cf_debug.specs.declared.command.Refusal.TheVariants.{TooLong, UnknownCommand, BadNumber, ExtraWords, Script}
 use Rattle.cf_debug.specs.Limits.{longest_line, most_moves}
 
--- a number that must be there, from one up to a limit
+-- the number, from one up to a limit, or a refusal where it is missing
 abbrev pub within : ℕ → Result ℕ ScriptKind → Result ℕ Refusal
 within most (Err kind) = Err BadNumber
 within most (Ok n) = if nat_le 1 n && nat_le n most then Ok n else Err BadNumber
@@ -52,7 +52,7 @@ memory_told words =
     and_then (number_told 16 (drop 1 words)) (λ len.
     alone (drop 1 (drop 1 words)) (Show (Memory address len))))
 
--- where to break
+-- a break address, or `none`, and nothing more
 unfoldable pub stop_told : List (List ℕ) → Result DebugCommand Refusal
 stop_told words = and_then (break_told (first_word words)) (λ stop. alone (drop 1 words) (Break stop))
 
@@ -66,7 +66,7 @@ lone_command name =
     else if bytes_eq name (codes "end") then Some End
     else None
 
--- such a command, or that there is none of the name
+-- such a command, or the refusal of an unknown name
 abbrev pub lone_told : Option DebugCommand → List (List ℕ) → Result DebugCommand Refusal
 lone_told None words = Err UnknownCommand
 lone_told (Some command) words = alone words command
@@ -81,18 +81,18 @@ command_named name after =
     else if bytes_eq name (codes "break") then stop_told (words_of after)
     else lone_told (lone_command name) (words_of after)
 
--- what a line tells, or the first refusal
+-- the command of a line, or the first refusal
 unfoldable pub command_in : List ℕ → Result DebugCommand Refusal
 command_in line =
     if nat_lt longest_line (length line) then Err TooLong
     else command_named (name_part line) (operand_part line)
 
--- of memory at most 16 bytes are shown
+-- the view shows at most 16 bytes of memory
 abbrev pub ShowsFew : View → Type 0
 ShowsFew (Memory address len) = len ≤ 16
 ShowsFew view = Unit {0}
 
--- a command asks for at most 16 bytes of memory
+-- the command shows at most 16 bytes of memory
 abbrev pub AsksFew : DebugCommand → Type 0
 AsksFew (Show view) = ShowsFew view
 AsksFew command = Unit {0}

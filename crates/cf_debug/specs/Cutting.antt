@@ -30,7 +30,7 @@ abbrev pub last_line : List ℕ → List (List ℕ)
 last_line [] = []
 last_line (byte ∷ line) = (byte ∷ line) ∷ []
 
--- of an unfinished line as much is held as shows whether it is too long, with a carriage return too
+-- what is held of an unfinished line: enough to show whether it is too long, with a carriage return counted
 abbrev pub held : List ℕ → List ℕ
 held line = take (longest_line + 2) line
 
@@ -40,7 +40,7 @@ pub record Feeding : Type 0 where
   pub left : ℕ
 
 -- the next byte of the commands: where no byte that was taken is left, some are taken; or the commands are at their
--- end, or there are more than there may be, or a take failed
+-- end, or longer than the limit, or a take failed
 unfoldable pub Feeds : (before after : Option (List ℕ)) → (now new : Feeding) → Next → Type 0
 Feeds before after now new (Byte byte) =
     (taken : List ℕ) × GivesInput before after taken × (now.rest ++ taken ≡ byte ∷ new.rest)

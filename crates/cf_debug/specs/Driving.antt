@@ -1,4 +1,4 @@
--- Moves in turn: the debugger picks them as a run under the policy Round does, until there are enough, the run is over,
+-- Moves in turn: the debugger picks them as a run under the policy Round does, until enough are made, the run is over,
 -- or an instruction at the break address is issued.
 use Rattle.std.specs.Prelude.{◌≡◌, ◌⊎◌, ℕ, ◌<◌, ◌≤◌, ◌==◌, ◌&&◌, List, [], ◌∷◌, ◌++◌, length, Option, Some, None, Bool, true, false}
 use Rattle.cf_bind.specs.declared.moves.Move.{Move}
@@ -59,7 +59,7 @@ unfoldable pub retirements : List Made → List ℕ
 retirements [] = []
 retirements (made ∷ trace) = retirement made.state.retired made.event ++ retirements trace
 
--- after this many of n moves: there are enough, or the run is over; or the next one issues an instruction at the break
+-- after this many of n moves: enough are made, or the run is over; or the next one issues an instruction at the break
 -- address, and is the last
 abbrev pub Pauses : ℕ → Option ℕ → ℕ → Turn → (now new : ProcessorState) → List Made → Type 0
 Pauses n stop count at now new [] = (new ≡ now) × ((count ≡ n) ⊎ (GoesOn most_retired now.core.state → ⊥))

@@ -13,7 +13,7 @@ use Rattle.cf_core.specs.Stepping.{Makes, FailsToWrite}
 use Rattle.cf_core.specs.Undo.{CanStand}
 use Rattle.cf_debug.specs.Rings.{ring_after}
 
--- what moves change: the processor, the ring, and what the output exposes
+-- what a move changes: the processor, the ring, and what the output exposes
 pub record ProcessorState : Type 0 where
   pub core : Processor
   pub ring : List Kept

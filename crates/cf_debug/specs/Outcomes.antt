@@ -1,5 +1,5 @@
--- What a command, or a move of `auto`, leaves: it is done and its answer put, or the report failed after a prefix of
--- that, or the output failed it.
+-- The outcome of a command, or of a move of `auto`: it is carried out and its answer written; or the report failed
+-- after a prefix of the answer; or the output failed it.
 use Rattle.std.specs.Prelude.{◌≡◌, ℕ, List, Option, Some, Bool, Result, Ok, Err}
 use Rattle.cf_io.specs.Puts.{Writes, WritesFront}
 use Rattle.cf_io.specs.declared.failed.Failed.{Failed}
@@ -23,7 +23,7 @@ pub record IsNextTurn (at later : Turn) (now : ProcessorState) (made : Made) : T
   pub policy : later.policy ≡ (next_turn at now made).policy
   pub count : later.count ≡ stopped now.core.plan.stages (next_turn at now made).count
 
--- what a move of `auto` leaves, and whether it issued an instruction at the break address
+-- the outcome of a move of `auto`, and whether it issued an instruction at the break address
 unfoldable pub Steers : Option ℕ → (at later : Turn) → (now new : ProcessorState) → (written after : Option (List ℕ)) → Result Bool Broken → Type 0
 Steers stop at later now new written after (Ok last) =
     (made : Made) × DriveTakes at made now new × (breaks stop now.core.state made.move ≡ last) × IsNextTurn at later now made
@@ -33,7 +33,7 @@ Steers stop at later now new written after (Err broken.Report) =
 Steers stop at later now new written after (Err broken.Output) =
     GoesOn most_retired now.core.state × (pick at now ≡ Some Serve) × FailsOne Serve now new × (after ≡ written)
 
--- what the moves of `auto` leave, and how many there were
+-- the outcome of the moves of `auto`, and how many there were
 unfoldable pub DrivesOut : ℕ → Option ℕ → (now new : ProcessorState) → (written after : Option (List ℕ)) → Result ℕ Broken → Type 0
 DrivesOut n stop now new written after (Ok count) = (lines : List ℕ) × Drives n stop now new count lines × Writes written after lines
 DrivesOut n stop now new written after (Err broken.Report) = (lines : List ℕ) × DrivesOn n stop now new lines × WritesFront written after lines
@@ -44,12 +44,12 @@ abbrev pub of_report : Result (Unit {0}) Failed → Result (Unit {0}) Broken
 of_report (Ok done) = Ok tt
 of_report (Err failed) = Err broken.Report
 
--- what `back` leaves, and what is put
+-- the outcome of `back`, and what is written
 abbrev pub PutsBack : (now new : ProcessorState) → (written after : Option (List ℕ)) → (before faults : ℕ) → Result (Unit {0}) Failed → Type 0
 PutsBack now new written after before faults answer = (text : List ℕ) × TakesBack now new text × PutsText written after before faults text answer
 
--- what a command leaves: it is carried out and its answer put; or the report failed after a prefix of that, or the
--- output failed it
+-- the outcome of a command: it is carried out and its answer written; or the report failed after a prefix of the
+-- answer; or the output failed it
 unfoldable pub CommandLeaves : DebugCommand → (now new : DebuggerState) → (written after : Option (List ℕ)) → Result (Unit {0}) Broken → Type 0
 CommandLeaves command now new written after (Ok done) = (text : List ℕ) × CommandAnswers command now new text × Writes written after text
 CommandLeaves command now new written after (Err broken.Report) = (text : List ℕ) × CommandAnswersPart command now new text × WritesFront written after text

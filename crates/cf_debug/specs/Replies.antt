@@ -1,4 +1,4 @@
--- What each command answers and does: the table of the debugger (a format of this project).
+-- What each command does and answers: the table of the debugger (a format of this project).
 use Rattle.std.specs.Prelude.{◌≡◌, ◌≢◌, ◌⊎◌, ℕ, ◌<◌, ◌≤◌, ◌/◌, ◌%◌, List, [], ◌∷◌, ◌++◌, Option, Some, None, Result, Ok, Err, codes, decimal}
 use Rattle.std.specs.Char.{digit_char}
 use Rattle.mem_regions.specs.Ranges.{range_of}
@@ -28,7 +28,7 @@ use Rattle.cf_debug.specs.Driving.{Drives, DrivesOn, DrivesAground}
 use Rattle.cf_debug.specs.Limits.{most_retired}
 use Rattle.cf_debug.specs.Making.{ProcessorState, MakesAndKeeps, FailsOne}
 
--- what a session works on: the processor, and the address at which `auto` stops, where there is one
+-- the state of a session: the processor, and the address at which `auto` stops, where there is one
 pub record DebuggerState : Type 0 where
   pub processor : ProcessorState
   pub stop : Option ℕ
@@ -42,7 +42,7 @@ debugger_state processor stop = record { processor = processor; stop = stop }
 abbrev pub refused_line : List ℕ → List ℕ
 refused_line why = line (codes "? " ++ why)
 
--- why a line is no command
+-- why a line is not a command
 unfoldable pub refusal_text : Refusal → List ℕ
 refusal_text TooLong = codes "TooLong"
 refusal_text UnknownCommand = codes "UnknownCommand"
@@ -75,7 +75,7 @@ moved_text new event = line (codes "moved") ++ retirement new.core.state.retired
 
 -- Commands --
 
--- as many instructions have retired as may
+-- as many instructions have retired as the limit allows
 abbrev pub IsAtLimit : ProcessorState → Type 0
 IsAtLimit now = most_retired ≤ now.core.state.retired
 
@@ -127,7 +127,7 @@ CommandAnswers (Break stop) now new text = (new ≡ debugger_state now.processor
 CommandAnswers Back now new text = (new.stop ≡ now.stop) × TakesBack now.processor new.processor text
 CommandAnswers End now new text = OnlyAnswers now new text []
 
--- all of it, or `auto` in part: what is done where the report fails after a prefix of the text
+-- the same where the report fails after a prefix of the text: the whole command is carried out, or `auto` in part
 unfoldable pub CommandAnswersPart : DebugCommand → (now new : DebuggerState) → List ℕ → Type 0
 CommandAnswersPart (Auto n) now new text = CommandAnswers (Auto n) now new text ⊎ ((new.stop ≡ now.stop) × DrivesOn n now.stop now.processor new.processor text)
 CommandAnswersPart command now new text = CommandAnswers command now new text
@@ -140,7 +140,7 @@ RunsAground command now new text = ⊥
 
 -- Lines --
 
--- what a line tells is answered: another command than `end`, or a refusal
+-- a line is answered: another command than `end`, or a refusal
 unfoldable pub AnswersLine : Result DebugCommand Refusal → (now new : DebuggerState) → List ℕ → Type 0
 AnswersLine (Ok command) now new text = (command ≢ End) × CommandAnswers command now new text
 AnswersLine (Err refusal) now new text = OnlyAnswers now new text (refused_line (refusal_text refusal))

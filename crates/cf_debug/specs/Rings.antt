@@ -1,4 +1,4 @@
--- The ring of what is kept of moves, the oldest first, so that they can be taken back, the newest first.
+-- The ring of records of moves, the oldest first; moves are taken back from the newest on.
 use Rattle.std.specs.Prelude.{◌≡◌, ◌≢◌, ℕ, List, [], ◌∷◌, ◌++◌, None}
 use Rattle.circular_buffer.specs.Buffer.{keep_last}
 use Rattle.cf_layout.specs.Layout.{Plan}
@@ -11,7 +11,7 @@ use Rattle.cf_semantics.specs.state.State.{State}
 use Rattle.cf_core.specs.Undo.{CanStand}
 use Rattle.cf_debug.specs.Limits.{most_kept}
 
--- with one more record, for which the oldest goes out of a full ring
+-- with one more record; a full ring drops its oldest
 abbrev pub with_record : List Kept → Kept → List Kept
 with_record ring k = keep_last most_kept (ring ++ k ∷ [])
 
@@ -20,14 +20,14 @@ unfoldable pub ring_after : Plan → State → Move → List Kept → List Kept
 ring_after plan s Serve ring = []
 ring_after plan s mv ring = with_record ring (kept plan s mv)
 
--- a move other than Serve was allowed in the state, and this was kept of it
+-- a move other than Serve was allowed in the state, and this is its record
 pub record WasKept (plan : Plan) (s : State) (k : Kept) : Type 0 where
   pub stood : CanStand plan s
   pub allowed : bar plan s k.move ≡ None
   pub other : k.move ≢ Serve
   pub is : k ≡ kept plan s k.move
 
--- the records were kept of moves that lead from one state to another
+-- the records are those of moves that lead from one state to another
 unfoldable pub RecordsLead : Plan → State → List Kept → State → Type 0
 RecordsLead plan s [] last = last ≡ s
 RecordsLead plan s (k ∷ ring) last = WasKept plan s k × RecordsLead plan (moved plan s k.move) ring last

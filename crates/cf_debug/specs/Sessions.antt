@@ -17,8 +17,7 @@ use Rattle.cf_debug.specs.Making.{ProcessorState, processor_state}
 use Rattle.cf_debug.specs.Replies.{DebuggerState, debugger_state, AnswersLine, AnswersAll, AnswersPart, FailsAnswer}
 use Rattle.cf_debug.specs.Standing.{IsOnRun}
 
--- what is seen of a session from outside: the processor, what the commands expose that they have left, and what the
--- report exposes
+-- what a session shows from outside: the processor, and what the commands and the report expose
 pub record Session : Type 0 where
   pub processor : ProcessorState
   pub commands : Option (List ℕ)
@@ -29,7 +28,7 @@ session_of processor commands report = record { processor = processor; commands 
 
 -- One line --
 
--- what a line leaves: it is answered, and the session goes on; or it is `end`; or it ends the session by a fault
+-- the outcome of a line: it is answered, and the session goes on; or it is `end`; or it ends the session by a fault
 unfoldable pub LineLeaves : List ℕ → (now new : DebuggerState) → (written after : Option (List ℕ)) → Option Debugged → Type 0
 LineLeaves line now new written after None = (text : List ℕ) × AnswersLine (command_in line) now new text × Writes written after text
 LineLeaves line now new written after (Some Done) = (command_in line ≡ Ok End) × (new ≡ now) × (after ≡ written)
@@ -38,19 +37,19 @@ LineLeaves line now new written after (Some ReportFault) = (text : List ℕ) × 
 LineLeaves line now new written after (Some Limit) = ⊥
 LineLeaves line now new written after (Some ReadFault) = ⊥
 
--- how what a command leaves ends the session
+-- how the outcome of a command ends the session
 abbrev pub ended_by : Result (Unit {0}) Broken → Option Debugged
 ended_by (Ok done) = None
 ended_by (Err broken.Output) = Some WriteFault
 ended_by (Err broken.Report) = Some ReportFault
 
--- what a byte leaves: it is one more of the unfinished line, of which this is held; or it ends the line
+-- the outcome of a byte: it continues the unfinished line, of which this is held; or it ends the line
 abbrev pub UsesByte : ℕ → (line later : List ℕ) → (now new : DebuggerState) → (written after : Option (List ℕ)) → Option Debugged → Type 0
 UsesByte byte line later now new written after answer =
     ((byte ≢ 10) × (later ≡ held (line ++ byte ∷ [])) × (new ≡ now) × (after ≡ written) × (answer ≡ None))
     ⊎ ((byte ≡ 10) × (later ≡ []) × LineLeaves (without_return line) now new written after answer)
 
--- what the end of the commands leaves: no unfinished line is there; or it is answered, or ends the session
+-- the outcome of the end of the commands: there is no unfinished line; or it is answered, or ends the session
 abbrev pub FinishesSession : List ℕ → (now new : DebuggerState) → (written after : Option (List ℕ)) → Debugged → Type 0
 FinishesSession line now new written after answer =
     ((line ≡ []) × (answer ≡ Done) × (new ≡ now) × (after ≡ written))
@@ -59,11 +58,11 @@ FinishesSession line now new written after answer =
 
 -- All lines --
 
--- these bytes were taken, no more than may be
+-- these bytes were taken, no more than the limit allows
 abbrev pub Taken : (before after : Session) → List ℕ → Type 0
 Taken before after bytes = GivesInput before.commands after.commands bytes × (length bytes ≤ most_bytes)
 
--- the lines are answered, and their answers put
+-- the lines are answered, and their answers written
 abbrev pub AnswersLines : List (List ℕ) → (begin now : DebuggerState) → (written after : Option (List ℕ)) → Type 0
 AnswersLines lines begin now written after = (text : List ℕ) × AnswersAll lines begin now text × Writes written after text
 
@@ -109,7 +108,7 @@ pub record EndsAtFault (before after : Session) (begin new : DebuggerState) : Ty
   pub taken : Taken before after bytes
   pub answers : AnswersWhole bytes begin new before.report after.report
 
--- as many bytes were taken as may be, and one more; the whole lines are answered
+-- as many bytes were taken as the limit allows, and one more; the whole lines are answered
 pub record EndsAtLimit (before after : Session) (begin new : DebuggerState) : Type 0 where
   pub bytes : List ℕ
   pub more : ℕ

@@ -28,6 +28,6 @@ pub record IsOnRun (start core : Processor) : Type 0 where
   pub reached : IsReached start.plan (machine_on hart []) moment
   pub is : core ≡ in_state start moment.state
 
--- the same from some processor
+-- the same, from some processor
 abbrev pub StandsSomewhere : Processor → List Kept → Type 0
 StandsSomewhere core ring = (start : Processor) × StandsAfterMoves start core ring

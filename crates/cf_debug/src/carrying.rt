@@ -1,4 +1,4 @@
-//! A command is carried out.
+//! Carrying out a command.
 
 ghost use Rattle.std.specs.Prelude.{◌≡◌, None};
 ghost use Rattle.cf_io.specs.Causes.{HasCause};
@@ -115,7 +115,7 @@ fn carry_break<R: Sink>(
     put_break(address, report)
 }
 
-/// Puts what is shown of the processor.
+/// Writes a view of the processor.
 #[tactic(auto, unfolding(crate::specs::Replies::shown))]
 fn show<R: Sink>(view: View, core: &Core, report: &mut R) -> Result<(), Failed>
     requires { ShowsFew view }

@@ -1,4 +1,4 @@
-//! The commands of the debugger, and why a line is no command.
+//! The commands of the debugger, and why a line is not a command.
 
 use cf_bind::Move as AnyMove;
 use run_scripts::ScriptKind;
@@ -18,7 +18,7 @@ pub(crate) enum DebugCommand {
     /// Shows something of the processor.
     Show(View),
 
-    /// Sets the address at which `auto` stops, or that it stops at none.
+    /// Sets or clears the address at which `auto` stops.
     Break(Option<u32>),
 
     /// Takes the last move back.
@@ -28,7 +28,7 @@ pub(crate) enum DebugCommand {
     End,
 }
 
-/// What a command shows of the processor.
+/// The views of the processor that a command shows.
 #[derive(Clone, Copy)]
 pub(crate) enum View {
     /// Its picture.
@@ -40,17 +40,17 @@ pub(crate) enum View {
     /// This many bytes of memory, from an address on.
     Memory(u32, u32),
 
-    /// The weight of what is in it.
+    /// The weight of its state.
     Bound,
 }
 
-/// Why a line is no command, in the order in which it is tested.
+/// Why a line is not a command, in the order of the tests.
 #[derive(Clone, Copy)]
 pub(crate) enum Refusal {
     /// The line has more than 256 bytes.
     TooLong,
 
-    /// The first word is no command.
+    /// The first word is not a command.
     UnknownCommand,
 
     /// A number or an address is missing or misspelt, or out of its range.
@@ -59,6 +59,6 @@ pub(crate) enum Refusal {
     /// There are more words than the command has.
     ExtraWords,
 
-    /// What follows `move` is no move of a script.
+    /// What follows `move` is not a move of a script.
     Script(ScriptKind),
 }

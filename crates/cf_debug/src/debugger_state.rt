@@ -1,11 +1,11 @@
-//! What the commands work on, as one value.
+//! The debugger's state, as one value.
 
 use crate::ring::Ring;
 use cf_core::Core;
 use cf_index::Candidates;
 
-/// What the commands work on: the processor, room for the candidates of a pick, what is kept of moves, and the address
-/// at which `auto` stops, where there is one.
+/// The debugger's state, on which commands work: the processor, a buffer for the candidates of a pick, the ring of
+/// moves that can be taken back, and the address at which `auto` stops, where there is one.
 #[derive(Drop)]
 pub(crate) struct DebuggerState<'a> {
     pub(crate) core: &'a mut Core,

@@ -1,4 +1,4 @@
-//! Moves are made in turn.
+//! Making moves in turn.
 
 ghost use Rattle.std.specs.Prelude.{◌≡◌, ◌<◌, ◌≤◌, false, length, true};
 ghost use Rattle.cf_io.specs.Causes.{HasCause};
@@ -22,7 +22,7 @@ use cf_io::Sink;
 use cf_run::known;
 use cf_sched::{Pace, Policy, Round};
 
-/// How many instructions retire at most.
+/// The greatest number of instructions that retire in a session.
 const MOST_RETIRED: u64 = 10_000_000;
 
 /// Whether the move issues an instruction at the break address.
@@ -35,7 +35,7 @@ fn breaks(core: &Core, stop: Option<u32>, mv: Move) -> bool
     }
 }
 
-/// Whether as many instructions have retired as may.
+/// Whether as many instructions have retired as the limit allows.
 pub(crate) fn is_spent(core: &Core) -> bool
     ensures yes { result ≡ true → most_retired ≤ core.now.state.retired }
     ensures no { result ≡ false → core.now.state.retired < most_retired }
@@ -43,7 +43,7 @@ pub(crate) fn is_spent(core: &Core) -> bool
     core.retired() >= MOST_RETIRED
 }
 
-/// Whether the program has not ended, and fewer instructions have retired than may.
+/// Whether the program has not ended, and fewer instructions have retired than the limit allows.
 fn goes_on(core: &Core) -> bool
     ensures yes { result ≡ true → GoesOn most_retired core.now.state }
     ensures no { result ≡ false → GoesOn most_retired core.now.state → ⊥ }
@@ -51,7 +51,7 @@ fn goes_on(core: &Core) -> bool
     core.ending().is_none() && !is_spent(core)
 }
 
-/// Makes the move that is picked and puts the line of an instruction that retires, and says whether an instruction at
+/// Makes the move that is picked, writes the line of an instruction that retires, and returns whether an instruction at
 /// the break address was issued.
 fn advance<K: Sink, R: Sink>(
     core: &mut Core,
@@ -88,7 +88,7 @@ fn advance<K: Sink, R: Sink>(
 }
 
 /// Makes the moves that are picked one after another, at most this many: until the run is over, or an instruction at
-/// the break address is issued. Answers how many there were.
+/// the break address is issued. Returns how many there were.
 pub(crate) fn drive<K: Sink, R: Sink>(
     count: u32,
     core: &mut Core,

@@ -10,7 +10,7 @@ ghost use Rattle.cf_debug.specs.Limits.{most_bytes, most_taken};
 use cf_io::{Failed, Source};
 use std::marker::Model;
 
-/// How many bytes may be taken of the commands.
+/// How many bytes of commands may be taken.
 const MOST_BYTES: usize = 16_777_216;
 
 /// What comes next of the commands.
@@ -22,14 +22,14 @@ pub(crate) enum Next {
     /// Nothing: the commands are at their end.
     AtEnd,
 
-    /// As many bytes were taken as may be, and there are more.
+    /// As many bytes were taken as the limit allows, and there are more.
     TooMany,
 
     /// A take failed.
     Fault,
 }
 
-/// The bytes that were taken of the commands and not used yet, and how many may still be taken, of 16,777,216.
+/// The bytes of the commands that were taken and not used yet, and how many of 16,777,216 may still be taken.
 #[derive(Drop)]
 pub(crate) struct Feed {
     piece: [u8; 4096],
@@ -49,7 +49,7 @@ impl Model for Feed {
     ghost invariant = { λ feed. (feed.at ≤ feed.end) × (feed.end ≤ 4096) };
 }
 
-/// Takes one byte more than may be taken, to tell whether there is one.
+/// Takes one byte beyond the limit, to see whether there is one.
 #[tactic(auto, unfolding(crate::specs::Cutting::Feeds))]
 fn one_more<S: Source>(commands: &mut S) -> Next
     ensures feeds { (feed : Feeding) → feed.rest ≡ [] → feed.left ≡ 0 → Feeds (S.left commands.old) (S.left commands.new) feed feed result }
@@ -64,7 +64,7 @@ fn one_more<S: Source>(commands: &mut S) -> Next
 }
 
 impl Feed {
-    /// Nothing has been taken yet.
+    /// A feed that has taken nothing.
     pub(crate) fn new() -> Feed
         ensures { result ≡ record { rest = []; left = most_bytes } }
     {
@@ -76,7 +76,7 @@ impl Feed {
         }
     }
 
-    /// Takes some bytes, where no byte that was taken is left, and answers how many.
+    /// Takes some bytes, where none is left in the buffer, and returns how many.
     fn fill<S: Source>(&mut self, commands: &mut S) -> Result<usize, Failed>
         requires none { self.old.rest ≡ [] }
         requires some { 0 < self.old.left }
@@ -120,7 +120,7 @@ impl Feed {
         self.at == self.end
     }
 
-    /// The next byte of the commands, or why none comes. Bytes are taken only where none of those taken is left: a take
+    /// The next byte of the commands, or why none comes. Bytes are taken only where none is left in the buffer: a take
     /// asks for 4,096 of them, or for as many as may still be taken.
     pub(crate) fn next<S: Source>(&mut self, commands: &mut S) -> Next
         ensures feeds { Feeds (S.left commands.old) (S.left commands.new) self.old self.new result }

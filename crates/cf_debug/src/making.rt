@@ -12,7 +12,7 @@ use cf_bind::Move;
 use cf_core::{Core, Event, Fault};
 use cf_io::{Empty, Failed, Sink};
 
-/// Serve is made. It cannot be taken back, so nothing is kept then.
+/// Makes Serve. It cannot be taken back, so it empties the ring.
 fn serve<K: Sink>(core: &mut Core, ring: &mut Ring, output: &mut K) -> Result<Event, Failed>
     requires allowed { bar core.old.plan core.old.state moves.Serve ≡ None }
     requires retired { core.old.state.retired + 1 < 2 ^ 64 }
@@ -31,7 +31,7 @@ fn serve<K: Sink>(core: &mut Core, ring: &mut Ring, output: &mut K) -> Result<Ev
     }
 }
 
-/// Another move is made and kept.
+/// Makes another move and keeps it.
 fn make_other<K: Sink>(core: &mut Core, ring: &mut Ring, mv: Move, output: &mut K) -> Event
     requires allowed { bar core.old.plan core.old.state mv ≡ None }
     requires other { mv ≢ moves.Serve }
@@ -52,7 +52,7 @@ fn make_other<K: Sink>(core: &mut Core, ring: &mut Ring, mv: Move, output: &mut 
     }
 }
 
-/// Makes an allowed move and keeps it, and gives what is seen of it; or the output failed its call.
+/// Makes an allowed move, keeps it and returns its event; or the output failed its call.
 pub(crate) fn make<K: Sink>(
     core: &mut Core,
     ring: &mut Ring,

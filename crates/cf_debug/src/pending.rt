@@ -1,4 +1,4 @@
-//! The line that is not ended yet.
+//! The unfinished line.
 
 ghost use Rattle.std.specs.Prelude.{◌≡◌, ◌∷◌, ◌++◌, [], take};
 ghost use Rattle.rv_text.specs.Lines.{without_return};
@@ -6,8 +6,7 @@ ghost use Rattle.rv_text.specs.Lines.{without_return};
 use arrayvec::ArrayVec;
 use std::marker::Model;
 
-/// The first 258 bytes of a line that is not ended yet: as many as show whether it is too long, a carriage return among
-/// them.
+/// The first 258 bytes of an unfinished line: enough to show whether it is too long, with a carriage return counted.
 #[derive(Drop)]
 pub(crate) struct PendingLine {
     bytes: ArrayVec<u8, 258>,
@@ -22,7 +21,7 @@ impl Model for PendingLine {
 }
 
 impl PendingLine {
-    /// The line has no byte yet.
+    /// An empty line.
     pub(crate) fn new() -> PendingLine
         ensures { result ≡ [] }
     {
@@ -31,7 +30,7 @@ impl PendingLine {
         }
     }
 
-    /// One more byte.
+    /// Appends a byte.
     pub(crate) fn push(&mut self, byte: u8)
         ensures { self.new ≡ take 258 (self.old ++ byte ∷ []) }
     {
@@ -40,21 +39,21 @@ impl PendingLine {
         }
     }
 
-    /// The line has no byte again.
+    /// Empties the line.
     pub(crate) fn clear(&mut self)
         ensures { self.new ≡ [] }
     {
         self.bytes.clear();
     }
 
-    /// The line, as it is.
+    /// The bytes of the line.
     pub(crate) fn bytes(&self) -> &[u8]
         ensures { result.now ≡ self.now }
     {
         self.bytes.as_slice()
     }
 
-    /// The line, where a line feed comes now: without a carriage return at its end.
+    /// The finished line, where a line feed comes now: without a carriage return at its end.
     #[tactic(auto, unfolding(rv_text::specs::Lines::without_return))]
     pub(crate) fn whole(&self) -> &[u8]
         ensures { result.now ≡ without_return self.now }

@@ -1,4 +1,4 @@
-//! A line is read.
+//! Reading a line.
 
 ghost use Rattle.std.specs.Prelude.{◌≡◌, drop};
 ghost use Rattle.run_scripts.specs.MoveLines.{move_in};
@@ -9,10 +9,10 @@ use crate::command::{DebugCommand, Refusal, View};
 use run_scripts::{Words, read_move};
 use rv_text::{numeral, split_name};
 
-/// How many moves one command asks for at most.
+/// The greatest number of moves of one command.
 const MOST_MOVES: u32 = 1_000_000;
 
-/// The number that the next word spells: from one to nine decimal digits, from 1 up to a limit.
+/// The number that the next word spells: one to nine decimal digits, from 1 up to a limit.
 #[tactic(auto, unfolding(crate::specs::Commands::number_told))]
 fn number(words: &mut Words<'_>, most: u32) -> Result<u32, Refusal>
     ensures number { result ≡ number_told most words.old }
@@ -156,8 +156,8 @@ fn read_named(name: &[u8], after: &[u8]) -> Result<DebugCommand, Refusal>
     }
 }
 
-/// What a line tells: a command, or the first refusal of `TooLong`, `UnknownCommand`, `BadNumber` and `ExtraWords`,
-/// where after `move` those of scripts take the place of the last two.
+/// The command of a line, or the first refusal of `TooLong`, `UnknownCommand`, `BadNumber` and `ExtraWords`; after
+/// `move` the refusals of scripts replace the last two.
 #[tactic(auto, unfolding(crate::specs::Commands::command_in))]
 pub(crate) fn read_command(line: &[u8]) -> Result<DebugCommand, Refusal>
     ensures { result ≡ command_in line.now }

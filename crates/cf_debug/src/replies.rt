@@ -17,14 +17,14 @@ use cf_report::put_retired;
 use report_refusals::{push_bar, push_script};
 use texts::{Page, hex_digit};
 
-/// Puts a text. After `Failed` a prefix of it was put.
+/// Writes a text. After `Failed` a prefix of it was written.
 fn put<R: Sink>(text: &[u8], report: &mut R) -> Result<(), Failed>
     ensures { PutsText (R.written report.old) (R.written report.new) (R.faults report.old) (R.faults report.new) text.now result }
 {
     put_all(report, text)
 }
 
-/// Puts a line of a name and a number.
+/// Writes a line with a name and a number.
 #[tactic(auto, unfolding(texts::specs::Lines::counted_line))]
 pub(crate) fn put_counted<R: Sink>(name: &[u8], number: u64, report: &mut R) -> Result<(), Failed>
     requires { length name.now ≤ 100 }
@@ -36,7 +36,7 @@ pub(crate) fn put_counted<R: Sink>(name: &[u8], number: u64, report: &mut R) -> 
     put(page.bytes(), report)
 }
 
-/// Puts the line of a refusal.
+/// Writes the line of a refusal.
 pub(crate) fn refuse<R: Sink>(why: &[u8], report: &mut R) -> Result<(), Failed>
     requires { length why.now ≤ 100 }
     ensures { PutsText (R.written report.old) (R.written report.new) (R.faults report.old) (R.faults report.new)
@@ -48,7 +48,7 @@ pub(crate) fn refuse<R: Sink>(why: &[u8], report: &mut R) -> Result<(), Failed>
     put(page.bytes(), report)
 }
 
-/// Puts what bars a move.
+/// Writes the bar of a move.
 pub(crate) fn refuse_bar<R: Sink>(bar: Bar, report: &mut R) -> Result<(), Failed>
     ensures { PutsText (R.written report.old) (R.written report.new) (R.faults report.old) (R.faults report.new)
         (refused_line (bar_text bar)) result }
@@ -60,7 +60,7 @@ pub(crate) fn refuse_bar<R: Sink>(bar: Bar, report: &mut R) -> Result<(), Failed
     put(page.bytes(), report)
 }
 
-/// Why a line is no command.
+/// Appends why a line is not a command.
 #[tactic(auto, unfolding(crate::specs::Replies::refusal_text))]
 fn push_refusal(page: &mut Page, refusal: Refusal)
     requires { length page.old + 20 ≤ page_room }
@@ -76,7 +76,7 @@ fn push_refusal(page: &mut Page, refusal: Refusal)
     }
 }
 
-/// Puts why a line is no command.
+/// Writes why a line is not a command.
 pub(crate) fn refuse_line<R: Sink>(refusal: Refusal, report: &mut R) -> Result<(), Failed>
     ensures { PutsText (R.written report.old) (R.written report.new) (R.faults report.old) (R.faults report.new)
         (refused_line (refusal_text refusal)) result }
@@ -88,7 +88,7 @@ pub(crate) fn refuse_line<R: Sink>(refusal: Refusal, report: &mut R) -> Result<(
     put(page.bytes(), report)
 }
 
-/// Puts the line of an instruction that retired with a move, if one did.
+/// Writes the line of an instruction that retired with a move, if one did.
 pub(crate) fn put_retirement<R: Sink>(
     core: &Core,
     event: &Event,
@@ -103,7 +103,7 @@ pub(crate) fn put_retirement<R: Sink>(
     }
 }
 
-/// Puts `moved` for a move that was made, and the line of an instruction that retired with it, if one did.
+/// Writes `moved` for a move that was made, and the line of an instruction that retired with it, if one did.
 pub(crate) fn put_moved<R: Sink>(core: &Core, event: &Event, report: &mut R) -> Result<(), Failed>
     ensures { PutsText (R.written report.old) (R.written report.new) (R.faults report.old) (R.faults report.new)
         (codes "moved\n" ++ retirement core.now.state.retired event.now) result }
@@ -112,7 +112,7 @@ pub(crate) fn put_moved<R: Sink>(core: &Core, event: &Event, report: &mut R) -> 
     put_retirement(core, event, report)
 }
 
-/// Bytes, each as two hexadecimal digits after a space.
+/// Appends bytes, each as two hexadecimal digits after a space.
 #[tactic(auto, unfolding(crate::specs::Replies::bytes_text))]
 fn push_bytes(page: &mut Page, bytes: &[u8])
     requires { length page.old + 3 * length bytes.now ≤ page_room }
@@ -137,7 +137,7 @@ fn memory_page(address: u32, bytes: &[u8]) -> Page
     page
 }
 
-/// Puts some bytes of memory, at most 16, from an address on; or that not all of them are there.
+/// Writes some bytes of memory, at most 16, from an address on; or that memory does not have all of them.
 #[tactic(auto, unfolding(crate::specs::Replies::memory_text))]
 pub(crate) fn put_memory<R: Sink>(
     core: &Core,
@@ -170,7 +170,7 @@ fn break_page(stop: Option<u32>) -> Page
     page
 }
 
-/// Puts a break address, or that there is none.
+/// Writes a break address, or that there is none.
 pub(crate) fn put_break<R: Sink>(stop: Option<u32>, report: &mut R) -> Result<(), Failed>
     ensures { PutsText (R.written report.old) (R.written report.new) (R.faults report.old) (R.faults report.new)
         (break_text stop) result }
@@ -178,7 +178,7 @@ pub(crate) fn put_break<R: Sink>(stop: Option<u32>, report: &mut R) -> Result<()
     put(break_page(stop).bytes(), report)
 }
 
-/// Puts the move that was taken back.
+/// Writes the move that was taken back.
 #[tactic(auto, unfolding(crate::specs::Replies::back_text))]
 pub(crate) fn put_back<R: Sink>(mv: Move, report: &mut R) -> Result<(), Failed>
     ensures { PutsText (R.written report.old) (R.written report.new) (R.faults report.old) (R.faults report.new)

@@ -1,4 +1,4 @@
-//! The ring of what is kept of moves.
+//! The ring of moves that can be taken back.
 
 ghost use Rattle.std.specs.Prelude.{◌≡◌, [], ◌∷◌, ◌++◌, IfOk, MatchOption};
 ghost use Rattle.cf_core.specs.Undo.{kept_by};
@@ -9,8 +9,8 @@ use circular_buffer::HeapCircularBuffer;
 use std::alloc::{AllocError, Global};
 use std::marker::Model;
 
-/// What is kept of the last moves of a session, at most 1,024 of them, so that they can be taken back. It is seen as
-/// the list of what is kept, of the oldest move first. No call but `new` takes memory.
+/// The records of the last moves of a session, at most 1,024, with which they can be taken back. Contracts see it as
+/// the list of records, the oldest first. Only `new` allocates memory.
 #[derive(Drop)]
 pub struct Ring {
     records: HeapCircularBuffer<Undo>,
@@ -29,7 +29,7 @@ impl Model for Ring {
 }
 
 impl Ring {
-    /// An empty ring, whose memory is taken here.
+    /// An empty ring, whose memory is allocated here.
     pub fn new(alloc: Global) -> Result<Ring, AllocError>
         ensures { IfOk result (λ ring. ring ≡ []) }
     {
@@ -38,7 +38,7 @@ impl Ring {
         })
     }
 
-    /// Puts a record last; the oldest goes out of a full ring.
+    /// Appends a record; a full ring drops its oldest.
     #[tactic(auto, using(crate::proofs::Kept::kept_more))]
     pub(crate) fn push(&mut self, undo: Undo)
         ensures { self.new ≡ with_record self.old (kept_by undo) }
@@ -46,14 +46,14 @@ impl Ring {
         self.records.push_back(undo);
     }
 
-    /// Takes the last record out.
+    /// Removes the last record.
     pub(crate) fn pop(&mut self) -> Option<Undo>
         ensures { MatchOption result ((self.old ≡ []) × (self.new ≡ [])) (λ undo. self.old ≡ self.new ++ kept_by undo ∷ []) }
     {
         self.records.pop_back()
     }
 
-    /// Takes all records out.
+    /// Removes all records.
     pub(crate) fn clear(&mut self)
         ensures { self.new ≡ [] }
     {

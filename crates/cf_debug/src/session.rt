@@ -25,7 +25,7 @@ use cf_index::Candidates;
 use cf_io::{Sink, Source};
 use cf_run::known;
 
-/// How what a command leaves ends the session, if it does.
+/// How the outcome of a command ends the session, if it does.
 fn ended(answer: Result<(), Broken>) -> Option<Debugged>
     ensures { result ≡ ended_by answer }
 {
@@ -44,7 +44,7 @@ fn is_end(command: DebugCommand) -> bool
     matches!(command, DebugCommand::End)
 }
 
-/// Answers what a line tells, or says how the session ends there.
+/// Answers a line, or returns how the session ends there.
 fn answer_line<K: Sink, R: Sink>(
     line: &[u8],
     debugger: DebuggerState<'_>,
@@ -69,7 +69,7 @@ fn answer_line<K: Sink, R: Sink>(
     }
 }
 
-/// Uses a byte of the commands: it is one more of the line, or it ends the line, which is answered.
+/// Uses a byte of the commands: it continues the line, or it ends the line, which is answered.
 fn use_byte<K: Sink, R: Sink>(
     byte: u8,
     line: &mut PendingLine,
@@ -119,8 +119,8 @@ fn finish<K: Sink, R: Sink>(
 /// A session of the debugger on an opened processor: answers the commands, one a line, until one of them is `end` or
 /// there are no more. The ring has to be empty. It allocates no memory.
 ///
-/// The lines are answered in order, and a refused one changes nothing. The answers are put to the report, and the
-/// guest's output to the output; the guest's input is empty. The ring is left with what is kept of the moves that were
+/// The lines are answered in order, and a refused one changes nothing. The answers are written to the report, and the
+/// guest's output to the output; the guest's input is empty. At the end the ring has the records of the moves that were
 /// made last and not taken back; unless the output or the report failed, the processor is at a moment of a run of the
 /// machine on which it was opened.
 ///

@@ -1,5 +1,5 @@
--- The text of a drawn program (a format of this project, in GNU as's syntax): registers are given drawn numbers, a
--- number of drawn statements follow, and what the registers then hold is written out.
+-- The text of a drawn program (a format of this project, in GNU as's syntax): registers get random numbers, random
+-- statements follow, and code prints what the registers then hold.
 use Rattle.std.specs.Prelude.{ℕ, ◌+◌, ◌*◌, ◌-◌, min, List, ◌++◌, codes, decimal}
 use Rattle.std.specs.List.{flat_map, range_with_len}
 use Rattle.texts.specs.Lines.{line}
@@ -19,7 +19,7 @@ unfoldable pub load_line : ℕ → ℕ → List ℕ
 load_line x r =
     statement (codes "li " ++ register_operand r ++ codes ", " ++ decimal (drawn 65536 (state_after (r - 8) x)))
 
--- where the program begins, and its first eight draws
+-- the beginning of the program, with its first eight draws
 unfoldable pub opening_text : ℕ → List ℕ
 opening_text x =
     statement (codes ".text") ++ statement (codes ".globl _start") ++ label_line (codes "_start")
@@ -39,7 +39,7 @@ drawn_statement number i x =
 abbrev pub numbered_statement : ℕ → ℕ → List ℕ
 numbered_statement number i = drawn_statement number i (state_after (8 + 5 * (i - 1)) number)
 
--- all of them
+-- all statements
 abbrev pub statements_text : ℕ → List ℕ
 statements_text number = flat_map (numbered_statement number) (range_with_len 1 number)
 

@@ -19,7 +19,7 @@ operation_of k =
     if k == 7 then Sw else
     if k == 8 then Lw else Blt
 
--- what five draws choose for a statement
+-- the choice for a statement, from five draws
 unfoldable pub choice_of : ℕ → Choice
 choice_of x = record {
   operation = operation_of (drawn 10 x);
@@ -45,7 +45,7 @@ two_registers choice = register_operand choice.first ++ codes ", " ++ register_o
 abbrev pub three_registers : Choice → List ℕ
 three_registers choice = two_registers choice ++ codes ", " ++ register_operand choice.third
 
--- the first register and a word of the data: its place is the offset times 4 after x7
+-- the first register and a word of the data, at the offset times 4 from x7
 abbrev pub register_and_word : Choice → List ℕ
 register_and_word choice =
     register_operand choice.first ++ codes ", " ++ decimal (4 * choice.offset) ++ codes "(x7)"

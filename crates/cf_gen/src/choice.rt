@@ -1,4 +1,4 @@
-//! What is drawn for a statement.
+//! The random choices for a statement.
 #![tactic(auto, unfolding(crate::specs::Statements::choice_of))]
 
 ghost use Rattle.std.specs.Prelude.{◌≡◌};

@@ -6,7 +6,7 @@ ghost use Rattle.cf_gen.specs.Draws.{next_state, drawn};
 
 use std::marker::Model;
 
-/// A linear congruential generator, of whose state the upper half is drawn. It is seen as its state.
+/// A linear congruential generator; the upper half of its state is drawn. Contracts see it as its state.
 #[derive(Drop)]
 pub struct Draws {
     state: u32,

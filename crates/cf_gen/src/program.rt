@@ -23,7 +23,7 @@ _start:
     la x7, buf
 ";
 
-/// The lines after the last label: what the registers hold is written out, and the data.
+/// The lines after the last label: code that prints what the registers hold, and the data.
 const CLOSING: &[u8] = b"    xor x8, x8, x9
     xor x8, x8, x10
     xor x8, x8, x11
@@ -60,7 +60,7 @@ text:
     .ascii \"00000000\\n\"
 ";
 
-/// The line that gives a register a number.
+/// Appends the line that loads a number into a register.
 fn push_load(page: &mut Page, register: u32, number: u32)
     requires { length page.old + 52 ≤ page_room }
     ensures text { page.new ≡ page.old
@@ -115,8 +115,8 @@ fn closing(number: u32) -> Page
     page
 }
 
-/// Puts the text of a program of this many statements, at most 30,000, which are drawn from that number. After `Failed`
-/// a prefix of the text was written, and the sink's count of faults rose.
+/// Writes the text of a program of this many statements, at most 30,000; the number is also the seed. After `Failed` a
+/// prefix of the text was written, and the sink's count of faults rose.
 #[tactic(auto, using(cf_io::proofs::Owing::owes), unfolding(crate::specs::Program::program_text))]
 pub fn generate<K: Sink>(number: u32, out: &mut K) -> Result<(), Failed>
     requires some { 1 ≤ number }

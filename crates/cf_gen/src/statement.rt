@@ -8,7 +8,7 @@ ghost use Rattle.texts.specs.Room.{page_room};
 use crate::choice::{Choice, Operation};
 use texts::Page;
 
-/// A register: `x` and its number.
+/// Appends a register: `x` and its number.
 pub fn push_register(page: &mut Page, register: u32)
     requires { length page.old + 21 ≤ page_room }
     ensures text { page.new ≡ page.old ++ register_operand register }
@@ -18,7 +18,7 @@ pub fn push_register(page: &mut Page, register: u32)
     page.push_decimal(u64::from(register));
 }
 
-/// A label: `L` and its number.
+/// Appends a label: `L` and its number.
 pub fn push_label(page: &mut Page, number: u32)
     requires { length page.old + 21 ≤ page_room }
     ensures text { page.new ≡ page.old ++ label_text number }
@@ -99,7 +99,7 @@ fn push_blt(page: &mut Page, choice: Choice, label: u32)
     push_label(page, label);
 }
 
-/// The text of a statement. A branch goes to this label.
+/// Appends the text of a statement. A branch goes to this label.
 pub fn push_instruction(page: &mut Page, choice: Choice, label: u32)
     requires { length page.old + 72 ≤ page_room }
     ensures text { page.new ≡ page.old ++ instruction_text choice.operation choice label }

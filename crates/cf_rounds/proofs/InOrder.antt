@@ -14,7 +14,7 @@ use Rattle.cf_rounds.specs.Rounds.{AreApart, AreCandidates, IsAllowed, IsRound, 
 use Rattle.cf_rounds.proofs.Chosen.{apart_after, candidates_allowed, all_after, taken_more, unshared}
 use Rattle.cf_rounds.proofs.Few.{few}
 
--- the moves from a site on
+-- the moves from an index on
 pub drop_at : (moves : List Move) (place : ℕ) (mv : Move) → Some mv ≡ slice_get moves place → drop place moves ≡ mv ∷ drop (place + 1) moves
 drop_at [] place mv e = absurd (cc)
 drop_at (first ∷ moves) zero mv e = let same : first ≡ mv = cc in ap (λ (m : Move). m ∷ moves) same

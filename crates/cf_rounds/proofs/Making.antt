@@ -178,7 +178,7 @@ IsLeft plan s round place =
     IsFree plan s (drop place round)
     ⊎ ((place ≡ 0) × HasSidings plan s × ((mv : Move) × (bar plan s mv ≡ None) × (round ≡ mv ∷ [])))
 
--- the moves before a site with the one there
+-- the moves before an index, with the one there
 take_at : (round : List Move) (place : ℕ) (mv : Move) → Some mv ≡ slice_get round place → take (place + 1) round ≡ take place round ++ mv ∷ []
 take_at [] place mv e = absurd (cc)
 take_at (first ∷ round) zero mv e = let same : first ≡ mv = cc in ap (λ (m : Move). m ∷ []) same

@@ -1,4 +1,4 @@
--- A round is made: its moves one after the other, each counted, and seen by the pace.
+-- Making a round: its moves one after the other, each counted, and seen by the pace.
 use Rattle.std.specs.Prelude.{◌≡◌, ℕ, List, [], ◌∷◌, ◌++◌, Bool, true, false, Result, Ok, Err}
 use Rattle.std.specs.List.{AllByRecursion}
 use Rattle.run_options.specs.declared.show.Show.TheVariants as show
@@ -15,7 +15,7 @@ use Rattle.cf_run.specs.Moving.{RunPlace, MakesAndShows, MoveDoes}
 use Rattle.cf_rounds.specs.declared.answer.Fired.{Fired}
 use Rattle.cf_rounds.specs.declared.answer.Fired.TheVariants.{Plain, Retired, Ended, ReadFault, WriteFault}
 
--- the moves were made one after the other, each with its event, and led from one place to another
+-- the moves were made one after the other, each with its event, and led from one RunPlace to another
 unfoldable pub MakesAll : List Made → (now new : RunPlace) → Type 0
 MakesAll [] now new = new ≡ now
 MakesAll (made ∷ trace) now new =
@@ -38,7 +38,7 @@ is_seen (event.Retired line) = true
 is_seen (event.Ended end) = true
 is_seen e = false
 
--- what is seen of the moves: the instruction that retired with one of them, the end of the program, or neither
+-- what the moves show: the instruction that retired with one of them, the end of the program, or neither
 abbrev pub IsSeen : List Made → Fired → Type 0
 IsSeen trace (Retired line) = HasEvent (event.Retired line) trace
 IsSeen trace (Ended end) = HasEvent (event.Ended end) trace
@@ -46,7 +46,7 @@ IsSeen trace Plain = AllByRecursion (λ made. is_seen made.event ≡ false) trac
 IsSeen trace ReadFault = ⊥
 IsSeen trace WriteFault = ⊥
 
--- what is seen with one more event
+-- what is shown with one more event
 abbrev pub seen : Fired → Event → Fired
 seen fired (event.Retired line) = Retired line
 seen fired (event.Ended end) = Ended end

@@ -1,5 +1,5 @@
--- Rounds: the moves that a clocked processor makes at one tick. No two of them use a site in common, so they can be
--- made in any order.
+-- Rounds: the moves that a clocked processor makes at one tick. No two of them share a site, so they can be made in any
+-- order.
 use Rattle.std.specs.Prelude.{◌≡◌, ◌⊎◌, ℕ, ◌≤◌, List, length, [], ◌∷◌, ◌++◌, Bool, true, false, None, if◌then◌else◌}
 use Rattle.std.specs.List.{AllByRecursion, find, list_any}
 use Rattle.cf_layout.specs.Layout.{Plan}
@@ -11,7 +11,7 @@ use Rattle.cf_semantics.specs.state.State.{State}
 use Rattle.cf_index.specs.Alone.{stands_alone}
 use Rattle.cf_index.specs.Sites.{shares}
 
--- a round is held in 128 places for moves, of which the first are taken
+-- a round is stored in a table of 128 moves, of which the first entries are used
 pub record IsHeld (count : ℕ) (places : List Move) : Type 0 where
   pub room : length places ≡ 128
   pub few : count ≤ 128
@@ -20,12 +20,12 @@ pub record IsHeld (count : ℕ) (places : List Move) : Type 0 where
 abbrev pub shares_any : Plan → List Move → Move → Bool
 shares_any plan round mv = list_any (shares plan mv) round
 
--- some moves are taken; after them each move of a list that shares no site with one that is taken, in order
+-- the taken moves, and after them each move of a list, in order, that shares no site with one already taken
 unfoldable pub taken : Plan → (round moves : List Move) → List Move
 taken plan round [] = round
 taken plan round (mv ∷ moves) = taken plan (if shares_any plan round mv then round else round ++ mv ∷ []) moves
 
--- the round of some candidates: the first that is made alone, where there is one; else those that are taken
+-- the round of some candidates: the first that must be made alone, where there is one; otherwise those that are taken
 unfoldable pub round_of : Plan → State → List Move → List Move
 round_of plan s moves = on (find (stands_alone plan s) moves) (taken plan [] moves) (λ mv. mv ∷ [])
 
@@ -59,8 +59,7 @@ IsFull plan s moves round =
     ((mv : Move) × (stands_alone plan s mv ≡ true) × (round ≡ mv ∷ []))
     ⊎ (AreApart plan round × AllByRecursion (IsTaken plan round) moves)
 
--- the other list has the same moves, in some order: the first of them somewhere, and the others in some order without
--- it
+-- the other list is a permutation: it has the first move somewhere, and the rest is a permutation of the others
 abbrev pub IsOrderOf : List Move → List Move → Type 0
 IsOrderOf [] other = other ≡ []
 IsOrderOf (mv ∷ moves) other =

@@ -41,7 +41,7 @@ pub record FailsThere (limit count : ℕ) (now new : RunPlace) (answer : Answer)
   pub serves : round_of now.core.plan now.core.state (offered now.core.plan count now.core.state) ≡ Serve ∷ []
   pub does : MoveDoes show.Report Serve now new (Err answer)
 
--- the run stops here: it is over, and all stays; or the call of its next round failed
+-- the run stops here: it is over, and nothing changes; or the call of its next round failed
 abbrev pub StopsRounds : (limit count : ℕ) → (now new : RunPlace) → Clocked → Type 0
 StopsRounds limit count now new (Exit status) = IsOver limit now.core.state (ran.Exit status) × (new ≡ now)
 StopsRounds limit count now new (Trap cause pc detail) = IsOver limit now.core.state (ran.Trap cause pc detail) × (new ≡ now)
@@ -69,7 +69,7 @@ ran_of Limit = ran.Limit
 ran_of ReadFault = ran.ReadFault
 ran_of WriteFault = ran.WriteFault
 
--- the run in rounds, and it is a run of the sequential machine
+-- the run in rounds is also a run of the sequential machine
 pub record RoundsRunRight (limit : ℕ) (start new : RunPlace) (number : ℕ) (answer : Clocked) : Type 0 where
   pub runs : RunsRounds limit start new number answer
   pub sequential : RunsSequentially show.Report (moves_of runs.reaches.trace) start new (Ran (ran_of answer))

@@ -17,7 +17,7 @@ use Rattle.cf_rounds.specs.declared.answer.Fired.TheVariants as fired
 use Rattle.cf_rounds.specs.Firing.{FiresAll}
 use Rattle.cf_rounds.specs.Rounds.{IsRound, round_of}
 
--- these candidates are offered there, by whatever count of Issue moves the pace has, and this is their round
+-- these candidates are offered there, for whatever count of Issue moves the pace has, and this is their round
 pub record IsOffered (now : RunPlace) (pace : PaceCount) (moves round : List Move) : Type 0 where
   pub moves_are : (count : ℕ) → HasCounted now.core.plan.stages count pace → moves ≡ offered now.core.plan count now.core.state
   pub round_is : round ≡ round_of now.core.plan now.core.state moves
@@ -52,7 +52,7 @@ RoundTurns limit now new pace later (Some Limit) = IsOver limit now.core.state r
 RoundTurns limit now new pace later (Some ReadFault) = FailsRound limit now new pace ran.ReadFault
 RoundTurns limit now new pace later (Some WriteFault) = FailsRound limit now new pace ran.WriteFault
 
--- how the run finishes with the round of which this is seen, if it does
+-- how the run finishes with a round that shows this, if it does
 abbrev pub finish_with : Fired → Option Clocked
 finish_with fired.ReadFault = Some ReadFault
 finish_with fired.WriteFault = Some WriteFault

@@ -3,7 +3,7 @@
 use cf_bind::End;
 use rv_machine::Retired as Line;
 
-/// What is seen of a round.
+/// What a round shows from outside.
 #[derive(Clone, Copy)]
 pub enum Fired {
     /// No instruction retired, and none ended the program.

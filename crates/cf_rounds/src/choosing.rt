@@ -1,4 +1,4 @@
-//! The round of some candidates is chosen.
+//! Choosing the round of some candidates.
 
 ghost use Rattle.std.specs.Prelude.{◌≡◌, ◌<◌, ◌++◌, ◌∷◌, [], length, if◌then◌else◌};
 ghost use Rattle.std.specs.List.{AllByRecursion, find};
@@ -87,10 +87,10 @@ fn take_all(core: &Core, c: &Candidates, set: &mut RoundSet)
     }
 }
 
-/// Makes the set hold the round of the candidates, held back or not: where one of them is Serve, or the Leave of a live
-/// instruction that ends the program, that one alone; else, in their order, each that shares no site with those already
-/// taken. So no two moves of a round share a site, and each candidate that it leaves out shares one with a move that it
-/// has.
+/// Makes the set hold the round of the candidates, held back or not. Where one of them is Serve, or the Leave of a live
+/// instruction that ends the program, the round is that move alone. Otherwise it has, in their order, each candidate
+/// that shares no site with those already taken. So no two moves of a round share a site, and each candidate that it
+/// leaves out shares one with a move that it has.
 pub fn choose(core: &Core, c: &Candidates, set: &mut RoundSet)
     requires candidates { AreCandidates core.now.plan core.now.state c.now }
     requires some { 0 < length c.now }

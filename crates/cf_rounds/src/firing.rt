@@ -1,4 +1,4 @@
-//! A round is made.
+//! Making a round.
 #![tactic(auto, unfolding(crate::specs::Firing::Fires))]
 
 ghost use Rattle.std.specs.Prelude.{◌≡◌, ◌+◌, ◌<◌, ◌^◌, None};
@@ -16,7 +16,7 @@ use cf_report::Tally;
 use cf_run::{Ran, Show, make_and_show};
 use cf_sched::Pace;
 
-/// What is seen of a round with one more event.
+/// What a round shows, with one more event.
 fn with_event(fired: Fired, event: &Event) -> Fired
     ensures { result ≡ seen fired event.now }
 {
@@ -28,10 +28,10 @@ fn with_event(fired: Fired, event: &Event) -> Fired
 }
 
 /// Makes the moves of a round of the processor, in the order in which they were taken, counts them and shows them to
-/// the pace. Nothing bars any of them where its turn comes, and they could be made in any order.
+/// the pace. Nothing bars any of them when its turn comes, and they could be made in any order.
 ///
 /// `Retired` and `Ended` come exactly where a move of the round has that event. `ReadFault` and `WriteFault` come only
-/// of Serve, which is a round of its own, and only where the input or the output failed its call; the move is not
+/// from Serve, which is a round of its own, and only where the input or the output failed its call; the move is not
 /// counted then. In each case that stream's count of faults rose.
 pub fn fire<S: Source, K: Sink>(
     core: &mut Core,

@@ -1,4 +1,4 @@
-//! Clocked rounds: at each tick the processor makes many moves, no two of which use a site in common.
+//! Clocked rounds: at each tick the processor makes many moves, no two of which share a site.
 #![tactic(auto)]
 
 mod answer;

@@ -26,7 +26,7 @@ impl Model for RoundSet {
 }
 
 impl RoundSet {
-    /// No moves.
+    /// An empty set.
     pub fn new() -> RoundSet
         ensures { result ≡ [] }
     {
@@ -36,14 +36,14 @@ impl RoundSet {
         }
     }
 
-    /// How many there are.
+    /// How many moves there are.
     pub fn len(&self) -> u32
         ensures { result ≡ length self.now }
     {
         self.len
     }
 
-    /// The move at this place, counted from 0.
+    /// The move at this index, counted from 0.
     pub fn get(&self, place: u32) -> Move
         requires { place < length self.now }
         ensures { Some result ≡ slice_get self.now place }
@@ -51,14 +51,14 @@ impl RoundSet {
         self.moves[place as usize]
     }
 
-    /// Takes all moves out.
+    /// Removes all moves.
     pub(crate) fn clear(&mut self)
         ensures { self.new ≡ [] }
     {
         self.len = 0;
     }
 
-    /// Puts a move after the others.
+    /// Appends a move.
     pub(crate) fn push(&mut self, mv: Move)
         requires { length self.old < 128 }
         ensures { self.new ≡ self.old ++ mv ∷ [] }

@@ -43,7 +43,7 @@ fn finish_before(core: &Core, limit: u64) -> Option<Clocked>
     }
 }
 
-/// How the run finishes with the round of which this is seen, if it does.
+/// How the run finishes with a round that shows this, if it does.
 fn finish_with(fired: Fired) -> Option<Clocked>
     ensures { result ≡ finish_with fired }
 {
@@ -54,7 +54,7 @@ fn finish_with(fired: Fired) -> Option<Clocked>
     }
 }
 
-/// Makes the round of what the pace offers, or says why the run stops.
+/// Makes the round of what the pace offers, or returns why the run stops.
 fn advance<S: Source, K: Sink>(
     core: &mut Core,
     candidates: &mut Candidates,
@@ -91,15 +91,14 @@ fn advance<S: Source, K: Sink>(
 }
 
 /// Runs an opened processor in rounds: makes the round of the candidates, one after the other, until the program ends
-/// or as many instructions have retired as the limit allows, which is looked at before each round. The candidates are
-/// held back as under a policy.
+/// or as many instructions have retired as the limit allows, which is tested before each round. The candidates are held
+/// back as under a policy.
 ///
 /// `ReadFault` and `WriteFault` come only where the input or the output failed a call of the environment; that round is
 /// not counted, nor its move. In each case that stream's count of faults rose.
 ///
-/// Where the processor was opened on a machine, the run is a run of that machine, over an input whose remaining bytes
-/// are known and over one that does not, and ends as that machine does under the same limit. It has at most 4 N K
-/// (limit + 1) moves.
+/// Where the processor was opened on a machine, the run is a run of that machine, whether or not the input's remaining
+/// bytes are known, and ends as that machine does under the same limit. It has at most 4 N K (limit + 1) moves.
 pub fn run_rounds<S: Source, K: Sink>(
     core: &mut Core,
     candidates: &mut Candidates,

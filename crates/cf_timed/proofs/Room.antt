@@ -35,7 +35,7 @@ all_passed P test (x ∷ xs) h = by (test x) (all_passed P test xs h.1)
     by true r = (h.0, r)
     by false r = r
 
--- and of the one at a site
+-- and of the one at an index
 pub one_of_all : {X : Type 0} (P : X → Type 0) (xs : List X) (k : ℕ) (x : X) → AllByRecursion P xs → slice_get xs k ≡ Some x → P x
 one_of_all P [] k x h e = absurd (cc)
 one_of_all P (y ∷ ys) zero x h e = let q : y ≡ x = cc in subst P q h.0

@@ -1,17 +1,17 @@
--- Chains of a run: moves of it in its order, each of which uses a site that the next one uses.
+-- Chains of a run: moves of it in its order, each of which shares a site with the next one.
 use Rattle.std.specs.Prelude.{◌≡◌, ℕ, ◌+◌, ◌≤◌, List, [], ◌∷◌, true, ◌⊎◌}
 use Rattle.cf_layout.specs.Layout.{Plan}
 use Rattle.cf_bind.specs.declared.moves.Move.{Move}
 use Rattle.cf_index.specs.Sites.{shares}
 use Rattle.cf_timed.specs.Delays.{delay}
 
--- the first moves are some of the second, in the same order
+-- the first list is a sublist of the second, in the same order
 abbrev pub ArePart : List Move → List Move → Type 0
 ArePart [] moves = Unit {0}
 ArePart (mv ∷ part) [] = ⊥
 ArePart (mv ∷ part) (first ∷ moves) = ((mv ≡ first) × ArePart part moves) ⊎ ArePart (mv ∷ part) moves
 
--- each uses a site that the next one uses
+-- each shares a site with the next one
 abbrev pub AreLinked : Plan → List Move → Type 0
 AreLinked plan [] = Unit {0}
 AreLinked plan (mv ∷ []) = Unit {0}

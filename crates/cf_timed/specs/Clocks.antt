@@ -7,8 +7,8 @@ use Rattle.cf_index.specs.Sites.{HasSites, used}
 use Rattle.cf_timed.specs.Delays.{delay}
 use Rattle.cf_timed.specs.Times.{Done, greatest, greatest_time, time_after}
 
--- the layout and the delays; the time of each stage by its number, and of each cell by those of its siding and of
--- itself; that of the lane, of fetch, of the memory and of the code; and the greatest of all
+-- the layout and the delays; the times of the stages, by number; of the cells, by the numbers of siding and cell; of
+-- the lane, of fetch, of the memory and of the code; and the greatest of all
 pub record SiteTimes : Type 0 where
   pub plan : Plan
   pub delays : List ℕ
@@ -20,7 +20,7 @@ pub record SiteTimes : Type 0 where
   pub code : ℕ
   pub latest : ℕ
 
--- no move has been made yet
+-- the clock before the first move
 unfoldable pub started : Plan → List ℕ → SiteTimes
 started plan delays = record {
   plan = plan;
@@ -34,7 +34,7 @@ started plan delays = record {
   latest = 0;
 }
 
--- the number at a place of a list, and 0 where the list has no such site
+-- the number at an index of a list, and 0 where the list is shorter
 abbrev pub number_at : List ℕ → ℕ → ℕ
 number_at numbers i = unwrap_or (slice_get numbers i) 0
 
@@ -56,7 +56,7 @@ time_at c _ = 0
 pub record NoneLater (c : SiteTimes) : Type 0 where
   pub each : (x : Site) → time_at c x ≤ c.latest
 
--- the clock with another time at a site
+-- the clock with a new time at a site
 abbrev pub put_time : SiteTimes → ℕ → Site → SiteTimes
 put_time c t (Stage i) = record c { stages = slice_set c.stages i t }
 put_time c t (SidingCell k i) = record c { cells = slice_set c.cells k (slice_set (row_at c.cells k) i t) }
@@ -71,11 +71,11 @@ abbrev pub put_times : SiteTimes → ℕ → List Site → SiteTimes
 put_times c t [] = c
 put_times c t (x ∷ xs) = put_times (put_time c t x) t xs
 
--- when a move that is made now is done: the greatest time of the sites that it uses, and its delay
+-- when a move that is made now finishes: the greatest time of the sites that it uses, plus its delay
 unfoldable pub finish : SiteTimes → Move → ℕ
 finish c mv = greatest (map (time_at c) (used c.plan mv)) + delay c.delays mv
 
--- or the greatest number of 64 bits where that is later
+-- the same, capped at the greatest number of 64 bits
 abbrev pub capped : SiteTimes → Move → ℕ
 capped c mv = min (finish c mv) (2 ^ 64 - 1)
 
@@ -83,7 +83,7 @@ capped c mv = min (finish c mv) (2 ^ 64 - 1)
 abbrev pub allowed : SiteTimes → ℕ → SiteTimes
 allowed c t = record c { latest = max c.latest t }
 
--- the clock after a move that is done at this time
+-- the clock after a move that finishes at this time
 abbrev pub stamped : SiteTimes → Move → ℕ → SiteTimes
 stamped c mv t = put_times (allowed c t) t (used c.plan mv)
 
@@ -103,5 +103,5 @@ pub record ClockKnows (plan : Plan) (delays : List ℕ) (moves : List Done) (c :
   pub delays_are : c.delays ≡ delays
   -- its greatest time is theirs
   pub latest_is : c.latest ≡ greatest_time moves
-  -- a further move is done when their times say
+  -- it knows when a further move finishes
   pub finishes : (mv : Move) → HasSites plan mv → finish c mv ≡ time_after plan delays moves mv

@@ -1,5 +1,5 @@
--- What a text of delays gives (a format of this project): one kind of move and its delay a line, apart from comments
--- and lines without words.
+-- What a text of delays gives (a format of this project): one kind of move and its delay a line; comments and lines
+-- without words are skipped.
 use Rattle.std.specs.Prelude.{ℕ, ◌+◌, Bool, Option, Some, None, Result, Ok, Err, List, [], ◌∷◌, length, map, drop, replicate, slice_get, slice_set, unwrap_or, ◌&&◌, nat_le, nat_lt, if◌then◌else◌}
 use Rattle.texts.specs.Answers.{and_then, needed}
 use Rattle.rv_text.specs.Lines.{text_lines}
@@ -17,7 +17,7 @@ use Rattle.run_scripts.specs.declared.delay_refusal.DelayKind.TheVariants.{NotAs
 unfoldable pub delay_word : List ℕ → Option ℕ
 delay_word word = on (numeral 10 4 word) None (λ n. if nat_le 1 n && nat_le n 1000 then Some n else None)
 
--- for each kind the delay that a line has given, if one has: none so far
+-- for each kind the delay that a line has given: none so far
 abbrev pub unnamed : List (Option ℕ)
 unnamed = replicate 14 None
 
@@ -25,7 +25,7 @@ unnamed = replicate 14 None
 abbrev pub is_named : List (Option ℕ) → ℕ → Bool
 is_named named place = is_some (unwrap_or (slice_get named place) None)
 
--- what some words give besides the kinds above them: a kind that was not given yet, its delay, and nothing more
+-- what some words add to the kinds given above: a kind that was not given yet, its delay, and nothing more
 unfoldable pub words_told : List (Option ℕ) → List (List ℕ) → Result (List (Option ℕ)) DelayKind
 words_told named words =
     and_then (needed UnknownKind (place_named (first_word words))) (λ place.
@@ -42,7 +42,7 @@ abbrev pub in_line : ℕ → Result (List (Option ℕ)) DelayKind → Result (Li
 in_line line (Ok named) = Ok named
 in_line line (Err kind) = Err (record { line = line; kind = kind })
 
--- what the lines after this many others give, besides the kinds that those have given; lines are counted from 1
+-- what the lines after this many others add to the kinds that those have given; lines are counted from 1
 abbrev pub lines_told : ℕ → List (Option ℕ) → List (List ℕ) → Result (List (Option ℕ)) DelayErr
 lines_told above named [] = Ok named
 lines_told above named (line ∷ lines) =

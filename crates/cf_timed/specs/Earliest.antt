@@ -1,5 +1,4 @@
--- The policy of a timed run: of the moves that it is offered it picks the one that finishes earliest, and the first of
--- them where several are.
+-- The policy of a timed run: of the offered moves it picks the one that finishes earliest, and of several the first.
 use Rattle.std.specs.Prelude.{ℕ, List, ◌∷◌, slice_get, nat_le}
 use Rattle.std.specs.List.{list_all, position_or_len}
 use Rattle.cf_layout.specs.Layout.{Plan}
@@ -7,12 +6,11 @@ use Rattle.cf_bind.specs.declared.moves.Move.{Move}
 use Rattle.cf_semantics.specs.state.Options.{on}
 use Rattle.cf_timed.specs.Times.{Done, done_after, time_after}
 
--- the place of the first move whose time is no greater than that of any
+-- the index of the first move whose time is no greater than any other
 unfoldable pub first_least : (Move → ℕ) → List Move → ℕ
 first_least time moves = position_or_len (λ mv. list_all (λ other. nat_le (time mv) (time other)) moves) moves
 
--- the policy is seen as the moves that it has picked, each with its time, the last first: it picks by the times after
--- these
+-- here the policy is the list of its picks, each with its time, the last first: it picks by the times after these
 abbrev pub earliest : Plan → List ℕ → List Done → List Move → ℕ
 earliest plan delays picked moves = first_least (time_after plan delays picked) moves
 

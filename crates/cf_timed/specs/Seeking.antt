@@ -1,10 +1,10 @@
--- The first of the moves with the least time, sought while one after another is shown.
+-- The first of the moves with the least time, found while the moves are shown one by one.
 use Rattle.std.specs.Prelude.{ℕ, ◌+◌, ◌-◌, ◌^◌, min, nat_lt, if◌then◌else◌}
 use Rattle.cf_bind.specs.declared.moves.Move.{Move}
 use Rattle.cf_bind.specs.declared.moves.Move.TheVariants.{Exit}
 use Rattle.cf_timed.specs.Clocks.{SiteTimes, capped}
 
--- how many moves were shown, and the first of those with the least time: its place, its time and itself
+-- how many moves were shown, and the first of those with the least time: its index, its time and the move itself
 pub record Seeking : Type 0 where
   pub clock : SiteTimes
   pub shown : ℕ
@@ -20,6 +20,6 @@ counted s = record s { shown = min (s.shown + 1) (2 ^ 64 - 1) }
 abbrev pub shown : Seeking → Move → Seeking
 shown s mv = counted (if nat_lt (capped s.clock mv) s.time then record s { place = s.shown; time = capped s.clock mv; move = mv } else s)
 
--- where no move has been shown yet
+-- before the first move
 abbrev pub nothing : SiteTimes → Seeking
 nothing clock = record { clock = clock; shown = 0; place = 0; time = 2 ^ 64 - 1; move = Exit }

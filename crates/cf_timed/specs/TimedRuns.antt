@@ -1,4 +1,4 @@
--- A timed run: the moves that finish earliest, one after another, and what the clock tells of them.
+-- A timed run: the moves that finish earliest, one after another, and what the clock knows about them.
 use Rattle.std.specs.Prelude.{◌≡◌, ◌≢◌, ℕ, List, [], Some, None}
 use Rattle.run_options.specs.declared.show.Show.TheVariants as show
 use Rattle.cf_io.specs.Causes.{HasCause}
@@ -27,7 +27,7 @@ answer_of Limit = ran.Limit
 answer_of ReadFault = ran.ReadFault
 answer_of WriteFault = ran.WriteFault
 
--- a timed run may begin: a run may, and no move was told to the clock or counted
+-- a timed run may begin: a run may, and no move has been recorded by the clock or counted
 pub record CanBegin (limit : ℕ) (core : Processor) (clock : SiteTimes) (moves : ℕ) : Type 0 where
   pub can_run : CanRun limit core
   pub clock_is : clock ≡ started core.plan clock.delays
@@ -38,7 +38,7 @@ pub record HasCauses (input input_after output output_after : ℕ) (answer : Ans
   pub of_input : HasCause input input_after (input_stopped (Some answer))
   pub of_output : HasCause output output_after (output_stopped (Some answer))
 
--- where a timed run, which reports nothing, begins
+-- where a timed run begins, which reports nothing
 abbrev pub begins : Processor → Streams → RunPlace
 begins core streams = place_of core streams None no_tally
 
@@ -51,8 +51,8 @@ pub record RunsUnreported {P : Type 0} (picked : P → List Move → ℕ) (onwar
   pub ends : EndsSequentially limit begin (place_of core streams None tally) (Ran answer)
   pub reports : answer ≢ ran.ReportFault
 
--- from there it is a run of the policy that picks what finishes earliest, right by the sequential machine; this many
--- moves were made, and the clock has recorded exactly these
+-- from there it is a run of the policy that picks the move that finishes earliest, and a run of the sequential machine;
+-- this many moves were made, and the clock has recorded exactly these
 pub record RunsTimed (delays : List ℕ) (limit : ℕ) (begin : RunPlace) (core : Processor) (streams : Streams) (clock : SiteTimes) (moves : ℕ)
     (answer : Timed) : Type 0 where
   pub tally : Tally

@@ -1,11 +1,11 @@
--- Times of the moves of a run: a move begins when all earlier moves that use a site which it uses are done.
+-- Times of the moves of a run: a move begins when all earlier moves that share a site with it have finished.
 use Rattle.std.specs.Prelude.{ℕ, ◌+◌, List, [], ◌∷◌, map, filter, max}
 use Rattle.cf_layout.specs.Layout.{Plan}
 use Rattle.cf_bind.specs.declared.moves.Move.{Move}
 use Rattle.cf_index.specs.Sites.{shares}
 use Rattle.cf_timed.specs.Delays.{delay}
 
--- a move that was made, and when it is done
+-- a move that was made, and when it finishes
 pub record Done : Type 0 where
   pub move : Move
   pub time : ℕ
@@ -14,7 +14,7 @@ pub record Done : Type 0 where
 abbrev pub done_at : Move → ℕ → Done
 done_at mv time = record { move = mv; time = time }
 
--- the greatest of some numbers, and 0 where there are no numbers
+-- the greatest of some numbers, and 0 where there are none
 abbrev pub greatest : List ℕ → ℕ
 greatest [] = 0
 greatest (t ∷ ts) = max t (greatest ts)
@@ -23,11 +23,11 @@ greatest (t ∷ ts) = max t (greatest ts)
 unfoldable pub greatest_time : List Done → ℕ
 greatest_time moves = greatest (map (λ done. done.time) moves)
 
--- those of the earlier moves that use a site which the move uses
+-- those of the earlier moves that share a site with the move
 abbrev pub before : Plan → Move → List Done → List Done
 before plan mv earlier = filter (λ done. shares plan mv done.move) earlier
 
--- the time of a move after earlier ones: the greatest time of those that use a site which it uses, and its delay
+-- the time of a move after earlier ones: the greatest time of those that share a site with it, plus its delay
 unfoldable pub time_after : Plan → List ℕ → List Done → Move → ℕ
 time_after plan delays earlier mv = greatest_time (before plan mv earlier) + delay delays mv
 

@@ -10,8 +10,8 @@ use cf_bind::Move;
 use cf_layout::Layout;
 use std::marker::Model;
 
-/// For each site of a processor the time of the last move that used it: of each stage by its number, of each cell of a
-/// siding, of the lane, of what fetch does, of the memory and of the code.
+/// For each site of a processor the time of the last move that used it: the stages by their numbers, the cells of the
+/// sidings, the lane, fetch, the memory and the code.
 #[derive(Clone, Copy)]
 pub struct Clock {
     pub(crate) layout: Layout,
@@ -38,7 +38,7 @@ impl Model for Clock {
 }
 
 impl Clock {
-    /// No move has been made yet: all times are 0.
+    /// A clock before the first move: all times are 0.
     #[tactic(auto, unfolding(crate::specs::Clocks::started))]
     pub fn new(layout: &Layout, delays: Delays) -> Clock
         ensures { result ≡ started layout.now delays }
@@ -64,7 +64,7 @@ impl Clock {
         self.latest
     }
 
-    /// What every clock keeps: a delay of each kind of move. It does nothing.
+    /// Invariant of every clock: it has a delay for each kind of move. The function does nothing.
     pub fn known(&self)
         ensures { AreDelays self.now.delays }
     {
@@ -88,7 +88,7 @@ impl Clock {
         u64::from(self.delays.of(mv))
     }
 
-    /// When the move is done if it is made now, or the greatest u64 where that is later.
+    /// When the move finishes if it is made now, capped at the greatest `u64`.
     #[inline(always)]
     #[tactic(auto, unfolding(crate::specs::Clocks::finish))]
     pub(crate) fn capped(&self, mv: Move) -> u64
@@ -97,7 +97,7 @@ impl Clock {
         self.reach(mv).saturating_add(self.delay(mv))
     }
 
-    /// Records a move that is done at this time.
+    /// Records a move that finishes at this time.
     #[inline(always)]
     pub(crate) fn stamp(&mut self, mv: Move, time: u64)
         ensures { self.new ≡ stamped self.old mv time }
@@ -106,7 +106,7 @@ impl Clock {
         self.put(mv, time);
     }
 
-    /// The greatest time is this one, if it is later.
+    /// Raises the greatest time to this one, if it is later.
     #[inline(always)]
     fn allow(&mut self, time: u64)
         ensures { self.new ≡ allowed self.old time }
@@ -114,8 +114,8 @@ impl Clock {
         self.latest = self.latest.max(time);
     }
 
-    /// When the move is done if it is made now: the greatest time of the sites that it uses, and its delay. The layout
-    /// has each stage and each cell that the move uses.
+    /// When the move finishes if it is made now: the greatest time of the sites that it uses, plus its delay. The
+    /// layout has each stage and each cell that the move uses.
     #[tactic(auto, using(crate::proofs::SiteTimes::reach_within), unfolding(crate::specs::Clocks::finish))]
     pub fn finish(&self, mv: Move) -> u64
         requires sites { HasSites self.now.plan mv }

@@ -8,8 +8,8 @@ ghost use Rattle.cf_timed.specs.DelayLines.{filled};
 use cf_bind::Move;
 use std::marker::Model;
 
-/// The delays of a timed run: for each kind of move, in the order of `Move`, from 1 to 1,000 ticks. They are seen as
-/// the list of these.
+/// The delays of a timed run: for each kind of move, in the order of `Move`, from 1 to 1,000 ticks. Contracts see them
+/// as the list of these.
 #[derive(Clone, Copy)]
 pub struct Delays {
     ticks: [u32; 14],
@@ -28,7 +28,7 @@ impl Model for Delays {
     ghost inverse = { λ ticks. record { ticks = ticks } };
 }
 
-/// The place of the move's kind among the kinds.
+/// The index of the move's kind among the kinds.
 #[inline(always)]
 pub fn kind_place(mv: Move) -> usize
     ensures place { result ≡ kind_place mv }
@@ -53,7 +53,7 @@ pub fn kind_place(mv: Move) -> usize
 }
 
 impl Delays {
-    /// The delays that were given; a kind that was not given has delay 1.
+    /// The delays that were given; the other kinds have delay 1.
     pub(crate) fn filled(told: &[Option<u32>; 14]) -> Delays
         requires { All (λ ticks. IfSome ticks IsDelay) told.now }
         ensures { result ≡ filled told.now }
@@ -65,7 +65,7 @@ impl Delays {
         Delays { ticks }
     }
 
-    /// What they are: one for each kind, from 1 to 1,000. It does nothing.
+    /// Invariant: one delay for each kind, from 1 to 1,000. The function does nothing.
     pub fn known(&self)
         ensures { AreDelays self.now }
     {

@@ -1,5 +1,5 @@
 //! The laws of times: what holds of every run, whatever chose its moves. Each is the contract of a function that does
-//! nothing; docs/PROMISES.md says each in plain words.
+//! nothing; docs/PROMISES.md states each in words.
 
 ghost use Rattle.std.specs.Prelude.{◌≡◌, ℕ, List, [], ◌∷◌, ◌++◌, false};
 ghost use Rattle.std.specs.List.{AllByRecursion};
@@ -15,8 +15,8 @@ ghost use Rattle.cf_timed.specs.Clocks.{ClockKnows, made_all, started};
 ghost use Rattle.cf_timed.specs.Exchanges.{CanExchange};
 ghost use Rattle.cf_timed.specs.Times.{greatest_time, times};
 
-/// A clock that has recorded the moves of a run has their greatest time, and tells when a further move is done; and
-/// that time is the sum of the delays of some chain of the run, and no chain has a greater sum.
+/// A clock that has recorded the moves of a run has their greatest time, and knows when a further move finishes. That
+/// time is the sum of the delays of some chain of the run, and no chain has a greater sum.
 pub fn t7_1()
     ensures clock { (plan : Plan) (delays : List ℕ) (moves : List Move) → IsAccepted plan →
         AllByRecursion (HasSites plan) moves →
@@ -25,7 +25,7 @@ pub fn t7_1()
         IsLongest plan delays moves (greatest_time (times plan delays moves)) }
 {}
 
-/// Two neighbouring moves of a run that use no site in common can be exchanged, unless one of them is a Serve or the
+/// Two neighbouring moves of a run that have no site in common can be exchanged, unless one of them is a Serve or the
 /// Leave that ends the program, and each move of the run keeps its time.
 pub fn t7_2()
     ensures { (plan : Plan) (x : Sequential) (delays : List ℕ) (front : List Move) (a b : Move) (rest : List Move) →

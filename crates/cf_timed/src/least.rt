@@ -1,4 +1,4 @@
-//! The first of the moves that are done no later than any, found while they are shown.
+//! The first of the moves that finish earliest, found while the moves are shown one by one.
 
 ghost use Rattle.std.specs.Prelude.{◌≡◌};
 ghost use Rattle.cf_timed.specs.Seeking.{nothing, shown};
@@ -10,7 +10,7 @@ use cf_bind::Move;
 use cf_index::Visitor;
 use std::marker::Model;
 
-/// How many moves were shown, and of these the first that is done no later than any, with its place and its time.
+/// How many moves were shown, and the first of those that finish earliest, with its index and its time.
 #[derive(Drop)]
 pub(crate) struct Least<'a> {
     pub(crate) clock: &'a Clock,
@@ -44,7 +44,7 @@ impl<'a> Visitor for Least<'a> {
 }
 
 impl<'a> Least<'a> {
-    /// No move has been shown yet.
+    /// The state before the first move.
     #[inline(always)]
     pub(crate) fn new(clock: &'a Clock) -> Least<'a>
         ensures { result ≡ nothing clock.now }
@@ -58,7 +58,7 @@ impl<'a> Least<'a> {
         }
     }
 
-    /// The move that was found, where its time is below the greatest u64.
+    /// The move that was found, where its time is below the greatest `u64`.
     #[inline(always)]
     pub(crate) fn due(&self) -> Option<Due>
         ensures { result ≡ due_of self.now }

@@ -1,4 +1,4 @@
-//! The times of the sites that a move uses are put.
+//! Setting the times of the sites that a move uses.
 
 ghost use Rattle.std.specs.Prelude.{◌≡◌, ◌+◌, ◌-◌, ◌≤◌, if◌then◌else◌, slice_set};
 ghost use Rattle.cf_semantics.specs.moves.Sites.{Code, Fetching, Lane, Memory, SidingCell, Stage};
@@ -10,7 +10,7 @@ use crate::clock::Clock;
 use crate::reaching::port;
 use cf_bind::Move;
 
-/// The cells of a siding with another time for one of them.
+/// The cells of a siding with a new time for one of them.
 #[inline(always)]
 fn with_cell(row: [u64; 8], c: usize, time: u64) -> [u64; 8]
     ensures { result ≡ slice_set row c time }
@@ -23,7 +23,7 @@ fn with_cell(row: [u64; 8], c: usize, time: u64) -> [u64; 8]
 }
 
 impl Clock {
-    /// Puts another time for a stage.
+    /// Sets the time of a stage.
     #[inline(always)]
     fn put_stage(&mut self, i: usize, time: u64)
         requires { time ≤ self.old.latest }
@@ -34,7 +34,7 @@ impl Clock {
         }
     }
 
-    /// Puts another time for a cell of a siding.
+    /// Sets the time of a cell of a siding.
     #[inline(always)]
     #[tactic(auto, using(crate::proofs::SiteTimes::rows))]
     fn put_cell(&mut self, k: usize, c: usize, time: u64)
@@ -46,7 +46,7 @@ impl Clock {
         }
     }
 
-    /// Puts another time for a cell of a siding, unless it is passed over.
+    /// Sets the time of a cell of a siding where `taken` is set.
     #[inline(always)]
     fn put_cell_if(&mut self, taken: bool, k: usize, c: usize, time: u64)
         requires { time ≤ self.old.latest }
@@ -57,7 +57,7 @@ impl Clock {
         }
     }
 
-    /// Puts another time for the first cells of the sidings that launch at the stage.
+    /// Sets the time of the first cells of the sidings that launch at the stage.
     #[inline(always)]
     #[tactic(auto, using(crate::proofs::SiteTimes::put_more, crate::proofs::SiteTimes::put_latest), unfolding(cf_index::specs::Sites::ways_in))]
     fn put_entries(&mut self, i: u32, time: u64)
@@ -71,7 +71,7 @@ impl Clock {
         }
     }
 
-    /// Puts another time for the last cells of the sidings that recover at the stage.
+    /// Sets the time of the last cells of the sidings that recover at the stage.
     #[inline(always)]
     #[tactic(auto, using(crate::proofs::SiteTimes::put_more, crate::proofs::SiteTimes::put_latest), unfolding(cf_index::specs::Sites::ways_out))]
     fn put_exits(&mut self, i: u32, time: u64)
@@ -86,7 +86,7 @@ impl Clock {
         }
     }
 
-    /// Puts another time for the port to memory.
+    /// Sets the time of the port to memory.
     #[inline(always)]
     fn put_port(&mut self, time: u64)
         requires { time ≤ self.old.latest }
@@ -96,7 +96,7 @@ impl Clock {
         self.put_cell(k, c, time);
     }
 
-    /// Puts another time for the lane.
+    /// Sets the time of the lane.
     #[inline(always)]
     fn put_lane(&mut self, time: u64)
         requires { time ≤ self.old.latest }
@@ -105,7 +105,7 @@ impl Clock {
         self.lane = time;
     }
 
-    /// Puts another time for what fetch does.
+    /// Sets the time of fetch.
     #[inline(always)]
     fn put_fetch(&mut self, time: u64)
         requires { time ≤ self.old.latest }
@@ -114,7 +114,7 @@ impl Clock {
         self.fetch = time;
     }
 
-    /// Puts another time for the memory.
+    /// Sets the time of the memory.
     #[inline(always)]
     fn put_memory(&mut self, time: u64)
         requires { time ≤ self.old.latest }
@@ -123,7 +123,7 @@ impl Clock {
         self.memory = time;
     }
 
-    /// Puts another time for the code.
+    /// Sets the time of the code.
     #[inline(always)]
     fn put_code(&mut self, time: u64)
         requires { time ≤ self.old.latest }
@@ -132,7 +132,7 @@ impl Clock {
         self.code = time;
     }
 
-    /// Puts another time for each site that the move uses.
+    /// Sets the time of each site that the move uses.
     #[inline(always)]
     pub(crate) fn put(&mut self, mv: Move, time: u64)
         requires { time ≤ self.old.latest }

@@ -1,4 +1,4 @@
-//! The times of the sites that a move uses are read.
+//! Reading the times of the sites that a move uses.
 
 ghost use Rattle.std.specs.Prelude.{◌≡◌, ◌+◌, ◌-◌, ◌<◌, ◌^◌, if◌then◌else◌, map};
 ghost use Rattle.cf_semantics.specs.moves.Sites.{SidingCell, Stage};
@@ -27,7 +27,7 @@ pub fn port(layout: &Layout) -> (usize, usize)
     }
 }
 
-/// The time at a place of a list, and 0 where the list has no such site.
+/// The time at an index of a list, and 0 where the list is shorter.
 #[inline(always)]
 fn time_in(times: &[u64], i: usize) -> u64
     ensures { result ≡ number_at times.now i }
@@ -55,7 +55,7 @@ impl Clock {
         }
     }
 
-    /// The time of a cell of a siding, or 0 where it is passed over.
+    /// The time of a cell of a siding where `taken` is set, otherwise 0.
     #[inline(always)]
     fn cell_if(&self, taken: bool, k: usize, c: usize) -> u64
         ensures { result ≡ (if taken then time_at self.now (SidingCell k c) else 0) }

@@ -1,4 +1,4 @@
-//! Delays are read.
+//! Reading delays.
 
 ghost use Rattle.std.specs.Prelude.{◌≡◌, ◌<◌, ◌≤◌, All, IfOk, IfSome, MatchResult, Ok, Err, length};
 ghost use Rattle.cf_timed.specs.Delays.{IsDelay};
@@ -24,7 +24,7 @@ fn delay_word(word: &[u8]) -> Option<u32>
     }
 }
 
-/// Records what the words give: a kind of move that no line above has given, and its delay.
+/// Records what the words give: a kind of move that no earlier line has given, and its delay.
 #[tactic(auto, unfolding(crate::specs::DelayLines::words_told))]
 fn read_words(named: &mut [Option<u32>; 14], mut words: Words<'_>) -> Result<(), DelayKind>
     ensures told { MatchResult result (λ _. words_told named.old words.entry ≡ Ok named.new) (λ e. words_told named.old words.entry ≡ Err e) }
@@ -58,9 +58,9 @@ fn read_line(named: &mut [Option<u32>; 14], line: &[u8]) -> Result<(), DelayKind
 /// The greatest length of a text of delays, in bytes.
 pub const MOST_DELAYS: usize = 65_536;
 
-/// The delays that the text gives, a kind of move and its delay a line; a kind that no line gives has delay 1. Or the
-/// first line that gives no delay: the first refusal of `NotAscii`, `UnknownKind`, `KindTwice`, `BadDelay` and
-/// `ExtraWords`. A comment and a line without words are skipped.
+/// The delays that the text gives, one kind of move and its delay a line; a kind that no line gives has delay 1. An
+/// error is the first line that gives no delay, with the first refusal of `NotAscii`, `UnknownKind`, `KindTwice`,
+/// `BadDelay` and `ExtraWords`. A comment and a line without words are skipped.
 #[tactic(auto, unfolding(crate::specs::DelayLines::delays_in))]
 pub fn read_delays(text: &[u8]) -> Result<Delays, DelayErr>
     requires { length text.now ≤ most_delays }

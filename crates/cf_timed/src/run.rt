@@ -19,8 +19,8 @@ use cf_report::Tally;
 use cf_run::{Ran, Show, known, run_policy};
 use cf_sched::Policy;
 
-/// Runs an opened processor by a policy as `run_policy` of cf_run does, and reports nothing. The number of the moves
-/// that were made is given. It allocates no memory and always terminates.
+/// Runs an opened processor under a policy as `run_policy` of cf_run does, without a report. It also returns the number
+/// of moves. It allocates no memory and always terminates.
 #[inline(always)]
 pub fn run_unreported<P: Policy, S: Source, K: Sink>(
     core: &mut Core,
@@ -67,7 +67,7 @@ pub fn run_unreported<P: Policy, S: Source, K: Sink>(
 /// always terminates.
 ///
 /// `ReadFault` and `WriteFault` come only where the input or the output failed a call of the environment; the count of
-/// its faults rose, and that move is neither counted nor told to the clock.
+/// its faults rose, and that move is neither counted nor recorded by the clock.
 pub fn run_timed<S: Source, K: Sink>(
     core: &mut Core,
     candidates: &mut Candidates,
@@ -92,7 +92,7 @@ pub fn run_timed<S: Source, K: Sink>(
     timed(ran)
 }
 
-/// The clock after the moves that were made: a fault occurs at a move that was picked and not made.
+/// The clock after the moves that were made: after a fault the last pick was not made.
 #[tactic(auto, unfolding(crate::specs::Timings::clock_after))]
 pub fn clock_after(timing: &Timing, ran: Ran) -> Clock
     ensures { result ≡ clock_after timing.now ran }

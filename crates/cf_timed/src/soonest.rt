@@ -11,7 +11,7 @@ use cf_bind::{Guess, Move};
 use cf_core::Core;
 use cf_index::Candidates;
 
-/// A move, and when it is done if it is made now.
+/// A move, and when it finishes if it is made now.
 #[derive(Clone, Copy)]
 pub(crate) struct Due {
     pub(crate) mv: Move,
@@ -19,8 +19,8 @@ pub(crate) struct Due {
 }
 
 impl Clock {
-    /// The first Issue that is allowed and not held back, where it is done by this time. It is looked for only where an
-    /// Issue would be done by then, since an instruction must be decoded for it; all Issues use the same sites.
+    /// The first Issue that is allowed and not held back, where it finishes by this time. The search is made only where
+    /// an Issue would finish by then, since it has to decode an instruction; all Issues use the same sites.
     #[inline(always)]
     #[tactic(auto, using(crate::proofs::Sooner::issue_due))]
     fn issue_by(&self, core: &Core, held: bool, by: u64) -> Option<Due>
@@ -40,8 +40,8 @@ impl Clock {
         }
     }
 
-    /// Of the allowed moves, with Issue held back or not, the first that is done no later than any. It may be missing
-    /// where no time of a move other than Issue is below the greatest u64.
+    /// The first of the allowed moves that finish earliest, with Issue held back or not. It may be `None` where no time
+    /// of a move other than Issue is below the greatest `u64`.
     #[inline(always)]
     pub(crate) fn soonest(&self, core: &Core, held: bool) -> Option<Due>
         ensures { IfSome result (λ due. IsSoonest self.now (withheld held (candidates core.now.plan core.now.state)) due) }

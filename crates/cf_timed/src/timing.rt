@@ -1,4 +1,4 @@
-//! The policy that picks what finishes earliest.
+//! The policy that picks the move that finishes earliest.
 
 ghost use Rattle.std.specs.Prelude.{◌≡◌, ◌<◌, None, Some, length, slice_get};
 ghost use Rattle.cf_sched.specs.Paces.{offers};
@@ -16,9 +16,9 @@ use cf_index::Candidates;
 use cf_sched::{Pace, Policy};
 use std::marker::Model;
 
-/// Picks the candidate that finishes earliest, and the first in the order of all moves where several are. The clock
-/// records a move once the next one is to be picked, since a call of the environment may fail. It is seen as the clock
-/// and the last pick, beside which it keeps when that is done, in ticks.
+/// Picks the candidate that finishes earliest, and of several the first in the order of all moves. The clock records a
+/// pick only when the next one is made, since a call of the environment may fail. Contracts see the policy as the clock
+/// and the last pick; it also keeps when that finishes, in ticks.
 #[derive(Drop)]
 pub struct Timing {
     clock: Clock,
@@ -39,7 +39,7 @@ impl Model for Timing {
 }
 
 impl Clock {
-    /// The first of the candidates that are done no later than any, and its place.
+    /// The first of the candidates that finish earliest, and its index.
     #[inline(always)]
     fn first_least(&self, candidates: &Candidates) -> (usize, Move)
         requires { 0 < length candidates.now }
@@ -48,10 +48,10 @@ impl Clock {
         ensures mv { Some result.1 ≡ slice_get candidates.now result.0 }
     {
         let mut least = Least::new(self);
-        // Their number fits, so no site is counted wrongly.
+        // Their number fits, so the index cannot overflow.
         let _count = candidates.len();
         candidates.visit(&mut least);
-        // Where no time is below the greatest, all are equal.
+        // Where no time is below the greatest `u64`, all are equal.
         if least.time < u64::MAX {
             (least.place, least.mv)
         } else {
@@ -59,7 +59,7 @@ impl Clock {
         }
     }
 
-    /// The first of the moves that are done no later than any, of those that are offered; they are filled in for it.
+    /// The first of the offered moves that finish earliest; `candidates` is filled in for it.
     #[inline(never)]
     fn earliest_filled(&self, core: &Core, candidates: &mut Candidates, pace: &Pace) -> Due
         requires { 0 < length (offers pace.now core.now.plan core.now.state) }
@@ -73,7 +73,7 @@ impl Clock {
         }
     }
 
-    /// The first of the moves that are done no later than any, of those that are offered.
+    /// The first of the offered moves that finish earliest.
     #[inline(always)]
     #[tactic(auto, using(crate::proofs::Sooner::soonest_offered))]
     fn earliest(&self, core: &Core, candidates: &mut Candidates, pace: &Pace) -> Due
@@ -88,7 +88,7 @@ impl Clock {
 }
 
 impl Timing {
-    /// Nothing has been picked yet.
+    /// A policy that has picked nothing.
     pub fn new(clock: Clock) -> Timing
         ensures { result ≡ record { clock = clock; last = None } }
     {
@@ -99,7 +99,7 @@ impl Timing {
         }
     }
 
-    /// The last pick, of which the clock has not recorded yet.
+    /// The last pick, which the clock has not recorded yet.
     #[inline(always)]
     pub fn last(&self) -> Option<Move>
         ensures { result ≡ self.now.last }
@@ -139,7 +139,7 @@ impl Timing {
         }
     }
 
-    /// Keeps the pick.
+    /// Keeps the pick until the next one.
     #[inline(always)]
     fn keep(&mut self, due: Due)
         requires { due.time ≡ capped self.old.clock due.mv }
@@ -149,7 +149,7 @@ impl Timing {
         self.time = due.time;
     }
 
-    /// Records the last pick in the clock, and picks one of the candidates, by its place.
+    /// Records the last pick in the clock, and picks one of the candidates, by its index.
     #[inline(always)]
     #[tactic(auto, unfolding(crate::specs::Timings::pending_pick, crate::specs::Timings::after_pick))]
     fn place_of_pick(&mut self, candidates: &Candidates) -> usize

@@ -12,7 +12,7 @@ pub numbered_length : {X : Type 0} (f : ℕ → X) (m n : ℕ) → length (map f
 numbered_length f m zero = refl
 numbered_length f m (suc n) = ap suc (numbered_length f (suc m) n)
 
--- the one at a site
+-- the one at an index
 numbered_from : (f : ℕ → ℕ) (m n i : ℕ) → i < n → number_at (map f (counted_from m n)) i ≡ f (m + i)
 numbered_from f m zero i within = absurd (omega arith)
 numbered_from f m (suc n) zero within = ap f (omega arith)

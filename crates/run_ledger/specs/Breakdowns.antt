@@ -21,7 +21,7 @@ busy delays test moves = sum_of_delays delays (filter test moves)
 abbrev pub uses_stage : Plan → ℕ → Move → Bool
 uses_stage plan i mv = uses_place plan mv (Stage i)
 
--- the place is a cell of the siding
+-- the site is a cell of the siding
 abbrev pub is_cell_of : ℕ → Site → Bool
 is_cell_of k (SidingCell j c) = k == j
 is_cell_of k _ = false
@@ -34,28 +34,28 @@ uses_siding plan k mv = list_any (is_cell_of k) (used plan mv)
 unfoldable pub of_kind : List Move → ℕ → ℕ
 of_kind moves kind = length (filter (λ mv. kind_place mv == kind) moves)
 
--- and of each of the fourteen kinds, in their order
+-- the same for each of the fourteen kinds, in their order
 abbrev pub kinds : List Move → List ℕ
 kinds moves = map (of_kind moves) (counted_from 0 14)
 
--- the earlier move uses a site that the later one uses, and is done when the later one begins
+-- the earlier move shares a site with the later one, and finishes when the later one begins
 abbrev pub leads_to : Plan → List ℕ → Done → Done → Bool
 leads_to plan delays later earlier =
     shares plan later.move earlier.move && (earlier.time == (later.time - delay delays later.move))
 
--- of moves with their times, the last first: the chain that ends with the last one that passes a test; each time the
--- last earlier move that leads to the one after it is followed
+-- of moves with their times, the last first: the chain that ends with the last move that passes the test; from each
+-- move it follows the last earlier move that leads to it
 abbrev pub chain_to : Plan → List ℕ → (Done → Bool) → List Done → List Move
 chain_to plan delays test [] = []
 chain_to plan delays test (done ∷ earlier) =
     if test done then chain_to plan delays (leads_to plan delays done) earlier ++ done.move ∷ []
     else chain_to plan delays test earlier
 
--- it is done when the last of the moves is
+-- it finishes last of the moves
 abbrev pub is_last : List Done → Done → Bool
 is_last moves done = done.time == greatest_time moves
 
--- the chain of a run that ends with the last of the moves that are done last
+-- the chain of a run that ends with the last of the moves that finish last
 unfoldable pub longest_chain : Plan → List ℕ → List Move → List Move
 longest_chain plan delays moves = chain_to plan delays (is_last (times plan delays moves)) (times plan delays moves)
 

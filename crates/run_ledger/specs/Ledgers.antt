@@ -1,4 +1,4 @@
--- How a ledger of a run is kept: at each site of the processor is a mark of the last move that used it.
+-- How a ledger of a run is kept: each site of the processor has a mark of the last move that used it.
 use Rattle.std.specs.Prelude.{ℕ, ◌+◌, ◌-◌, ◌*◌, ◌^◌, List, [], ◌∷◌, length, map, min, replicate, slice_get, slice_set, unwrap_or, Bool, ◌&&◌, ◌||◌, nat_lt, nat_eq, if◌then◌else◌}
 use Rattle.cf_layout.specs.Layout.{Plan}
 use Rattle.cf_bind.specs.declared.moves.Move.{Move}
@@ -13,7 +13,7 @@ use Rattle.run_ledger.specs.declared.breakdown.Breakdown.{Breakdown}
 use Rattle.run_ledger.specs.declared.ledger.Ledger.{Ledger}
 use Rattle.run_ledger.specs.declared.mark.ChainMark.{ChainMark}
 
--- the number of a place among all that moves use
+-- the number of a site among all that moves use
 abbrev pub place_number : Site → ℕ
 place_number Lane = 0
 place_number Fetching = 1
@@ -31,7 +31,7 @@ no_mark = record { time = 0; number = 0; kinds = replicate 14 0 }
 abbrev pub mark_at : List ChainMark → ℕ → ChainMark
 mark_at marks place = unwrap_or (slice_get marks place) no_mark
 
--- the second mark is of a move that is done later, or of one that is done at the same time and has a greater number
+-- the second mark is of a move that finishes later, or at the same time and has a greater number
 abbrev pub is_later : ChainMark → ChainMark → Bool
 is_later a b = nat_lt a.time b.time || (nat_eq a.time b.time && nat_lt a.number b.number)
 
@@ -44,19 +44,19 @@ abbrev pub latest_of : ChainMark → List ChainMark → ChainMark
 latest_of mark [] = mark
 latest_of mark (next ∷ marks) = latest_of (later mark next) marks
 
--- a sum, or the greatest number of 64 bits where that is less
+-- a sum, capped at the greatest number of 64 bits
 abbrev pub plus : ℕ → ℕ → ℕ
 plus a b = min (a + b) (2 ^ 64 - 1)
 
--- a number, and this much more where it counts
+-- a number, with this much added where it counts
 abbrev pub plus_if : Bool → ℕ → ℕ → ℕ
 plus_if counts number more = if counts then plus number more else number
 
--- some numbers, of which those that count have this much more
+-- some numbers, with this much added to those that count
 abbrev pub charged : (ℕ → Bool) → ℕ → List ℕ → List ℕ
 charged counts more numbers = map (λ i. plus_if (counts i) (number_at numbers i) more) (counted_from 0 (length numbers))
 
--- one more move of its kind
+-- the counts by kind, with the move added
 abbrev pub one_more : List ℕ → Move → List ℕ
 one_more numbers mv = slice_set numbers (kind_place mv) (plus (number_at numbers (kind_place mv)) 1)
 
@@ -69,7 +69,7 @@ put_marks mark marks (place ∷ places) = put_marks mark (slice_set marks place 
 abbrev pub with_marks : Ledger → List ChainMark → Ledger
 with_marks l marks = record l { marks = marks }
 
--- no move has been made yet
+-- the ledger before the first move
 unfoldable pub opened : Plan → List ℕ → Ledger
 opened plan delays = record {
   layout = plan;
@@ -116,6 +116,6 @@ abbrev pub noted_all : Ledger → List Move → Ledger
 noted_all l [] = l
 noted_all l (mv ∷ moves) = noted_all (noted l mv) moves
 
--- what it tells
+-- its breakdown
 unfoldable pub told_by : Ledger → Breakdown
 told_by l = record { layout = l.layout; stages = l.stages; sidings = l.sidings; moves = l.kinds; chain = l.last.kinds }

@@ -1,4 +1,4 @@
--- A timed run of which a ledger is kept.
+-- A timed run with a ledger.
 use Rattle.std.specs.Prelude.{◌≡◌, ℕ, List}
 use Rattle.rv_machine.specs.Streams.{Streams}
 use Rattle.cf_core.specs.Processors.{Processor}
@@ -10,7 +10,7 @@ use Rattle.run_ledger.specs.Breakdowns.{breakdown}
 use Rattle.run_ledger.specs.Ledgers.{told_by}
 use Rattle.run_ledger.specs.declared.ledger.Ledger.{Ledger}
 
--- it is a timed run, and the ledger tells what the time of its moves is made of
+-- it is a timed run, and the ledger knows what the time of its moves is made of
 pub record RunsNoted (delays : List ℕ) (limit : ℕ) (begin : RunPlace) (core : Processor) (streams : Streams)
     (clock : SiteTimes) (ledger : Ledger) (moves : ℕ) (answer : Timed) : Type 0 where
   pub timed : RunsTimed delays limit begin core streams clock moves answer

@@ -9,7 +9,7 @@ use Rattle.cf_timed.specs.Timings.{PendingMove, after_pick, pending_pick}
 use Rattle.run_ledger.specs.Ledgers.{noted}
 use Rattle.run_ledger.specs.declared.ledger.Ledger.{Ledger}
 
--- the clock with the last move that was picked, and the ledger, which has not recorded yet
+-- the clock with the last move that was picked, and the ledger, which has not recorded that move yet
 pub record Watched : Type 0 where
   pub pending : PendingMove
   pub ledger : Ledger
@@ -18,15 +18,15 @@ pub record Watched : Type 0 where
 unfoldable pub ledger_told : Watched → Ledger
 ledger_told w = on w.pending.last w.ledger (noted w.ledger)
 
--- what is picked of some moves
+-- the pick among some moves
 abbrev pub watched_pick : Watched → List Move → ℕ
 watched_pick w moves = pending_pick w.pending moves
 
--- and what there is after that
+-- the policy after that
 abbrev pub after_watched : Watched → List Move → Watched
 after_watched w moves = record { pending = after_pick w.pending moves; ledger = ledger_told w }
 
--- the ledger after the moves that were made: a fault occurs at a move that was picked and not made
+-- the ledger after the moves that were made: after a fault the last pick was not made
 unfoldable pub ledger_after : Watched → Answer → Ledger
 ledger_after w ran.ReadFault = w.ledger
 ledger_after w ran.WriteFault = w.ledger

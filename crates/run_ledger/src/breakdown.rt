@@ -2,7 +2,7 @@
 
 use cf_layout::Layout;
 
-/// What the time of a run is made of. Times are in ticks.
+/// What the time of a run is made of. All times are in ticks.
 #[derive(Clone, Copy)]
 pub struct Breakdown {
     /// The layout of the processor.
@@ -17,6 +17,6 @@ pub struct Breakdown {
     /// How many moves of each kind were made, in the order of `Move`.
     pub moves: [u64; 14],
 
-    /// How many of each kind are on the longest chain that ends with the last move that is done last.
+    /// How many of each kind are on the chain that ends with the last of the moves that finish last.
     pub chain: [u64; 14],
 }

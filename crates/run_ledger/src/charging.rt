@@ -1,4 +1,4 @@
-//! Numbers grow where a move counts.
+//! Adding a move to the counts.
 
 ghost use Rattle.std.specs.Prelude.{◌≡◌, map, take};
 ghost use Rattle.run_ledger.specs.Breakdowns.{uses_siding as at_siding, uses_stage as at_stage};
@@ -9,7 +9,7 @@ use cf_bind::Move;
 use cf_layout::Layout;
 use cf_timed::kind_place;
 
-/// The number, with this many more where the move counts, or the greatest u64 where that would be beyond it.
+/// The number, increased by this many where the move counts, capped at the greatest `u64`.
 #[inline(always)]
 fn plus_if(counts: bool, number: u64, more: u64) -> u64
     ensures { result ≡ plus_where counts number more }
@@ -21,7 +21,7 @@ fn plus_if(counts: bool, number: u64, more: u64) -> u64
     }
 }
 
-/// How long each stage is in use with a move that takes this many ticks.
+/// How long each stage is in use, with a move of this many ticks added.
 pub(crate) fn charge_stages(layout: &Layout, mv: Move, ticks: u64, busy: &[u64; 33]) -> [u64; 33]
     ensures { result ≡ charged (λ i. at_stage layout.now i mv) ticks busy.now }
 {
@@ -32,7 +32,7 @@ pub(crate) fn charge_stages(layout: &Layout, mv: Move, ticks: u64, busy: &[u64; 
     charged
 }
 
-/// How long each siding is in use.
+/// How long each siding is in use, with such a move added.
 pub(crate) fn charge_sidings(layout: &Layout, mv: Move, ticks: u64, busy: &[u64; 8]) -> [u64; 8]
     ensures { result ≡ charged (λ k. at_siding layout.now k mv) ticks busy.now }
 {
@@ -43,7 +43,7 @@ pub(crate) fn charge_sidings(layout: &Layout, mv: Move, ticks: u64, busy: &[u64;
     charged
 }
 
-/// One more move of its kind.
+/// The counts by kind, with the move added.
 #[inline(always)]
 pub(crate) fn one_more(kinds: [u64; 14], mv: Move) -> [u64; 14]
     ensures { result ≡ one_more_of kinds mv }

@@ -1,5 +1,4 @@
-//! The law of the chain that a breakdown tells of: what holds of every run. It is the contract of a function that does
-//! nothing.
+//! The law of the chain in a breakdown: what holds of every run. It is the contract of a function that does nothing.
 
 ghost use Rattle.std.specs.Prelude.{◌≡◌, ℕ, List};
 ghost use Rattle.cf_layout.specs.Layout.{Plan};
@@ -8,7 +7,7 @@ ghost use Rattle.cf_timed.specs.Chains.{IsChain, sum_of_delays};
 ghost use Rattle.cf_timed.specs.Times.{greatest_time, times};
 ghost use Rattle.run_ledger.specs.Breakdowns.{longest_chain};
 
-/// The chain that is followed back from the last move that is done last is a chain of the run, and the sum of its
+/// The chain that is followed back from the last of the moves that finish last is a chain of the run. The sum of its
 /// delays is the run's time, so no chain has a greater sum.
 pub fn chain_is_longest()
     ensures chain { (plan : Plan) (delays : List ℕ) (moves : List Move) →

@@ -12,17 +12,17 @@ use cf_bind::Move;
 use cf_layout::Layout;
 use cf_timed::Delays;
 
-/// For each site of a processor the last move that used it, with the moves by kind on the chain that ends with it; how
-/// long each stage and siding was in use; and the moves by kind. It allocates no memory.
+/// For each site of a processor the last move that used it, with the counts by kind of the chain that ends with it; how
+/// long each stage and siding was in use; and the counts of moves by kind. It allocates no memory.
 #[derive(Clone, Copy)]
 pub struct Ledger {
     pub(crate) layout: Layout,
     pub(crate) delays: Delays,
     /// How many moves were made.
     pub(crate) count: u64,
-    /// Of each site, by its number.
+    /// The mark of each site, by its number.
     pub(crate) marks: [ChainMark; 102],
-    /// Of the last move that is done last.
+    /// The mark of the last of the moves that finish last.
     pub(crate) last: ChainMark,
     pub(crate) stages: [u64; 33],
     pub(crate) sidings: [u64; 8],
@@ -30,7 +30,7 @@ pub struct Ledger {
 }
 
 impl Ledger {
-    /// No move has been made yet.
+    /// A ledger before the first move.
     #[tactic(auto, unfolding(crate::specs::Ledgers::opened))]
     pub fn new(layout: &Layout, delays: Delays) -> Ledger
         ensures { result ≡ opened layout.now delays }
@@ -107,7 +107,7 @@ impl Ledger {
         }
     }
 
-    /// Records a move that is made now. Numbers stop at the greatest u64.
+    /// Records a move that is made now. Numbers are capped at the greatest `u64`.
     #[tactic(auto, unfolding(crate::specs::Ledgers::noted))]
     pub fn note(&mut self, mv: Move)
         ensures { self.new ≡ noted self.old mv }

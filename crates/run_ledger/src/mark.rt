@@ -1,4 +1,4 @@
-//! What is kept of the last move that used a site.
+//! What is recorded of the last move that used a site.
 
 ghost use Rattle.std.specs.Prelude.{◌≡◌};
 ghost use Rattle.run_ledger.specs.Ledgers.{later as later_mark, no_mark};
@@ -6,7 +6,7 @@ ghost use Rattle.run_ledger.specs.Ledgers.{later as later_mark, no_mark};
 /// A move that was made, and the chain that ends with it.
 #[derive(Clone, Copy)]
 pub(crate) struct ChainMark {
-    /// When it is done, in ticks.
+    /// When it finishes, in ticks.
     pub(crate) time: u64,
 
     /// Its number in the run, from 1.
@@ -30,7 +30,7 @@ impl ChainMark {
     }
 }
 
-/// The mark of the move that is done later, or of the later move where both are done at the same time.
+/// The mark of the move that finishes later, or of the later move where both finish at the same time.
 #[inline(always)]
 pub(crate) fn later(a: ChainMark, b: ChainMark) -> ChainMark
     ensures { result ≡ later_mark a b }

@@ -13,7 +13,7 @@ use cf_timed::port;
 /// The number of the lane.
 const LANE: usize = 0;
 
-/// The number of what fetch does.
+/// The number of fetch.
 const FETCH: usize = 1;
 
 /// The number of the memory.
@@ -41,7 +41,7 @@ fn cell(k: usize, c: usize) -> usize
     38 + 8 * k + c
 }
 
-/// One more site, unless it is passed over.
+/// Appends a site where `taken` is set.
 #[inline(always)]
 fn push_if(places: &mut ArrayVec<usize, 10>, taken: bool, place: usize)
     requires { length places.old.items < 10 }
@@ -53,7 +53,7 @@ fn push_if(places: &mut ArrayVec<usize, 10>, taken: bool, place: usize)
     }
 }
 
-/// The first cells of the sidings that launch at the stage.
+/// Appends the first cells of the sidings that launch at the stage.
 #[tactic(auto, unfolding(cf_index::specs::Sites::ways_in))]
 fn push_entries(layout: &Layout, i: u32, places: &mut ArrayVec<usize, 10>)
     requires { length places.old.items ≤ 1 }
@@ -66,7 +66,7 @@ fn push_entries(layout: &Layout, i: u32, places: &mut ArrayVec<usize, 10>)
     }
 }
 
-/// The last cells of the sidings that recover at the stage.
+/// Appends the last cells of the sidings that recover at the stage.
 #[tactic(auto, unfolding(cf_index::specs::Sites::ways_out))]
 fn push_exits(layout: &Layout, i: u32, places: &mut ArrayVec<usize, 10>)
     requires { length places.old.items ≤ 1 }
@@ -80,7 +80,7 @@ fn push_exits(layout: &Layout, i: u32, places: &mut ArrayVec<usize, 10>)
     }
 }
 
-/// Some more sites.
+/// Appends some sites.
 fn push_all(places: &mut ArrayVec<usize, 10>, more: &[usize])
     requires { length places.old.items + length more.now ≤ 10 }
     ensures { places.new.items ≡ places.old.items ++ more.now }

@@ -1,4 +1,4 @@
-//! The timed run of which a ledger is kept.
+//! A timed run with a ledger.
 
 ghost use Rattle.std.specs.Prelude.{◌≡◌, ◌-◌, ◌≤◌};
 ghost use Rattle.rv_machine.specs.Streams.{streams_of};
@@ -16,7 +16,7 @@ use cf_run::known;
 use cf_timed::{Clock, Timed, clock_after, run_unreported, timed};
 
 /// Runs an opened processor as `run_timed` of cf_timed does, by a clock and with a ledger that have recorded no move.
-/// The ledger records the moves that the clock is told. It allocates no memory and always terminates.
+/// The ledger records the same moves as the clock. It allocates no memory and always terminates.
 pub fn run_noted<S: Source, K: Sink>(
     core: &mut Core,
     candidates: &mut Candidates,

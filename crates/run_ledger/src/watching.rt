@@ -1,4 +1,4 @@
-//! The policy of a timed run of which a ledger is kept.
+//! The policy of a timed run with a ledger.
 
 ghost use Rattle.std.specs.Prelude.{◌≡◌, None};
 ghost use Rattle.run_ledger.specs.Watchings.{after_watched, ledger_after, ledger_told, watched_pick};
@@ -12,7 +12,7 @@ use cf_sched::{Pace, Policy};
 use cf_timed::{Clock, Timing};
 use std::marker::Model;
 
-/// Picks what finishes earliest by a clock, and tells a ledger of each move when the clock is told of it.
+/// Picks the move that finishes earliest by a clock, and has a ledger record each move when the clock does.
 #[derive(Drop)]
 pub(crate) struct Watching {
     timing: Timing,
@@ -28,7 +28,7 @@ impl Model for Watching {
 }
 
 impl Watching {
-    /// Nothing has been picked yet.
+    /// A policy that has picked nothing.
     pub(crate) fn new(clock: Clock, ledger: Ledger) -> Watching
         ensures { result ≡ record { pending = record { clock = clock; last = None }; ledger = ledger } }
     {
