@@ -11,19 +11,19 @@ use Rattle.rv_asm.specs.Pieces.{Piece, pieces_of}
 use Rattle.rv_asm.specs.Sized.{pieces_size}
 use Rattle.rv_asm.specs.Spelling.{Spells}
 
--- a placed item: where it is, what it is, and the instructions and bytes that it places
+-- a placed item: its position, the item, and the instructions and bytes that it places
 pub record Placed : Type 0 where
   pub place : SectionPlace
   pub item : SourceItem
   pub pieces : List Piece
 
--- given the labels' values, the line stands for this item at the place
+-- given the labels' values, the line stands for this item at the position
 pub record LineStandsFor (labels : List LabelView) (here : SectionPlace) (line : List ℕ) (placed : Placed) : Type 0 where
   pub place : placed.place ≡ here
   pub item : item_at here (statement_in (said line)) ≡ Ok placed.item
   pub pieces : pieces_of labels (address_of here) placed.item ≡ Ok placed.pieces
 
--- each line stands for its item, which is placed after the item before it; the last item ends at this place
+-- each line stands for its item, which is placed after the item before it; the last item ends at this position
 abbrev pub AllStand : List LabelView → SectionPlace → List (List ℕ) → List Placed → SectionPlace → Type 0
 AllStand labels place [] [] end = place ≡ end
 AllStand labels place [] (p ∷ ps) end = ⊥
@@ -31,12 +31,12 @@ AllStand labels place (line ∷ lines) [] end = ⊥
 AllStand labels place (line ∷ lines) (p ∷ ps) end =
     LineStandsFor labels place line p × AllStand labels (place_after place p.item) lines ps end
 
--- the section that a place is in
+-- the section of a position
 abbrev pub section_at : Object → SectionPlace → List ℕ
 section_at object place = if place.in_text then object.text_bytes else object.data_bytes
 
 -- the item's instructions and bytes are in its section where it is placed: a word there decodes to its instruction, and
--- bytes are as they were written
+-- bytes are unchanged
 abbrev pub IsThere : Object → Placed → Type 0
 IsThere object p =
     Spells p.pieces (take (pieces_size p.pieces) (drop (length_at p.place) (section_at object p.place)))
@@ -51,7 +51,7 @@ label_of None place = []
 label_of (Some name) place =
     record { name = name; value = address_of place; in_text = place.in_text; global = false } ∷ []
 
--- the labels of lines, each at its line's item
+-- the labels of lines, each at the position of its line's item
 abbrev pub labels_of : List (List ℕ) → List Placed → List LabelView
 labels_of [] ps = []
 labels_of (line ∷ lines) [] = []

@@ -1,10 +1,10 @@
--- What the output has where a listing is not put whole.
+-- The output where a listing is not written whole.
 use Rattle.std.specs.Prelude.{◌≡◌, ℕ, List, Option, Result, Ok, Err}
 use Rattle.cf_io.specs.Puts.{WritesFront}
 use Rattle.asm_listing.specs.declared.listing.ListingErr.{ListingErr}
 use Rattle.asm_listing.specs.declared.listing.ListingErr.TheVariants as err
 
--- memory was refused before anything was put; or the output failed after a prefix of the text
+-- there was no memory before anything was written; or the output failed after a prefix of the text
 abbrev pub ListingStops : List ℕ → Option (List ℕ) → Option (List ℕ) → ListingErr → Type 0
 ListingStops text before after err.NoMemory = after ≡ before
 ListingStops text before after err.Failed = WritesFront before after text

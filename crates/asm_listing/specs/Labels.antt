@@ -1,11 +1,11 @@
--- Symbols in the order in which they are looked for.
+-- Symbols in the order of their values.
 use Rattle.std.specs.Prelude.{◌≡◌, ℕ, List, Bool, ◌==◌}
 use Rattle.std.specs.List.Sorted.{IsNonDecreasingBy}
 use Rattle.elf_view.specs.Symbols.{NamedSymbol}
 use Rattle.elf_view.specs.declared.symbols.LazySymbol.{LazySymbol}
 use Rattle.asm_listing.specs.Lines.{label_lines}
 
--- the values of the symbols do not fall
+-- the values of the symbols do not decrease
 abbrev pub Ascend : List LazySymbol → Type 0
 Ascend symbols = IsNonDecreasingBy (λ (symbol : LazySymbol). symbol.value) symbols
 
@@ -13,6 +13,6 @@ Ascend symbols = IsNonDecreasingBy (λ (symbol : LazySymbol). symbol.value) symb
 abbrev pub has_value : ℕ → LazySymbol → Bool
 has_value value symbol = symbol.value == value
 
--- the labels have the lines of the symbols at each address
+-- the labels give the same lines as the symbols at each address
 pub record HaveLines (symbols labels : List NamedSymbol) : Type 0 where
   pub at : (pc : ℕ) → label_lines labels pc ≡ label_lines symbols pc

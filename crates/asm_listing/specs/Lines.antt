@@ -11,7 +11,7 @@ use Rattle.elf_view.specs.declared.symbols.LazySymbol.{LazySymbol}
 use Rattle.texts.specs.Hexadecimal.{hex8}
 use Rattle.texts.specs.Lines.{newline, line}
 
--- the text of an instruction at an address, or the word itself where it is no instruction
+-- the text of an instruction at an address, or the word itself where it is not an instruction
 unfoldable pub word_text : ℕ → ℕ → Option Instr → List ℕ
 word_text pc word (Some i) = text_of i pc
 word_text pc word None = codes ".word 0x" ++ hex8 word
@@ -39,13 +39,13 @@ lines_at symbols pc bytes =
     if (pc % 4 == 0) && nat_le 4 (length bytes)
     then label_lines symbols pc ++ word_line pc (from_le_bytes w32 (take 4 bytes)) else []
 
--- the lines of bytes from an address on, each at its own; after the last address comes 0
+-- the lines of bytes from an address on, each at its own address; after the last address comes 0
 abbrev pub lines_from : List NamedSymbol → ℕ → List ℕ → List ℕ
 lines_from symbols pc [] = []
 lines_from symbols pc (byte ∷ bytes) =
     lines_at symbols pc (byte ∷ bytes) ++ lines_from symbols ((pc + 1) % 2 ^ 32) bytes
 
--- the same with the labels of symbols whose names are looked for as they are put
+-- the same, with symbols whose names are looked up only when they are written
 abbrev pub labelled_lines : List LazySymbol → ℕ → List ℕ → List ℕ
 labelled_lines symbols pc bytes = lines_from (map shown_lazy symbols) pc bytes
 

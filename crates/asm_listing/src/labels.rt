@@ -18,7 +18,7 @@ fn is_label_at(symbol: &LazySymbol, pc: u32) -> bool
     symbol.value == pc && symbol.is_named()
 }
 
-/// Puts the line of a symbol, where it is a label at the address.
+/// Writes the line of a symbol, where it is a label at the address.
 fn put_label<K: Sink>(symbol: &LazySymbol, pc: u32, out: &mut K) -> Result<(), Failed>
     ensures ok { OnOk result (Writes (K.written out.old) (K.written out.new) (label_line pc (shown_lazy symbol.now))) }
     ensures err { OnErr result (WritesFront (K.written out.old) (K.written out.new) (label_line pc (shown_lazy symbol.now))) }
@@ -53,7 +53,7 @@ fn symbols_of_value<'a, 'b>(symbols: &'a [LazySymbol<'b>], value: u32) -> &'a [L
     same
 }
 
-/// Puts the lines of symbols that are labels at an address.
+/// Writes the lines of symbols that are labels at an address.
 #[tactic(auto, using(cf_io::proofs::Owing::owes))]
 fn put_each<K: Sink>(symbols: &[LazySymbol], pc: u32, out: &mut K) -> Result<(), Failed>
     ensures ok { OnOk result (Writes (K.written out.old) (K.written out.new) (label_lines (map shown_lazy symbols.now) pc)) }
@@ -66,7 +66,7 @@ fn put_each<K: Sink>(symbols: &[LazySymbol], pc: u32, out: &mut K) -> Result<(),
     Ok(())
 }
 
-/// Puts the lines of the labels at an address.
+/// Writes the lines of the labels at an address.
 #[tactic(auto, using(crate::proofs::Values::values))]
 pub fn put_labels<K: Sink>(symbols: &[LazySymbol], pc: u32, out: &mut K) -> Result<(), Failed>
     requires { Ascend symbols.now }

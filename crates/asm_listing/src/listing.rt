@@ -17,19 +17,19 @@ use cf_io::{Failed, Sink};
 use elf_view::{Elf, LazySymbol, Segment};
 use std::alloc::{AllocError, Global};
 
-/// Where a flat image is.
+/// The address of a flat image.
 const FLAT_BASE: u32 = 0x1_0000;
 
-/// Why a listing was not put whole.
+/// Why a listing was not written whole.
 pub enum ListingErr {
-    /// There was no memory for the order of the symbols. Nothing was put.
+    /// There was no memory to sort the symbols. Nothing was written.
     NoMemory,
 
     /// The output failed. A prefix of the listing was written.
     Failed,
 }
 
-/// Puts the lines of a segment, where it is executable.
+/// Writes the lines of a segment, where it is executable.
 fn put_segment<K: Sink>(
     symbols: &[LazySymbol],
     segment: &Segment,
@@ -48,7 +48,7 @@ fn put_segment<K: Sink>(
     put_words(symbols, segment.vaddr, segment.bytes, out)
 }
 
-/// Puts the lines of the segments of an ELF file.
+/// Writes the lines of the segments of an ELF file.
 #[tactic(auto, using(cf_io::proofs::Owing::owes))]
 fn put_segments<K: Sink>(symbols: &[LazySymbol], elf: &Elf, out: &mut K) -> Result<(), Failed>
     requires { Ascend symbols.now }
@@ -64,9 +64,9 @@ fn put_segments<K: Sink>(symbols: &[LazySymbol], elf: &Elf, out: &mut K) -> Resu
     Ok(())
 }
 
-/// Puts the listing of an ELF file: of each executable segment the words at addresses that 4 divides,
-/// each on a line after those of the labels there. The symbols are put in order first, for which memory may be refused,
-/// before anything is put.
+/// Writes the listing of an ELF file: of each executable segment the words at addresses that 4 divides, each on a line
+/// after those of the labels there. First the symbols are sorted, which may run out of memory before anything is
+/// written.
 #[tactic(auto, using(crate::proofs::Walked::listings), unfolding(crate::specs::Listing::elf_listing))]
 pub fn put_elf_listing<K: Sink>(alloc: Global, elf: &Elf, out: &mut K) -> Result<(), ListingErr>
     ensures ok { OnOk result (Writes (K.written out.old) (K.written out.new) (elf_listing elf.now)) }
@@ -83,7 +83,7 @@ pub fn put_elf_listing<K: Sink>(alloc: Global, elf: &Elf, out: &mut K) -> Result
     }
 }
 
-/// Puts the listing of a flat image, which is at 0x00010000. After `Failed` a prefix of it was written.
+/// Writes the listing of a flat image, which is at 0x00010000. After `Failed` a prefix of it was written.
 #[tactic(auto, using(crate::proofs::Values::none), unfolding(crate::specs::Listing::flat_listing))]
 pub fn put_flat_listing<K: Sink>(image: &[u8], out: &mut K) -> Result<(), Failed>
     ensures ok { OnOk result (Writes (K.written out.old) (K.written out.new) (flat_listing image.now)) }

@@ -1,4 +1,4 @@
-//! The order in which the symbols of a file are looked for.
+//! The order of the symbols of a file.
 
 ghost use Rattle.std.specs.Prelude.{◌≡◌, OnOk, IfOk, filter, map};
 ghost use Rattle.elf_view.specs.Symbols.{is_named, shown_lazy, symbols_of};
@@ -20,7 +20,7 @@ fn named_symbols<'a>(alloc: Global, elf: &Elf<'a>) -> Result<Vec<LazySymbol<'a>>
     Ok(symbols)
 }
 
-/// Puts symbols in the order of their values. Those of one value stay in their order.
+/// Sorts symbols by their values, stably.
 fn sort_by_value(symbols: &mut Vec<LazySymbol>) -> Result<(), AllocError>
     ensures ascend { OnOk result (Ascend symbols.new.items) }
     ensures lines { OnOk result (HaveLines (map shown_lazy symbols.old.items) (map shown_lazy symbols.new.items)) }
@@ -30,7 +30,8 @@ fn sort_by_value(symbols: &mut Vec<LazySymbol>) -> Result<(), AllocError>
 }
 
 /// The symbols of a file that may be labels, in the order of their values. Those of one value are in their order in the
-/// file. A program may have a million symbols and a million words, so not every word can look at every symbol.
+/// file. A program may have a million symbols and a million words, so a search of all symbols for every word would take
+/// too long.
 #[tactic(auto, using(crate::proofs::Values::ordered))]
 pub fn ordered_symbols<'a>(alloc: Global, elf: &Elf<'a>) -> Result<Vec<LazySymbol<'a>>, AllocError>
     ensures ascend { IfOk result (λ symbols. Ascend symbols.items) }

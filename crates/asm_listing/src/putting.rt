@@ -1,4 +1,4 @@
-//! Texts that are put one after the other.
+//! Writing several texts.
 #![tactic(auto, using(cf_io::proofs::Owing::owing))]
 
 ghost use Rattle.std.specs.Prelude.{◌++◌, OnOk, OnErr};
@@ -7,7 +7,7 @@ ghost use Rattle.cf_io.specs.Puts.{Writes, WritesFront};
 
 use cf_io::{Failed, Sink, put_all};
 
-/// Puts two texts.
+/// Writes two texts.
 pub fn put_two<K: Sink>(out: &mut K, first: &[u8], second: &[u8]) -> Result<(), Failed>
     ensures ok { OnOk result (Writes (K.written out.old) (K.written out.new) (first.now ++ second.now)) }
     ensures err { OnErr result (WritesFront (K.written out.old) (K.written out.new) (first.now ++ second.now)) }
@@ -17,7 +17,7 @@ pub fn put_two<K: Sink>(out: &mut K, first: &[u8], second: &[u8]) -> Result<(), 
     put_all(out, second)
 }
 
-/// Puts three texts.
+/// Writes three texts.
 pub fn put_three<K: Sink>(
     out: &mut K,
     first: &[u8],

@@ -29,7 +29,7 @@ fn front_page(pc: u32, word: u32) -> Page
     page
 }
 
-/// The word itself, where it is no instruction.
+/// The word itself, where it is not an instruction.
 fn raw_page(word: u32) -> Page
     ensures { result ≡ codes ".word 0x" ++ hex8 word }
 {
@@ -39,7 +39,7 @@ fn raw_page(word: u32) -> Page
     page
 }
 
-/// Puts the line of a word: the text of the instruction that it is, or else the word.
+/// Writes the line of a word: the text of its instruction, or else the word.
 #[tactic(auto, unfolding(crate::specs::Lines::word_line, crate::specs::Lines::word_text))]
 fn put_line<K: Sink>(pc: u32, word: u32, out: &mut K) -> Result<(), Failed>
     ensures ok { OnOk result (Writes (K.written out.old) (K.written out.new) (word_line pc word)) }
@@ -60,7 +60,7 @@ fn put_line<K: Sink>(pc: u32, word: u32, out: &mut K) -> Result<(), Failed>
     }
 }
 
-/// Puts the labels at an address and the line of the word there.
+/// Writes the labels at an address and the line of the word there.
 fn put_word<K: Sink>(symbols: &[LazySymbol], pc: u32, word: u32, out: &mut K) -> Result<(), Failed>
     requires { Ascend symbols.now }
     ensures ok { OnOk result (Writes (K.written out.old) (K.written out.new)
@@ -94,7 +94,7 @@ fn first_word(bytes: &[u8]) -> Option<(u32, &[u8])>
     }
 }
 
-/// Puts the lines of words from an address on that 4 divides.
+/// Writes the lines of words from an address on that 4 divides.
 #[tactic(auto, using(cf_io::proofs::Owing::owes, crate::proofs::Walked::words))]
 fn put_aligned<K: Sink>(
     symbols: &[LazySymbol],
@@ -118,7 +118,7 @@ fn put_aligned<K: Sink>(
     Ok(())
 }
 
-/// Puts the lines of bytes from an address on.
+/// Writes the lines of bytes from an address on.
 #[tactic(auto, using(cf_io::proofs::Owing::owing, crate::proofs::Walked::walked))]
 pub fn put_words<K: Sink>(
     symbols: &[LazySymbol],

@@ -73,7 +73,7 @@ refused text bytes agreed faults more other old e is some = record {
   unchanged = ap (λ (c : Comparison). Some (told_by c)) is;
 }
 
--- a byte after a front
+-- a byte after a prefix
 get-after : (text : List ℕ) (front place : ℕ) → slice_get (drop front text) place ≡ slice_get text (front + place)
 get-after text zero place = let same : zero + place ≡ place = omega arith in rw same refl
 get-after [] (suc front) place = refl

@@ -117,7 +117,7 @@ front_of n mv after = append_assoc (move_front n) (move_line mv ++ 10 ∷ []) af
 line_after : (text rest : List ℕ) (n : ℕ) (mv : Move) → text ≡ move_front n ++ rest → (b : BeginsWithMove text n mv) → rest ≡ move_line mv ++ 10 ∷ b.after
 line_after text rest n mv is b = append_cancel_left (move_front n) rest (move_line mv ++ 10 ∷ b.after) (sym is ∙ b.is ∙ front_of n mv b.after)
 
--- no move's line is first where its front does not, where there is no line after that, or where the line names no move
+-- no move's line is first where its prefix does not, where there is no line after that, or where the line names no move
 pub no_front : (text : List ℕ) (n : ℕ) → ((rest : List ℕ) → text ≡ move_front n ++ rest → ⊥) → (mv : Move) → BeginsWithMove text n mv → ⊥
 no_front text n none mv b = none (move_line mv ++ 10 ∷ b.after) (b.is ∙ front_of n mv b.after)
 
@@ -151,7 +151,7 @@ one_told n a b x y reads tells same =
     let moves : Ok a ≡ Ok b = sym reads ∙ ap move_in both.0 ∙ tells in
     (cc, both.1)
 
--- the first line by the place of the first line feed
+-- the first line by the index of the first line feed
 feed_here : (byte : ℕ) → is_line_feed byte ≡ true → byte ≡ 10
 feed_here byte e = grind (arith, nat_tests)
 

@@ -56,7 +56,7 @@ goes_on text more from to low high some e =
     let size : length (take to text) ≡ length (take from text ++ more) = ap length e in
     omega (arith, size, length-append (take from text) more, length-take {A = ℕ})
 
--- a front that may be longer than the text
+-- a prefix that may be longer than the text
 pub front_within : (text : List ℕ) (place : ℕ) → take (min place (length text)) text ≡ take place text
 front_within text zero = let none : min zero (length text) ≡ zero = omega arith in rw none refl
 front_within [] (suc place) = let none : min (suc place) 0 ≡ zero = omega arith in rw none refl

@@ -127,7 +127,7 @@ still_there text start now new h same =
     subst (λ (s : AuditRun). ReachesMoment start.core s.place.core start.streams.input s.place.streams.input h.reached.last) (sym same)
     (stands-here text start now h)
 
--- the trace goes wrong at a place after the groups so far
+-- the trace goes wrong at an index after the groups so far
 wrong_at : (text : List ℕ) (start : RunPlace) (now : AuditRun) (h : Comes text start now) (last stop : Moment) (line place : ℕ) (kind : TraceKind) →
     Leads start.core.plan most_retired start.streams.input (moment_of start.core h.reached.rest) h.reached.trace last → 0 < length (left_of now.seen)
     → TraceFails start.core.plan start.streams.input last (now.place.tally.moves + 1) (left_of now.seen) place kind stop →
@@ -185,7 +185,7 @@ agrees_all text start now new n h none count same =
       still_there text start now new h same,
     )
 
--- the place where the group of a move and the text part, among all bytes
+-- the index where the group of a move and the text part, among all bytes
 parted_place : (text : List ℕ) (start : RunPlace) (now new : AuditRun) (h : Comes text start now) (line : ℕ) → PartsThere text start now new h.reached →
     line ≡ line_of text new.seen.agreed → line ≡ line_of text (now.seen.agreed + (new.seen.agreed - now.seen.agreed))
 parted_place text start now new h line p line_is =

@@ -129,7 +129,7 @@ line_there n mv more =
     ap has_line (ap (λ (t : List ℕ). t ++ more) (sym (append_assoc (codes "move " ++ decimal n ++ codes " ") (move_line mv) (10 ∷ [])))
     ∙ append_assoc front (10 ∷ []) more) ∙ has_feed front more
 
--- the byte of a front at a place is that of the text
+-- the byte of a prefix at an index is that of the text
 get_front : (front more : List ℕ) (place byte : ℕ) → slice_get front place ≡ Some byte → slice_get (front ++ more) place ≡ Some byte
 get_front [] more place byte e = absurd (cc)
 get_front (x ∷ front) more zero byte e = e

@@ -49,7 +49,7 @@ alone (Some byte) = byte ∷ []
 abbrev pub put_of : Comparison → List ℕ
 put_of c = take c.agreed c.text ++ alone c.other
 
--- what the sink exposes: the text, in bytes raised by one, so that the first 0 ends it; and after that 0 what was
--- written. So whatever puts to it is known to leave its text as it is
+-- what the sink exposes: the text, each byte raised by one, then a 0 that ends it, and after that what was written. So
+-- whoever writes to the sink is known to leave its text unchanged
 unfoldable pub told_by : Comparison → List ℕ
 told_by c = map suc c.text ++ 0 ∷ put_of c

@@ -1,4 +1,4 @@
--- Recorded traces: the text of a run, and where a text that is no trace goes wrong (a format of this project).
+-- Recorded traces: the text of a run, and where a text that is not a trace goes wrong (a format of this project).
 use Rattle.std.specs.Prelude.{◌≡◌, ◌⊎◌, ℕ, ◌+◌, ◌-◌, ◌<◌, ◌^◌, Bool, true, false, List, [], ◌∷◌, ◌++◌, length, take, slice_get, count_by, Option, Some, None, Ok}
 use Rattle.std.specs.List.{list_any}
 use Rattle.run_options.specs.declared.show.Show.TheVariants as show
@@ -94,7 +94,7 @@ pub record PartsAt (plan : Plan) (told : Option (List ℕ)) (last : Moment) (n :
 
 -- why what is left, which is not empty, is not the trace of further moves from the moment, the next of which has this
 -- number; the index is that of the byte that shows it. The tests, in their order: no line feed is left; the first line
--- is no move's; the move is barred; what follows is not its group. Only the last makes a move: then all stops at the
+-- is not a move's; the move is barred; what follows is not its group. Only the last makes a move: then all stops at the
 -- moment to which it leads, and otherwise at this one
 unfoldable pub TraceFails : Plan → Option (List ℕ) → Moment → ℕ → List ℕ → ℕ → TraceKind → (stop : Moment) → Type 0
 TraceFails plan told last n left place Cut stop =

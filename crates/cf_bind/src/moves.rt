@@ -57,7 +57,7 @@ pub enum Bar {
     Failed,
     /// There is no such stage, siding or cell.
     NoSuchSite,
-    /// There is no instruction in the stage.
+    /// There is not an instruction in the stage.
     NoPassenger,
     /// There is no result in the stage.
     NoPacket,

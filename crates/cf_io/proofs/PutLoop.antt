@@ -4,14 +4,14 @@ use Rattle.std.proofs.Math.Seq.{take-add, take-length}
 use Rattle.std.proofs.lemmas.List.{length-drop}
 use Rattle.cf_io.specs.Puts.{Writes}
 
--- that many bytes from the front are written, and no fault was counted
+-- that many bytes from the prefix are written, and no fault was counted
 pub record HasPut (written after : Option (List ℕ)) (bytes : List ℕ) (done before now : ℕ) :
     Type 0 where
   pub within : done ≤ length bytes
   pub told : Writes written after (take done bytes)
   pub still : now ≡ before
 
--- a front, and then a prefix of the rest
+-- a prefix, and then a prefix of the rest
 pub writes-add : (a b c : Option (List ℕ)) (bytes : List ℕ) (i n : ℕ) →
     Writes a b (take i bytes) → Writes b c (take n (drop i bytes)) → Writes a c (take (i + n) bytes)
 writes-add None b c bytes i n first next = tt

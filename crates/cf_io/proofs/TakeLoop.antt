@@ -38,7 +38,7 @@ take_over i n slice piece within =
     let front : length (take i slice) ≡ i = length-take-le i slice within in
     ap (λ k. take (k + n) (take i slice ++ piece)) (sym front) ∙ take-append-add (take i slice) piece n
 
--- what comes after that front
+-- what comes after that prefix
 drop_over : (i n : ℕ) (slice piece : List ℕ) → i ≤ length slice →
     drop (i + n) (take i slice ++ piece) ≡ drop n piece
 drop_over i n slice piece within =

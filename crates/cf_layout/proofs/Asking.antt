@@ -116,7 +116,7 @@ class_stages_few plan a c =
     let few = a.stages.1 in
     few_stages (stages_of plan c) w.0 (λ k d within. (w.1 k d within).0) (λ k d within. let i = (w.1 k d within).1 in omega arith)
 
--- nine lists, each taken at its place, are the nine
+-- nine lists, each taken at its index, are the nine
 nine_places : (units : List (List ℕ)) → length units ≡ 9 → map (λ c. unwrap_or (slice_get units (place_of c)) []) computed_classes ≡ units
 nine_places (a ∷ b ∷ c ∷ d ∷ e ∷ f ∷ g ∷ h ∷ i ∷ []) nine = refl
 nine_places [] nine = absurd (omega arith)

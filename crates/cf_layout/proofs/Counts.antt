@@ -12,11 +12,11 @@ use Rattle.cf_layout.specs.Layout.{place_of, same_class}
 use Rattle.cf_layout.specs.Asked.{names, is_unit, is_sided, is_asked}
 use Rattle.cf_layout.specs.Acceptable.{times, sided_classes, asked_classes}
 
--- the class at a place
+-- the class at an index
 class_at : ℕ → Class
 class_at place = get_or (Add ∷ Logic ∷ Shift ∷ Compare ∷ Branch ∷ Jump ∷ Memory ∷ Mul ∷ Div ∷ Serial ∷ []) place Free
 
--- the class at the place of a class is that class
+-- the class at the index of a class is that class
 class_back : (c : Class) → class_at (place_of c) ≡ c
 unfolding class_at
 class_back Add = refl
@@ -31,7 +31,7 @@ class_back Free = refl
 class_back Mul = refl
 class_back Div = refl
 
--- two classes with the same place are the same class
+-- two classes with the same index are the same class
 pub same_place : (c d : Class) → place_of c ≡ place_of d → c ≡ d
 same_place c d e = sym (class_back c) ∙ ap class_at e ∙ class_back d
 

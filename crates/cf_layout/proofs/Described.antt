@@ -39,18 +39,18 @@ pub ascending_rises : (stages : List ℤ) → IsStrictlyIncreasing (ascending st
 unfolding ascending
 ascending_rises stages = IsStrictlyIncreasing-filter (λ i. list_any (is_number i) stages) stage_numbers stage_numbers_rise
 
--- the places of the classes that are kept, by whether the first is kept
+-- the indices of the classes that are kept, by whether the first is kept
 places_step : (kept : Bool) (c : Class) (cs : List Class) (rest : List ℕ) → map place_of cs ≡ rest →
     map place_of (cond kept (c ∷ cs) cs) ≡ cond kept (place_of c ∷ rest) rest
 places_step true c cs rest e = rw e refl
 places_step false c cs rest e = e
 
--- the places of the classes that are kept are those of the places that are kept
+-- the indices of the classes that are kept are those of the indices that are kept
 places_kept : (q : ℕ → Bool) (cs : List Class) → map place_of (filter (λ c. q (place_of c)) cs) ≡ filter q (map place_of cs)
 places_kept q [] = refl
 places_kept q (c ∷ cs) = places_step (q (place_of c)) c (filter (λ d. q (place_of d)) cs) (filter q (map place_of cs)) (places_kept q cs)
 
--- the places that a list of classes names
+-- the indices that a list of classes names
 placed : List Class → ℕ → Bool
 placed classes n = list_any (λ d. nat_eq n (place_of d)) classes
 
@@ -85,7 +85,7 @@ ascending_within : (n : ℕ) (stages : List ℤ) → All (λ z. is_within 1 n z 
 unfolding ascending
 ascending_within n stages all = λ k d within. listed_within n _ stages all (filter_passes (λ i. list_any (is_number i) stages) stage_numbers k d within)
 
--- the computed class at its place
+-- the computed class at its index
 at_its_place : (c : Class) → IsComputed c → get_or computed_classes (place_of c) Add ≡ c
 at_its_place Add small = refl
 at_its_place Logic small = refl
@@ -194,7 +194,7 @@ pub ascending_none : ascending [] ≡ []
 unfolding ascending
 ascending_none = none_kept stage_numbers
 
--- a stage from 1 to 32 is at its place
+-- a stage from 1 to 32 is at its index
 stage_at : (i : ℕ) → 1 ≤ i → i ≤ 32 → get_or stage_numbers (i - 1) 0 ≡ i
 unfolding stage_numbers
 stage_at i low high = get_or-range_with_len 1 32 (i - 1) 0 (omega arith) ∙ omega arith

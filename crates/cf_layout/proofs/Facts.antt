@@ -85,7 +85,7 @@ unserved plan [] c high all = refl
 unserved plan (s ∷ ss) c high all = let off = unnamed s.classes c high (all 0 s (omega arith)).computed in
     rw off (unserved plan ss c high (All-tail (IsSiding plan) s ss all))
 
--- at a place after the lists there are no stages
+-- at an index after the lists there are no stages
 after_end : (units : List (List ℕ)) (place : ℕ) → length units ≤ place → unwrap_or (slice_get units place) [] ≡ []
 after_end [] place after = refl
 after_end (stages ∷ units) zero after = absurd (omega arith)

@@ -113,7 +113,7 @@ ascending_same stages rise low high = kept_same (λ i. list_any (is_number i) (m
 pub few_stages : (stages : List ℕ) → IsStrictlyIncreasing stages → All (λ i. 1 ≤ i) stages → All (λ i. i < 33) stages → length stages ≤ 32
 few_stages stages rise low high = let few = rises_few 1 33 stages (omega arith) (rises_from 1 stages rise low) (below_from 33 stages high) in omega arith
 
--- the places of the classes that a test of places keeps
+-- the indices of the classes that a test of places keeps
 kept_step : (kept : Bool) (c : Class) (cs : List Class) (rest : List ℕ) → map place_of cs ≡ rest →
     map place_of (cond kept (c ∷ cs) cs) ≡ cond kept (place_of c ∷ rest) rest
 kept_step true c cs rest e = rw e refl
@@ -123,7 +123,7 @@ kept_places : (test : ℕ → Bool) (cs : List Class) → map place_of (filter (
 kept_places test [] = refl
 kept_places test (c ∷ cs) = kept_step (test (place_of c)) c (filter (λ d. test (place_of d)) cs) (filter test (map place_of cs)) (kept_places test cs)
 
--- a list of classes has one at a place
+-- a list of classes has one at an index
 unfoldable pub has_place : List Class → ℕ → Bool
 has_place classes n = list_any (λ d. nat_eq n (place_of d)) classes
 

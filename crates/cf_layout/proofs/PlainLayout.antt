@@ -148,6 +148,6 @@ plain_accepted = record {
       ((λ at. let off = plain_unsided c e in cc), tt);
 }
 
--- and its sidings are in eight places
+-- and its sidings are in eight entries
 pub plain_held : AreHeld 1 (memory_siding ∷ no_siding ∷ no_siding ∷ no_siding ∷ no_siding ∷ no_siding ∷ no_siding ∷ no_siding ∷ [])
 plain_held = record { room = refl; few = omega arith; rest = refl }

@@ -7,7 +7,7 @@ use Rattle.std.proofs.lemmas.Bool.Decides.{nat_tests}
 use Rattle.rv_inst.specs.declared.classes.Class.{Class}
 use Rattle.cf_layout.specs.Layout.{Plan, SidingPlan, place_of, stages_of, siding_of, serves, homes, unit_homes, is_homed}
 
--- the stages at a place of the list
+-- the stages at an index of the list
 at_place : (units : List (List ℕ)) (place : ℕ) → place < length units → unwrap_or (slice_get units place) [] ≡ get_or units place []
 at_place [] place within = absurd (omega arith)
 at_place (stages ∷ units) zero within = refl
@@ -19,12 +19,12 @@ after_end [] place after = refl
 after_end (stages ∷ units) zero after = absurd (omega arith)
 after_end (stages ∷ units) (suc place) after = after_end units place (omega arith)
 
--- the stages of a class that has a place
+-- the stages of a class that has an index
 pub stages_within : (plan : Plan) (c : Class) (d : List ℕ) → place_of c < length plan.units → stages_of plan c ≡ get_or plan.units (place_of c) d
 unfolding stages_of
 stages_within plan c d within = at_place plan.units (place_of c) within ∙ get_or_default plan.units (place_of c) [] d within
 
--- and of one that has no place
+-- and of one that has no index
 pub stages_without : (plan : Plan) (c : Class) → length plan.units ≤ place_of c → stages_of plan c ≡ []
 unfolding stages_of
 stages_without plan c after = after_end plan.units (place_of c) after

@@ -261,7 +261,7 @@ raised : (b : Bool) (n m place : ℕ) → n ≤ m + place → raised_if b n ≤ 
 raised true n m place h = omega arith
 raised false n m place h = omega arith
 
--- with the move whose turn it is, and what is seen of it
+-- with the move whose turn it is, and its event
 pub fired-more : (plan : Plan) (round : List Move) (start now new : RunPlace) (pace current later : PaceCount) (fired answer : Fired) (place : ℕ) (mv : Move)
     (e : Event) (drained : Bool) → FiredSoFar plan round start now pace current fired place → Some mv ≡ slice_get round place
     → MoveDoes show.Report mv now new (Ok e) → drained ≡ is_drained new.core.state → ((stages count : ℕ) → HasCounted stages count current →

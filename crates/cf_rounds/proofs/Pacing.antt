@@ -39,7 +39,7 @@ use Rattle.cf_rounds.proofs.Chosen.{found_one, taken_all, taken_apart}
 abbrev MayIssue : Plan → ℕ → State → Move → Type 0
 MayIssue plan count s mv = is_held plan count ≡ true → is_issue mv ≡ true → IsStuck plan s
 
--- each move of a list by its place
+-- each move of a list by its index
 all_from : (test : Move → Type 0) (moves : List Move) → ((k : ℕ) (mv : Move) → slice_get moves k ≡ Some mv → test mv) → AllByRecursion test moves
 all_from test [] h = tt
 all_from test (mv ∷ moves) h = (h 0 mv refl, all_from test moves (λ k m e. h (suc k) m e))

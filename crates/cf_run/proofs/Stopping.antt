@@ -94,7 +94,7 @@ no_input mv m begin now new core streams outside h = record {
   output = subst (λ (o : Option (List ℕ)). Writes begin.streams.output o m.output) (sym h.fails.output) streams.output;
 }
 
--- what was written where a front was, and whether the output exposes it or not
+-- what was written where a prefix was, and whether the output exposes it or not
 record Written (before after : Option (List ℕ)) (bytes : List ℕ) : Type 0 where
   count : ℕ
   told : Writes before after (take count bytes)

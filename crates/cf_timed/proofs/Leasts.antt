@@ -8,7 +8,7 @@ use Rattle.std.proofs.lemmas.List.Sums.{list_all-from_AllPass, position_or_len_i
 use Rattle.cf_bind.specs.declared.moves.Move.{Move}
 use Rattle.cf_timed.specs.Earliest.{first_least}
 
--- the move at this place is the first whose time is no greater than a number, and no move has a lesser time
+-- the move at this index is the first whose time is no greater than a number, and no move has a lesser time
 pub record IsLeast (time : Move → ℕ) (moves : List Move) (place least : ℕ) : Type 0 where
   pub within : place < length moves
   pub is : (d : Move) → time (get_or moves place d) ≤ least

@@ -61,10 +61,10 @@ pub fn run_unreported<P: Policy, S: Source, K: Sink>(
 }
 
 /// Runs an opened processor by a clock that has recorded no move: of the candidates that any policy would be offered,
-/// the one that finishes earliest is made, and the first in the order of all moves where several are. Until the program
-/// ends, as many instructions have retired as the limit allows, or a fault occurs; these are tested in this order
-/// before each move. The clock records the moves that were made, and their number is given. It allocates no memory and
-/// always terminates.
+/// it makes the one that finishes earliest, and of several the first in the order of all moves. It runs until the
+/// program ends, as many instructions have retired as the limit allows, or a fault occurs; these are tested in this
+/// order before each move. The clock records the moves that were made, and their number is returned. It allocates no
+/// memory and always terminates.
 ///
 /// `ReadFault` and `WriteFault` come only where the input or the output failed a call of the environment; the count of
 /// its faults rose, and that move is neither counted nor recorded by the clock.

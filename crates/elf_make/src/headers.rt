@@ -33,7 +33,7 @@ const ALLOCATED_CODE: u32 = 6;
 
 const ALLOCATED_DATA: u32 = 3;
 
-/// Puts the file header.
+/// Appends the file header.
 #[tactic(auto, using(std::proofs::lemmas::List::append_assoc), unfolding(crate::specs::Headers::identity))]
 pub fn push_file_header(file: &mut Vec<u8>, sizes: Sizes, entry: u32) -> Result<(), AllocError>
     requires { AreSmall sizes }
@@ -45,7 +45,7 @@ pub fn push_file_header(file: &mut Vec<u8>, sizes: Sizes, entry: u32) -> Result<
     push_halves(file, &[52, 32, 2, 40, 6, 5])
 }
 
-/// Puts the header of a segment that is loaded.
+/// Appends the header of a segment that is loaded.
 fn push_program_header(
     file: &mut Vec<u8>,
     offset: u32,
@@ -58,7 +58,7 @@ fn push_program_header(
     push_words(file, &[LOAD, offset, address, address, len, len, flags, 4])
 }
 
-/// Puts the program headers.
+/// Appends the program headers.
 pub fn push_program_headers(file: &mut Vec<u8>, sizes: Sizes) -> Result<(), AllocError>
     requires { AreSmall sizes }
     ensures { OnOk result (file.new.items ≡ file.old.items ++ program_headers sizes) }
@@ -73,7 +73,7 @@ pub fn push_program_headers(file: &mut Vec<u8>, sizes: Sizes) -> Result<(), Allo
     )
 }
 
-/// Puts the null header and those of the text and of the data.
+/// Appends the null header and those of the text and of the data.
 fn push_content_headers(file: &mut Vec<u8>, sizes: Sizes) -> Result<(), AllocError>
     requires { AreSmall sizes }
     ensures { OnOk result (file.new.items ≡ file.old.items ++ content_headers sizes) }
@@ -111,7 +111,7 @@ fn push_content_headers(file: &mut Vec<u8>, sizes: Sizes) -> Result<(), AllocErr
     )
 }
 
-/// Puts the headers of the symbols, of their names and of the names of the sections.
+/// Appends the headers of the symbols, of their names and of the names of the sections.
 fn push_table_headers(file: &mut Vec<u8>, sizes: Sizes) -> Result<(), AllocError>
     requires { AreSmall sizes }
     ensures { OnOk result (file.new.items ≡ file.old.items ++ table_headers sizes) }
@@ -163,7 +163,7 @@ fn push_table_headers(file: &mut Vec<u8>, sizes: Sizes) -> Result<(), AllocError
     )
 }
 
-/// Puts the headers of the sections.
+/// Appends the headers of the sections.
 pub fn push_section_headers(file: &mut Vec<u8>, sizes: Sizes) -> Result<(), AllocError>
     requires { AreSmall sizes }
     ensures { OnOk result (file.new.items ≡ file.old.items ++ section_headers sizes) }

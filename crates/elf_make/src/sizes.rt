@@ -1,4 +1,4 @@
-//! How long the parts of a file are, and where each begins.
+//! The lengths and the offsets of the parts of a file.
 #![tactic(auto, unfolding(crate::specs::Sizes::data_at, crate::specs::Sizes::symbols_at, crate::specs::Sizes::names_at, crate::specs::Sizes::section_names_at, crate::specs::Sizes::section_names_end, crate::specs::Sizes::sections_at))]
 
 ghost use Rattle.std.specs.Prelude.{◌≡◌, ◌≤◌, ◌<◌, length, map, false};
@@ -13,7 +13,7 @@ use rv_asm::{Label, Object};
 /// Where the text begins, after the headers.
 pub const TEXT_AT: u32 = 116;
 
-/// How long the names of the sections are.
+/// The length of the names of the sections.
 pub const SECTION_NAMES_LEN: u32 = 39;
 
 /// How many bytes the text, the data and the names of the symbols have, and how many labels there are,
@@ -27,7 +27,7 @@ pub struct Sizes {
     pub names_len: u32,
 }
 
-/// How many bytes bring a length up to a multiple of 4.
+/// The padding of a length to a multiple of 4.
 #[tactic(auto)]
 pub fn padding(len: u32) -> u32
     ensures padding { result ≡ padding len }
@@ -115,7 +115,7 @@ impl Sizes {
         self.data_at() + padded(self.data_len)
     }
 
-    /// How long the table of symbols is.
+    /// The length of the table of symbols.
     pub fn symbols_len(self) -> u32
         requires { AreSmall self }
         ensures len { result ≡ symbols_len self }
@@ -142,7 +142,7 @@ impl Sizes {
         self.names_at() + self.names_len
     }
 
-    /// Where they end.
+    /// Where the names of the sections end.
     pub fn section_names_end(self) -> u32
         requires { AreSmall self }
         ensures at { result ≡ section_names_end self }

@@ -23,7 +23,7 @@ fn is_bound(global: bool, label: &Label) -> bool
     label.global == global
 }
 
-/// Puts the name's index and the value of a symbol, which has no size.
+/// Appends the name's index and the value of a symbol; its size is 0.
 fn push_value(file: &mut Vec<u8>, name: u32, value: u32) -> Result<(), AllocError>
     ensures words { OnOk result (file.new.items ≡ file.old.items ++ words (name ∷ value ∷ 0 ∷ [])) }
     ensures address { value < 2 ^ 32 }
@@ -31,7 +31,7 @@ fn push_value(file: &mut Vec<u8>, name: u32, value: u32) -> Result<(), AllocErro
     push_words(file, &[name, value, 0])
 }
 
-/// Puts the entry of a label whose name begins at an index.
+/// Appends the entry of a label whose name begins at an index.
 fn push_entry(file: &mut Vec<u8>, name: u32, label: &Label) -> Result<(), AllocError>
     ensures entry { OnOk result (file.new.items ≡ file.old.items ++ entry name (named label.now)) }
     ensures address { OnOk result ((named label.now).value < 2 ^ 32) }
@@ -47,8 +47,8 @@ fn push_entry(file: &mut Vec<u8>, name: u32, label: &Label) -> Result<(), AllocE
     push_halves(file, &[section])
 }
 
-/// Puts the entry of a label whose name begins at an index, where it is exported or where it is not, as
-/// `global` says. The answer is where the names after it begin.
+/// Appends the entry of a label whose name begins at an index, if whether it is exported equals `global`. Returns the
+/// index of the next name.
 #[tactic(auto, using(crate::proofs::Entries::address))]
 fn push_bound_entry(
     file: &mut Vec<u8>,
@@ -68,8 +68,8 @@ fn push_bound_entry(
     Ok(name + label.name.as_str().len() as u32 + 1)
 }
 
-/// Puts the entries of the labels that are exported, or of those that are not; the name of the first begins
-/// at an index. The answer is where the names after theirs begin.
+/// Appends the entries of the labels that are exported, or of those that are not; the name of the first begins at an
+/// index. Returns the index after their names.
 fn push_entries(
     file: &mut Vec<u8>,
     start: u32,
@@ -90,7 +90,7 @@ fn push_entries(
     Ok(name)
 }
 
-/// Puts the name of a label with a NUL, where it is exported or where it is not, as `global` says.
+/// Appends the name of a label with a NUL, if whether it is exported equals `global`.
 fn push_bound_name(file: &mut Vec<u8>, label: &Label, global: bool) -> Result<(), AllocError>
     ensures { OnOk result (file.new.items ≡ file.old.items ++ closed_names (bound global (named label.now ∷ []))) }
 {
@@ -102,7 +102,7 @@ fn push_bound_name(file: &mut Vec<u8>, label: &Label, global: bool) -> Result<()
     Ok(())
 }
 
-/// Puts the names of the labels that are exported, or of those that are not, each with a NUL.
+/// Appends the names of the labels that are exported, or of those that are not, each with a NUL.
 fn push_bound_names(file: &mut Vec<u8>, labels: &[Label], global: bool) -> Result<(), AllocError>
     ensures { OnOk result (file.new.items ≡ file.old.items ++ closed_names (bound global (map named labels.now))) }
 {
@@ -114,7 +114,7 @@ fn push_bound_names(file: &mut Vec<u8>, labels: &[Label], global: bool) -> Resul
     Ok(())
 }
 
-/// Puts the symbol table: the null symbol, then the labels, the local ones first.
+/// Appends the symbol table: the null symbol, then the labels, the local ones first.
 #[tactic(auto, unfolding(crate::specs::Symbols::symbol_table, crate::specs::Symbols::in_order), using(crate::proofs::Entries::entries))]
 pub fn push_symbols(file: &mut Vec<u8>, labels: &[Label]) -> Result<(), AllocError>
     requires { length (closed_names (map named labels.now)) ≤ 1572864 }
@@ -127,7 +127,7 @@ pub fn push_symbols(file: &mut Vec<u8>, labels: &[Label]) -> Result<(), AllocErr
     Ok(())
 }
 
-/// Puts the names of the symbols.
+/// Appends the names of the symbols.
 #[tactic(auto, unfolding(crate::specs::Symbols::names, crate::specs::Symbols::in_order), using(crate::proofs::Entries::names))]
 pub fn push_names(file: &mut Vec<u8>, labels: &[Label]) -> Result<(), AllocError>
     ensures { OnOk result (file.new.items ≡ file.old.items ++ names (map named labels.now)) }

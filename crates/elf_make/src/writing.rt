@@ -14,7 +14,7 @@ use crate::symbols::{push_names, push_symbols};
 use rv_asm::{Label, Object};
 use std::alloc::{AllocError, Global};
 
-/// Puts zeros after something of this length, up to a multiple of 4.
+/// Appends zeros after contents of this length, up to a multiple of 4.
 fn push_zeros(file: &mut Vec<u8>, len: u32) -> Result<(), AllocError>
     ensures { OnOk result (file.new.items ≡ file.old.items ++ zeros_after len) }
 {
@@ -24,7 +24,7 @@ fn push_zeros(file: &mut Vec<u8>, len: u32) -> Result<(), AllocError>
     Ok(())
 }
 
-/// Puts bytes, and zeros after them.
+/// Appends bytes, and zeros after them.
 fn push_content(file: &mut Vec<u8>, bytes: &[u8]) -> Result<(), AllocError>
     requires { length bytes.now ≤ 1048576 }
     ensures { OnOk result (file.new.items ≡ file.old.items ++ bytes.now ++ zeros_after (length bytes.now)) }

@@ -134,7 +134,7 @@ cut_at file at size count place false o e told after =
       first = λ k below. earlier file at size k (r.index + 1) fits below (λ j lower. r.first j (omega arith));
     }
 
--- the place that is found is that of the first entry that ends beyond the file
+-- the index that is found is that of the first entry that ends beyond the file
 cut-first : (file : List ℕ) (at size count place : ℕ) → find (λ p. ends_beyond file p size) (places at size count) ≡ Some place →
     IsFirstCut file at size count place
 cut-first file at size zero place e = cc

@@ -5,7 +5,7 @@ use Rattle.std.specs.List.{position_or_len}
 use Rattle.std.proofs.lemmas.Bool.Decides.{nat_tests}
 use Rattle.elf_view.specs.Fields.{places, ends_beyond, entries}
 
--- the places that are left begin with the next
+-- the indices that are left begin with the next
 pub next_place : (place size count counter : ℕ) → counter < count → places place size (count - counter) ≡ place
     ∷ places (place + size) size (count - (counter + 1))
 next_place place size count counter below = let e : count - counter ≡ suc (count - (counter + 1)) = omega arith in rw e refl

@@ -1,4 +1,4 @@
--- What each refusal says of the file by itself.
+-- What each refusal says of the file, taken by itself.
 use Rattle.std.specs.Prelude.{◌≡◌, ◌≢◌, ◌⊎◌, ℕ, ◌+◌, ◌*◌, ◌<◌, ◌≤◌, List, [], ◌∷◌, length, take, slice_index, bit_and, true, Some}
 use Rattle.std.specs.List.{Any, HoldsAt}
 use Rattle.elf_view.specs.Fields.{FitsIn}
@@ -10,7 +10,7 @@ use Rattle.elf_view.specs.declared.headers.ProgramHeader.{ProgramHeader}
 use Rattle.elf_view.specs.declared.refusal.ElfErr.{ElfErr}
 use Rattle.elf_view.specs.declared.refusal.ElfErr.TheVariants.{TooShort, NotElf, Not32Little, NotRiscv, NotExecutable, NeedsCompressed, NeedsFloat, NeedsRve, BadHeaderSize, OutsideFile, FileLargerThanMemory, NeedsInterpreter, BadSymbols}
 
--- the first entry of a table that ends beyond the file begins at the place
+-- the first entry of a table that ends beyond the file begins at this offset
 pub record IsFirstCut (file : List ℕ) (at size count place : ℕ) : Type 0 where
   pub index : ℕ
   pub within : index < count
@@ -32,7 +32,7 @@ IsWrongSize h size =
     ((0 < h.program_count) × (h.program_size ≡ size) × (size ≢ 32))
     ⊎ ((0 < number_of_sections h) × (h.section_size ≡ size) × (size ≢ 40))
 
--- the index is that of the first header of which that is true
+-- the index is that of the first header with this property
 pub record IsFirstHeader (So : ProgramHeader → Type 0) (headers : List ProgramHeader) (index : ℕ) : Type 0 where
   pub within : index < length headers
   pub so : HoldsAt So headers index

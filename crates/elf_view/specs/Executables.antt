@@ -1,5 +1,5 @@
--- What a file is that passes all tests: an executable for RISC-V, little-endian and of 32 bits (Tool Interface
--- Standard, Executable and Linking Format Specification; RISC-V ELF psABI Specification, "File Header").
+-- The meaning of passing all tests: the file is a little-endian 32-bit executable for RISC-V (Tool Interface Standard,
+-- Executable and Linking Format Specification; RISC-V ELF psABI Specification, "File Header").
 use Rattle.std.specs.Prelude.{◌≡◌, ◌≢◌, ℕ, ◌<◌, ◌≤◌, List, [], ◌∷◌, length, take, All, slice_index, bit_and, Some}
 use Rattle.elf_view.specs.Fields.{FitsIn}
 use Rattle.elf_view.specs.Headers.{file_header, program_headers, number_of_sections}

@@ -19,7 +19,7 @@ bytes_at file at count = take count (drop at file)
 abbrev pub ends_beyond : List ℕ → ℕ → ℕ → Bool
 ends_beyond file at count = nat_lt (length file) (at + count)
 
--- the offsets at which the entries of a table begin: that many of one size, one after the other
+-- the offsets of the entries of a table: that many of one size, one after the other
 abbrev pub places : ℕ → ℕ → ℕ → List ℕ
 places at size zero = []
 places at size (suc count) = at ∷ places (at + size) size count

@@ -1,4 +1,4 @@
--- What the iterators over segments and symbols have left.
+-- The remaining elements of the iterators over segments and symbols.
 use Rattle.std.specs.Prelude.{List, map}
 use Rattle.elf_view.specs.Fields.{entries}
 use Rattle.elf_view.specs.Headers.{symbol_entry}
@@ -13,7 +13,7 @@ abbrev pub segments_left : Segments → List LoadSegment
 segments_left s =
     map (segment_of s.file.now) (loads_in s.headers.file.now s.headers.at s.headers.left)
 
--- the symbols that are left, before their names are looked for
+-- the symbols that are left, before their names are looked up
 abbrev pub lazy_left : LazySymbols → List NamedSymbol
 lazy_left s =
     map (symbol_of s.names.now) (entries symbol_entry 16 s.entries.file.now s.entries.at s.entries.left)

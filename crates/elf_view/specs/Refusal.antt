@@ -13,7 +13,7 @@ use Rattle.elf_view.specs.declared.headers.ProgramHeader.{ProgramHeader}
 use Rattle.elf_view.specs.declared.refusal.ElfErr.{ElfErr}
 use Rattle.elf_view.specs.declared.refusal.ElfErr.TheVariants.{TooShort, NotElf, Not32Little, NotRiscv, NotExecutable, NeedsCompressed, NeedsFloat, NeedsRve, BadHeaderSize, OutsideFile, FileLargerThanMemory, NeedsInterpreter, BadSymbols}
 
--- the error, where the test finds its fault
+-- the error, where the test finds the fault
 abbrev pub where_so : Bool → ElfErr → Option ElfErr
 where_so fault e = if fault then Some e else None
 
@@ -103,11 +103,11 @@ bad_table file (Some index) = where_so (not (is_sound_table file (section_at fil
 unfoldable pub bad_symbols : List ℕ → Option ElfErr
 bad_symbols file = bad_table file (first_symbol_table file)
 
--- the tests of what the file is
+-- the tests of the file's identity
 unfoldable pub identity_refusal : List ℕ → Option ElfErr
 identity_refusal file = first_of (no_file_header file ∷ not_elf file ∷ not_32_little file ∷ [])
 
--- the tests of what it is made for
+-- the tests of the file's target
 unfoldable pub target_refusal : FileHeader → Option ElfErr
 target_refusal h = first_of (not_executable h ∷ not_riscv h ∷ needs_compressed h ∷ needs_float h ∷ needs_rve h ∷ [])
 

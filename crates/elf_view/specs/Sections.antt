@@ -1,4 +1,4 @@
--- The sections of a file, and which of them the symbols are read from (Tool Interface Standard, Executable and Linking
+-- The sections of a file, and those from which the symbols are read (Tool Interface Standard, Executable and Linking
 -- Format Specification, "Sections", "String Table" and "Symbol Table").
 use Rattle.std.specs.Prelude.{ℕ, ◌+◌, ◌-◌, ◌*◌, ◌/◌, ◌%◌, ◌<◌, ◌≤◌, ◌≡◌, List, length, All, position, slice_index, Bool, ◌==◌, ◌&&◌, not, nat_lt, Option}
 use Rattle.std.specs.List.{list_all}

@@ -1,4 +1,4 @@
--- The segments that a loader puts into memory (Tool Interface Standard, Executable and Linking Format Specification,
+-- The segments that a loader loads into memory (Tool Interface Standard, Executable and Linking Format Specification,
 -- "Program Header" and "Program Loading").
 use Rattle.std.specs.Prelude.{ℕ, ◌+◌, ◌≤◌, ◌≡◌, List, length, map, filter, All, Bool, ◌==◌, not, bit_and}
 use Rattle.elf_view.specs.Fields.{bytes_at, entries}
@@ -63,6 +63,6 @@ pub record IsLoadable (file : List ℕ) (s : LoadSegment) : Type 0 where
   pub content : s.bytes ≡ bytes_at file s.offset (length s.bytes)
   pub room : length s.bytes ≤ s.memsz
 
--- what a segment shows of itself
+-- a segment, as contracts see it
 abbrev pub shown_segment : Segment → LoadSegment
 shown_segment s = record { vaddr = s.vaddr; offset = s.offset; bytes = s.bytes.now; memsz = s.memsz; write = s.write; exec = s.exec }

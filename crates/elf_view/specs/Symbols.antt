@@ -43,10 +43,10 @@ symbols_of file = symbols_at file (first_symbol_table file)
 abbrev pub is_named : NamedSymbol → Bool
 is_named symbol = not (length symbol.name == 0)
 
--- what a symbol shows of itself
+-- a symbol, as contracts see it
 abbrev pub shown_symbol : Symbol → NamedSymbol
 shown_symbol s = record { name = s.name.now; value = s.value; size = s.size }
 
--- what it shows of itself before its name is looked for: the names begin with its own
+-- the symbol before its name is looked up, as contracts see it: the names begin with its own
 abbrev pub shown_lazy : LazySymbol → NamedSymbol
 shown_lazy s = record { name = first_text s.names.now; value = s.value; size = s.size }

@@ -18,7 +18,7 @@ use crate::sections::{first_symbol_table, section_at};
 use crate::{ElfErr, LazySymbols, Segments, Symbols};
 use std::marker::Model;
 
-/// An executable file, whose bytes are lent.
+/// An executable file, over borrowed bytes.
 #[derive(Drop)]
 pub struct Elf<'a> {
     file: &'a [u8],
@@ -49,7 +49,7 @@ fn symbols_in<'a>(file: &'a [u8], header: &FileHeader, table: &SectionHeader) ->
 }
 
 impl<'a> Elf<'a> {
-    /// The file as an executable.
+    /// Views the file as an executable.
     #[tactic(auto, using(crate::proofs::Views::views))]
     pub fn view(file: &'a [u8]) -> Result<Elf<'a>, ElfErr>
         ensures file { IfOk result (λ elf. elf ≡ file.now) }
@@ -80,7 +80,7 @@ impl<'a> Elf<'a> {
         Segments::new(self.file, self.header.programs(self.file))
     }
 
-    /// The symbols, in the order of the first symbol table, with names that are looked for when they are asked for.
+    /// The symbols, in the order of the first symbol table, with names that are looked up only when they are needed.
     #[tactic(auto, using(crate::proofs::Accepted::sections_fit, crate::proofs::Accepted::table_readable), unfolding(crate::specs::Symbols::symbols_of))]
     pub fn lazy_symbols(&self) -> LazySymbols<'a>
         ensures { lazy_left result ≡ symbols_of self.now }

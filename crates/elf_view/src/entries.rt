@@ -5,7 +5,7 @@ ghost use Rattle.elf_view.specs.Fields.{FitsIn};
 
 use std::marker::PhantomData;
 
-/// What the entries of a table are: a few fields in a fixed number of bytes.
+/// An entry of a table: a few fields in a fixed number of bytes.
 pub trait Entry: Copy {
     ghost SIZE: { ℕ };
 

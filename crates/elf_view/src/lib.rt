@@ -1,4 +1,4 @@
-//! A little-endian 32-bit ELF executable for RISC-V, seen in lent parts of its file.
+//! A little-endian 32-bit ELF executable for RISC-V, viewed in place in its borrowed file.
 #![tactic(auto)]
 
 mod elf;

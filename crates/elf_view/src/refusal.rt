@@ -14,14 +14,14 @@ use crate::sections::{first_symbol_table, is_sound_table, section_at};
 /// Why a file is refused.
 #[derive(Clone, Copy, Debug, PartialEq, Eq)]
 pub enum ElfErr {
-    /// The file ends before the file header does (then 0), or before the header at this offset does: the first such
-    /// program header, or, where there is no such one, the first such section header.
+    /// The file ends before the file header does (then 0), or before the end of the header at this offset: the first
+    /// such program header, or where there is none the first such section header.
     TooShort(u64),
     /// It does not begin with the bytes 7F 45 4C 46.
     NotElf,
     /// It is not of 32 bits, not little-endian, or not of version 1.
     Not32Little,
-    /// It is for this machine, which is not RISC-V.
+    /// It is for this machine, not for RISC-V.
     NotRiscv(u16),
     /// It is of this type, which is not that of an executable.
     NotExecutable(u16),
@@ -31,7 +31,7 @@ pub enum ElfErr {
     NeedsFloat,
     /// Its flags say that it is for the embedded instruction set of 16 registers.
     NeedsRve,
-    /// Its program headers have this size in place of 32, or its section headers in place of 40.
+    /// Its program headers have this size instead of 32, or its section headers instead of 40.
     BadHeaderSize(u16),
     /// The bytes of the segment of this program header end beyond the file.
     OutsideFile(u32),
@@ -39,9 +39,9 @@ pub enum ElfErr {
     FileLargerThanMemory(u32),
     /// A program header names an interpreter.
     NeedsInterpreter,
-    /// The first symbol table, the section of this index, is not sound: its entries are not whole ones of 16 bytes, it
-    /// or the section of its names does not lie in the file, there is no such section, the names do not end in NUL, or
-    /// a symbol's name begins beyond them.
+    /// The first symbol table, the section at this index, is not sound: its entries are not whole ones of 16 bytes, it
+    /// or the section of its names does not lie in the file, that section does not exist, the names do not end in NUL,
+    /// or a symbol's name begins beyond them.
     BadSymbols(u32),
 }
 
@@ -283,7 +283,7 @@ fn check_symbols(file: &[u8], header: &FileHeader) -> Result<(), ElfErr>
     Ok(())
 }
 
-/// Tests the file, in the order of the definition, and gives its header.
+/// Tests the file, in the order of the definition, and returns its header.
 #[tactic(auto, unfolding(crate::specs::Refusal::refusal))]
 pub(crate) fn check(file: &[u8]) -> Result<FileHeader, ElfErr>
     ensures accepted { IfOk result (λ header. refusal file.now ≡ None) }

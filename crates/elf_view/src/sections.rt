@@ -1,4 +1,4 @@
-//! The sections of a file, and which of them its symbols are read from.
+//! The sections of a file, and those from which its symbols are read.
 
 ghost use Rattle.std.specs.Prelude.{◌≡◌, ◌<◌, ◌≤◌, ◌^◌, ◌+◌, ◌*◌, ◌/◌, IfSome, IsTrue, length, position};
 ghost use Rattle.elf_view.specs.Fields.{entries as table_entries, FitsIn};

@@ -11,7 +11,7 @@ pub struct Segment<'a> {
     pub offset: u32,
     /// Its bytes in the file.
     pub bytes: &'a [u8],
-    /// How many bytes it takes in memory: as many as it has in the file, or more.
+    /// How many bytes it has in memory: at least as many as in the file.
     pub memsz: u32,
     /// Whether the program may write to it.
     pub write: bool,

@@ -47,7 +47,7 @@ fn names_from(names: &[u8], at: usize) -> &[u8]
     &names[at..]
 }
 
-/// A symbol whose name is looked for when it is asked for: a name may be long, and belong to many symbols.
+/// A symbol whose name is looked up only when it is needed: a name may be long, and belong to many symbols.
 #[derive(Drop)]
 pub struct LazySymbol<'a> {
     /// The names of the file, from the first byte of its own name on.
@@ -82,7 +82,7 @@ impl<'a> LazySymbol<'a> {
     }
 }
 
-/// The symbols of a file, in the order of its symbol table, with names that are not looked for yet.
+/// The symbols of a file, in the order of its symbol table, with names that are not looked up yet.
 #[derive(Drop)]
 pub struct LazySymbols<'a> {
     entries: Entries<'a, SymbolEntry>,

@@ -108,7 +108,7 @@ found_after before p ps i j e r = record {
   least_first = r.least_first;
 }
 
--- moving a part over to those before it leaves the list as it is
+-- moving a part over to those before it leaves the list unchanged
 more_before : (before : List Part) (p : Part) (ps : List Part) → (before ++ p ∷ []) ++ ps ≡ before ++ p ∷ ps
 more_before before p ps = append_assoc before (p ∷ []) ps
 

@@ -36,7 +36,7 @@ can_of false c e h = absurd h
 pub can : (m : Memory) (at len : ℕ) (t : Bool) → t ≡ can_write m at len → T (not (not t)) → IsTrue (can_write m at len)
 can m at len t e h = can_of t (can_write m at len) e h
 
--- where nothing can be written there is no place, and no bytes at it
+-- where nothing can be written there is no index, and no bytes at it
 nothing_lent : (m : Memory) (at len : ℕ) (place : Option ℕ) → place ≡ position (writes_in at len) m.areas → can_write m at len ≡ false →
     writable_of m at len ≡ None
 unfolding can_write

@@ -93,7 +93,7 @@ told-overlap before [] = refl
 told-overlap before (p ∷ ps) = told-overlap_or (position (λ b. overlaps b p) before) (length before) (overlap_from (before ++ p ∷ []) ps)
     (told-overlap (before ++ p ∷ []) ps)
 
--- the refusal is given as it is: it is never lack of memory
+-- the refusal is given as it is: it is never that there was no memory
 told-refusal : (parts : List Part) → told_again (refusal parts) ≡ refusal parts
 unfolding refusal too_many first_wrapping too_large first_overlap
 told-refusal parts = told-or_else _ _ (told-too_many _ _) (told-or_else _ _ (told-wraps _) (told-or_else _ _ (told-too_large _ _) (told-overlap [] parts)))

@@ -24,7 +24,7 @@ pub record HasNone {A : Type 0} (p : A → Bool) (xs : List A) : Type 0 where
 place_here : {A : Type 0} (p : A → Bool) (x : A) (xs : List A) (d : A) → p x ≡ true → IsPlace p (x ∷ xs) 0 d
 place_here p x xs d e = record { below = omega arith; passes = e; found = rw e refl; any = rw e refl; changed = λ f. rw e refl }
 
--- the first element fails, and the place comes after it
+-- the first element fails, and the index comes after it
 place_after : {A : Type 0} (p : A → Bool) (x : A) (xs : List A) (i : ℕ) (d : A) → p x ≡ false → IsPlace p xs i d → IsPlace p (x ∷ xs) (suc i) d
 place_after p x xs i d e r =
     record {

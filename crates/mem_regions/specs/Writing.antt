@@ -11,7 +11,7 @@ use Rattle.mem_regions.specs.Bytes.{le_bytes}
 abbrev pub overwritten : List ℕ → ℕ → List ℕ → List ℕ
 overwritten bytes at w = take (length bytes) (take at bytes ++ w ++ drop (at + length w) bytes)
 
--- the region with these bytes from the address on; its code stays as it was
+-- the region with these bytes from the address on; its code is unchanged
 abbrev pub area_with : ℕ → List ℕ → Area → Area
 area_with addr w a = record a { bytes = overwritten a.bytes (addr - a.base) w }
 

@@ -1,5 +1,4 @@
--- The policy of a timed run of which a ledger is kept: the clock picks, and the ledger records each move when the clock
--- does.
+-- The policy of a timed run with a ledger: the clock picks, and the ledger records each move when the clock does.
 use Rattle.std.specs.Prelude.{ℕ, List}
 use Rattle.cf_bind.specs.declared.moves.Move.{Move}
 use Rattle.cf_semantics.specs.state.Options.{on}

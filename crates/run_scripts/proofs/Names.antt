@@ -5,7 +5,7 @@ use Rattle.run_scripts.specs.declared.kind.Kind.{Kind}
 use Rattle.run_scripts.specs.declared.kind.Kind.TheVariants.{Issue, Emit, Climb, Fall, Meet, Execute, Send, Launch, Slide, Access, Recover, Leave, Exit, Serve}
 use Rattle.run_scripts.specs.Kinds.{name_at, name_of, names, kinds}
 
--- the name of a kind is at its place
+-- the name of a kind is at its index
 name-there : (ks : List Kind) (place : ℕ) (kind : Kind) → place < length ks → kind ≡ slice_index_or ks place kind →
     unwrap_or (slice_get (map name_of ks) place) [] ≡ name_of kind
 name-there [] place kind within is = absurd (omega (arith, within))

@@ -181,7 +181,7 @@ draft-few above draft last (line ∷ lines) m e f =
     let rest = draft-few (above + 1) r.first last lines (m + length (said line)) r.goes next in
     more-bytes last.labels ((m + length (said line)) + bytes_of lines) (m + bytes_of (line ∷ lines)) (omega (arith, said-shorter line)) rest
 
--- an export leaves the names as they are
+-- an export leaves the names unchanged
 name-kept-by : (b : Bool) (l : LabelView) → (cond b (record l { global = true }) l).name ≡ l.name
 name-kept-by true l = refl
 name-kept-by false l = refl

@@ -28,27 +28,27 @@ are_ascii above (line ∷ lines) =
     if is_ascii line then are_ascii (above + 1) lines
     else Err (record { line = above + 1; kind = NotAscii })
 
--- the labels with that of a line, which is at the line's own address
+-- the labels with that of a line, whose value is the line's address
 abbrev pub with_label : List LabelView → SectionPlace → Option (List ℕ) → Result (List LabelView) AsmKind
 with_label labels place None = Ok labels
 with_label labels place (Some name) =
     if is_some (value_of labels name) then Err LabelTwice
     else Ok (labels ++ record { name = name; value = address_of place; in_text = place.in_text; global = false } ∷ [])
 
--- what is known after a line that says this: first its label counts, then its statement
+-- what is known after a line with this text: first its label is defined, then its statement is read
 unfoldable pub drafted : Draft → List ℕ → Result Draft AsmKind
 drafted draft text =
     and_then (with_label draft.labels draft.place (label_in text)) (λ labels.
     and_then (item_at draft.place (statement_in text)) (λ item.
     Ok (record { place = place_after draft.place item; labels = labels })))
 
--- what is known after all lines: where they end, and the labels
+-- what is known after all lines: the position after them, and the labels
 abbrev pub draft_from : ℕ → Draft → List (List ℕ) → Result Draft AsmErr
 draft_from above draft [] = Ok draft
 draft_from above draft (line ∷ lines) =
     and_then (at_line (above + 1) (drafted draft (said line))) (λ next. draft_from (above + 1) next lines)
 
--- what is in the sections above a line
+-- the contents of the sections before a line
 pub record Sections : Type 0 where
   pub place : SectionPlace
   pub text : List Piece
@@ -60,7 +60,7 @@ abbrev pub marked : List LabelView → SourceItem → List LabelView
 marked labels (Export name) = exported labels name
 marked labels item = labels
 
--- what is in the sections after an item, whose pieces come after those of its section
+-- the contents of the sections after an item, whose pieces are appended to its section
 abbrev pub placed : Sections → SourceItem → List Piece → Sections
 placed sections item pieces = record {
   place = place_after sections.place item;
@@ -69,20 +69,20 @@ placed sections item pieces = record {
   labels = marked sections.labels item;
 }
 
--- what is in the sections after a line that says this
+-- the contents of the sections after a line with this text
 unfoldable pub filled : Sections → List ℕ → Result Sections AsmKind
 filled sections text =
     and_then (item_at sections.place (statement_in text)) (λ item.
     and_then (pieces_of sections.labels (address_of sections.place) item) (λ pieces.
     Ok (placed sections item pieces)))
 
--- what is in the sections after all lines
+-- the contents of the sections after all lines
 abbrev pub sections_from : ℕ → Sections → List (List ℕ) → Result Sections AsmErr
 sections_from above sections [] = Ok sections
 sections_from above sections (line ∷ lines) =
     and_then (at_line (above + 1) (filled sections (said line))) (λ next. sections_from (above + 1) next lines)
 
--- nothing in the sections yet
+-- empty sections
 abbrev pub empty : List LabelView → Sections
 empty labels = record { place = start; text = []; data_pieces = []; labels = labels }
 

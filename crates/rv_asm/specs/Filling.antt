@@ -1,4 +1,4 @@
--- What the sections' bytes show of the program.
+-- The bytes of the sections, related to the program.
 use Rattle.std.specs.Prelude.{◌≡◌, ℕ, Result, Ok, Err, List, ◌++◌, if◌then◌else◌}
 use Rattle.rv_asm.specs.declared.refusal.AsmKind.{AsmKind}
 use Rattle.rv_asm.specs.declared.refusal.AsmErr.{AsmErr}
@@ -13,7 +13,7 @@ use Rattle.rv_asm.specs.Pieces.{Piece, pieces_of}
 use Rattle.rv_asm.specs.Spelling.{Spells, GivesBytes}
 use Rattle.rv_asm.specs.Assembling.{Sections, marked}
 
--- what a line that says this places
+-- what a line with this text places
 unfoldable pub line_pieces : List LabelView → SectionPlace → List ℕ → Result (List Piece) AsmKind
 line_pieces labels place text =
     and_then (item_at place (statement_in text)) (λ item. pieces_of labels (address_of place) item)

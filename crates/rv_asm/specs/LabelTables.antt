@@ -5,14 +5,14 @@ use Rattle.std.specs.Cmp.Lexicographic.{slice_cmp}
 use Rattle.std.specs.Ordering.{nat_cmp}
 use Rattle.rv_asm.specs.Labels.{LabelView}
 
--- the place that a map has for a name
+-- the index that a map has for a name
 abbrev pub place_of : {Z : Type 0} → BTreeMap (Vec ℕ Z) ℕ → List ℕ → Option ℕ
 place_of places name = get_by (λ key. slice_cmp nat_cmp name key.items) places
 
 abbrev pub names_of : List LabelView → List (List ℕ)
 names_of labels = map (λ label. label.name) labels
 
--- each name is found at its own place, so that no name is there twice, and what is found is a place of the name
+-- each name is found at its own index, so no name occurs twice; and what is found is the index of that name
 pub record FindsNames (names : List (List ℕ)) (found : List ℕ → Option ℕ) : Type 0 where
   pub each : (place : ℕ) (d : List ℕ) → place < length names → found (slice_index_or names place d) ≡ Some place
   pub within : (name : List ℕ) (place : ℕ) → found name ≡ Some place → place < length names

@@ -22,10 +22,10 @@ exported_as name label = if bytes_eq label.name name then record label { global 
 unfoldable pub exported : List LabelView → List ℕ → List LabelView
 exported labels name = map (exported_as name) labels
 
--- where a program is entered: at the label `_start`, else at the beginning of the text
+-- where a program is entered: at the label `_start`, or else at the start of the text
 unfoldable pub entry_of : List LabelView → ℕ
 entry_of labels = unwrap_or (value_of labels (codes "_start")) 0x10000
 
--- what a label shows of itself
+-- a label, as contracts see it
 abbrev pub named : Label → LabelView
 named label = record { name = label.name; value = label.value; in_text = label.in_text; global = label.global }

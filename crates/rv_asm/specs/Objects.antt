@@ -1,4 +1,4 @@
--- What an object shows of its program.
+-- An object, related to its program.
 use Rattle.std.specs.Prelude.{◌≡◌, ◌⊎◌, Result, Ok, Err}
 use Rattle.rv_asm.specs.declared.object.Object.{Object}
 use Rattle.rv_asm.specs.declared.refusal.AsmErr.{AsmErr}
@@ -19,6 +19,6 @@ abbrev pub Objects : Object → Result Sections AsmErr → Type 0
 Objects object (Ok sections) = IsObject sections object
 Objects object (Err e) = ⊥
 
--- the refusal is the answer, unless it is a lack of memory
+-- the refusal is the answer, unless there was no memory
 abbrev pub RefusesSource : AsmErr → Result Sections AsmErr → Type 0
 RefusesSource e answer = (e.kind ≡ NoMemory) ⊎ (answer ≡ Err e)

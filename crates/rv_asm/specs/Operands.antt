@@ -24,7 +24,7 @@ abbrev pub operands_left : Option (List ℕ) → List (List ℕ)
 operands_left None = []
 operands_left (Some text) = operands_of text
 
--- how much is left, with the comma in front
+-- how much is left, with the comma before it
 abbrev pub left_length : Option (List ℕ) → ℕ
 left_length None = 0
 left_length (Some text) = length text + 1
@@ -35,13 +35,13 @@ bytes_of_width Byte = 1
 bytes_of_width Half = 2
 bytes_of_width Word = 4
 
--- a number that a width holds, signed or unsigned
+-- a number that fits the width, signed or unsigned
 abbrev pub number_of_width : Width → List ℕ → Result ℤ TextErr
 number_of_width Byte text = number_in (negsuc 0x7f) (pos 0xff) text
 number_of_width Half text = number_in (negsuc 0x7fff) (pos 0xffff) text
 number_of_width Word text = number_in (negsuc 0x7fffffff) (pos 0xffffffff) text
 
--- an operand that stands for a label: one for a word, which begins like a name
+-- an operand that stands for a label: an operand for a word that begins like a name
 abbrev pub names_label : Width → List ℕ → Bool
 names_label Byte text = false
 names_label Half text = false

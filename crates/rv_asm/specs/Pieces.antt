@@ -22,11 +22,11 @@ pub data Piece : Type 0 where
   Word : Instr → Piece
   Bytes : List ℕ → Piece
 
--- the value of a label that must be there
+-- the value of a label, or a refusal where it is not defined
 abbrev pub label_value : List LabelView → List ℕ → Result ℕ AsmKind
 label_value labels name = needed NoLabel (value_of labels name)
 
--- the instruction over a distance that must fit
+-- the instruction over a distance, or a refusal where that is too far
 abbrev pub nearby : Result Instr TextErr → Result Instr AsmKind
 nearby (Ok i) = Ok i
 nearby (Err (OutOfRange z)) = Err (TooFar z)

@@ -1,4 +1,4 @@
--- Where a line is: in the text or in the data, after what is there already.
+-- The position of a line: in the text or in the data, after the earlier lines.
 use Rattle.std.specs.Prelude.{ℕ, ◌≤◌, ◌+◌, ◌%◌, ◌==◌, ◌&&◌, ◌||◌, not, nat_lt, true, Result, Ok, Err, List, if◌then◌else◌}
 use Rattle.rv_asm.specs.declared.refusal.AsmKind.{AsmKind}
 use Rattle.rv_asm.specs.declared.refusal.AsmKind.TheVariants.{Misplaced, TooLarge}
@@ -15,7 +15,7 @@ start = record { in_text = true; text_len = 0; data_len = 0 }
 unfoldable pub address_of : SectionPlace → ℕ
 address_of place = if place.in_text then 0x10000 + place.text_len else 0x200000 + place.data_len
 
--- the length of the section that a place is in
+-- the length of the section of a position
 abbrev pub length_at : SectionPlace → ℕ
 length_at place = if place.in_text then place.text_len else place.data_len
 
@@ -25,20 +25,20 @@ grown place size =
     if place.in_text then record place { text_len = place.text_len + size }
     else record place { data_len = place.data_len + size }
 
--- the place after an item
+-- the position after an item
 unfoldable pub place_after : SectionPlace → SourceItem → SectionPlace
 place_after place (Section in_text) = record place { in_text = in_text }
 place_after place item = grown place (size_of item)
 
--- the item may be there: instructions only in the text at a multiple of 4, and its section is then no longer than
--- 1,048,576 bytes
+-- the item may be placed there: instructions only in the text at a multiple of 4, and the section is then at most
+-- 1,048,576 bytes long
 unfoldable pub fits_at : SectionPlace → SourceItem → Result (Unit {0}) AsmKind
 fits_at place item =
     if is_code item && (not place.in_text || not (address_of place % 4 == 0)) then Err Misplaced
     else if nat_lt 1048576 (length_at place + size_of item) then Err (TooLarge (length_at place + size_of item))
     else Ok tt
 
--- the item of a statement at a place
+-- the item of a statement at a position
 unfoldable pub item_at : SectionPlace → List ℕ → Result SourceItem AsmKind
 item_at place text =
     and_then (statement_read (address_of place) text) (λ item. and_then (fits_at place item) (λ u. Ok item))

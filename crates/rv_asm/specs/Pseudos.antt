@@ -32,7 +32,7 @@ word_modulo z = unsigned_abs (int_rem_euclid z (pos (2 ^ 32)))
 abbrev pub addi : ℕ → ℕ → ℤ → Instr
 addi rd rs imm = instr.OpImm immop.Add rd rs imm
 
--- the upper twenty bits for a word, such that the rest is from -2048 to 2047
+-- the upper twenty bits for a word, chosen so that the rest is from -2048 to 2047
 abbrev pub upper_part : ℕ → ℕ
 upper_part v = (v + 2048) / 4096 % 2 ^ 20
 
@@ -56,13 +56,13 @@ unfoldable pub reaching : Far → ℕ → SourceItem
 reaching (far.Address rd) v = Double (instr.Auipc rd (upper_part v)) (addi rd rd (lower_part v))
 reaching far.Call v = Double (instr.Auipc 1 (upper_part v)) (instr.Jalr 1 1 (lower_part v))
 
--- the same from an address to what an operand names: a label, or a number that is the address
+-- the same from an address to the target of an operand: a label, or a number that is the address
 unfoldable pub reached : Far → ℕ → List ℕ → Result SourceItem TextErr
 reached f pc operand =
     if begins_name operand then Ok (Distant f operand)
     else and_then (needed BadNumber (number_of operand)) (λ target. Ok (reaching f (word_difference (word_modulo target) pc)))
 
--- a jump or a branch to what an operand names
+-- a jump or a branch to the target of an operand
 unfoldable pub jumped : Jump → ℕ → List ℕ → Result SourceItem TextErr
 jumped j pc operand =
     if begins_name operand then Ok (Near j operand) else and_then (aimed_at j operand pc) (λ i. Ok (Single i))
@@ -74,7 +74,7 @@ loaded text =
     and_then (register_in (operand_at text 0)) (λ rd.
     and_then (number_in (negsuc 0x7fffffff) (pos 0xffffffff) (operand_at text 1)) (λ v. Ok (loading rd (word_modulo v)))))
 
--- a register and what is to be addressed
+-- a register, and the target whose address it gets
 unfoldable pub address_read : ℕ → List ℕ → Result SourceItem TextErr
 address_read pc text =
     and_then (count_is 2 text) (λ u.

@@ -43,11 +43,11 @@ one_number greatest text =
     and_then (count_is 1 text) (λ u.
     and_then (number_in (pos 0) (pos greatest) (operand_at text 0)) (λ z. Ok (unsigned_abs z)))
 
--- how many bytes an address is short of a multiple of a size
+-- the distance from an address up to the next multiple of a size
 abbrev pub padding : ℕ → ℕ → ℕ
 padding address size = (size - address % size) % size
 
--- a string, which is all that is there, and whether a zero follows
+-- a string that makes up the text, and whether a zero follows
 unfoldable pub string_read : Bool → List ℕ → Result SourceItem AsmKind
 string_read zero text = and_then (needed BadString (string_of (trimmed text))) (λ bytes. Ok (Chars bytes zero))
 
@@ -62,7 +62,7 @@ directive_read directive.Asciz pc text = string_read true text
 directive_read directive.Space pc text = as_text (and_then (one_number 1048576 text) (λ n. Ok (Zeros n)))
 directive_read directive.Align pc text = as_text (and_then (one_number 12 text) (λ n. Ok (Zeros (padding pc (2 ^ n)))))
 
--- an instruction, or a jump or a branch to what its operand names
+-- an instruction, or a jump or a branch to the target of its operand
 abbrev pub targeted : ℕ → LineReading → Result SourceItem TextErr
 targeted pc (WholeOf i) = Ok (Single i)
 targeted pc (AimedAt jump operand) = jumped jump pc operand
@@ -71,12 +71,12 @@ targeted pc (AimedAt jump operand) = jumped jump pc operand
 unfoldable pub instruction_read : Mnemonic → ℕ → List ℕ → Result SourceItem TextErr
 instruction_read mnemonic pc text = and_then (statement_by mnemonic text) (targeted pc)
 
--- the refusal of a name that names nothing
+-- the refusal of an unknown name
 unfoldable pub unknown : List ℕ → AsmKind
 unknown name = if starts_with nat_eq name (codes ".") then UnknownDirective else Text UnknownName
 
--- what operands stand for after a name that may name a directive, a pseudo-instruction or an instruction: the first of
--- these counts
+-- what operands stand for after a name that may name a directive, a pseudo-instruction or an instruction: of several
+-- the first counts
 abbrev pub meant : Option Directive → Option Pseudo → Option Mnemonic → List ℕ → ℕ → List ℕ → Result SourceItem AsmKind
 meant (Some directive) p m name pc text = directive_read directive pc text
 meant None (Some pseudo) m name pc text = as_text (pseudo_read pseudo pc text)

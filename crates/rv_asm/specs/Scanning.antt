@@ -1,4 +1,4 @@
--- What is in a line of assembly: a label, a statement, and a comment (GNU as, "Statements", "Comments" and "Symbol
+-- The parts of a line of assembly: a label, a statement, and a comment (GNU as, "Statements", "Comments" and "Symbol
 -- Names").
 use Rattle.std.specs.Prelude.{ℕ, ◌+◌, ◌==◌, ◌&&◌, ◌||◌, Bool, true, false, Option, Some, None, List, [], ◌∷◌, length, take, drop, codes, nat_eq, nat_le, if◌then◌else◌}
 use Rattle.std.specs.List.{starts_with, prefix_len}
@@ -23,7 +23,7 @@ abbrev pub begins_name : List ℕ → Bool
 begins_name [] = false
 begins_name (byte ∷ rest) = is_name_start byte
 
--- how far the name at the beginning of a text reaches
+-- the length of the name at the start of a text
 abbrev pub name_length : List ℕ → ℕ
 name_length text = prefix_len is_name_byte text
 
@@ -31,7 +31,7 @@ name_length text = prefix_len is_name_byte text
 unfoldable pub is_name : List ℕ → Bool
 is_name text = begins_name text && name_length text == length text
 
--- whether a string is open after a byte: `"` opens and closes it, and `\` takes the next byte's meaning away
+-- whether a string is open after a byte: `"` opens and closes it, and `\` escapes the next byte
 unfoldable pub quote_after : Quote → ℕ → Quote
 quote_after Outside byte = if byte == 34 then Inside else Outside
 quote_after Inside byte = if byte == 34 then Outside else if byte == 92 then Escaped else Inside
@@ -48,7 +48,7 @@ comment_at quote [] = 0
 comment_at quote (byte ∷ rest) =
     if is_outside quote && byte == 35 then 0 else 1 + comment_at (quote_after quote byte) rest
 
--- what a line says: what is before its comment, without the blanks around it
+-- the text of a line before its comment, without the blanks around it
 unfoldable pub said : List ℕ → List ℕ
 said line = trimmed (take (comment_at Outside line) line)
 

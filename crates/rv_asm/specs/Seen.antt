@@ -1,4 +1,4 @@
--- What an item that was read stands for.
+-- The meaning of an item that was read.
 use Rattle.std.specs.Prelude.{◌≡◌, ◌≤◌, [], length, Result, Ok, Err, MatchResult, unwrap_or, IsSome}
 use Rattle.rv_inst.specs.Ranges.{Fits, IsRegister}
 use Rattle.rv_text.specs.declared.statement.Jump.{Jump}
@@ -37,7 +37,7 @@ abbrev pub FarFits : Far → Type 0
 FarFits (far.Address rd) = IsRegister rd
 FarFits far.Call = Unit {0}
 
--- the fields of an instruction are in range, the text of a string is a string, and texts and zeros are no longer than a
+-- the fields of an instruction are in range, the text of a string is one, and texts and zeros are at most as long as a
 -- source may be
 abbrev pub IsSoundStatement : Read → Type 0
 IsSoundStatement (read.Single i) = Fits i

@@ -1,4 +1,4 @@
--- The sizes by which the first look places the lines are the lengths of what the second look puts there.
+-- The sizes by which the first pass places the lines are the lengths of what the second pass writes there.
 use Rattle.std.specs.Prelude.{◌≡◌, ℕ, ◌+◌, List, [], ◌∷◌, length, Result, Ok, Err}
 use Rattle.rv_asm.specs.declared.refusal.AsmErr.{AsmErr}
 use Rattle.rv_asm.specs.Places.{IsPlaceInLimits}
@@ -14,7 +14,7 @@ abbrev pub pieces_size : List Piece → ℕ
 pieces_size [] = 0
 pieces_size (piece ∷ pieces) = piece_size piece + pieces_size pieces
 
--- each section is as long as its place says, and at most 1,048,576 bytes long
+-- each section is as long as the final position says, and at most 1,048,576 bytes long
 pub record AreSized (sections : Sections) : Type 0 where
   pub text : pieces_size sections.text ≡ sections.place.text_len
   pub data_section : pieces_size sections.data_pieces ≡ sections.place.data_len

@@ -1,4 +1,4 @@
--- How large the objects are that sources stand for.
+-- Bounds on the objects of sources.
 use Rattle.std.specs.Prelude.{ℕ, ◌≤◌, ◌≢◌, List, All, length}
 use Rattle.std.specs.List.{flat_map}
 use Rattle.rv_asm.specs.declared.object.Object.{Object}

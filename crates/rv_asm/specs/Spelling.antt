@@ -1,5 +1,5 @@
 -- The bytes of a section: each instruction is a word that decodes to it, the low byte first (RISC-V Unprivileged ISA
--- Manual, "RV32I Base Integer Instruction Set"), and bytes are as they are.
+-- Manual, "RV32I Base Integer Instruction Set"), and other bytes stand for themselves.
 use Rattle.std.specs.Prelude.{◌≡◌, ◌⊎◌, ℕ, Some, Result, Ok, Err, List, [], ◌∷◌, ◌++◌, length}
 use Rattle.std.specs.Int.{w32, from_le_bytes}
 use Rattle.rv_inst.specs.Decoding.{decoded_m}
@@ -30,6 +30,6 @@ abbrev pub GivesBytes : List ℕ → Result (List Piece) AsmKind → Type 0
 GivesBytes bytes (Ok pieces) = Spells pieces bytes
 GivesBytes bytes (Err kind) = ⊥
 
--- the refusal is the answer, unless it is a lack of memory
+-- the refusal is the answer, unless there was no memory
 abbrev pub IsRefusal : {A : Type 0} → AsmKind → Result A AsmKind → Type 0
 IsRefusal kind answer = (kind ≡ NoMemory) ⊎ (answer ≡ Err kind)

@@ -13,7 +13,7 @@ escapes byte =
     else if byte == 48 then Some 0
     else None
 
--- the byte in front of the bytes, where both are there
+-- the byte before the bytes, where both exist
 abbrev pub onto : Option ℕ → Option (List ℕ) → Option (List ℕ)
 onto (Some byte) (Some bytes) = Some (byte ∷ bytes)
 onto _ _ = None

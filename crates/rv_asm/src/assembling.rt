@@ -1,4 +1,4 @@
-//! A source is assembled.
+//! Assembling a source.
 
 ghost use Rattle.std.specs.Prelude.{◌≡◌, ◌≤◌, length, IfOk, IfErr};
 ghost use Rattle.rv_text.specs.Lines.{text_lines};
@@ -64,10 +64,10 @@ fn assemble_lines(alloc: Global, source: &[u8]) -> Result<Object, AsmErr>
 
 /// The program that a source in the assembly language stands for.
 ///
-/// The first refusal is the answer: the source's length; the first line that is not ASCII; the first line that fails by
-/// itself; the first line that fails with all labels known, because a label is never defined or is too far away. Within
-/// a line its label is tested first, then its statement is read, and then it is tested where it is. `NoMemory` may come
-/// at any point.
+/// The first refusal is returned. The tests are: the source's length; the first line that is not ASCII; the first line
+/// that fails by itself; the first line that fails with all labels known, because a label is never defined or is too
+/// far away. Within a line, the label is tested first, then the statement is read, and then its position is tested.
+/// `NoMemory` may come at any point.
 #[tactic(auto, unfolding(crate::specs::Assembling::assembled))]
 pub fn assemble(alloc: Global, source: &[u8]) -> Result<Object, AsmErr>
     ensures ok { IfOk result (λ object. Objects object (assembled source.now)) }

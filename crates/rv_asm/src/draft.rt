@@ -1,4 +1,4 @@
-//! The first look at the lines: where each is, and the labels.
+//! The first pass over the lines: the position of each, and the labels.
 
 ghost use Rattle.std.specs.Prelude.{◌≡◌, ◌≤◌, ◌⊎◌, [], length, Ok, Err, IfOk, IfErr, OnOk};
 ghost use Rattle.rv_text.specs.Lines.{text_lines};
@@ -17,14 +17,14 @@ use crate::scanning::{label_in, said, statement_in};
 use rv_text::cut_line;
 use std::alloc::Global;
 
-/// What is known above a line: where it is, and the labels so far.
+/// What is known before a line: its position, and the labels so far.
 #[derive(Drop)]
 pub struct Draft {
     pub place: SectionPlace,
     pub labels: LabelTable,
 }
 
-/// The item of a statement at a place.
+/// The item of a statement at a position.
 #[tactic(auto, unfolding(crate::specs::Places::item_at))]
 pub fn item_at(place: SectionPlace, text: &[u8]) -> Result<SourceItem<'_>, AsmKind>
     requires place { IsPlaceInLimits place }
@@ -59,7 +59,7 @@ fn define_label(
 }
 
 impl Draft {
-    /// ReadsItem a line that says this, and goes on after it.
+    /// Reads a line with this text, and moves past it.
     #[tactic(auto, unfolding(crate::specs::Assembling::drafted))]
     fn read(&mut self, alloc: Global, text: &[u8]) -> Result<(), AsmKind>
         requires place { IsPlaceInLimits self.old.place }

@@ -15,7 +15,7 @@ use rv_text::Jump;
 pub enum Far {
     /// The address of a label, into the register `rd`.
     Address(u8),
-    /// A call, which returns by x1.
+    /// A call, with the return address in x1.
     Call,
 }
 
@@ -23,7 +23,7 @@ pub enum Far {
 #[derive(Clone, Copy)]
 pub enum SourceItem<'a> {
     Nothing,
-    /// What follows goes into the text, or into the data.
+    /// What follows goes into the text section where this is set, otherwise into the data.
     Section(bool),
     /// The label of this name is exported.
     Export(&'a [u8]),
@@ -41,7 +41,7 @@ pub enum SourceItem<'a> {
     Zeros(u32),
 }
 
-/// Whether it places instructions.
+/// Whether the item places instructions.
 pub fn is_code(item: SourceItem<'_>) -> bool
     ensures { result ≡ is_code (seen item.entry) }
 {
@@ -54,7 +54,7 @@ pub fn is_code(item: SourceItem<'_>) -> bool
     }
 }
 
-/// How many numbers are between the commas of a text.
+/// The number of pieces between the commas of a text.
 #[tactic(auto, using(crate::proofs::Splits::counts))]
 fn count_numbers(text: &[u8]) -> usize
     ensures count { result ≡ length (operands_of text.now) }
@@ -63,7 +63,7 @@ fn count_numbers(text: &[u8]) -> usize
     text.iter().filter(|byte| **byte == b',').count() + 1
 }
 
-/// How many bytes it places.
+/// How many bytes the item places.
 pub fn size_of(item: SourceItem<'_>) -> usize
     requires { IsSoundStatement item }
     ensures size { result ≡ size_of (seen item.entry) }

@@ -10,7 +10,7 @@ use std::marker::Model;
 use std::str;
 use texts::Name;
 
-/// The name made of these bytes.
+/// The name with these bytes.
 pub(crate) fn name_of(alloc: Global, bytes: &[u8]) -> Result<Name, AllocError>
     requires { IsUtf8 bytes.now }
     ensures { IfOk result (λ name. name ≡ bytes.now) }

@@ -1,4 +1,4 @@
-//! The labels that are known above a line, each found by its name.
+//! The labels that are known before a line, each found by its name.
 #![tactic(auto, using(crate::proofs::Found::tables))]
 
 ghost use Rattle.std.specs.Prelude.{◌≡◌, ◌++◌, ◌∷◌, [], map, None, OnOk, false};
@@ -11,8 +11,8 @@ use std::alloc::{AllocError, Global};
 use std::collections::BTreeMap;
 use std::marker::Model;
 
-/// The labels of a source, in the order of their definition, and the place of each name among them. A source may have
-/// hundreds of thousands of labels and of uses of them, so no name is looked for in the whole list.
+/// The labels of a source, in the order of their definition, and the index of each name. A source may have hundreds of
+/// thousands of labels and uses, so names are looked up in a map, not in the list.
 #[derive(Drop)]
 pub struct LabelTable {
     list: Vec<Label>,
@@ -32,7 +32,7 @@ impl Model for LabelTable {
 }
 
 impl LabelTable {
-    /// No labels.
+    /// An empty table.
     pub fn new(alloc: Global) -> LabelTable
         ensures { result ≡ [] }
     {

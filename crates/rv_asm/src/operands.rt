@@ -25,7 +25,7 @@ pub fn expect_count(wanted: u32, text: &[u8]) -> Result<(), TextErr>
     })
 }
 
-/// The number that an operand spells, from the least to the greatest.
+/// The number that an operand spells, from `least` to `greatest`.
 #[tactic(auto, unfolding(rv_text::specs::Fields::number_in))]
 pub fn number_between(least: i64, greatest: i64, text: &[u8]) -> Result<i64, TextErr>
     ensures { result ≡ number_in least greatest text.now }
@@ -38,7 +38,7 @@ pub fn number_between(least: i64, greatest: i64, text: &[u8]) -> Result<i64, Tex
     }
 }
 
-/// A number that a width holds, signed or unsigned.
+/// A number that fits the width, signed or unsigned.
 pub fn number_of_width(width: Width, text: &[u8]) -> Result<i64, TextErr>
     ensures { result ≡ number_of_width width text.now }
 {

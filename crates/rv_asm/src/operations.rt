@@ -15,7 +15,7 @@ pub enum Width {
     Word,
 }
 
-/// What a line says to the assembler.
+/// A directive to the assembler.
 #[derive(Clone, Copy)]
 pub enum Directive {
     Text,

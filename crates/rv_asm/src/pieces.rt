@@ -164,7 +164,7 @@ fn zeros(alloc: Global, count: u32) -> Result<Vec<u8>, AsmKind>
     Ok(vec![in alloc; 0; count as usize]?)
 }
 
-/// The bytes of what an item places at an address.
+/// The bytes that an item places at an address.
 pub fn item_bytes(
     alloc: Global,
     labels: &LabelTable,

@@ -1,4 +1,4 @@
-//! Where a line is: in the text or in the data, after what is there already.
+//! The position of a line: in the text or in the data, after the earlier lines.
 #![tactic(auto, unfolding(crate::specs::Places::address_of, crate::specs::Places::place_after, crate::specs::Places::fits_at))]
 
 ghost use Rattle.std.specs.Prelude.{◌≡◌, ◌≤◌, ◌+◌, ◌<◌, ◌^◌, Ok};
@@ -9,10 +9,10 @@ ghost use Rattle.rv_asm.specs.Seen.{seen, IsSoundStatement};
 use crate::item::{SourceItem, is_code, size_of};
 use crate::refusal::AsmKind;
 
-/// The most bytes that a source, the text or the data may have.
+/// The greatest number of bytes of a source, of the text and of the data.
 pub const MOST: usize = 0x10_0000;
 
-/// Where a line is: the section, and how long both are above the line.
+/// The position of a line: its section, and the lengths of both sections before it.
 #[derive(Clone, Copy)]
 pub struct SectionPlace {
     pub in_text: bool,
@@ -72,7 +72,7 @@ impl SectionPlace {
         }
     }
 
-    /// The place after an item.
+    /// The position after an item.
     pub fn after(self, item: SourceItem<'_>) -> SectionPlace
         requires place { IsPlaceInLimits self }
         requires sound { IsSoundStatement item }
@@ -86,8 +86,8 @@ impl SectionPlace {
         }
     }
 
-    /// `Misplaced` where the item is code and is in the data or at an address that 4 does not divide, and `TooLarge`
-    /// where its section would be too long with it.
+    /// `Misplaced` where code is in the data or at an address that 4 does not divide, and `TooLarge` where the item
+    /// would make its section too long.
     pub fn check(self, item: SourceItem<'_>) -> Result<(), AsmKind>
         requires place { IsPlaceInLimits self }
         requires sound { IsSoundStatement item }

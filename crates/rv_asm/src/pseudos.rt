@@ -33,7 +33,7 @@ fn addi(rd: u8, rs1: u8, imm: i32) -> Instr
     }
 }
 
-/// The upper twenty bits for a word, such that the rest is from -2048 to 2047.
+/// The upper twenty bits for a word, chosen so that the rest is from -2048 to 2047.
 fn upper_part(word: u32) -> u32
     ensures value { result ≡ upper_part word }
     ensures field { result < 2 ^ 20 }
@@ -95,7 +95,7 @@ pub fn reaching(far: Far, distance: u32) -> (Instr, Instr)
     }
 }
 
-/// The same from an address to what an operand names: a label, or a number that is the address.
+/// The same from an address to the target of an operand: a label, or a number that is the address.
 fn reached(far: Far, pc: u32, operand: &[u8]) -> Result<SourceItem<'_>, TextErr>
     requires { FarFits far }
     ensures item { ReadsItem result (reached far pc operand.now) }
@@ -109,7 +109,7 @@ fn reached(far: Far, pc: u32, operand: &[u8]) -> Result<SourceItem<'_>, TextErr>
     Ok(SourceItem::Double(first, second))
 }
 
-/// A jump or a branch to what an operand names.
+/// A jump or a branch to the target of an operand.
 #[tactic(auto, unfolding(crate::specs::Pseudos::jumped, rv_text::specs::LineReading::aimed_at), using(crate::proofs::Fitting::jumps))]
 pub fn jumped(jump: Jump, pc: u32, operand: &[u8]) -> Result<SourceItem<'_>, TextErr>
     requires { JumpFits jump }

@@ -22,7 +22,7 @@ use rv_text::{
     split_name, trim,
 };
 
-/// A directive for a section: the text, or the data.
+/// A directive that selects a section: the text, or the data.
 fn read_section(in_text: bool, text: &[u8]) -> Result<SourceItem<'_>, AsmKind>
     ensures item { ReadsItem result (as_text (and_then (count_is 0 text.now) (λ u. Ok (Section in_text)))) }
     ensures sound { IfOk result (λ item. IsSoundStatement item) }
@@ -56,7 +56,7 @@ fn read_numbers(width: Width, text: &[u8]) -> Result<SourceItem<'_>, AsmKind>
     Ok(SourceItem::Numbers(width, text))
 }
 
-/// The one operand of a directive: a number from 0 to the greatest.
+/// The one operand of a directive: a number from 0 to `greatest`.
 fn one_number(greatest: i32, text: &[u8]) -> Result<u32, TextErr>
     requires { pos 0 ≤ℤ greatest }
     ensures number { result ≡ one_number (unsigned_abs greatest) text.now }
@@ -66,7 +66,7 @@ fn one_number(greatest: i32, text: &[u8]) -> Result<u32, TextErr>
     Ok(number_in(0, greatest, operand(text, 0))?.unsigned_abs())
 }
 
-/// How many bytes an address is short of a multiple of 2^exponent.
+/// The distance from an address up to the next multiple of 2^exponent.
 fn padding(address: u32, exponent: u32) -> u32
     requires { exponent ≤ 12 }
     ensures value { result ≡ padding address (2 ^ exponent) }

@@ -12,21 +12,21 @@ pub enum AsmKind {
     Text(TextErr),
     /// The first word begins with `.`, and is not a directive.
     UnknownDirective,
-    /// A line above defines the same label.
+    /// An earlier line defines the same label.
     LabelTwice,
     /// A label that is used or exported is never defined.
     NoLabel,
     /// The distance to a label, which the instruction's field cannot hold.
     TooFar(i64),
-    /// The source, or the section with what the line adds, is longer than 1,048,576 bytes.
+    /// The source, or the section with the line, is longer than 1,048,576 bytes.
     TooLarge(u64),
     /// A byte of the line is above 127.
     NotAscii,
-    /// A string is expected, but is not there alone, has no end, or has an unknown escape.
+    /// A string is expected, but the text is not exactly one, has no end, or has an unknown escape.
     BadString,
     /// An instruction is in the data, or at an address that 4 does not divide.
     Misplaced,
-    /// Memory is refused.
+    /// There was no memory.
     NoMemory,
 }
 

@@ -1,4 +1,4 @@
-//! What is in a line: a label, a statement, and a comment.
+//! The parts of a line: a label, a statement, and a comment.
 #![tactic(auto, unfolding(crate::specs::Scanning::is_name_start, crate::specs::Scanning::is_name_byte))]
 
 ghost use Rattle.std.specs.Prelude.{◌≡◌, ◌≤◌, length, Some, None, IfSome};
@@ -101,7 +101,7 @@ fn comment_at(line: &[u8]) -> usize
     line.len()
 }
 
-/// What a line says: what is before its comment, without the blanks around it.
+/// The text of a line before its comment, without the blanks around it.
 #[tactic(auto, unfolding(crate::specs::Scanning::said), using(crate::proofs::Shorter::parts))]
 pub fn said(line: &[u8]) -> &[u8]
     ensures text { result.now ≡ said line.now }

@@ -1,4 +1,4 @@
-//! The second look at the lines: the bytes of the sections.
+//! The second pass over the lines: the bytes of the sections.
 
 ghost use Rattle.std.specs.Prelude.{◌≡◌, ◌≤◌, ◌⊎◌, ◌++◌, length, Ok, Err, IfOk, IfErr, OnOk, if◌then◌else◌};
 ghost use Rattle.rv_text.specs.Lines.{text_lines};
@@ -18,7 +18,7 @@ use crate::scanning::{said, statement_in};
 use rv_text::cut_line;
 use std::alloc::{AllocError, Global};
 
-/// What is in the sections above a line.
+/// The contents of the sections before a line.
 #[derive(Drop)]
 pub struct Output {
     pub place: SectionPlace,
@@ -50,7 +50,7 @@ impl Output {
         }
     }
 
-    /// Reads a line that says this, and goes on after it.
+    /// Reads a line with this text, and moves past it.
     #[tactic(auto, unfolding(crate::specs::Filling::line_pieces))]
     fn read(&mut self, alloc: Global, text: &[u8]) -> Result<(), AsmKind>
         requires place { IsPlaceInLimits self.old.place }

@@ -1,4 +1,4 @@
-//! How a string is written.
+//! Reading strings.
 #![tactic(auto, unfolding(crate::specs::Strings::string_of))]
 
 ghost use Rattle.std.specs.Prelude.{◌≡◌, ◌≤◌, ◌<◌, true, false, [], Some, None, ◌++◌, IfSome, IsSome, IfOk, OnOk, MatchOption, length, unwrap_or, if◌then◌else◌};
@@ -34,8 +34,8 @@ fn cut_escaped(text: &[u8]) -> Option<(u8, &[u8])>
     }
 }
 
-/// The byte of an open string that the start of a text stands for, and the text after it; or `None` where no byte of
-/// the string is there.
+/// The byte of an open string that the start of a text stands for, and the text after it; or `None` where the text does
+/// not begin with a byte of the string.
 #[tactic(auto, using(crate::proofs::Chars::quote_alone))]
 fn cut_char(text: &[u8]) -> Option<(u8, &[u8])>
     ensures cut { MatchOption result (string_from false text.now ≡ ended text.now)
@@ -52,7 +52,7 @@ fn cut_char(text: &[u8]) -> Option<(u8, &[u8])>
     }
 }
 
-/// How many bytes are in the string that is open at the start of a text and closed at its end.
+/// The length of the string that is open at the start of a text and closed at its end.
 #[tactic(auto, using(crate::proofs::Chars::counts))]
 fn open_string_len(text: &[u8]) -> Option<usize>
     ensures length { result ≡ option_map (λ bytes. length bytes) (string_from false text.now) }
@@ -67,7 +67,7 @@ fn open_string_len(text: &[u8]) -> Option<usize>
     (rest == b"\"".as_slice()).then_some(count)
 }
 
-/// How many bytes are in the string that makes up a text, or `None` where the text is not a string.
+/// The length of the string that makes up a text, or `None` where the text is not a string.
 pub fn string_len(text: &[u8]) -> Option<usize>
     ensures length { result ≡ option_map (λ bytes. length bytes) (string_of text.now) }
     ensures within { IfSome result (λ count. count ≤ length text.now) }
@@ -75,7 +75,7 @@ pub fn string_len(text: &[u8]) -> Option<usize>
     open_string_len(text.strip_prefix(b"\"")?)
 }
 
-/// Appends the bytes of the string that is open at the start of a text, and says whether the string is closed at the
+/// Appends the bytes of the string that is open at the start of a text, and returns whether the string is closed at the
 /// text's end and has no unknown escapes.
 #[tactic(auto, using(crate::proofs::Chars::chars))]
 fn push_open_string(bytes: &mut Vec<u8>, text: &[u8]) -> Result<bool, AllocError>

@@ -1,4 +1,4 @@
--- What a hart does alone, it does beside streams that stay as they are; and as an environment call ends, so does its
+-- What a hart does alone, it does beside streams that are unchanged; and as an environment call ends, so does its
 -- instruction.
 use Rattle.std.proofs.Common.{◌≡◌, ◌∙◌, ◌≢◌, ℕ, ◌%◌, List, [], Some, None, Ok, Err, true, false, ◌==◌, refl, ap, sym, subst, IsTrue, arith}
 use Rattle.std.proofs.lemmas.Bool.Decides.{nat_tests}
@@ -71,7 +71,7 @@ acts-alone : (calls : Type 0) (outcome : List ℕ → Outcome Machine) (o : Outc
 acts-alone calls outcome o old new s result is does =
     alone o calls outcome old new s result (is (some_rest s.input)) does
 
--- a trap leaves all as it is
+-- a trap leaves all unchanged
 acts-trapping : (calls : Type 0) (outcome : List ℕ → Outcome Machine) (h : Hart) (s : Streams)
     (cause pc detail : ℕ) (result : Stepped) →
     ((rest : List ℕ) → outcome rest ≡ Trap cause pc detail) →

@@ -14,7 +14,7 @@ use Rattle.rv_machine.specs.Streams.{GivesInput}
 use Rattle.rv_machine.specs.Buffers.{TakesInto, Fills, FillsSome}
 
 -- a part and what comes after it are the part's front and what comes after that, where the part has the old bytes after
--- its front
+-- its prefix
 tail-kept : (bytes new : List ℕ) (at len n : ℕ) → at + len ≤ length bytes → length new ≡ len →
     n ≤ len → drop n new ≡ drop n (take len (drop at bytes)) →
     new ++ drop (at + length new) bytes ≡ take n new ++ drop (at + length (take n new)) bytes
@@ -30,7 +30,7 @@ tail-kept bytes new at len n within size some same =
     let front : length (take n new) ≡ n = length-take-le n new (omega (arith, size, some)) in
     rw (size, front, ← following, ← same, ← append_assoc (take n new) (drop n new) (drop (at + len) bytes), take-append-drop n new) refl
 
--- to write such a part over a slice is to write its front
+-- to write such a part over a slice is to write its prefix
 overwritten-front : (bytes new : List ℕ) (at len n : ℕ) → at + len ≤ length bytes →
     length new ≡ len → n ≤ len → drop n new ≡ drop n (take len (drop at bytes)) →
     overwritten bytes at new ≡ overwritten bytes at (take n new)
@@ -73,7 +73,7 @@ first_changed-front addr len n new old (x ∷ xs) size some same h =
     front_step addr len n new old x xs _ _ (writes_in addr len x) refl size some same h
     (first_changed-front addr len n new old xs size some same)
 
--- memory whose buffer comes back with other bytes at its front alone
+-- memory whose buffer comes back with other bytes at its prefix alone
 memory_with-front : (mem : Memory) (addr len n : ℕ) (old new : List ℕ) →
     writable_of mem addr len ≡ Some old → length new ≡ len → n ≤ len → drop n new ≡ drop n old →
     memory_with mem addr len new ≡ memory_with mem addr len (take n new)

@@ -167,7 +167,7 @@ not-input : (regs : List ℕ) (mem : Memory) → number_in regs ≡ 64 → IsTru
 unfolding asks_input
 not-input regs mem n asks = let no : false ≡ true = rw n at asks in cc
 
--- a read leaves the output as it is, whatever that exposes
+-- a read leaves the output unchanged, whatever that exposes
 pub beside-output : (regs : List ℕ) (mem new : Memory) (left after output : Option (List ℕ))
     (result : Served) → number_in regs ≡ 63 →
     Serves regs mem new (streams_of left (Some [])) (streams_of after (Some [])) result →
@@ -291,7 +291,7 @@ write-rest regs mem one rest n = rw n (write_step (is_output (first_argument reg
     (third_argument regs == 0) (range_of mem (second_argument regs) (third_argument regs))
     (third_argument regs) mem one rest)
 
--- a write leaves the input as it is, whatever that exposes
+-- a write leaves the input unchanged, whatever that exposes
 pub beside-input : (regs : List ℕ) (mem : Memory) (input written after : Option (List ℕ))
     (result : Served) → number_in regs ≡ 64 →
     Serves regs mem mem (streams_of (Some []) written) (streams_of (Some []) after) result →

@@ -1,4 +1,4 @@
--- What a cache keeps is right as long as the code that is fetched stays as it is.
+-- What a cache keeps is right as long as the code that is fetched is unchanged.
 use Rattle.std.proofs.Common.{◌≡◌, ◌∙◌, ℕ, ◌<◌, ◌^◌, List, length, slice_index_or, slice_set, true, IsTrue, refl, ap, sym, subst, arith}
 use Rattle.std.proofs.lemmas.List.Elements.{All-set}
 use Rattle.std.proofs.lemmas.Bool.Decides.{nat_tests}

@@ -1,4 +1,4 @@
--- An environment call leaves the instruction words of memory as they are.
+-- An environment call leaves the instruction words of memory unchanged.
 use Rattle.std.proofs.Common.{◌≡◌, ◌∙◌, ℕ, List, Bool, true, false, not, Option, Some, None, ◌==◌, cond, refl, ap, subst}
 use Rattle.mem_regions.specs.Memory.{Memory}
 use Rattle.mem_regions.specs.Fetching.{fetch_at}
@@ -18,7 +18,7 @@ abbrev memory_after : Memory → Called → Memory
 memory_after mem (Value answer) = answer.mem
 memory_after mem (Exit status) = mem
 
--- the call leaves the word at the address as it is
+-- the call leaves the word at the address unchanged
 abbrev Leaves : Memory → ℕ → Called → Type 0
 Leaves mem pc called = fetch_at (memory_after mem called) pc ≡ fetch_at mem pc
 
@@ -65,7 +65,7 @@ call-leaves regs mem rest pc =
     (either mem pc (is_exit number) (exit a) _ refl
     (either mem pc (number == 214) (brk a mem rest) (answered no_such_call mem rest) (brk-leaves a mem rest pc) refl)))
 
--- a call that was served leaves the word at each address as it was
+-- a call that was served leaves the word at each address unchanged
 served-leaves : (regs : List ℕ) (mem new : Memory) (before after : Streams) (result : Served) (pc : ℕ) →
     Serves regs mem new before after result → fetch_at new pc ≡ fetch_at mem pc
 unfolding Serves

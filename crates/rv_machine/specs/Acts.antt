@@ -36,7 +36,7 @@ pub record Retires (outcome : List ℕ → Outcome Machine) (new : Hart) (before
   pub leaves : Leaves before after next.rest next.output
   pub spent : IsSpent before.input next.rest
 
--- a trap or an exit, which leaves all as it was: the outcome is this on some input that agrees with what is known
+-- a trap or an exit, which leaves all unchanged: the outcome is this on some input that agrees with what is known
 pub record StopsUnchanged (outcome : List ℕ → Outcome Machine) (end : Outcome Machine) (old new : Hart)
     (before after : Streams) : Type 0 where
   pub rest : List ℕ
@@ -83,7 +83,7 @@ pub record Returns (asked : List ℕ → Called) (new : Memory) (before after : 
   pub leaves : Leaves before after later added
   pub spent : IsSpent before.input later
 
--- the call ended the program, which leaves all as it was
+-- the call ended the program, which leaves all unchanged
 pub record Quits (asked : List ℕ → Called) (status : ℕ) (mem new : Memory)
     (before after : Streams) : Type 0 where
   pub rest : List ℕ

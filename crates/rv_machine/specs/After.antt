@@ -21,7 +21,7 @@ unfoldable pub after : Isa → Machine → ℕ → Option Machine
 after isa m zero = Some m
 after isa m (suc n) = step_from isa (after isa m n)
 
--- the same machine but for the input that is left
+-- the same machine apart from the input that is left
 pub record SameButInput (m k : Machine) : Type 0 where
   pub hart : k.hart ≡ m.hart
   pub output : k.output ≡ m.output

@@ -23,9 +23,9 @@ pub enum Stepped {
     Next(Retired),
 
     /// It trapped. The causes are those of the RISC-V Privileged Architecture: 0 a misaligned instruction address, 1 an
-    /// address that cannot be fetched, 2 a word that is no instruction, 3 EBREAK, 4 and 6 a misaligned load or store, 5
-    /// and 7 one that memory does not permit. `pc` is the instruction's address, `detail` the address or the word at
-    /// fault.
+    /// address that cannot be fetched, 2 a word that is not an instruction, 3 EBREAK, 4 and 6 a misaligned load or
+    /// store, 5 and 7 one that memory does not permit. `pc` is the instruction's address, `detail` the address or the
+    /// word at fault.
     Trap { cause: u8, pc: u32, detail: u32 },
 
     /// The program ended itself with this status.

@@ -30,7 +30,7 @@ impl Machine {
         self.cache.find(&self.mem, self.pc)
     }
 
-    /// The trap where there is no instruction.
+    /// The trap where there is not an instruction.
     #[inline(always)]
     fn stop(&self) -> Stepped
         ensures { result ≡ trap_of self.now.pc (found_at self.now.mem self.now.pc) }

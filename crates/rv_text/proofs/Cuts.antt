@@ -5,7 +5,7 @@ use Rattle.std.specs.List.{slice_split, onto_first, after_first, position_or_len
 use Rattle.std.proofs.lemmas.List.Splits.{length-slice_split}
 use Rattle.std.proofs.lemmas.Grind.{common_steps}
 
--- the parts after the first stay as they are when an element is put onto the first
+-- the parts after the first are unchanged when an element is put onto the first
 onto_first-after : (x : ℕ) (parts : List (List ℕ)) (k : ℕ) → get_or (onto_first x parts) (suc k) [] ≡ get_or parts (suc k) []
 onto_first-after x [] zero = refl
 onto_first-after x [] (suc k) = refl

@@ -32,7 +32,7 @@ solid_byte byte h = grind (arith, nat_tests)
 solid_no_comma : (byte : ℕ) → is_solid byte ≡ true → is_comma byte ≡ false
 solid_no_comma byte h = grind (arith, nat_tests)
 
--- in a text whose bytes all pass, the byte at each place passes
+-- in a text whose bytes all pass, the byte at each index passes
 passes_at : (p : ℕ → Bool) (text : List ℕ) (k d : ℕ) → list_all p text ≡ true → k < length text → p (get_or text k d) ≡ true
 passes_at p text k d all inside = grind (arith, common_steps, AllPass-from_list_all p text all)
 

@@ -1,5 +1,5 @@
-//! Worked calls of the simulator: makes each call that the files of rows describe, and prints each whose outcome is not
-//! what its row wants.
+//! Worked calls of the simulator: makes each call that the files of rows describe, and prints each row whose outcome
+//! differs from the expected one.
 #![tactic(auto)]
 
 mod making;
@@ -13,10 +13,10 @@ use std::process::ExitCode;
 use std::{env, io, rt, str};
 use test_rows::Sheet;
 
-/// The most bytes of a file of rows.
+/// The greatest number of bytes of a file of rows.
 const MOST_BYTES: u64 = 1_000_000;
 
-/// Heeds one line, after the call of the row that it ends.
+/// Applies one line, after the call of the row that it ends.
 fn run_line(
     rt: &(impl Print + AllocGlobal),
     name: &str,

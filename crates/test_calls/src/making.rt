@@ -5,7 +5,7 @@ use cfpp_cli::cfpp;
 use std::alloc::{AllocError, Global};
 use test_rows::{Call, CallOutcome, NamedBytes};
 
-/// The room of the report in bytes.
+/// The capacity of the report in bytes.
 const REPORT_ROOM: usize = 100_000;
 
 /// What the simulator writes to.
@@ -49,7 +49,7 @@ fn sinks_of(alloc: Global, call: &Call) -> Result<Sinks, AllocError> {
     Ok(Sinks { output, report })
 }
 
-/// Makes the call over what is in memory; the status that the process would end with.
+/// Makes the call over objects in memory, and returns the status with which the process would end.
 fn status_of(
     alloc: Global,
     words: &[String],

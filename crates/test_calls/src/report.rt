@@ -1,4 +1,4 @@
-//! What is printed of a row.
+//! Printing the rows that differ.
 
 use crate::making::make;
 use crate::tally::RowTally;
@@ -6,14 +6,14 @@ use std::alloc::{AllocError, Global};
 use std::{io, str};
 use test_rows::{CallOutcome, Matching, Sheet, Wanted};
 
-/// Prints what differs, with the wanted bytes and those that came.
+/// Prints what differs, with the expected bytes and the actual ones.
 fn print_difference(rt: &impl Print, what: &str, wanted: &[u8], came: &[u8]) -> io::Result<()> {
     let wanted = str::from_utf8(wanted).unwrap_or("bytes that are no text");
     let came = str::from_utf8(came).unwrap_or("bytes that are no text");
     println!(rt; "  {what} wanted:\n{wanted}\n  {what} that came:\n{came}")
 }
 
-/// Whether the bytes that came are as wanted; they are printed if not.
+/// Whether the actual bytes are the expected ones; they are printed if not.
 fn bytes_agree(
     rt: &impl Print,
     what: &str,
@@ -27,7 +27,7 @@ fn bytes_agree(
     Ok(false)
 }
 
-/// Whether the status that came is the wanted one; both are printed if not.
+/// Whether the actual status is the expected one; both are printed if not.
 fn status_agrees(rt: &impl Print, wanted: u8, came: u8) -> io::Result<bool> {
     if came == wanted {
         return Ok(true);
@@ -36,7 +36,7 @@ fn status_agrees(rt: &impl Print, wanted: u8, came: u8) -> io::Result<bool> {
     Ok(false)
 }
 
-/// Whether the outcome of the call is what was wanted; what differs is printed.
+/// Whether the outcome of the call is the expected one; differences are printed.
 fn agrees(rt: &impl Print, wanted: &Wanted, outcome: &CallOutcome) -> io::Result<bool> {
     let status = status_agrees(rt, wanted.status, outcome.status)?;
     let output = bytes_agree(rt, "output", &wanted.output, outcome.output.as_slice())?;
@@ -51,7 +51,7 @@ fn outcome_of(alloc: Global, sheet: &mut Sheet) -> Result<CallOutcome, AllocErro
     Ok(outcome)
 }
 
-/// Makes the row's call; whether its outcome is what the row wants.
+/// Makes the row's call, and returns whether its outcome is the expected one.
 fn row_agrees(rt: &(impl Print + AllocGlobal), sheet: &mut Sheet) -> io::Result<bool> {
     let outcome = outcome_of(rt.alloc(), sheet)?;
     agrees(rt, sheet.wanted(), &outcome)

@@ -1,4 +1,4 @@
-//! How many rows got what they want.
+//! How many rows have the expected outcome.
 
 /// How many rows agree with the outcomes of their calls, and how many differ.
 #[derive(Drop)]
@@ -8,7 +8,7 @@ pub(crate) struct RowTally {
 }
 
 impl RowTally {
-    /// No rows yet.
+    /// A tally of no rows.
     pub(crate) fn new() -> RowTally {
         RowTally {
             agreeing: 0,

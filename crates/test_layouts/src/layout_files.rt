@@ -59,7 +59,7 @@ fn reads_back(rt: HostRuntime) {
     assert!(rt; comes_back(alloc, 8));
 }
 
-/// Why a file is refused, with the key or the word that is named.
+/// Why a file is refused, with the key or the name that is reported.
 #[derive(Clone, Copy)]
 enum Refusal {
     MissingKey(&'static str),

@@ -6,7 +6,7 @@ use cf_passengers::{answered, finish, fresh, goto, kind, requests};
 use rv_inst::{Class, decode};
 use std::process::Abort;
 
-/// The instruction of a word.
+/// The `Passenger` that is issued for a word.
 fn issued(ends: &Ends, word: u32, pc: u32, guess: Guess) -> Passenger {
     match decode(word) {
         Some(i) => fresh(ends, Ok(i), pc, guess),
@@ -21,7 +21,7 @@ fn issued(ends: &Ends, word: u32, pc: u32, guess: Guess) -> Passenger {
     }
 }
 
-/// It executes, where it adds or jumps.
+/// The instruction after its execution, where it adds or jumps.
 fn executed(p: Passenger) -> Passenger {
     match kind(&p) {
         Class::Add | Class::Jump => finish(p, None),
@@ -37,7 +37,7 @@ fn known(reg: u8, value: u32) -> Option<Binding> {
     })
 }
 
-/// Registers that are 0, with nothing kept at the bottom.
+/// Registers that are 0, with an empty cache.
 fn zeros(rt: &(impl Abort + AllocGlobal)) -> Ends {
     Ends::new(rt.alloc(), [0; 32], 0x1_0000, 2).expect(rt, "memory for the lane")
 }
@@ -50,7 +50,7 @@ fn a_constant_is_added(rt: HostRuntime) {
     assert!(rt; five.owes == Some(Packet::Value { reg: 1, value: 5 }));
 }
 
-/// `addi x2, x1, 1` asks for x1, and finds it where it is kept at the bottom.
+/// `addi x2, x1, 1` needs x1, and finds it in the cache at the bottom.
 #[test]
 fn a_value_is_kept(rt: HostRuntime) {
     let mut ends = zeros(&rt);

@@ -24,21 +24,21 @@ fn run(machine: &mut Machine, multiplies: bool) -> Stepped {
     Stepped::ReadFault
 }
 
-/// A program that traps: its words, the cause, the address and what is at fault, and how many instructions have retired
-/// by then.
+/// A program that traps: its words, the cause, the address and the detail, and how many instructions have retired by
+/// then.
 type Trapping = (&'static [u32], (u8, u32, u32), u64);
 
 static TRAPPING: [Trapping; 7] = [
-    // jalr x1, 2(x0): the target is no multiple of 4.
+    // jalr x1, 2(x0): the target is not a multiple of 4.
     (&[0x0020_00e7], (0, BASE, 2), 0),
-    // lui x5, 0x7f100; lw x6, -2(x5): the address is no multiple of 4, which is looked for first.
+    // lui x5, 0x7f100; lw x6, -2(x5): the address is not a multiple of 4, which is tested first.
     (&[0x7f10_02b7, 0xffe2_a303], (4, BASE + 4, 0x7f0f_fffe), 1),
     (&[0x7f10_02b7, 0x0022_a303], (4, BASE + 4, 0x7f10_0002), 1),
     // lw x6, 0(x5): one byte past the stack.
     (&[0x7f10_02b7, 0x0002_a303], (5, BASE + 4, 0x7f10_0000), 1),
     // ebreak
     (&[0x0010_0073], (3, BASE, BASE), 0),
-    // no instruction
+    // not an instruction
     (&[0xffff_ffff], (2, BASE, 0xffff_ffff), 0),
     // addi x6, x0, 6; addi x7, x0, 7; mul x10, x6, x7: the base machine does not multiply.
     (
@@ -142,7 +142,7 @@ fn regs_of(number: u32, arguments: [u32; 3]) -> [u32; 32] {
     regs
 }
 
-/// A number of a call, its arguments, and its answer.
+/// The number of a call, its arguments, and its answer.
 type Call = (u32, [u32; 3], Served);
 
 static CALLS: [Call; 11] = [

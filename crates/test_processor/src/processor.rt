@@ -12,7 +12,7 @@ fn core_of(rt: &(impl Abort + AllocGlobal), words: &[u32]) -> Core {
     Core::new(rt.alloc(), plain(), machine_of(rt, words, BASE)).expect(rt, "memory for a processor")
 }
 
-/// Makes the moves in order, up to the first that is not made, and says what came of that one.
+/// Makes the moves in order, up to the first that is not made, and returns its outcome.
 fn make(core: &mut Core, moves: &[Move]) -> Option<Step> {
     for m in moves {
         if core.retired() > 1000 {
@@ -26,7 +26,7 @@ fn make(core: &mut Core, moves: &[Move]) -> Option<Step> {
     None
 }
 
-/// How many instructions have retired, what x10 has, and whether nothing is in the processor any more.
+/// How many instructions have retired, the value of x10, and whether the processor is empty.
 fn seen_of(core: &Core) -> (u64, u32, bool) {
     (core.retired(), core.reg(10), core.drained())
 }
@@ -68,7 +68,7 @@ fn a_source_is_missing(rt: HostRuntime) {
     assert!(rt; !core.drained());
 }
 
-/// The words of instructions, of results, of those that have met, of what is owed, and of Execute.
+/// The bit words of instructions, of results, of met pairs, of owed results, and of Execute.
 fn words_of(core: &Core) -> [u32; 5] {
     let masks = core.masks();
     [
@@ -80,7 +80,7 @@ fn words_of(core: &Core) -> [u32; 5] {
     ]
 }
 
-/// The words of `addi x10, x0, 7` on its way: a unit for it is in stage 2, and it has no source.
+/// The bit words while `addi x10, x0, 7` is on its way: a unit for it is in stage 2, and it has no source.
 #[test]
 fn the_words_keep_up_with_the_moves(rt: HostRuntime) {
     let mut core = core_of(&rt, &[0x0070_0513]);

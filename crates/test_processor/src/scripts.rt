@@ -1,10 +1,10 @@
-//! Scripts, and what the grammar says of them.
+//! Scripts, by their grammar.
 use cf_bind::{Guess, Move};
 use run_scripts::{Script, ScriptErr, ScriptKind, kind_name, place_named, read_move, write_move};
 use rv_text::TextLine;
 use std::process::Abort;
 
-/// The script gives these moves with their lines and then ends in this way, again and again.
+/// The script gives these moves with their lines and then ends in this way, however often it is asked.
 fn assert_tells(
     rt: &(impl Abort + AllocGlobal),
     text: &[u8],
@@ -85,7 +85,7 @@ static REFUSED: [(&'static [u8], u32, ScriptKind); 18] = [
     (b"Emit", 1, ScriptKind::UnknownMove),
 ];
 
-/// What is refused first in a script, and in which line.
+/// The first refusal of a script, and its line.
 #[test]
 fn refusals(rt: HostRuntime) {
     for row in REFUSED.iter() {
@@ -125,7 +125,7 @@ fn the_longest_script(rt: HostRuntime) {
     assert_tells(&rt, &text, &[], Ok(None));
 }
 
-/// A kind is named by the word that names it.
+/// Each kind is found by its name.
 #[test]
 fn names_of_kinds(rt: HostRuntime) {
     for place in 0..14 {

@@ -43,7 +43,7 @@ fn value(value: u32) -> Option<Packet> {
     Some(Packet::Value { reg: 1, value })
 }
 
-/// What is in a stage that exists.
+/// The contents of a stage that exists.
 fn cell(rt: &impl Abort, stages: &Stages, i: u32) -> Cell
     ensures { Some result ≡ cell_at stages.now i }
 {

@@ -1,10 +1,10 @@
-//! Words of command lines, by the grammar: what they ask, and which of them is refused.
+//! Arguments of command lines, by the grammar: what they request, and which of them is refused.
 use cli_arguments::{Command, LayoutWord, Schedule, read_words};
 use std::alloc::{AllocError, Global};
 use std::process::Abort;
 
-/// The words of a line, each of which ends at a blank or at the end of the line: a last word that is empty has a blank
-/// after it too.
+/// The arguments of a line, each of which ends at a blank or at the end of the line; an empty last argument also has a
+/// blank after it.
 fn owned(alloc: Global, line: &str) -> Result<Vec<String>, AllocError> {
     let mut owned = Vec::new(alloc);
     for word in line.split_terminator(' ') {
@@ -20,7 +20,7 @@ fn words_of(rt: &(impl Abort + AllocGlobal), line: &str) -> Vec<String> {
 /// The program, the limit, whether retired instructions are shown, and whether it multiplies.
 type MachineAsked<'a> = (&'a str, u64, bool, bool);
 
-/// What the words ask of the sequential machine.
+/// What the arguments request of the sequential machine.
 fn machine_asked(words: &[String]) -> Option<MachineAsked<'_>> {
     match read_words(words) {
         Ok(Command::Machine { program, options }) => Some((
@@ -61,7 +61,7 @@ fn machine_words(rt: HostRuntime) {
 /// The file of the layout, or none for the built-in one.
 type Checked<'a> = Option<&'a str>;
 
-/// What the words ask to check.
+/// What the arguments request to check.
 fn checked(words: &[String]) -> Option<Checked<'_>> {
     match read_words(words) {
         Ok(Command::Check { layout }) => Some(match layout {
@@ -92,7 +92,7 @@ fn check_words(rt: HostRuntime) {
 /// The script, the seed and the limit.
 type RunAsked<'a> = (Option<&'a str>, Option<u32>, u64);
 
-/// How the words ask to run the processor.
+/// How the arguments request to run the processor.
 fn run_asked(words: &[String]) -> Option<RunAsked<'_>> {
     let Ok(Command::Run { options, .. }) = read_words(words) else {
         return None;
@@ -133,7 +133,7 @@ fn run_words(rt: HostRuntime) {
 /// The delays, the program, how many layouts, the limit, and whether the parts of each time are shown.
 type TimeAsked<'a> = (&'a str, &'a str, usize, u64, bool);
 
-/// What the words ask to compare.
+/// What the arguments request to compare.
 fn time_asked(words: &[String]) -> Option<TimeAsked<'_>> {
     match read_words(words) {
         Ok(
@@ -170,7 +170,7 @@ fn time_words(rt: HostRuntime) {
     }
 }
 
-/// Lines, and the index of the first word of each that has no place.
+/// Lines, and the index of the first unrecognised argument of each.
 const REFUSALS: [(&str, u32); 33] = [
     ("", 0),
     ("machines", 0),

@@ -7,7 +7,7 @@ use byteorder::{ByteOrder, LittleEndian};
 use elf_view::{Elf, ElfErr, LazySymbols, Segments, Symbols};
 use std::process::Abort;
 
-/// A file of zeros but for these numbers at these places.
+/// A file of zeros except for these numbers at these offsets.
 fn filled(numbers: &[(usize, u32)]) -> [u8; 248] {
     let mut file = [0; 248];
     for (at, number) in numbers {
@@ -16,7 +16,7 @@ fn filled(numbers: &[(usize, u32)]) -> [u8; 248] {
     file
 }
 
-/// Puts a number, in front of the end at least.
+/// Writes a number, at least up to the end of the file.
 fn put(file: &mut [u8; 248], at: usize, number: u32) {
     LittleEndian::write_u32(&mut file[at.min(244)..], number);
 }
@@ -228,7 +228,7 @@ fn lends_the_names(rt: HostRuntime) {
     assert!(rt; elf.segments().next().is_none(), "no segments");
 }
 
-/// Whether the next symbol, whose name is looked for late, has this name, value and size.
+/// Whether the next symbol, whose name is looked up late, has this name, value and size.
 fn is_next_late(symbols: &mut LazySymbols<'_>, name: &[u8], value: u32, size: u32) -> bool {
     match symbols.next() {
         Some(s) => {

@@ -11,12 +11,12 @@ pub(crate) fn bytes_of(rt: &(impl Abort + AllocGlobal), bytes: &[u8]) -> Vec<u8>
     bytes.to_vec(rt.alloc()).ok().expect(rt, "memory")
 }
 
-/// Six letters, of which each take gets three at most.
+/// Six letters; each take gets at most three.
 pub(crate) fn letters(rt: &(impl Abort + AllocGlobal), fails: &[u64]) -> MemSource {
     MemSource::new(bytes_of(rt, b"abcdef"), 3, failing(rt, fails))
 }
 
-/// A sink with room for so many bytes.
+/// A sink with room for this many bytes.
 pub(crate) fn sink_of(rt: &(impl Abort + AllocGlobal), room: usize, fails: &[u64]) -> MemSink {
     MemSink::new(rt.alloc(), room, failing(rt, fails))
         .ok()

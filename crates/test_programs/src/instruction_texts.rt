@@ -1,4 +1,4 @@
-//! Texts and words from the GNU assembler, and what the grammar says of other spellings.
+//! Texts and words from the GNU assembler, and other spellings, by the grammar.
 use rv_inst::{ImmOp, Instr, LoadKind, decode_m, encode, fits};
 use rv_text::{TextErr, TextLine, read_instr, read_register, write_instr};
 

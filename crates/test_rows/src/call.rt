@@ -1,25 +1,25 @@
-//! What the simulator is called with, and what the outcome is.
+//! A call of the simulator, and its outcome.
 
 use std::alloc::{AllocError, Global};
 
-/// How many bytes the output takes where a row does not say it.
+/// The capacity of the output where a row does not give it.
 const ROOM: usize = 100_000;
 
 /// A name, and the bytes that it stands for.
 pub type NamedBytes = (String, Vec<u8>);
 
-/// What the simulator is called with.
+/// A call of the simulator.
 #[derive(Drop)]
 pub struct Call {
-    /// The words of the command line.
+    /// The arguments of the command line.
     pub words: Vec<String>,
     /// The files in memory.
     pub files: Vec<NamedBytes>,
     /// The bytes of the input.
     pub input: Vec<u8>,
-    /// How many bytes of the input come at once.
+    /// How many bytes of the input each take gets at most.
     pub piece: usize,
-    /// How many bytes the output takes.
+    /// The capacity of the output, in bytes.
     pub room: usize,
     /// The numbers of the calls that fail.
     pub fails: FailingCallNumbers,
@@ -41,7 +41,7 @@ pub struct FailingCallNumbers {
 /// The outcome of a call.
 #[derive(Drop)]
 pub struct CallOutcome {
-    /// The status that the process ends with.
+    /// The exit status of the process.
     pub status: u8,
     /// What was written to the output.
     pub output: Vec<u8>,
@@ -65,7 +65,7 @@ fn copy_under(alloc: Global, name: &str, bytes: &[u8]) -> Result<NamedBytes, All
     Ok((name, bytes.to_vec(alloc)?))
 }
 
-/// Puts a copy of the bytes under the name, in place of those that stood there.
+/// Stores a copy of the bytes under the name, replacing earlier ones.
 pub(crate) fn keep(
     alloc: Global,
     list: &mut Vec<NamedBytes>,
@@ -88,7 +88,7 @@ impl FailingCallNumbers {
         }
     }
 
-    /// The list that goes by the word, if it is one of a row's.
+    /// The list with this name, if a row has one.
     pub(crate) fn list_of(&mut self, word: &str) -> Option<&mut Vec<u64>> {
         match word {
             "files" => Some(&mut self.files),
@@ -101,7 +101,7 @@ impl FailingCallNumbers {
 }
 
 impl Call {
-    /// A call without words, files and failures.
+    /// A call without arguments, files and failures.
     pub(crate) fn new(alloc: Global) -> Call {
         Call {
             words: Vec::new(alloc),

@@ -25,7 +25,7 @@ const AFTER: [Move; 5] = [
 ];
 
 /// Of these candidates Climb(2) has the last after it, and Serve, which comes after them all, the first. Holding back
-/// takes the Issues out.
+/// removes the Issues.
 fn assert_after(rt: &impl Abort, candidates: &mut Candidates) {
     assert_moves(rt, candidates, &AFTER);
     assert!(rt;
@@ -40,7 +40,7 @@ fn assert_after(rt: &impl Abort, candidates: &mut Candidates) {
     assert_moves(rt, candidates, &[Move::Climb(2), Move::Execute(2)]);
 }
 
-/// At first nothing but the first Issue can be made.
+/// At first only the first Issue can be made.
 #[test]
 fn an_instruction_and_the_branch_after_it(rt: HostRuntime) {
     let mut core = core_of(&rt, plain(), BRANCH_BEHIND);

@@ -25,7 +25,7 @@ fn delays_that_are_told(rt: HostRuntime) {
     assert!(rt; delays == [10, 7, 1000, 1], "other delays");
 }
 
-/// What is refused first, and in which line.
+/// The first refusal, and its line.
 #[test]
 fn refusals(rt: HostRuntime) {
     let rows = [

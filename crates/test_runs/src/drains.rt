@@ -1,4 +1,4 @@
-//! The weight of what is in a processor, and drains of one state, worked out by hand from the table of moves.
+//! The weight of a processor's state, and drains of one state, worked out by hand from the table of moves.
 
 use crate::processors::{SEVEN, TINY, core_of, layout_of, make};
 use cf_bind::{Fetch, Guess, Move};
@@ -59,8 +59,8 @@ fn bounds(rt: HostRuntime) {
     assert!(rt; core.bound() == 11, "another bound");
 }
 
-/// The branch is in stage 3, where its unit is, and has not been executed; the shift behind it is in stage 1, from
-/// which its siding launches, and has requested x2.
+/// The branch is in stage 3, where its unit is, and has not been executed; the shift after it is in stage 1, from which
+/// its siding launches, and has requested x2.
 fn guessed(rt: &(impl Abort + AllocGlobal)) -> Core {
     let mut core = core_of(rt, layout_of(rt, SHIFT_SIDING), WRONG_GUESS);
     make(rt, &mut core, Move::Issue(Guess::Next));
@@ -135,8 +135,8 @@ const LEAVE: &[Leg] = &[
     Leg::One(Move::Leave),
 ];
 
-/// The state after the moves, and others after them, in which nothing is any more: the branch has retired, and fetch
-/// goes on at its target.
+/// The state after the moves, and others after them, when it is empty: the branch has retired, and fetch goes on at its
+/// target.
 fn drained(rt: &(impl Abort + AllocGlobal), moves: &[Leg], after: &[Leg]) -> Core {
     let mut core = guessed(rt);
     make_all(rt, &mut core, moves);
@@ -159,8 +159,8 @@ fn assert_begins_elsewhere(rt: &(impl Abort + AllocGlobal), other: &Core) {
     assert!(rt; !core.same(other), "the same state");
 }
 
-/// All orders of moves that drain one state lead to one state, but for what is kept at the bottom; and that is another
-/// state.
+/// All orders of moves that drain one state lead to one state, apart from what is kept at the bottom; and that is
+/// another state.
 #[test]
 fn drains_end_in_one_state(rt: HostRuntime) {
     let first = drained(&rt, DIES_FIRST, &[]);

@@ -1,4 +1,4 @@
-//! How a run finished, what bars a move and why a line is no move, as the tables of reports have it.
+//! How a run finished, the bars of moves, and why a line is not a move, as in the tables of reports.
 use cf_bind::Bar;
 use cf_run::Ran;
 use report_closing::run_line;
@@ -7,7 +7,7 @@ use run_scripts::ScriptKind;
 use std::process::Abort;
 use texts::Page;
 
-/// Each way in which a run finishes of itself.
+/// Each way in which a run finishes, whatever its schedule.
 const ENDS: [Ran; 7] = [
     Ran::Exit(0),
     Ran::Exit(255),
@@ -22,7 +22,7 @@ const ENDS: [Ran; 7] = [
     Ran::ReportFault,
 ];
 
-/// Why a line of a script is no move.
+/// Why a line of a script is not a move.
 const KINDS: [ScriptKind; 4] = [
     ScriptKind::UnknownMove,
     ScriptKind::BadNumber,
@@ -88,7 +88,7 @@ fn add_bars(rt: &impl Abort, texts: &mut Vec<u8>) {
     }
 }
 
-/// Adds why a line of a script is no move, each time with a space.
+/// Adds the reasons why a line of a script is not a move, each with a space.
 fn add_kinds(rt: &impl Abort, texts: &mut Vec<u8>) {
     for kind in &KINDS {
         let mut page = Page::new();

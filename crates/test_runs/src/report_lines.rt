@@ -1,4 +1,4 @@
-//! Lines of reports that were worked out by hand, and the forms that these do not have.
+//! Lines of reports that were worked out by hand, and the remaining forms.
 use cf_bind::{Binding, Cell, End, Fetch, Guess, Move, Op, Packet, Passenger};
 use cf_io::MemSink;
 use cf_report::{Tally, put_fetch, put_move, put_retired, put_siding, put_stage, put_tally};
@@ -42,7 +42,7 @@ fn cell(passenger: Option<Passenger>, packet: Option<Packet>, met: bool) -> Cell
     }
 }
 
-/// `addi x10, x0, 7` of which the result was sent, in the lowest stage.
+/// `addi x10, x0, 7`, whose result was sent, in the lowest stage.
 fn sent() -> Cell {
     let passenger = Passenger {
         dst: register(10, Some(7)),
@@ -161,7 +161,7 @@ fn operation(answer: Option<u32>) -> Option<Op> {
 }
 
 /// The lines of stages, from runs that were worked out by hand, and one for each form besides; an empty stage has none.
-/// Then what is beside the stages, and the other lines.
+/// Then the parts beside the stages, and the other lines.
 const LINES: &str = "stage 1 complete | 00010000 next done - - x10=00000007 - | x10=00000007
 stage 2 instruction | 00010000 next done x01=00000000 - x01=00000001 x01=00000001
 stage 1 instruction | 00010004 next new x01=00000001 - x01=? -
@@ -199,7 +199,7 @@ const TALLY: Tally = Tally {
     dead: 0,
 };
 
-/// Puts the lines of stages.
+/// Writes the lines of stages.
 fn put_stages(rt: &impl Abort, report: &mut MemSink) {
     let stages = [
         (1, sent()),
@@ -220,7 +220,7 @@ fn put_stages(rt: &impl Abort, report: &mut MemSink) {
     }
 }
 
-/// Puts the lines of what is beside the stages, and the others.
+/// Writes the lines of the parts beside the stages, and the others.
 fn put_others(rt: &impl Abort, report: &mut MemSink) {
     let puts = [
         put_fetch(Fetch::Running(0x0001_0008), report),

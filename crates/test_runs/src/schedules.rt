@@ -57,7 +57,7 @@ fn picks_from_five(rt: HostRuntime) {
     assert!(rt; drawn == [2, 1, 2, 0, 2, 2], "other picks of Drawn");
 }
 
-/// Whether this pace offers so many candidates.
+/// Whether this pace offers this many candidates.
 fn offers(pace: &Pace, core: &Core, candidates: &mut Candidates, count: usize) -> bool {
     pace.offer(core, candidates);
     candidates.len() == count

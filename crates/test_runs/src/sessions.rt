@@ -8,8 +8,8 @@ use cf_index::Candidates;
 use cf_io::{MemSink, MemSource};
 use std::process::Abort;
 
-/// A program of which these puts of output fail, and the commands of its session, which come in pieces of this size
-/// where these takes fail.
+/// A program and the commands of its session. These puts of the program's output fail; the commands come in pieces of
+/// this size, and these takes of them fail.
 #[derive(Clone, Copy)]
 struct Session<'a> {
     words: &'a [u32],
@@ -31,7 +31,7 @@ fn numbers_of(rt: &(impl Abort + AllocGlobal), numbers: &[u64]) -> Vec<u64> {
     list
 }
 
-/// A sink with room for this many bytes, of which these puts fail.
+/// A sink with room for this many bytes; these puts fail.
 fn sink_of(rt: &(impl Abort + AllocGlobal), room: usize, fails: &[u64]) -> MemSink {
     MemSink::new(rt.alloc(), room, numbers_of(rt, fails)).expect(rt, "memory")
 }
@@ -62,7 +62,7 @@ fn answer(
     debug(core, &mut candidates, &mut ring, commands, output, report)
 }
 
-/// How a session ends, which is answered to the report.
+/// How a session ends whose answers go to the report.
 fn run(rt: &(impl Abort + AllocGlobal), session: &Session<'_>, report: &mut MemSink) -> Debugged {
     let mut core = core_of(rt, layout_of(rt, TINY), session.words);
     let mut commands = source_of(rt, session);
@@ -152,7 +152,7 @@ fn refusals(rt: HostRuntime) {
     assert_answers(&rt, commands, 5, answers);
 }
 
-/// The last line may lack its line feed, and keeps its carriage return then.
+/// The line feed of the last line may be missing; then the line keeps its carriage return.
 #[test]
 fn last_lines(rt: HostRuntime) {
     assert_answers(&rt, b"bound\nbound", 4096, b"bound 0\nbound 0\n");
@@ -213,7 +213,7 @@ fn registers(rt: HostRuntime) {
     assert_answers(&rt, b"regs", 4096, answers);
 }
 
-/// One byte is written from address 00010000, and the output fails that: the four instructions before the call have
+/// One byte is written from address 00010000, and the output fails there: the four instructions before the call have
 /// retired.
 #[test]
 fn failing_output(rt: HostRuntime) {

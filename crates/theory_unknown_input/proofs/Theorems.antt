@@ -56,7 +56,7 @@ sound_here plan x m level h unended =
     let same : h.machine ≡ x = no_step (isa_of plan) x h.machine h.gained none h.after in
     subst (Sound plan m.state m.rest m.output) same (subst (HoldsAt plan m.state m.rest m.output h.machine) unended h.stage)
 
--- and what is seen of it is what that machine does next
+-- and its event is what that machine does next
 pub refines_held : (plan : Plan) (x : Machine) (m : Moment) → IsAccepted plan → HoldsAfter plan x m → m.state.retired ≡ x.hart.retired → Refines plan x [] m
 refines_held plan x m accepted h level =
     let none : gained x m.state ≡ 0 = omega (arith, level) in
@@ -101,7 +101,7 @@ moved_on plan start x m mv written acc free count level goes h clear tidy k =
       tidy = tidy;
     }
 
--- with nothing retired since, the machine with another rest of the input is the same but for that
+-- with nothing retired since, the machine with another rest of the input is the same apart from that
 same_but_input : (x : Machine) (rest : List ℕ) → SameButInput x (over rest x)
 same_but_input x rest = record { hart = refl; output = refl }
 

@@ -200,12 +200,12 @@ waits _ = false
 abbrev pub is_lone : Passenger → Bool
 is_lone p = not p.dead && ((not p.done && (is_serial (kind p) || waits p.guess)) || (is_some p.ending && (is_free (kind p) || is_serial (kind p))))
 
--- (h) No follower: below such an instruction there is no instruction and no barrier, and fetch waits
+-- (h) No follower: below such an instruction there is not an instruction and no barrier, and fetch waits
 abbrev pub NoFollower : State → Type 0
 NoFollower s = (p : Standing s) → is_lone p.who ≡ true → IsHarmless p.below × (s.fetch ≡ Waiting)
 
--- (i) High barriers: below a barrier that is above the stage where memory operations launch there is no instruction and
--- no other barrier, and fetch waits
+-- (i) High barriers: below a barrier that is above the stage where memory operations launch there is not an instruction
+-- and no other barrier, and fetch waits
 pub record HighBarriers (plan : Plan) (s : State) : Type 0 where
   pub lying : (k : Lying s) → turns (Some k.what) ≡ true → memory_launch plan < k.stage → IsHarmless k.below × (s.fetch ≡ Waiting)
   pub owed : (p : Standing s) → turns p.who.owes ≡ true → memory_launch plan < p.stage → IsHarmless p.below × (s.fetch ≡ Waiting)

@@ -38,7 +38,7 @@ use Rattle.theory_refinement.proofs.moves.Send.{send_kept}
 use Rattle.theory_refinement.proofs.moves.Serve.{serve_kept}
 use Rattle.theory_refinement.proofs.moves.Slide.{slide_kept}
 
--- but for Leave a move changes neither the count nor the ending
+-- apart from Leave a move changes neither the count nor the ending
 pub record Counts (s t : State) : Type 0 where
   pub retired : t.retired ≡ s.retired
   pub ending : t.ending ≡ s.ending
