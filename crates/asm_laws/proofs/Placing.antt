@@ -43,7 +43,7 @@ split (p ∷ ps) qs bytes h =
       others = rest.others;
     }
 
--- pieces in the middle are spelt after those in front
+-- pieces in the middle are spelt after those before them
 pub middle : (front ps after : List Piece) (bytes : List ℕ) (at : ℕ) → Spells (front ++ (ps ++ after)) bytes → pieces_size front ≡ at
     → Spells ps (take (pieces_size ps) (drop at bytes))
 middle front ps after bytes at h e =
@@ -58,7 +58,7 @@ middle front ps after bytes at h e =
     ap (λ (l : List ℕ). take (pieces_size ps) l) dropped ∙ ap (λ (n : ℕ). take n (inner.front ++ inner.back)) long ∙ take-append_seam inner.front inner.back in
     subst (λ (l : List ℕ). Spells ps l) (sym taken) inner.first
 
--- what is in the sections above an item: its pieces, as many bytes of them as the place says
+-- the contents of the sections before an item: its pieces, as many bytes of them as the position says
 pub record AreAbove (place : SectionPlace) (text_front data_front : List Piece) : Type 0 where
   pub text : pieces_size text_front ≡ place.text_len
   pub data_section : pieces_size data_front ≡ place.data_len
@@ -98,7 +98,7 @@ above-next labels line p text_front data_front place s a =
       );
     }
 
--- an item is there
+-- an item is placed there
 there-by : (b : Bool) (object : Object) (p : Placed) (text_front text_after data_front data_after : List Piece) → p.place.in_text ≡ b
     → Spells (text_front ++ (cond b p.pieces [] ++ text_after)) object.text_bytes
     → Spells (data_front ++ (cond b [] p.pieces ++ data_after)) object.data_bytes

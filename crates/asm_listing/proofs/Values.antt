@@ -1,4 +1,4 @@
--- Symbols that are looked for by their values.
+-- Symbols that are found by their values.
 use Rattle.std.proofs.Common.{◌≡◌, ℕ, ◌≤◌, zero, suc, Bool, true, false, List, [], ◌∷◌, ◌++◌, All, map, length, take, drop, filter, cond, refl, sym, ap, ◌∙◌, ltb, leb, arith}
 use Rattle.std.specs.Prelude.{◌==◌, ◌&&◌, not}
 use Rattle.std.specs.List.{AllWithin}
@@ -17,7 +17,7 @@ none_ascend = λ i j d le within. absurd (omega arith)
 
 pub ruleset none = (none_ascend)
 
--- none of the symbols of lower values in front has the value
+-- none of the earlier symbols, of lower values, has the value
 pub passed : (value i : ℕ) (xs : List LazySymbol) → AllWithin (λ x. ltb x.value value ≡ true) xs 0 i
     → filter (has_value value) (drop i xs) ≡ filter (has_value value) xs
 passed value zero xs h = refl
@@ -104,7 +104,7 @@ same_filter p q same (x ∷ xs) = rw (same x, same_filter p q same xs) refl
 abbrev is_below : LazySymbol → LazySymbol → Bool
 is_below x y = is_lt (nat_cmp x.value y.value)
 
--- the symbols of a value are in a stable order as they stood before
+-- the symbols of a value are in the same order as before
 stays : (xs ys : List LazySymbol) → IsStableByKey (λ (x : LazySymbol). x.value) nat_cmp xs ys → (x : LazySymbol)
     → filter (has_value x.value) ys ≡ filter (has_value x.value) xs
 stays xs ys stable x =

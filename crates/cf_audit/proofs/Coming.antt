@@ -23,7 +23,7 @@ use Rattle.cf_audit.specs.Limits.{most_trace}
 use Rattle.cf_audit.proofs.Comparing.{told-more}
 use Rattle.cf_audit.proofs.Parting.{goes_on}
 
--- an audit has reached this stand: the comparison tells the text and the groups of the run, which agree
+-- an audit has reached this AuditRun: the comparison has the text and the groups of the run, which agree
 pub record Comes (text : List ℕ) (start : RunPlace) (now : AuditRun) : Type 0 where
   pub reached : Reaches most_retired show.Moves start now.place
   pub read_back : AreReadBack reached.trace

@@ -5,7 +5,7 @@ use Rattle.std.proofs.Math.Seq.{take-add}
 use Rattle.cf_io.specs.Puts.{Puts}
 use Rattle.cf_audit.specs.Compared.{Comparison, IsComparison, HasOther, IsOther, DifferAt, alone, put_of, told_by}
 
--- the bytes up to a place and the one there
+-- the bytes up to an index and the one there
 one_more : (bytes : List ℕ) (same : ℕ) → same ≤ length bytes → take (min (length bytes) (same + 1)) bytes ≡ take same bytes ++ alone (slice_get bytes same)
 one_more [] same within = let none : min 0 (same + 1) ≡ zero = omega arith in let start : same ≡ zero = omega arith in rw (none, start) refl
 one_more (x ∷ bytes) zero within = let one : min (suc (length bytes)) (0 + 1) ≡ suc zero = omega arith in rw one refl

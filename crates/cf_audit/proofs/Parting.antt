@@ -24,7 +24,7 @@ front_of (x ∷ text) (g ∷ group) (suc place) (suc k) other within e =
     let h = front_of text group place k other (omega arith) rest in
     record { same = rw first (ap (λ (l : List ℕ). g ∷ l) h.same); next = h.next }
 
--- a text agrees up to one place, and with a prefix of a group after it up to another, where the group has another byte
+-- a text agrees up to one index, and with a prefix of a group after it up to another, where the group has another byte
 pub parted : (text group : List ℕ) (from to k other : ℕ) → from ≤ length text → to ≤ length text → IsOther text to other →
     take to text ++ other ∷ [] ≡ take from text ++ take k group
     → (from ≤ to) × IsFrontOf (drop from text) group (to - from) other
@@ -50,7 +50,7 @@ byte_after (x ∷ text) (suc from) (suc to) byte low e =
     let same : suc to - suc from ≡ to - from = omega arith in
     byte_after text from to byte (omega arith) (rw same at e)
 
--- a longer front goes on after a shorter one
+-- a longer prefix continues a shorter one
 pub goes_on : (text more : List ℕ) (from to : ℕ) → from ≤ length text → to ≤ length text → 0 < length more → take to text ≡ take from text ++ more → from < to
 goes_on text more from to low high some e =
     let size : length (take to text) ≡ length (take from text ++ more) = ap length e in

@@ -63,7 +63,7 @@ pub carries-nothing : (command : DebugCommand) (now : DebuggerState) (written : 
 unfolding CommandLeaves
 carries-nothing command now written h = ([], h, nothing_put written)
 
--- with the answer that is told
+-- with the answer that is given
 pub as-told : (command : DebugCommand) (now new : DebuggerState) (written after : Option (List ℕ)) (answer : Result (Unit {0}) Failed)
     (told : Result (Unit {0}) Broken) → told ≡ of_report answer → CommandLeaves command now new written after (of_report answer) →
     CommandLeaves command now new written after told
@@ -238,7 +238,7 @@ ends-refusal line refusal now written after i j (Ok done) told end ends told_is 
 ends-refusal line refusal now written after i j (Err failed) told end ends told_is is put =
     rw (ends, told_is) (ends_unrefused line refusal now written after i j failed is put)
 
--- a line that tells the same ends the session in the same way
+-- a line with the same command ends the session in the same way
 pub ends-same : (line other : List ℕ) (now new : DebuggerState) (written after : Option (List ℕ)) (answer : Option Debugged) →
     command_in line ≡ command_in other → LineLeaves line now new written after answer → LineLeaves other now new written after answer
 unfolding LineLeaves

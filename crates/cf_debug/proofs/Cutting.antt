@@ -96,7 +96,7 @@ nearly line = of (ends_with nat_eq line (13 ∷ []))
     of true = omega (arith, length-take (length line - 1) line)
     of false = omega arith
 
--- what is held of a line tells the same, whether or not the line is ended
+-- what is held of a line gives the same command, whether or not the line is ended
 pub held-whole : (line : List ℕ) → command_in (without_return (held line)) ≡ command_in (without_return line)
 held-whole line = of (nat_lt 258 (length line)) refl
   where

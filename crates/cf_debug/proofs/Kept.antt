@@ -28,7 +28,7 @@ cut_at [] n x size h = absurd (omega (arith, size))
 cut_at (y ∷ xs) zero x size h = rw (empty xs (omega (arith, size))) (cc)
 cut_at (y ∷ xs) (suc n) x size h = ap (λ rest. y ∷ rest) (cut_at xs n x (omega (arith, size)) h)
 
--- there is something at each place below the length
+-- there is an element at each index below the length
 some_at : {X : Type 0} (xs : List X) (n : ℕ) → n < length xs → slice_get xs n ≡ None → ⊥
 some_at [] n low none = absurd (omega (arith, low))
 some_at (x ∷ xs) zero low none = cc

@@ -1,4 +1,4 @@
--- A command that a line tells asks for at most 16 bytes of memory.
+-- The command of a line shows at most 16 bytes of memory.
 use Rattle.std.proofs.Common.{◌≡◌, ℕ, ◌≤◌, List, Option, Some, None, Bool, true, false, Ok, Err, refl, sym, subst, ◌∙◌, length, drop, arith}
 use Rattle.std.specs.Prelude.{◌&&◌, ◌==◌, Result, codes, nat_le, nat_lt, if◌then◌else◌}
 use Rattle.std.specs.Str.{bytes_eq}
@@ -16,7 +16,7 @@ use Rattle.cf_debug.specs.declared.command.Refusal.TheVariants.{TooLong, Unknown
 use Rattle.texts.specs.Answers.{and_then}
 use Rattle.cf_debug.specs.Commands.{AsksFew, address_told, alone, auto_told, break_told, command_in, command_named, lone_command, lone_told, memory_told, move_told, number_told, stop_told, within}
 
--- what is known, if anything is, asks for few
+-- the command, if there is one, shows few bytes
 abbrev Few : Result DebugCommand Refusal → Type 0
 Few (Ok command) = AsksFew command
 Few (Err refusal) = Unit {0}
@@ -63,7 +63,7 @@ stop_few : (words : List (List ℕ)) → Few (stop_told words)
 unfolding stop_told
 stop_few words = then_few (break_told (first_word words)) _ (λ stop is. alone_few (drop 1 words) (Break stop) tt)
 
--- a command that may be missing, which asks for few where it is there
+-- a command that may be missing, which otherwise shows few bytes
 abbrev LoneFew : Option DebugCommand → Type 0
 LoneFew None = Unit {0}
 LoneFew (Some command) = AsksFew command
@@ -95,7 +95,7 @@ named_few name after =
     (pick (bytes_eq name (codes "break")) (stop_told (words_of after)) _ (stop_few (words_of after))
     (lone_told_few (lone_command name) (words_of after) (lone_few name))))))
 
--- a command that a line tells asks for few
+-- the command of a line shows few bytes
 pub few-told : (line : List ℕ) (command : DebugCommand) → command_in line ≡ Ok command → AsksFew command
 unfolding command_in
 few-told line command is = subst Few is (pick (nat_lt 256 (length line)) (Err TooLong) (command_named (name_part line) (operand_part line)) tt

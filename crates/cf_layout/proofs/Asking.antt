@@ -35,11 +35,11 @@ abbrev pub units_for : (Class → List ℕ) → List Class → List (Class × Li
 units_for stages [] = []
 units_for stages (c ∷ cs) = unit_for c (stages c) ++ units_for stages cs
 
--- what asks for a siding
+-- the parts that request a siding
 abbrev pub asking_siding : SidingPlan → asked.Siding
 asking_siding siding = record { classes = siding.classes; launch = pos siding.launch; recover = pos siding.recover; cells = pos siding.cells }
 
--- what asks for a layout
+-- the parts that request a layout
 abbrev pub asking : Plan → Parts
 asking plan = record {
   stages = pos plan.stages;
@@ -54,7 +54,7 @@ nothing : (b : Bool) → cond b [] [] ≡ map (λ n. pos n) []
 nothing true = refl
 nothing false = refl
 
--- the stages that are listed, by whether the first class is the one that is looked for
+-- the stages that are listed, by whether the first class is the one searched
 listed_by : (c d : Class) (same more : Bool) (mine stages : List ℕ) (rest : List (Class × List ℤ)) → same_class c d ≡ same → (same ≡ true → mine ≡ stages) →
     stages_in (find (λ unit. same_class c unit.0) rest) ≡ cond more (map (λ n. pos n) mine) []
     → stages_in (find (λ unit. same_class c unit.0) (unit_for d stages ++ rest)) ≡ cond (same || more) (map (λ n. pos n) mine) []
@@ -89,7 +89,7 @@ unfolding listed
 asked_stages plan c small = listed_among (stages_of plan) c computed_classes ∙ ap (λ (b : Bool). cond b (map (λ n. pos n) (stages_of plan c)) [])
     (one_of_them c small)
 
--- the stages of a place
+-- the stages at an index
 place_within : (plan : Plan) (units : List (List ℕ)) (place : ℕ) → All IsStrictlyIncreasing units → All (All (IsStage plan)) units →
     IsStrictlyIncreasing (unwrap_or (slice_get units place) []) × All (IsStage plan) (unwrap_or (slice_get units place) [])
 place_within plan [] place rise stages = ((λ k below. absurd (omega arith)), All-nil (IsStage plan))
@@ -101,7 +101,7 @@ pub class_within : (plan : Plan) → IsAccepted plan → (c : Class) → IsStric
 unfolding stages_of
 class_within plan a c = place_within plan plan.units (place_of c) a.ascending a.unit_stages
 
--- the stages of a computed class are asked for as they are
+-- the stages of a computed class are requested unchanged
 pub stages_back : (plan : Plan) → IsAccepted plan → (c : Class) → IsComputed c → ascending (listed (asking plan).units c) ≡ stages_of plan c
 stages_back plan a c small =
     let w = class_within plan a c in
@@ -149,7 +149,7 @@ unfolding units_plan stages_of
 units_back plan a = same_at (λ c. ascending (listed (asking plan).units c)) (λ c. unwrap_or (slice_get plan.units (place_of c)) []) (stages_back plan a)
     ∙ nine_places plan.units a.classes
 
--- a siding that is asked for comes back
+-- a requested siding comes back
 siding_back : (plan : Plan) (siding : SidingPlan) → accepted.IsSiding plan siding → siding_plan (asking_siding siding) ≡ siding
 unfolding siding_plan
 siding_back plan siding s = rw (in_order_same siding.classes s.ordered s.computed) refl
@@ -268,7 +268,7 @@ asked_once plan a c =
     rw (both_times plan a c (cond (nat_lt (place_of c) 9) 1 0) (computed_times c) (one_at_most (nat_lt (place_of c) 9)))
     (few_homes (nat_lt (place_of c) 9) (unit_homes (stages_of plan c)) (length (filter (λ siding. serves siding c) plan.sidings)) one)
 
--- a class is asked for where it has a home
+-- a class is requested where it has a home
 is_asked_homed : (plan : Plan) → IsAccepted plan → (c : Class) → IsComputed c → is_asked (asking plan) c ≡ nat_lt 0 (homes plan c)
 is_asked_homed plan a c small = is_asked_times (asking plan) c ∙ ap (λ (n : ℕ). nat_lt 0 n) (asked_homes plan a c small)
 
@@ -300,7 +300,7 @@ units_right plan a [] = All-nil (IsUnit plan.stages)
 units_right plan a (c ∷ cs) = entry_right plan.stages c (stages_of plan c) (units_for (stages_of plan) cs) (no_memory plan a c) (class_within plan a c).1
     (units_right plan a cs)
 
--- what asks for a siding is acceptable
+-- the parts that request a siding are acceptable
 one_class : (classes : List Class) → classes ≡ Memory ∷ [] → length classes ≡ 1
 one_class classes e = rw e refl
 
@@ -318,7 +318,7 @@ siding_right plan siding s = record {
   memory_alone = λ named. one_class siding.classes (s.memory_alone named);
 }
 
--- the siding that is asked for a class is the one that serves it
+-- the requested siding of a class is the one that serves it
 find_step : (served : Bool) (s : SidingPlan) (found : Option SidingPlan) (rest : Option asked.Siding) → rest ≡ option_map asking_siding found →
     cond served (Some (asking_siding s)) rest ≡ option_map asking_siding (cond served (Some s) found)
 find_step true s found rest e = refl
@@ -381,7 +381,7 @@ control_right plan a c turns =
     (turns_right (stages_of plan c) (find (λ s. serves s c) plan.sidings) (memory_launch plan) (units_low plan a c turns)
     (λ s e. found_holds (λ t. t.recover ≤ memory_launch plan) (λ t. serves t c) plan.sidings s (a.control_sidings c turns) e))
 
--- what asks for an accepted layout is acceptable
+-- the parts that request an accepted layout are acceptable
 pub asking_acceptable : (plan : Plan) → IsAccepted plan → IsAcceptable (asking plan)
 asking_acceptable plan a = record {
   stages = within_test 2 32 plan.stages a.stages.0 a.stages.1;

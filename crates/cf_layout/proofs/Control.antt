@@ -73,12 +73,12 @@ none_found : {X : Type 0} (test : X → Bool) (xs : List X) → list_any test xs
 none_found test [] e = refl
 none_found test (x ∷ xs) e = none_found_step (test x) (list_any test xs) x (find test xs) e (λ later. none_found test xs later)
 
--- the siding that serves a class in the layout that is described, where one is asked for it
+-- the siding that serves a class in the layout that is described, where one is requested for it
 serving : (sidings : List asked.Siding) (siding : asked.Siding) (c : Class) → IsComputed c → find (λ s. names s.classes c) sidings ≡ Some siding →
     find (λ s. serves s c) (map siding_plan sidings) ≡ Some (siding_plan siding)
 serving sidings siding c small e = found_plan sidings c small ∙ ap (λ (o : Option asked.Siding). option_map siding_plan o) e
 
--- the stage from which the siding that is asked for launches
+-- the stage from which the requested siding launches
 launch_of : (o : Option asked.Siding) (siding : asked.Siding) → o ≡ Some siding → launch_in o ≡ (siding_plan siding).launch
 unfolding siding_plan
 launch_of o siding e = rw e refl
@@ -151,7 +151,7 @@ units_low parts c launch i true e once all at =
     any_all launch i (ascending (listed parts.units c)) low at
 units_low parts c launch i false e once all at = let n = listed_none parts.units c e in let f = rw (n, ascending_none) at at in cc
 
--- a class that is in no unit but is asked for is in a siding
+-- a class that is in no unit but is requested is in a siding
 sided_where : (u t : ℕ) → nat_lt 0 u ≡ false → nat_lt 0 (u + t) ≡ true → nat_lt 0 t ≡ true
 sided_where u t e f = grind (arith, nat_tests)
 

@@ -99,7 +99,7 @@ is_sided_times [] c = rw (times_nil c) refl
 is_sided_times (siding ∷ sidings) c = rw (times_append siding.classes (sided_classes sidings) c, is_sided_times sidings c, names_times siding.classes c)
     (either (times siding.classes c) (times (sided_classes sidings) c))
 
--- a class is asked for where it is among all classes
+-- a class is requested where it is among all classes
 pub is_asked_times : (parts : Parts) (c : Class) → is_asked parts c ≡ nat_lt 0 (times (asked_classes parts) c)
 unfolding is_asked
 is_asked_times parts c =

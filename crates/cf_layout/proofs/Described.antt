@@ -80,7 +80,7 @@ listed_within n i [] all e = cc
 listed_within n i (z ∷ zs) all e = within_step n i z (is_number i z) (list_any (is_number i) zs) refl e (all 0 z (omega arith))
     (λ later. listed_within n i zs (All-tail (λ y. is_within 1 n y ≡ true) z zs all) later)
 
--- what is listed is from the stages asked for
+-- what is listed is from the requested stages
 ascending_within : (n : ℕ) (stages : List ℤ) → All (λ z. is_within 1 n z ≡ true) stages → All (λ i. (1 ≤ i) × (i ≤ n)) (ascending stages)
 unfolding ascending
 ascending_within n stages all = λ k d within. listed_within n _ stages all (filter_passes (λ i. list_any (is_number i) stages) stage_numbers k d within)
@@ -277,7 +277,7 @@ served_step : (t : ℕ) (named : Bool) (siding : SidingPlan) (kept : List Siding
 served_step t true siding kept rest e once same = let some : 0 < t = lt_true 0 t (sym e) in omega arith
 served_step t false siding kept rest e once same = let none : t ≡ 0 = grind (arith, nat_tests) in omega arith
 
--- a siding that is described serves a class where the siding that is asked for names it
+-- a siding that is described serves a class where the requested siding names it
 pub serves_named : (siding : asked.Siding) (c : Class) → IsComputed c → serves (siding_plan siding) c ≡ names siding.classes c
 unfolding serves siding_plan
 serves_named siding c small = in_order_names siding.classes c small
@@ -311,7 +311,7 @@ at_most_one : (n : ℕ) → n ≤ 1 → cond (nat_lt 0 n) 1 0 ≡ n
 at_most_one zero le = refl
 at_most_one (suc n) le = let e : suc n ≡ 1 = omega arith in rw e refl
 
--- in a layout that is described a class has as many homes as the number of times that it is asked for
+-- in a layout that is described a class has as many homes as the number of times that it is requested
 pub homes_times : (parts : Parts) (c : Class) → IsComputed c → natural parts.stages ≤ 32 → All (IsUnit (natural parts.stages)) parts.units →
     times (asked_classes parts) c ≤ 1 → homes (plan_of parts) c ≡ times (asked_classes parts) c
 unfolding homes
@@ -322,14 +322,14 @@ homes_times parts c small few units once =
     let s = described_served parts c small (omega (arith, e)) in
     rw (described_stages parts c small, s, u, w, e) refl
 
--- a class that is asked for has one home
+-- a class that is requested has one home
 pub one_where_asked : (parts : Parts) (c : Class) → IsComputed c → natural parts.stages ≤ 32 → All (IsUnit (natural parts.stages)) parts.units →
     times (asked_classes parts) c ≤ 1 → is_asked parts c ≡ true → homes (plan_of parts) c ≡ 1
 one_where_asked parts c small few units once e =
     let some : 0 < times (asked_classes parts) c = lt_true 0 _ (sym (is_asked_times parts c) ∙ e) in
     homes_times parts c small few units once ∙ omega arith
 
--- two classes, both or neither of which are asked for, have the same number of homes
+-- two classes, both or neither of which are requested, have the same number of homes
 pub same_homes : (parts : Parts) (c d : Class) → IsComputed c → IsComputed d → natural parts.stages ≤ 32 → All (IsUnit (natural parts.stages)) parts.units →
     ((k : Class) → times (asked_classes parts) k ≤ 1) → is_asked parts c ≡ is_asked parts d → homes (plan_of parts) c ≡ homes (plan_of parts) d
 same_homes parts c d small small' few units once e =

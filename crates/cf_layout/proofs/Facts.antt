@@ -21,7 +21,7 @@ read_at [] k within = absurd (omega arith)
 read_at (s ∷ ss) zero within = refl
 read_at (s ∷ ss) (suc k) within = read_at ss k (omega arith)
 
--- the siding of a class is there, and serves it
+-- the siding of a class exists, and serves it
 pub siding_found : (plan : Plan) (c : Class) (k : ℕ) → siding_of plan c ≡ Some k → (k < length plan.sidings) × (serves (siding_at plan k) c ≡ true)
 unfolding siding_of
 siding_found plan c k e =
@@ -153,7 +153,7 @@ in_list P i [] all e = cc
 in_list P i (j ∷ js) all e = in_list_step P i j (nat_eq i j) (list_any (nat_eq i) js) refl e (all 0 0 (omega arith))
     (λ later. in_list P i js (All-tail P j js all) later)
 
--- each list of stages, and the empty list in place of one that does not exist, has stages of the pipeline
+-- each list of stages, and the empty list for one that does not exist, has stages of the pipeline
 lists_within : (plan : Plan) (units : List (List ℕ)) (place : ℕ) → All (All (IsStage plan)) units → All (IsStage plan) (unwrap_or (slice_get units place) [])
 lists_within plan [] place all = All-nil (IsStage plan)
 lists_within plan (stages ∷ units) zero all = all 0 [] (omega arith)

@@ -97,12 +97,12 @@ rises_few k bound (x ∷ xs) within rise low =
     let rest = rises_few (suc x) bound xs (omega arith) rise.1 low.1 in
     omega arith
 
--- the numbers of a list, asked for as integers
+-- the numbers of a list, requested as integers
 numbers_same : (i : ℕ) (stages : List ℕ) → list_any (is_number i) (map (λ n. pos n) stages) ≡ list_any (nat_eq i) stages
 numbers_same i [] = refl
 numbers_same i (x ∷ xs) = ap (λ (b : Bool). nat_eq i x || b) (numbers_same i xs)
 
--- stages from 1 to 32 that ascend are what comes back where they are asked for
+-- stages from 1 to 32 that ascend are what comes back where they are requested
 pub ascending_same : (stages : List ℕ) → IsStrictlyIncreasing stages → All (λ i. 1 ≤ i) stages → All (λ i. i < 33) stages →
     ascending (map (λ n. pos n) stages) ≡ stages
 unfolding ascending stage_numbers
@@ -113,7 +113,7 @@ ascending_same stages rise low high = kept_same (λ i. list_any (is_number i) (m
 pub few_stages : (stages : List ℕ) → IsStrictlyIncreasing stages → All (λ i. 1 ≤ i) stages → All (λ i. i < 33) stages → length stages ≤ 32
 few_stages stages rise low high = let few = rises_few 1 33 stages (omega arith) (rises_from 1 stages rise low) (below_from 33 stages high) in omega arith
 
--- the indices of the classes that a test of places keeps
+-- the indices of the classes that a test of indices keeps
 kept_step : (kept : Bool) (c : Class) (cs : List Class) (rest : List ℕ) → map place_of cs ≡ rest →
     map place_of (cond kept (c ∷ cs) cs) ≡ cond kept (place_of c ∷ rest) rest
 kept_step true c cs rest e = rw e refl
@@ -132,7 +132,7 @@ unfolding has_place
 places_same n [] = refl
 places_same n (c ∷ cs) = ap (λ (b : Bool). nat_eq n (place_of c) || b) (places_same n cs)
 
--- lists with the same places are the same
+-- lists with the same indices are the same
 one_place : (x y : ℕ) (xs ys : List ℕ) → x ∷ xs ≡ y ∷ ys → (x ≡ y) × (xs ≡ ys)
 one_place x y xs ys e = (cc, cc)
 
@@ -143,7 +143,7 @@ same_places (c ∷ cs) [] e = cc
 same_places (c ∷ cs) (d ∷ ds) e = let p = one_place (place_of c) (place_of d) (map place_of cs) (map place_of ds) e in
     rw (same_place c d p.0, same_places cs ds p.1) refl
 
--- computed classes that ascend are what comes back where they are asked for
+-- computed classes that ascend are what comes back where they are requested
 order_places : (classes : List Class) → map place_of (in_class_order classes) ≡ filter (has_place classes) (range_with_len 0 9)
 unfolding in_class_order has_place
 order_places classes = kept_places (λ n. list_any (λ d. nat_eq n (place_of d)) classes) computed_classes

@@ -206,7 +206,7 @@ once_other : (rest : ℕ) (off seen : Bool) → rest + cond (off || (seen || fal
 once_other rest off true le = omega arith
 once_other rest off false le = omega arith
 
--- a class that is not found earlier or elsewhere is there at most once
+-- a class that is not found earlier or elsewhere occurs at most once
 once_step : (off seen same : Bool) (rest : ℕ) → (same ≡ true → (off || seen) ≡ false) → rest + cond (off || (seen || same)) 1 0 ≤ 1 →
     cond same 1 0 + rest + cond (off || seen) 1 0 ≤ 1
 once_step off seen true rest free le = once_same rest off seen (free refl) le
@@ -227,7 +227,7 @@ one_at_most : (b : Bool) → 0 + cond b 1 0 ≤ 1
 one_at_most true = omega arith
 one_at_most false = omega arith
 
--- classes that are not repeated, here or elsewhere, are there at most once, counting elsewhere
+-- classes that are not repeated, here or elsewhere, occur at most once, counting elsewhere
 repeated_once : (elsewhere : Class → Bool) (seen classes : List Class) → first_repeated elsewhere seen classes ≡ None → (c : Class) →
     times classes c + cond (elsewhere c || names seen c) 1 0 ≤ 1
 repeated_once elsewhere seen [] e c = rw (times_nil c) (one_at_most (elsewhere c || names seen c))
@@ -286,7 +286,7 @@ filled_once : (n : ℕ) (elsewhere : Class → Bool) (index : ℕ) (siding : ask
 filled_once n elsewhere index siding [] e c = cc
 filled_once n elsewhere index siding (first ∷ rest) e c = classes_once elsewhere (first ∷ rest) (next_passes _ _ e) c
 
--- the classes of units, none of which is repeated, are there at most once, counting those before
+-- the classes of units, none of which is repeated, occur at most once, counting those before
 units_once : (n : ℕ) (before units : List (Class × List ℤ)) → units_refusal n before units ≡ None → (c : Class) →
     times (map (λ unit. unit.0) units) c + cond (is_unit before c) 1 0 ≤ 1
 units_once n before [] e c = rw (times_nil c) (one_at_most (is_unit before c))
@@ -308,7 +308,7 @@ sided_step : (t r : ℕ) (w : Bool) → t + cond w 1 0 ≤ 1 → r + cond (w || 
 sided_step t r true one rest = omega arith
 sided_step t r false one rest = sided_by t r (nat_lt 0 t) refl one rest
 
--- the classes of sidings, none of which is repeated, are there at most once, counting units and the sidings before
+-- the classes of sidings, none of which is repeated, occur at most once, counting units and the sidings before
 sidings_once : (n : ℕ) (units : List (Class × List ℤ)) (before sidings : List asked.Siding) → sidings_refusal n units before sidings ≡ None → (c : Class) →
     times (sided_classes sidings) c + cond (is_unit units c || is_sided before c) 1 0 ≤ 1
 sidings_once n units before [] e c = rw (times_nil c) (one_at_most (is_unit units c || is_sided before c))

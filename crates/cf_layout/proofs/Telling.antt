@@ -194,7 +194,7 @@ says_stages parts before siding rest first whole has =
           (refl, refl),
     )))))
 
--- a class that is repeated is there more than once, counting elsewhere and before
+-- a class that is repeated occurs more than once, counting elsewhere and before
 repeated_here : (elsewhere : Class → Bool) (seen : List Class) (here : Bool) (x c : Class) (xs : List Class) (rest : Option Class) →
     (elsewhere x || names seen x) ≡ here → cond here (Some x) rest ≡ Some c → (rest ≡ Some c →
     1 < times xs c + cond (elsewhere c || names (seen ++ x ∷ []) c) 1 0) → 1 < times (x ∷ xs) c + cond (elsewhere c || names seen c) 1 0

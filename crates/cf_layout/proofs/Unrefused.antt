@@ -90,7 +90,7 @@ unit_pass n before unit u alone =
     (both _ _ (passes _ _ (lt_test _ _ u.some))
     (both _ _ (ap (outside unit.0) (none_outside (is_within 1 n) unit.1 u.stages)) (passes _ _ (ap not alone))))
 
--- a class that is there once is not there before
+-- a class that occurs once does not occur before
 alone_before : (seen : Bool) (rest : ℕ) → 1 + rest + cond seen 1 0 ≤ 1 → seen ≡ false
 alone_before true rest le = absurd (omega arith)
 alone_before false rest le = refl

@@ -21,7 +21,7 @@ use Rattle.cf_layout.specs.Asked.{stage_numbers}
 use Rattle.cf_layout.specs.Kept.{stages_kept}
 use Rattle.cf_layout.specs.Words.{has_bit, members, word_of, bit_of, stages_of_word, classes_of_word}
 
--- one more bit in a word, by whether it is the one that is asked for
+-- one more bit in a word, by whether it is the requested one
 set_bit_case : (w k i : ℕ) (same : Bool) → nat_eq i k ≡ same → k < 32 → has_bit (bit_or w (1 * 2 ^ k % 2 ^ 32)) i ≡ (same || has_bit w i)
 unfolding has_bit
 set_bit_case w k i true e small = let at : i ≡ k = grind (arith, nat_tests) in rw at (let s = bit_at_set_same w32 w k small in rw s refl)
@@ -35,7 +35,7 @@ set_bit w k i small = set_bit_case w k i (nat_eq i k) refl small
 pub set_small : (w k n : ℕ) → k < 32 → k < n → w < 2 ^ n → bit_or w (1 * 2 ^ k % 2 ^ 32) < 2 ^ n
 set_small w k n small below less = let e : 1 * 2 ^ k % 2 ^ 32 ≡ 2 ^ k = one_shl k 32 small in rw e (or_lt n w (2 ^ k) less (pow-lt below))
 
--- the list of members by what is tested in place of the bits
+-- the list of members by what is tested instead of the bits
 pub members_by : {X : Type 0} (bit : X → ℕ) (test : X → Bool) (w : ℕ) (xs : List X) → AllByRecursion (λ x. has_bit w (bit x) ≡ test x) xs →
     members bit xs w ≡ filter test xs
 unfolding members
@@ -120,7 +120,7 @@ stages_agree w test (suc n) k same =
     let h = same k (omega arith) in
     rw (e, h) (ap (λ (l : List ℕ). cond (test (k + 1)) ((k + 1) ∷ l) l) r)
 
--- the stages of a word by what is tested in place of the bits
+-- the stages of a word by what is tested instead of the bits
 pub stages_by : (w n : ℕ) (stages : List ℤ) → length stages ≤ n → ((i : ℕ) → i < 32 → has_bit w i ≡ list_any (is_number (i + 1)) (take n stages)) →
     stages_of_word w ≡ ascending stages
 unfolding ascending stage_numbers
@@ -135,7 +135,7 @@ class_bit w v class c new = let h = new (place_of c) in grind (arith, nat_tests,
 pub no_class_bit : (class c : Class) → 9 ≤ place_of class → place_of c < 9 → same_class c class ≡ false
 no_class_bit class c high low = grind (arith, nat_tests)
 
--- the classes of a word by what is tested in place of the bits
+-- the classes of a word by what is tested instead of the bits
 classes_agree : (w : ℕ) (classes : List Class) → ((c : Class) → place_of c < 9 → has_bit w (place_of c) ≡ names classes c) →
     classes_of_word w ≡ in_class_order classes
 unfolding in_class_order
@@ -169,7 +169,7 @@ unfolding members
 any_class w c = any-filter_same (same_class c) (λ k. has_bit w (place_of k)) (has_bit w (place_of c)) (λ k e. let at : place_of c ≡ place_of k =
     grind (arith, nat_tests) in rw at refl) computed_classes
 
--- the class is one of those that have a bit, or has a high place
+-- the class is one of those that have a bit, or has a high index
 computed_or : (c : Class) → (names computed_classes c ≡ true) ⊎ ((names computed_classes c ≡ false) × (9 ≤ place_of c))
 computed_or Add = inl refl
 computed_or Logic = inl refl

@@ -30,7 +30,7 @@ unit-computes plan Serial i a e = absurd (no_unit (stages_of plan Serial) i (sta
 unit-computes plan Free i a e = absurd (no_unit (stages_of plan Free) i (stages_without plan Free (beyond plan 10 a.classes (omega arith))) e)
 unit-computes plan c i a e = refl
 
--- a class among those of a siding has its place below 9
+-- a class among those of a siding has its index below 9
 low_head : (m n : ℕ) (b : Bool) → n < 9 → (b ≡ true → m < 9) → (nat_eq m n || b) ≡ true → m < 9
 low_head m n true h k e = k refl
 low_head m n false h k e = grind (arith, nat_tests)

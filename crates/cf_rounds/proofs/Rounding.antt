@@ -111,7 +111,7 @@ reach_all limit start now new (made ∷ trace) h (there, one, is, all) low =
       within = rest.within;
     }
 
--- the rounds so far lead from one place to another
+-- the rounds so far lead from one RunPlace to another
 pub record Comes (limit : ℕ) (start now : RunPlace) (pace : PaceCount) (number : ℕ) : Type 0 where
   pub reached : Reaches (limit + 1) show.Report start now
   pub rounds : List (List Made)

@@ -90,7 +90,7 @@ arrived limit shows hart rest left begin now trace last accepted wide opens tell
       };
     }
 
--- so has a run that has reached a place
+-- so has a run that has reached a RunPlace
 pub arrives-by : (limit : ℕ) (shows : Show) (hart : Hart) (rest : List ℕ) (begin now : RunPlace) → IsAccepted begin.core.plan → length hart.regs ≡ 32 →
     begin.core ≡ opened begin.core.plan hart → begin.streams.input ≡ Some rest → (h : Reaches limit shows begin now)
     → ArrivesBy shows (machine_on hart rest) (moves_of h.trace) begin now

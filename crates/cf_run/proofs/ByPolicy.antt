@@ -116,7 +116,7 @@ unasked-turn {P} {T} picked asks limit shows begin now new at h t first between 
 nothing_last : (moves before : List Move) → moves ≡ before ++ [] → before ≡ moves
 nothing_last moves before e = sym (e ∙ append-nil before)
 
--- whatever stops it, the run of a policy reached some place by the moves that it made and stopped there
+-- whatever stops it, the run of a policy reached some RunPlace by the moves that it made and stopped there
 pub policy-comes : {P : Type 0} (picked : P → List Move → ℕ) (onward : P → List Move → P) (limit : ℕ) (shows : Show) (begin new : RunPlace) (policy later : P)
     (moves : List Move) (answer : Answer) → IsAccepted begin.core.plan → RunsPolicy picked onward limit shows begin new policy later moves answer →
     ComesTo limit shows begin moves new (Ran answer)
@@ -148,7 +148,7 @@ policy-sequential picked onward limit shows begin new policy later moves answer 
     comes_sequentially limit shows begin new moves (Ran answer) accepted wide (policy-comes picked onward limit shows begin new policy later moves answer
     accepted r)
 
--- the place of a run whose report failed, as if it had not failed
+-- the RunPlace of a run whose report failed, as if it had not failed
 abbrev unfailed : (shows : Show) (now new : RunPlace) → Move → Event → RunPlace
 unfailed shows now new mv e = record new { report = filled now.report (shown_of shows mv e now new) }
 

@@ -13,13 +13,13 @@ use Rattle.cf_run.specs.Scripts.{ScriptRun, Follows, DoesLine, ScriptTries, Scri
 use Rattle.cf_run.proofs.Runs.{moves-more, followed-more, followed-trace}
 use Rattle.cf_run.proofs.Stopping.{ComesTo, comes_here, comes_over, comes_unread, comes_unwritten, comes_unshown, filled, shown_too}
 
--- the moves that lead to a stand are the first of the script, as many as were counted
+-- the moves that lead to a ScriptRun are the first of the script, as many as were counted
 followed_moves : (limit : ℕ) (shows : Show) (begin now : ScriptRun) (f : Follows limit shows begin now) →
     moves_of f.reaches.trace ≡ first_moves begin.script now.place.tally
 unfolding tally_of
 followed_moves limit shows begin now f = rw f.reaches.tally f.moves
 
--- the same moves by the count of another place that has counted as many
+-- the same moves by the count of another RunPlace that has counted as many
 by_count : (limit : ℕ) (shows : Show) (begin now new : ScriptRun) (answer : Scripted) (f : Follows limit shows begin now) → new.place.tally ≡ now.place.tally →
     ComesTo limit shows begin.place (moves_of f.reaches.trace) new.place answer → ComesTo limit shows begin.place
     (first_moves begin.script new.place.tally) new.place answer
@@ -53,7 +53,7 @@ unshown_moves limit shows begin now new f t =
     sym (ap moves_of made.2 ∙ moves-more f.reaches.trace made.0 ∙ ap (λ (mv : Move). moves_of f.reaches.trace ++ mv ∷ []) made.1)
     ∙ followed_moves limit shows begin there (followed-more limit shows begin now there f tries)
 
--- whatever stops it, a run of a script reached some place and stopped there
+-- whatever stops it, a run of a script reached some RunPlace and stopped there
 pub comes-to : (limit : ℕ) (shows : Show) (begin now new : ScriptRun) (answer : Scripted) → IsAccepted begin.place.core.plan → Follows limit shows begin now →
     ScriptStops limit shows now new answer → ComesTo limit shows begin.place (first_moves begin.script new.place.tally) new.place answer
 unfolding ScriptStops DoesLine MoveDoes StopsAt Gets

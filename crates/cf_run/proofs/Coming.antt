@@ -25,7 +25,7 @@ use Rattle.cf_run.proofs.ByPolicy.{PicksTo, chooser_after, turned-more, turned-p
 use Rattle.cf_run.proofs.Runs.{reached-none, none-trace, made-within}
 use Rattle.cf_run.proofs.Stopped.{offered-stopped, paced-stopped}
 
--- the picks so far lead from one place to another, and leave this policy, and this count, which stops where the
+-- the picks so far lead from one RunPlace to another, and leave this policy, and this count, which stops where the
 -- candidates are held
 pub record Comes {P : Type 0} (picked : P → List Move → ℕ) (onward : P → List Move → P) (limit : ℕ) (shows : Show) (begin now : RunPlace) (first current : P)
     (held : ℕ) : Type 0 where

@@ -277,7 +277,7 @@ pub ends-sequentially : (limit : ℕ) (shows : Show) (begin now : RunPlace) (har
 ends-sequentially limit shows begin now hart answer accepted wide opens h over =
     ends-level limit limit shows begin now hart answer accepted wide opens h (over-reached limit shows begin now hart accepted wide opens h) over
 
--- the same of a run whose last place is that one
+-- the same of a run whose last RunPlace is that one
 pub same_place : (limit : ℕ) (hart : Hart) (begin now new : RunPlace) (answer : Answer) → new ≡ now → EndsAsMachine limit hart begin now answer →
     EndsAsMachine limit hart begin new answer
 same_place limit hart begin now new answer same e = subst (λ (p : RunPlace). EndsAsMachine limit hart begin p answer) (sym same) e

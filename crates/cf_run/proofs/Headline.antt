@@ -65,7 +65,7 @@ pub opened_regs : (core : Processor) (plan : Plan) (hart : Hart) → core ≡ op
 unfolding opened opened_on
 opened_regs core plan hart is = ap (λ (p : Processor). p.state.regs) is
 
--- a run that reached some place is a run of that machine
+-- a run that reached some RunPlace is a run of that machine
 runs_over : (limit : ℕ) (shows : Show) (hart : Hart) (begin new : RunPlace) (moves : List Move) (answer : Scripted) → IsAccepted begin.core.plan →
     length hart.regs ≡ 32 → begin.core ≡ opened begin.core.plan hart
     → ComesTo limit shows begin moves new answer → RunsOver begin.streams.input shows hart moves begin new answer

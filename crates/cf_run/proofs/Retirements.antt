@@ -26,13 +26,13 @@ use Rattle.cf_run.specs.Made.{Made, moves_of, retirement, shown, all_shown}
 use Rattle.cf_run.specs.Going.{IsMade, Leads}
 use Rattle.cf_run.specs.Headline.{AreTexts}
 
--- no instruction retires with the move, and its event tells of none
+-- no instruction retires with the move, and its event is not a retirement
 record Keeps (plan : Plan) (m : Moment) (mv : Move) (e : Event) : Type 0 where
   lines : retires plan m.state mv ≡ []
   text : (k : ℕ) → retirement k e ≡ []
   count : (next plan m mv).state.retired ≡ m.state.retired
 
--- an instruction retires with it, and its event tells which
+-- an instruction retires with it, and its event says which
 record Retires (plan : Plan) (m : Moment) (mv : Move) (e : Event) : Type 0 where
   line : Line
   shown : Retired
@@ -107,7 +107,7 @@ leaves plan m e free is =
     let r : Leaves plan m.state = leave_ready plan m.state (bar_row plan m.state Leave free) in
     leaving plan m r.here r.who e (rw (r.at_here, r.sits) refl) (next_leave plan m.state r.here r.who r.at_here r.sits) (is r.here r.who r.at_here r.sits)
 
--- what an allowed move retires is what its event tells
+-- what an allowed move retires is what its event says
 tells : (plan : Plan) (m : Moment) (mv : Move) (e : Event) → bar plan m.state mv ≡ None → IsEvent plan m.state mv e → Tells plan m mv e
 unfolding next
 tells plan m (Issue g) e free is = quiet plan m (Issue g) e refl (issue_counts plan m.state g).retired is

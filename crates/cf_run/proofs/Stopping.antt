@@ -34,7 +34,7 @@ pub record IsStopped (shows : Show) (x : Machine) (m : Moment) (n : ℕ) (writte
   pub stops : StopsAt x m begin new answer
   pub report : ReportsLines shows n written begin new answer
 
--- whatever holds of the place that it had reached, it stopped there
+-- whatever holds of the RunPlace that it had reached, it stopped there
 abbrev StopsFrom : Show → (begin now new : RunPlace) → Scripted → Type 0
 StopsFrom shows begin now new answer =
     (x : Machine) (m : Moment) (n : ℕ) (written : List Line) → Arrives shows x m n written begin now → IsStopped shows x m n written begin new answer
@@ -186,7 +186,7 @@ pub record ComesTo (limit : ℕ) (shows : Show) (begin : RunPlace) (moves : List
   pub moves_are : moves_of reaches.trace ≡ moves
   pub stops : StopsFrom shows begin now new answer
 
--- a run that has reached a place and does not go on
+-- a run that has reached a RunPlace and does not go on
 pub comes_here : (limit : ℕ) (shows : Show) (begin now new : RunPlace) (answer : Scripted) (h : Reaches limit shows begin now) → new ≡ now →
     ((x : Machine) (m : Moment) → StandsAt m begin new → StopsAt x m begin new answer)
     → ((text : List ℕ) → Writes begin.report new.report text → Gets begin.report new.report answer text) →

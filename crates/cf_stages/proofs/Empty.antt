@@ -21,7 +21,7 @@ use Rattle.cf_stages.specs.Words.{word_of, word_where, passenger_word, packet_wo
 use Rattle.cf_stages.proofs.Bits.{word-agrees, word-bit}
 use Rattle.cf_stages.proofs.Parts.{length-cells}
 
--- two pipes of empty places are empty stages
+-- two pipes of empty entries are empty stages
 empty_cells : (k n : ℕ) → cells_from k (replicate n None) (replicate n None) 0 ≡ replicate n empty_cell
 unfolding cells_from
 empty_cells k zero = refl

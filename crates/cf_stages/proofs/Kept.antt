@@ -26,7 +26,7 @@ there [] j within = absurd (omega arith)
 there (x ∷ xs) zero within = record { value = x; is = refl }
 there (x ∷ xs) (suc j) within = let r = there xs j (omega arith) in record { value = r.value; is = r.is }
 
--- both places of a stage get other contents, and its bit says whether they have met
+-- both entries of a stage get new contents, and its bit says whether they have met
 parts_put : (ps : List (Option Passenger)) (qs : List (Option Packet)) (met i : ℕ) (p : Option Passenger) (q : Option Packet) (b : Bool) → 0 < i →
     i ≤ length ps → length qs ≡ length ps → length ps ≤ 32 →
     cells_of (slice_set ps (i - 1) p) (slice_set qs (i - 1) q) (with_bit met (i - 1) b) ≡ put_cell (cells_of ps qs met) i
@@ -77,7 +77,7 @@ stood ps qs met i low within same =
     let q = there qs (i - 1) (omega arith) in
     record { rider = p.value; result = q.value; rides = p.is; flies = q.is; here = cell-parts ps qs met i p.value q.value low p.is q.is }
 
--- the stages with one changed, where this is there
+-- the stages with one changed, where it exists
 changed_there : (cells : List Cell) (i : ℕ) (c : Cell) (f : Cell → Cell) → cell_at cells i ≡ Some c → changed cells i f ≡ put_cell cells i (f c)
 changed_there cells i c f here = rw here refl
 
@@ -145,7 +145,7 @@ packet-parts ps qs riding flying met flying1 met1 i q b flies h low within both 
     (λ g. rw (rides_there ps qs met i s (rides g)) (both g)) (bit_kept (λ d. is_some d.passenger) (cells_of ps qs met) i riding _ c low (omega arith)
     (omega (arith, h.most)) s.here refl h.passenger_bits) (f ∙ ap (with_bit flying (i - 1)) is) m
 
--- another instruction is in the place of the one that is there
+-- another instruction replaces the one in the stage
 renew_put : (ps : List (Option Passenger)) (qs : List (Option Packet)) (met i : ℕ) (p : Option Passenger) (s : Stood ps qs met i) → 0 < i → i ≤ length ps →
     length qs ≡ length ps → length ps ≤ 32 →
     cells_of (slice_set ps (i - 1) p) qs met ≡ put_cell (cells_of ps qs met) i (record { passenger = p; packet = s.result; met = has_bit met (i - 1) })
@@ -229,7 +229,7 @@ met-read ps qs riding flying met i b h low within is =
     let s = stood ps qs met i low within h.pipes in
     is ∙ sym (ap (λ (o : Option Cell). on o false (λ c. c.met)) s.here)
 
--- there are as many stages as places in each pipe
+-- there are as many stages as entries in each pipe
 pub count-read : (ps : List (Option Passenger)) (qs : List (Option Packet)) (riding flying met : ℕ) → AreParts ps qs riding flying met →
     length (cells_of ps qs met) ≡ length ps
 count-read ps qs riding flying met h = length-cells 0 ps qs met h.pipes
@@ -246,7 +246,7 @@ pub pipes-read : (ps : List (Option Passenger)) (qs : List (Option Packet)) (rid
     length (cells_of ps qs met) ≡ length qs
 pipes-read ps qs riding flying met h = length-cells 0 ps qs met h.pipes ∙ sym h.pipes
 
--- a stage of those that are seen has its place in each pipe
+-- a stage of those that are seen has its entry in each pipe
 pub within-pipe : (ps : List (Option Passenger)) (qs : List (Option Packet)) (riding flying met i : ℕ) (now : List Cell) → AreParts ps qs riding flying met →
     cells_of ps qs met ≡ now → i ≤ length now → i ≤ length ps
 within-pipe ps qs riding flying met i now h e within = let n = length-cells 0 ps qs met h.pipes in let m = ap length e in omega arith

@@ -14,7 +14,7 @@ use Rattle.cf_stages.specs.Words.{with_bit}
 use Rattle.cf_stages.proofs.Kept.{count-read, passenger-parts, passenger-placed, passenger-read, packet-parts, packet-placed, packet-read, pipes-read}
 use Rattle.cf_stages.proofs.Neighbours.{climbed-is, climbs-high, climbs-low, climbs-rider, fallen-is, falls-low, falls-result, falls-within}
 
--- what was read does not depend on what would be read where there is no place
+-- what was read does not depend on what would be read where there is no entry
 read_any : {A : Type 0} (xs : List A) (k : ℕ) (x y : A) → k < length xs → slice_index_or xs k x ≡ slice_index_or xs k y
 read_any xs k x y within =
     let a = slice_get-get_or xs k x within in
@@ -50,7 +50,7 @@ lifts ps qs riding flying met i h c =
       rides = some_true rider (subst (λ (o : Option Passenger). IsSome o) (sym e) (climbs-rider cells i c));
     }
 
--- the two places are changed in either order
+-- the two entries are changed in either order
 swapped : (ps : List (Option Passenger)) (i : ℕ) (p : Option Passenger) → 0 < i → slice_set (slice_set ps i p) (i - 1) None
     ≡ slice_set (slice_set ps (i - 1) None) (i + 1 - 1) p
 swapped ps i p low =

@@ -1,4 +1,4 @@
--- What is in the stages, from the two pipes and the words, and after a change of one place of each.
+-- What is in the stages, from the two pipes and the words, and after a change of one entry of each.
 use Rattle.std.proofs.Common.{◌≡◌, ◌≢◌, ◌∙◌, ℕ, zero, suc, ◌+◌, ◌-◌, ◌<◌, ◌≤◌, List, [], ◌∷◌, Option, Some, Bool, true, false, length, refl, sym, ap, arith}
 use Rattle.std.specs.Prelude.{slice_get, slice_set, nat_eq}
 use Rattle.std.proofs.lemmas.Bool.Decides.{nat_tests}
@@ -48,7 +48,7 @@ cell-parts ps qs met (suc j) p q low e f =
     let r = rw o at (get_cells 0 ps qs met j p q (rw z at e) (rw z at f)) in
     rw z r
 
--- a place gets what it had
+-- an entry gets what it had
 pub set-same : {A : Type 0} (xs : List A) (j : ℕ) (x : A) → slice_get xs j ≡ Some x → slice_set xs j x ≡ xs
 set-same [] j x e = refl
 set-same (y ∷ xs) zero x e = let g : y ≡ x = cc in rw g refl
@@ -63,7 +63,7 @@ same_cells k (p ∷ ps) [] met other most same = refl
 same_cells k (p ∷ ps) (q ∷ qs) met other most same =
     rw (same k (omega arith) (omega arith), same_cells (suc k) ps qs met other (omega arith) (λ i below high. same i below (omega arith))) refl
 
--- one place of each pipe gets other contents, and the words agree except there
+-- one entry of each pipe gets new contents, and the words agree except there
 set_cells : (k : ℕ) (ps : List (Option Passenger)) (qs : List (Option Packet)) (met other j : ℕ) (p : Option Passenger) (q : Option Packet) → j < length ps →
     length qs ≡ length ps → k + length ps ≤ 32 →
     ((i : ℕ) → i < 32 → i ≢ k + j → has_bit other i ≡ has_bit met i) →

@@ -1,4 +1,4 @@
--- What stood in a stage is put back, the instruction first.
+-- The earlier contents of a stage are put back, the instruction first.
 use Rattle.std.proofs.Common.{◌≡◌, ◌∙◌, ℕ, zero, suc, ◌<◌, ◌≤◌, List, [], ◌∷◌, Option, Some, None, IsTrue, length, refl, arith}
 use Rattle.std.specs.Prelude.{IsSome, ◌&&◌}
 use Rattle.std.proofs.lemmas.List.{set-set}
@@ -18,7 +18,7 @@ stood [] (suc k) low within = absurd (omega arith)
 stood (c ∷ cells) (suc zero) low within = (c, refl)
 stood (c ∷ cells) (suc (suc k)) low within = stood cells (suc k) (omega arith) (omega arith)
 
--- what is put last into a stage is there
+-- what is put last into a stage is its contents
 put-put : (cells : List Cell) (i : ℕ) (c d : Cell) → put_cell (put_cell cells i c) i d ≡ put_cell cells i d
 put-put cells zero c d = refl
 put-put cells (suc k) c d = set-set cells k c d

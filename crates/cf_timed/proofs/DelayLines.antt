@@ -23,7 +23,7 @@ one_filled : (told : Option ℕ) → IfSome told IsDelay → IsDelay (unwrap_or 
 one_filled None h = (omega arith, omega arith)
 one_filled (Some n) h = h
 
--- the delays that were told, and 1 for the other kinds
+-- the delays that were given, and 1 for the other kinds
 pub filled_delays : (told : List (Option ℕ)) (ticks : List ℕ) → length told ≡ 14 → length ticks ≡ 14 → take 14 ticks ≡ map (λ t. unwrap_or t 1) (take 14 told) →
     All (λ t. IfSome t IsDelay) told → AreDelays ticks
 filled_delays told ticks size room same each =

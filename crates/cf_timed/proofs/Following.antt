@@ -277,7 +277,7 @@ all_kept plan (x ∷ xs) a o h = (there_kept plan x a o.0 h.0, all_kept plan xs 
 pub moves_kept : (plan : Plan) (mv : Move) → IsAccepted plan → HasSites plan mv → AreKept plan mv
 moves_kept plan mv a there = all_kept plan (used plan mv) a (used_ones plan mv) there
 
--- so it tells when a further move is done
+-- so it knows when a further move finishes
 pub follows_tells : (plan : Plan) (delays : List ℕ) (moves : List Done) (c : SiteTimes) → IsAccepted plan → Follows plan delays moves c →
     ClockKnows plan delays moves c
 follows_tells plan delays moves c a h = record {

@@ -83,7 +83,7 @@ unfolding pending_pick
 picks-same n plan delays p picked moves few h kept = least-same (capped (told p)) (time_after plan delays picked) moves
     (each_capped n plan delays p picked moves few h kept)
 
--- and after that the clock is told of it
+-- and after that the clock records it
 pub ahead-more : (n : ℕ) (plan : Plan) (delays : List ℕ) (p : PendingMove) (picked : List Done) (moves : List Move) (mv : Move) → AreDelays delays →
     Ahead (suc n) plan delays p picked → AllByRecursion (AreKept plan) moves → slice_get moves (pending_pick p moves) ≡ Some mv →
     Ahead n plan delays (after_pick p moves) (done_after plan delays picked mv ∷ picked)

@@ -7,7 +7,7 @@ use Rattle.std.proofs.lemmas.Bool.Decides.{nat_tests}
 use Rattle.rv_asm.specs.Labels.{LabelView}
 use Rattle.elf_make.specs.Symbols.{is_bound, bound, closed, closed_names, in_order, entry, entries_from, are_addresses}
 
--- a label in front, or not
+-- a label before it, or not
 names-by : (b : Bool) (x : LabelView) (xs : List LabelView) → closed_names (cond b (x ∷ xs) xs) ≡ closed_names (cond b (x ∷ []) []) ++ closed_names xs
 names-by true x xs = ap (λ (n : List ℕ). n ++ closed_names xs) (sym (append-nil (closed x.name)))
 names-by false x xs = refl

@@ -17,7 +17,7 @@ pub part-at : (file part rest : List ℕ) (at count : ℕ) → drop at file ≡ 
 part-at file part rest at count e h =
     ap (λ (l : List ℕ). take count l) e ∙ ap (λ (n : ℕ). take n (part ++ rest)) h ∙ take-append_seam part rest
 
--- a number of a part, by its place there
+-- a number of a part, by its offset there
 pub word-in : (file part : List ℕ) (at k a : ℕ) → drop at file ≡ part → a ≡ at + k → word file a ≡ word part k
 unfolding word
 word-in file part at k a e h =

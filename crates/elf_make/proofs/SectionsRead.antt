@@ -22,7 +22,7 @@ same-section : (k₁ k₂ o₁ o₂ s₁ s₂ l₁ l₂ e₁ e₂ : ℕ) → k�
     → section_with k₁ o₁ s₁ l₁ e₁ ≡ section_with k₂ o₂ s₂ l₂ e₂
 same-section k₁ k₂ o₁ o₂ s₁ s₂ l₁ l₂ e₁ e₂ k o s l e = rw (k, o, s, l, e) refl
 
--- a header at the end of the file, by its place there
+-- a header at the end of the file, by its offset there
 pub section-in : (file part : List ℕ) (at k a : ℕ) → drop at file ≡ part → a ≡ at + k → section_header file a ≡ section_header part k
 section-in file part at k a e h =
     same-section _ _ _ _ _ _ _ _ _ _

@@ -1,5 +1,5 @@
--- The file of an object, as the parts that it is made of (Tool Interface Standard, Executable and Linking Format
--- Specification, "File Format").
+-- The file of an object, part by part (Tool Interface Standard, Executable and Linking Format Specification, "File
+-- Format").
 use Rattle.std.specs.Prelude.{ℕ, false, List, ◌++◌, length}
 use Rattle.rv_asm.specs.declared.object.Object.{Object}
 use Rattle.rv_asm.specs.Labels.{LabelView}

@@ -1,9 +1,9 @@
--- How long the parts of the file are, and where each begins: headers, text, data, symbols, names, names of the
--- sections, headers of the sections, where each part but the names begins at a multiple of 4.
+-- The lengths and offsets of the parts of the file: headers, text, data, symbols, names, names of the sections, headers
+-- of the sections, where each part except the names begins at a multiple of 4.
 use Rattle.std.specs.Prelude.{ℕ, ◌+◌, ◌-◌, ◌*◌, ◌%◌, ◌≤◌, List, replicate}
 use Rattle.elf_make.specs.declared.sizes.Sizes.{Sizes}
 
--- how many bytes bring a length up to a multiple of 4
+-- the padding of a length to a multiple of 4
 abbrev pub padding : ℕ → ℕ
 padding len = (4 - len % 4) % 4
 
@@ -11,7 +11,7 @@ padding len = (4 - len % 4) % 4
 abbrev pub zeros_after : ℕ → List ℕ
 zeros_after len = replicate (padding len) 0
 
--- the length with them
+-- the length with its padding
 abbrev pub padded : ℕ → ℕ
 padded len = len + padding len
 

@@ -1,4 +1,4 @@
--- What is seen in a file that was written: the object's bytes, labels and entry.
+-- What can be read from a file that was written: the object's bytes, labels and entry.
 use Rattle.std.specs.Prelude.{◌≡◌, ℕ, List, [], ◌∷◌, map, length, true, false, None}
 use Rattle.elf_view.specs.Headers.{file_header}
 use Rattle.elf_view.specs.Executables.{IsElf}

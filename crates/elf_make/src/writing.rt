@@ -33,7 +33,7 @@ fn push_content(file: &mut Vec<u8>, bytes: &[u8]) -> Result<(), AllocError>
     push_zeros(file, bytes.len() as u32)
 }
 
-/// Puts the headers, which come first.
+/// Appends the headers, which come first.
 #[tactic(auto, using(std::proofs::lemmas::List::append_assoc), unfolding(crate::specs::Files::front))]
 fn push_front(file: &mut Vec<u8>, sizes: Sizes, entry: u32) -> Result<(), AllocError>
     requires { AreSmall sizes }
@@ -43,7 +43,7 @@ fn push_front(file: &mut Vec<u8>, sizes: Sizes, entry: u32) -> Result<(), AllocE
     push_program_headers(file, sizes)
 }
 
-/// Puts text and data.
+/// Appends text and data.
 #[tactic(auto, using(std::proofs::lemmas::List::append_assoc), unfolding(crate::specs::Files::contents))]
 fn push_contents(file: &mut Vec<u8>, text: &[u8], data: &[u8]) -> Result<(), AllocError>
     requires text { length text.now ≤ 1048576 }
@@ -54,7 +54,7 @@ fn push_contents(file: &mut Vec<u8>, text: &[u8], data: &[u8]) -> Result<(), All
     push_content(file, data)
 }
 
-/// Puts the symbols and all names.
+/// Appends the symbols and all names.
 #[tactic(auto, using(std::proofs::lemmas::List::append_assoc), unfolding(crate::specs::Files::tables))]
 fn push_tables(file: &mut Vec<u8>, labels: &[Label], sizes: Sizes) -> Result<(), AllocError>
     requires names { length (closed_names (map named labels.now)) ≤ 1572864 }

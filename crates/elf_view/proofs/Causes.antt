@@ -59,7 +59,7 @@ fails : (a : Bool) → not a ≡ true → a ≡ true → ⊥
 fails true e h = cc
 fails false e h = cc
 
--- numbers that a test tells apart
+-- numbers that a test distinguishes
 apart : (a b : ℕ) → not (a == b) ≡ true → a ≢ b
 apart a b e = λ same. let test : (a == b) ≡ true = grind (arith, nat_tests) in fails (a == b) e test
 
@@ -115,7 +115,7 @@ earlier file at size zero index fits below others = omega arith
 earlier file at size (suc k) index fits below others = let there : ((at + size) + size * k) + size ≤ length file = others k (omega arith) in
     let step : size * suc k ≡ size * k + size = grind arith in omega (arith, there, step)
 
--- one place of a list of places
+-- one offset of a list of offsets
 cut_at : (file : List ℕ) (at size count place : ℕ) (t : Bool) (o : Option ℕ) → nat_lt (length file) (at + size) ≡ t → cond t (Some at) o ≡ Some place →
     (at + size ≤ length file → o ≡ Some place → IsFirstCut file (at + size) size count place) → IsFirstCut file at size (suc count) place
 cut_at file at size count place true o e told after =

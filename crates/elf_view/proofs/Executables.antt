@@ -33,7 +33,7 @@ unturned : (a : Bool) → not a ≡ false → a ≡ true
 unturned true e = refl
 unturned false e = cc
 
--- two numbers that no test tells apart
+-- two numbers that no test distinguishes
 same : (a b : ℕ) (e : ElfErr) → where_so (not (a == b)) e ≡ None → a ≡ b
 same a b e h = let test : (a == b) ≡ true = unturned (a == b) (no_fault (not (a == b)) e h) in grind (arith, nat_tests)
 

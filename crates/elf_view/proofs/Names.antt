@@ -11,7 +11,7 @@ use Rattle.elf_view.proofs.Positions.{none_told}
 abbrev is_nul : ℕ → Bool
 is_nul byte = byte == 0
 
--- the index that is given is the one that was looked for
+-- the index that is given is the one that was searched
 told_index : (t : Bool) (n i : ℕ) → Some i ≡ cond t (Some n) None → n ≡ i
 told_index true n i e = cc
 told_index false n i e = cc

@@ -48,7 +48,7 @@ lies-within file at size e = let inside : nat_lt (length file) (at + size) ≡ f
 pub within-lies : (file : List ℕ) (at size : ℕ) → at + size ≤ length file → not (ends_beyond file at size) ≡ true
 within-lies file at size within = let inside : nat_lt (length file) (at + size) ≡ false = grind (arith, nat_tests) in rw inside refl
 
--- the bytes of a part of the file are as many as asked for
+-- the bytes of a part of the file are as many as requested
 pub length-bytes_at : (file : List ℕ) (at size : ℕ) → at + size ≤ length file → length (bytes_at file at size) ≡ size
 length-bytes_at file at size within = let rest : length (drop at file) ≡ length file - at = length-drop at file in
     length-take-le size (drop at file) (omega arith)

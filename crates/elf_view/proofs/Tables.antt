@@ -18,7 +18,7 @@ not_cut file place size count counter below within =
     let passes : nat_lt (length file) (place + size) ≡ false = grind (arith, nat_tests) in
     rw (next_place place size count counter below, passes) refl
 
--- where neither of two tests gives a place, the first does not hold, and the second gives none
+-- where neither of two tests gives an index, the first does not hold, and the second gives none
 told_none : (t : Bool) (place : ℕ) (o : Option ℕ) → cond t (Some place) o ≡ None → (t ≡ false) × (o ≡ None)
 told_none true place o e = cc
 told_none false place o e = (refl, e)

@@ -1,4 +1,4 @@
--- The table of a layout's parts has no fault, and asks for those parts.
+-- The table of a layout's parts has no fault, and requests those parts.
 use Rattle.std.proofs.Common.{◌≡◌, ℕ, ℤ, pos, ◌≤◌, Ordering, Less, Equal, Greater, nat_cmp, is_eq, Bool, true, false, cond, le-leb, List, [], ◌∷◌, ◌++◌, length, map, codes, Option, Some, None, refl, sym, ap, ◌∙◌, arith}
 use Rattle.std.specs.Prelude.{◌&&◌}
 use Rattle.std.proofs.lemmas.Option.{none-some}

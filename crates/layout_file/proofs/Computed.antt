@@ -1,4 +1,4 @@
--- What a document asks for names computed classes alone.
+-- What a document requests names computed classes alone.
 use Rattle.std.proofs.Common.{ℤ, List, [], ◌∷◌, ◌++◌, All, Bool, true, Option, Some, None, codes}
 use Rattle.std.specs.Prelude.{unwrap_or}
 use Rattle.std.proofs.lemmas.List.Elements.{All-cons, All-nil}

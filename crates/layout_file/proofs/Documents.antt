@@ -23,7 +23,7 @@ names (c ∷ cs) = item (string (class_name c)) (names cs)
 abbrev pub format_number : Bool → ℤ
 format_number second = if second then pos 2 else pos 1
 
--- the members and that of the cache, which is there only in format 2
+-- the members and that of the cache, which exists only in format 2
 abbrev pub cache_member : Bool → Bool → Members → Members
 cache_member false cache rest = rest
 cache_member true cache rest = member (codes "cache") (boolean cache) rest
@@ -52,12 +52,12 @@ abbrev pub file_members : Bool → Parts → Members
 file_members second p = member (codes "format") (integer (format_number second)) (member (codes "stages") (integer p.stages)
     (member (codes "lane") (integer p.lane) (cache_member second p.cache (member (codes "units") (table (unit_members p.units)) (sidings_last p.sidings)))))
 
--- in byte order: the members with one more, at its place
+-- in byte order: the members with one more, at its position
 abbrev pub place : List ℕ → Data → Members → Members
 place k d no_members = member k d no_members
 place k d (member l e ms) = match_ordering (slice_cmp nat_cmp k l) (member k d (member l e ms)) (member l d ms) (member l e (place k d ms))
 
--- the units, each at its place, among those that were there before
+-- the units, each at its position, among the earlier ones
 abbrev pub unit_table : List (Class × List ℤ) → Members → Members
 unit_table [] found = found
 unit_table (u ∷ us) found = unit_table us (place (class_name u.0) (array (integers u.1)) found)

@@ -15,7 +15,7 @@ use Rattle.cf_layout.specs.declared.parts.Parts.{Parts}
 use Rattle.layout_file.specs.Names.{class_name}
 use Rattle.layout_file.proofs.Documents.{integers, names, format_number, unit_members, siding_members, siding_tables, sidings_last, file_members, place, unit_table, siding_table, siding_items, top_table, table_of, integers_pair, names_pair, sidings_tables}
 
--- a key that is not there is put at its place
+-- a key that is missing is put at its position
 absent-step : (o : Ordering) (x : Node) (d : Data) (a : Option Node) (b : Option Data) → match_ordering o b (Some d) b ≡ None → (b ≡ None → a ≡ None) →
     cond (is_eq o) (Some x) a ≡ None
 absent-step Less x d a b h ih = ih h
@@ -108,7 +108,7 @@ siding_filled : (s : Siding) → fill (siding_members s) no_nodes ≡ Some (sidi
 unfolding along_dots at_key
 siding_filled s = rw (names_pair s.classes)
 
--- the nodes and that of the cache, which is there only in format 2
+-- the nodes and that of the cache, which exists only in format 2
 abbrev cache_node : Bool → Bool → Nodes → Nodes
 cache_node false cache rest = rest
 cache_node true cache rest = node (codes "cache") (value (boolean cache)) rest

@@ -152,7 +152,7 @@ no_cache : (cache mul : Bool) → (cache || mul) ≡ false → cache ≡ false
 no_cache true mul e = e
 no_cache false mul e = refl
 
--- what asks for an accepted layout is readable in its format
+-- the parts that request an accepted layout are readable in its format
 readable : (plan : Plan) → IsAccepted plan → AreReadable (needs_second plan) (stages_of plan) (asking plan)
 readable plan a = record {
   units = refl;
@@ -163,7 +163,7 @@ readable plan a = record {
   cache = no_cache plan.cache (has_mul plan);
 }
 
--- so its table asks for it, and has no fault
+-- so its table requests it, and has no fault
 table_asks : (plan : Plan) → IsAccepted plan → asked_by (table_of (needs_second plan) (asking plan)) ≡ asking plan
 table_asks plan a = rw (table_second (needs_second plan) (asking plan)) (table_back (needs_second plan) (stages_of plan) (asking plan) (readable plan a))
 

@@ -12,7 +12,7 @@ use Rattle.mem_regions.specs.Ranges.{writes_in, lies_in, bytes_in, number_of, ra
 use Rattle.mem_regions.specs.Fetching.{fetches_in, word_of, fetch_at, synced, synced_area}
 use Rattle.mem_regions.specs.Writing.{overwritten, area_with, first_changed, memory_with, stored}
 
--- bytes that are written over keep their number
+-- bytes that are overwritten keep their number
 pub length-overwritten : (bytes : List ℕ) (at : ℕ) (w : List ℕ) → length (overwritten bytes at w) ≡ length bytes
 length-overwritten bytes at w = simp (length-take, length-append, length-drop) (omega arith)
 

@@ -1,4 +1,4 @@
--- A write is undone by writing back the bytes that stood there.
+-- A write is undone by writing back the earlier bytes.
 use Rattle.std.proofs.Common.{◌≡◌, ℕ, ◌+◌, ◌-◌, ◌/◌, ◌≤◌, zero, suc, List, [], ◌∷◌, ◌++◌, Bool, true, false, Some, IsTrue, length, take, drop, find, cond, refl, ap, sym, arith, append_assoc, length-append, length-drop}
 use Rattle.std.specs.Option.{option_map}
 use Rattle.std.proofs.Math.Seq.{take-append_seam, drop-append_seam}
@@ -13,7 +13,7 @@ use Rattle.mem_regions.specs.Writing.{overwritten, area_with, first_changed, mem
 use Rattle.mem_regions.proofs.Kept.{length-overwritten}
 use Rattle.mem_regions.proofs.Writes.{writes-lies}
 
--- the bytes between two others are written over
+-- the bytes between two others are overwritten
 pub overwritten-between : (xs ys zs w : List ℕ) → length w ≡ length ys → overwritten ((xs ++ ys) ++ zs) (length xs) w ≡ (xs ++ w) ++ zs
 overwritten-between xs ys zs w e =
     let front : take (length xs) ((xs ++ ys) ++ zs) ≡ xs = rw append_assoc (take-append_seam xs (ys ++ zs)) in
@@ -26,7 +26,7 @@ back_between : (xs ys zs w bytes : List ℕ) (at : ℕ) → (xs ++ ys) ++ zs ≡
     overwritten (overwritten bytes at w) at ys ≡ bytes
 back_between xs ys zs w bytes at e f g = rw (← e, ← f, overwritten-between xs ys zs w g) (overwritten-between xs w zs ys (sym g))
 
--- bytes that were written over are there again once they are written back
+-- bytes that were overwritten are restored once they are written back
 pub overwritten-back : (bytes : List ℕ) (at len : ℕ) (w : List ℕ) → at + len ≤ length bytes → length w ≡ len →
     overwritten (overwritten bytes at w) at (take len (drop at bytes)) ≡ bytes
 overwritten-back bytes at len w within e =
@@ -70,7 +70,7 @@ unfolding memory_with writable_of
 memory_with-back m addr len w old g h = ap (λ (areas : List Area). let n : Memory = record m { areas = areas } in
     n) (first_changed-back addr len w old m.areas g h)
 
--- a number has as many bytes as are asked for
+-- a number has as many bytes as requested
 pub length-le_bytes : (count n : ℕ) → length (le_bytes count n) ≡ count
 length-le_bytes zero n = refl
 length-le_bytes (suc count) n = ap suc (length-le_bytes count (n / 256))
@@ -80,7 +80,7 @@ stored_where : (m : Memory) (addr width n : ℕ) (old : List ℕ) (b : Bool) →
 stored_where m addr width n old true e h = memory_with-back m addr width (le_bytes width n) old (length-le_bytes width n) h
 stored_where m addr width n old false e h = cc
 
--- a store is undone by writing back the bytes that it wrote over
+-- a store is undone by writing back the bytes that it overwrote
 pub stored-back : (m : Memory) (addr width n : ℕ) (old : List ℕ) → is_aligned addr width ≡ true → writable_of m addr width ≡ Some old →
     memory_with (stored m addr width n) addr width old ≡ m
 unfolding stored

@@ -1,4 +1,4 @@
--- A ledger that has recorded the moves of a run tells what its time is made of.
+-- A ledger that has recorded the moves of a run knows what its time is made of.
 use Rattle.std.proofs.Common.{◌≡◌, ◌∙◌, refl, sym, ap, subst, ℕ, zero, suc, ◌+◌, ◌-◌, ◌*◌, ◌^◌, ◌<◌, List, [], ◌∷◌, ◌++◌, length, map, Bool, true, false, cond, nat_eq, arith, append-nil, append_assoc}
 use Rattle.std.specs.Prelude.{replicate, ◌&&◌}
 use Rattle.std.specs.List.{AllByRecursion}
@@ -216,7 +216,7 @@ keeps-all plan delays front (mv ∷ moves) l few kept small h =
     (keeps-all plan delays (front ++ mv ∷ []) moves (noted l mv) few kept.1 (omega (arith, n, small))
     (keeps-more plan delays front l mv h kept.0 few (omega (arith, small))))
 
--- what it tells is what the time is made of
+-- its breakdown is what the time is made of
 keeps-tells : (plan : Plan) (delays : List ℕ) (moves : List Move) (l : Ledger) → Keeps plan delays moves l → told_by l ≡ breakdown plan delays moves
 unfolding told_by breakdown longest_chain
 keeps-tells plan delays moves l h =

@@ -100,7 +100,7 @@ kept-trace plan at s (made ∷ trace) last acc (pick, picks) = (
   kept-trace plan (after_choice after_watched plan at s made) made.state trace last acc picks,
 )
 
--- and it is told of none besides
+-- and it records no others
 stopped-told : (limit : ℕ) (now new : RunPlace) (at : Chooser Watched) (later : Watched) (answer : Answer) →
     StopsPolicy watched_pick after_watched limit show.Report at now new later answer → ledger_after later answer ≡ ledger_told at.policy
 unfolding ledger_after
@@ -135,7 +135,7 @@ moves-are plan delays limit begin new later answer none r =
     r.runs.made ∙ ap (λ (l : List Move). moves_of r.runs.reaches.trace ++ l) (none-last watched_pick after_watched limit r.runs.at r.runs.now new later answer
     r.runs.stops none) ∙ append-nil (moves_of r.runs.reaches.trace)
 
--- so the ledger tells what their time is made of
+-- so the ledger knows what their time is made of
 run-told : (delays : List ℕ) (limit : ℕ) (begin new : RunPlace) (later : Watched) (answer : Answer) → IsAccepted begin.core.plan →
     length begin.core.state.regs ≡ 32 → IsOpened begin.core → AreDelays delays → limit ≤ most_limit → begin.core.state.retired ≤ limit →
     answer ≢ ran.ReportFault

@@ -20,7 +20,7 @@ places_more place test k =
     by true = refl
     by false = refl
 
--- so some sites, and those of the sidings that were gone over, with one more siding
+-- so some sites, and those of the sidings so far, with one more siding
 pub places_next : (place : ℕ → Site) (test : ℕ → Bool) (k : ℕ) (first now next : List ℕ) (taken : Bool) (number : ℕ) →
     now ≡ first ++ map place_number (map place (filter test (counted_from 0 k))) → next ≡ now ++ cond taken (number ∷ []) [] → taken ≡ test k →
     number ≡ place_number (place k) → next ≡ first ++ map place_number (map place (filter test (counted_from 0 (k + 1))))

@@ -1,4 +1,4 @@
--- The names of kinds by their places.
+-- The names of kinds by their indices.
 use Rattle.std.proofs.Common.{◌≡◌, ℕ, zero, suc, ◌<◌, ◌≤◌, List, [], ◌∷◌, length, map, refl, sym, arith}
 use Rattle.std.specs.Prelude.{slice_get, slice_index_or, unwrap_or}
 use Rattle.run_scripts.specs.declared.kind.Kind.{Kind}

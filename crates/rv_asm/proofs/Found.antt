@@ -1,4 +1,4 @@
--- Labels that are found by their names, as if each were looked for among all.
+-- Labels that are found by their names, as if each were searched among all.
 use Rattle.std.proofs.Common.{◌≡◌, ℕ, ◌+◌, ◌<◌, zero, suc, Bool, true, false, List, [], ◌∷◌, ◌++◌, length, map, Option, Some, None, cond, refl, sym, ap, subst, ◌∙◌, arith, ◌⊎◌, inl, inr, ⊎_elim, ltb}
 use Rattle.std.specs.Prelude.{◌≢◌, find, option_map, slice_index_or, slice_set, Vec}
 use Rattle.std.specs.BTreeMap.{BTreeMap, UpdatesBy, is_at}
@@ -39,7 +39,7 @@ by_name f g name w here others other =
     (λ n. others other n ∙ sym (cond-false (bytes_eq name other) w (f other) n))
     (cases_Bool (bytes_eq name other))
 
--- the name is found at its place, and any other as before
+-- the name is found at its index, and any other as before
 pub found_after : {Z : Type 0} (name : List ℕ) (m n : BTreeMap (Vec ℕ Z) ℕ) (w : Option ℕ)
     → UpdatesBy (λ x y. slice_cmp nat_cmp x.items y.items) (λ k. slice_cmp nat_cmp name k.items) m n w
     → (other : List ℕ) → place_of n other ≡ cond (bytes_eq name other) w (place_of m other)
@@ -116,7 +116,7 @@ finds_after names found next name finds unknown after = record {
 
 -- ---- labels and what is found
 
--- the first element that passes is the one at a place before which no element passes
+-- the first element that passes is the one at an index before which no element passes
 find_at : (p : LabelView → Bool) (xs : List LabelView) (k : ℕ) (d : LabelView) → k < length xs → p (slice_index_or xs k d) ≡ true
     → ((i : ℕ) → i < k → p (slice_index_or xs i d) ≡ false) → find p xs ≡ Some (slice_index_or xs k d)
 find_at p [] k d within passes before = absurd (omega arith)
@@ -128,7 +128,7 @@ find_none : (p : LabelView → Bool) (xs : List LabelView) (d : LabelView) → (
 find_none p [] d none = refl
 find_none p (x ∷ xs) d none = rw (none 0 (omega arith)) (find_none p xs d (λ i below. none (suc i) (omega arith)))
 
--- a label without a name, for places where there is no label
+-- a label without a name, for indices without a label
 blank : LabelView
 blank = record { name = []; value = 0; in_text = false; global = false }
 
@@ -136,13 +136,13 @@ name_at : (labels : List LabelView) (place : ℕ) (d : LabelView) → place < le
     → slice_index_or (names_of labels) place d.name ≡ (slice_index_or labels place d).name
 name_at labels place d within = get_or-map (λ (label : LabelView). label.name) labels place d d.name within
 
--- each label's name is found at its place
+-- each label's name is found at its index
 each_label : (labels : List LabelView) (found : List ℕ → Option ℕ) → FindsNames (names_of labels) found → (place : ℕ) (d : LabelView) → place < length labels
     → found (slice_index_or labels place d).name ≡ Some place
 each_label labels found finds place d within =
     rw (← name_at labels place d within) (finds.each place d.name (omega (arith, length-map labels (λ (label : LabelView). label.name))))
 
--- only the label at the place that is found has the name
+-- only the label at the index that is found has the name
 other_label : (labels : List LabelView) (found : List ℕ → Option ℕ) (name : List ℕ) → FindsNames (names_of labels) found → (place : ℕ) (d : LabelView) →
     place < length labels
     → found name ≢ Some place → bytes_eq (slice_index_or labels place d).name name ≡ false

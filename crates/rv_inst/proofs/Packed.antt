@@ -11,7 +11,7 @@ use Rattle.rv_inst.specs.Fields.{opcode, rd_of, funct3, rs1_of, rs2_of, funct7, 
 use Rattle.rv_inst.specs.Formats.{HasFields}
 use Rattle.rv_inst.specs.Ranges.{IsWithin, IsEven}
 
--- a sum of fields, each in its place, has those fields
+-- a sum of fields, each at its position, has those fields
 sum-fields : (opc rd f3 rs1 rs2 f7 w : ℕ) → opc < 2 ^ 7 → rd < 2 ^ 5 → f3 < 2 ^ 3 → rs1 < 2 ^ 5 → rs2 < 2 ^ 5 → f7 < 2 ^ 7 →
     w ≡ opc + rd * 2 ^ 7 + f3 * 2 ^ 12 + rs1 * 2 ^ 15 + rs2 * 2 ^ 20 + f7 * 2 ^ 25 → HasFields w opc rd f3 rs1 rs2 f7
 unfolding opcode rd_of funct3 rs1_of rs2_of funct7
@@ -41,7 +41,7 @@ or-fields opc rd f3 rs1 rs2 f7 a b c d e =
     or_low (opc + rd * 2 ^ 7 + f3 * 2 ^ 12 + rs1 * 2 ^ 15) rs2 20 (omega arith) in
     rw (p, q, r, s) (or_low (opc + rd * 2 ^ 7 + f3 * 2 ^ 12 + rs1 * 2 ^ 15 + rs2 * 2 ^ 20) f7 25 (omega arith))
 
--- fields shifted to their places lose no bit, and joined by `or` they are the word's fields
+-- fields shifted to their positions lose no bit, and joined by `or` they are the word's fields
 pub shifted-fields : (opc rd f3 rs1 rs2 f7 : ℕ) → opc < 2 ^ 7 → rd < 2 ^ 5 → f3 < 2 ^ 3 → rs1 < 2 ^ 5 → rs2 < 2 ^ 5 → f7 < 2 ^ 7 →
     HasFields (bit_or (bit_or (bit_or (bit_or (bit_or opc (rd * 2 ^ 7 % 2 ^ 32)) (f3 * 2 ^ 12 % 2 ^ 32)) (rs1 * 2 ^ 15 % 2 ^ 32)) (rs2 * 2 ^ 20 % 2 ^ 32))
     (f7 * 2 ^ 25 % 2 ^ 32)) opc rd f3 rs1 rs2 f7

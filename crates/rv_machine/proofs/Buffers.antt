@@ -13,8 +13,8 @@ use Rattle.mem_regions.proofs.Writes.{writes-lies}
 use Rattle.rv_machine.specs.Streams.{GivesInput}
 use Rattle.rv_machine.specs.Buffers.{TakesInto, Fills, FillsSome}
 
--- a part and what comes after it are the part's front and what comes after that, where the part has the old bytes after
--- its prefix
+-- a part and what comes after it are the part's prefix and what comes after that, where the part has the old bytes
+-- after its prefix
 tail-kept : (bytes new : List ℕ) (at len n : ℕ) → at + len ≤ length bytes → length new ≡ len →
     n ≤ len → drop n new ≡ drop n (take len (drop at bytes)) →
     new ++ drop (at + length new) bytes ≡ take n new ++ drop (at + length (take n new)) bytes

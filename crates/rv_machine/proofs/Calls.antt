@@ -87,7 +87,7 @@ read-is regs mem taken later n fd len can count =
     rw (n, fd, other 0 len, can)
     (read_into-is (second_argument regs) (third_argument regs) mem taken later count)
 
--- the rest that a read finds: all that is told, or else exactly the bytes that it takes
+-- the rest that a read finds: all that is known, or else exactly the bytes that it takes
 record Finds (left after : Option (List ℕ)) (len : ℕ) (taken : List ℕ) : Type 0 where
   pub later : List ℕ
   pub told : IsTold left (taken ++ later)

@@ -79,7 +79,7 @@ misaligned m pc e a =
     let f : word_of pc (find (fetches_in pc) m.areas) ≡ Err Misaligned = rw a at e in
     word_of-aligned pc (find (fetches_in pc) m.areas) f
 
--- an instruction of RV32IM is there
+-- where there is an instruction of RV32IM
 pub steps-found : (isa : Isa) (h new : Hart) (before after : Streams) (word : ℕ) (i : Instr)
     (result : Stepped) → found_at h.mem h.pc ≡ found.Instruction word i →
     Acts (decoded_as isa word ≡ Some instr.Ecall)
@@ -90,7 +90,7 @@ steps-found isa h new before after word i result e acts =
     let f = read_from-instruction (fetch_at h.mem h.pc) word i e in
     steps-fetched isa h new before after word result (word-aligned h.mem h.pc word f.0) f.0 acts
 
--- no instruction is there
+-- there is no instruction
 stopped : (isa : Isa) (h : Hart) (s : Streams) (f : Found) (result : Stepped) → read_from (fetch_at h.mem h.pc) ≡ f →
     is_instruction f ≡ false → result ≡ trap_of h.pc f → Steps isa h h s s result
 stopped isa h s (found.Instruction word i) result e none is = absurd (grind arith)

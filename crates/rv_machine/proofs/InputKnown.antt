@@ -4,7 +4,7 @@ use Rattle.std.specs.Prelude.{unwrap_or}
 use Rattle.cf_io.specs.Puts.{Writes}
 use Rattle.rv_machine.specs.Streams.{Streams, IsTold, Becomes, Leaves, IsSpent}
 
--- an input that agrees with what is known: the empty one where nothing is told
+-- an input that agrees with what is known: the empty one where nothing is known
 abbrev pub some_rest : Option (List ℕ) → List ℕ
 some_rest told = unwrap_or told []
 

@@ -51,7 +51,7 @@ pub keeps-with : (places : List Decoded) (address pc word : ℕ) (i : Instr) →
 unfolding keeps
 keeps-with places address pc word i e below = grind (arith, nat_tests, get_or-set_at)
 
--- what is kept of an address is there
+-- what the cache keeps of an address is what memory has there
 pub cache-at : (m : Memory) (places : List Decoded) (pc : ℕ) → IsCacheOf m places → IsTrue (keeps places pc) →
     place_at pc < length places → pc < 2 ^ 32 →
     found_at m pc ≡ found.Instruction (slice_index_or places (place_at pc) nothing_kept).word

@@ -61,7 +61,7 @@ pub trimmed-bare : (text : List ℕ) → IsBare text → trimmed text ≡ text
 unfolding trimmed
 trimmed-bare text h = ap without_end (without_front-bare text h) ∙ without_end-bare text h
 
--- the blank in front is left out
+-- the leading blank is dropped
 pub trimmed-blank : (text : List ℕ) → IsBare text → trimmed (32 ∷ text) ≡ text
 unfolding trimmed without_front
 trimmed-blank text h =
@@ -110,7 +110,7 @@ Ends-cons byte back h = Ends-append (byte ∷ []) back h
 pub IsBare-of : (text : List ℕ) → Begins text → Ends text → IsBare text
 IsBare-of text b e = record { some = b.some; first = b.first; last = e.last }
 
--- the first place that passes, where nothing passes before it
+-- the first index that passes, where nothing passes before it
 pub position_at_seam : (p : ℕ → Bool) (front : List ℕ) (y : ℕ) (back : List ℕ)
     → ((k : ℕ) → k < length front → p (get_or front k 0) ≡ false) → p y ≡ true
     → position_or_len p (front ++ y ∷ back) ≡ length front

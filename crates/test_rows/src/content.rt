@@ -25,7 +25,7 @@ pub(crate) fn split(line: &str) -> (&str, &str) {
     }
 }
 
-/// The number that a word writes in decimal digits.
+/// The number that a word spells in decimal digits.
 pub(crate) fn number(word: &str) -> Result<usize, LineErr> {
     match word.parse::<usize>() {
         Ok(number) => Ok(number),
@@ -33,7 +33,7 @@ pub(crate) fn number(word: &str) -> Result<usize, LineErr> {
     }
 }
 
-/// The number that a word writes in up to eight hexadecimal digits.
+/// The number that a word spells in up to eight hexadecimal digits.
 fn hexadecimal(word: &str) -> Result<u32, LineErr> {
     match numeral(word.as_bytes(), 16, 8) {
         Some(number) => Ok(number as u32),
@@ -41,7 +41,7 @@ fn hexadecimal(word: &str) -> Result<u32, LineErr> {
     }
 }
 
-/// Puts the bytes in place of others.
+/// Overwrites bytes with others.
 fn overwrite(content: &mut Vec<u8>, at: usize, bytes: &[u8]) -> Result<(), LineErr> {
     if content.len().saturating_sub(at) < bytes.len() {
         return Err(LineErr::Unknown);
@@ -72,7 +72,7 @@ fn repeat(content: &mut Vec<u8>, words: &str) -> Result<(), LineErr> {
     Ok(())
 }
 
-/// Puts a word of 32 bits over four bytes.
+/// Overwrites four bytes with a 32-bit word.
 fn put(content: &mut Vec<u8>, words: &str) -> Result<(), LineErr> {
     let (at, word) = split(words);
     overwrite(content, number(at)?, &hexadecimal(word)?.to_le_bytes())
@@ -91,7 +91,7 @@ fn write_register(content: &mut Vec<u8>, start: usize, word: &str) -> Result<(),
     overwrite(content, start.saturating_add(place), value.as_bytes())
 }
 
-/// Adds the lines of the registers, of which some differ from those at the start.
+/// Adds the lines of the registers, with some values changed from the start.
 fn add_registers(content: &mut Vec<u8>, words: &str) -> Result<(), LineErr> {
     let start = content.len();
     content.extend_from_slice(START.as_bytes())?;
@@ -101,7 +101,7 @@ fn add_registers(content: &mut Vec<u8>, words: &str) -> Result<(), LineErr> {
     Ok(())
 }
 
-/// Adds what is under a name.
+/// Adds the bytes that are kept under a name.
 fn copy(content: &mut Vec<u8>, kept: &[NamedBytes], name: &str) -> Result<(), LineErr> {
     match find(kept, name) {
         Some(bytes) => Ok(content.extend_from_slice(bytes)?),
@@ -109,7 +109,7 @@ fn copy(content: &mut Vec<u8>, kept: &[NamedBytes], name: &str) -> Result<(), Li
     }
 }
 
-/// The text with a text in place of another, where the other comes first.
+/// The text with the first occurrence of one text replaced by another.
 fn replaced(alloc: Global, bytes: &[u8], old: &str, new: &str) -> Result<Vec<u8>, LineErr> {
     let text = str::from_utf8(bytes).unwrap_or("");
     if !text.contains(old) {
@@ -118,7 +118,7 @@ fn replaced(alloc: Global, bytes: &[u8], old: &str, new: &str) -> Result<Vec<u8>
     Ok(text.replacen(alloc, old, new, 1)?.into_bytes())
 }
 
-/// Puts a text in place of another, where the other comes first. Both are with `\\n` for line feeds.
+/// Replaces the first occurrence of one text by another. Both are with `\\n` for line feeds.
 fn replace(content: &mut Vec<u8>, old: &str, new: &str) -> Result<(), LineErr> {
     let alloc = *content.allocator();
     let old = old.replace(alloc, "\\n", "\n")?;

@@ -1,4 +1,4 @@
-//! Rows of worked calls, line by line: what the simulator is called with, and what the outcome is to be.
+//! Rows of worked calls, line by line: how the simulator is called, and the expected outcome.
 #![tactic(auto)]
 
 mod call;

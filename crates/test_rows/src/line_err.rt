@@ -1,11 +1,11 @@
-//! Why a line is not heeded.
+//! Why a line is refused.
 
 use std::alloc::{AllocError, AllocFailed};
 
-/// Why a line is not heeded.
+/// Why a line is refused.
 #[derive(Debug, Drop)]
 pub enum LineErr {
-    /// Memory was refused.
+    /// There was no memory.
     NoMemory,
     /// The line is not one of a row.
     Unknown,

@@ -1,23 +1,23 @@
-//! How much of a text is wanted.
+//! How the bytes of an outcome are compared with the expected ones.
 
 ghost use Rattle.std.specs.Prelude.{◌↔◌, IsTrue};
 ghost use Rattle.test_rows.specs.Matches.{IsAsWanted};
 
-/// How the bytes that a call left and those that are wanted of it are to be alike.
+/// How the bytes of an outcome have to match the expected ones.
 #[derive(Clone, Copy)]
 pub enum Matching {
     /// They are the same.
     Whole,
-    /// What the call left begins with the wanted ones.
+    /// The actual bytes begin with the expected ones.
     Begins,
-    /// What the call left is a prefix of the wanted ones, and shorter.
+    /// The actual bytes are a proper prefix of the expected ones.
     Front,
-    /// What the call left has this many bytes.
+    /// The actual bytes are this many.
     Size(usize),
 }
 
 impl Matching {
-    /// Whether the bytes that a call left are as they are wanted.
+    /// Whether the actual bytes match the expected ones.
     pub fn holds(self, left: &[u8], wanted: &[u8]) -> bool
         ensures { IsTrue result ↔ IsAsWanted self left.now wanted.now }
     {

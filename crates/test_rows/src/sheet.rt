@@ -10,7 +10,7 @@ use crate::matching::Matching;
 use std::alloc::{AllocError, Global};
 use std::mem;
 
-/// What the bytes that the next lines give are for.
+/// The part of a row to which the next lines give bytes.
 #[derive(Clone, Copy)]
 enum Part {
     Nothing,
@@ -21,18 +21,18 @@ enum Part {
     Report,
 }
 
-/// What a row wants of its call.
+/// The expected outcome of a row's call.
 #[derive(Drop)]
 pub struct Wanted {
     /// The status that the process ends with.
     pub status: u8,
-    /// The bytes of the output, and how it is to be like them.
+    /// The expected output, and how it is compared.
     pub output: (Matching, Vec<u8>),
-    /// The bytes of the report, and how it is to be like them.
+    /// The expected report, and how it is compared.
     pub report: (Matching, Vec<u8>),
 }
 
-/// The row that is being read, and what stays from one row to the next.
+/// The row that is being read, and what is kept from one row to the next.
 #[derive(Drop)]
 pub struct Sheet {
     alloc: Global,
@@ -41,7 +41,7 @@ pub struct Sheet {
     call: Call,
     wanted: Wanted,
     part: Part,
-    /// What follows the word that began the part: of a file and of kept bytes, their name.
+    /// What follows the word that began the part: for a file or kept bytes, the name.
     rest: String,
     content: Vec<u8>,
     /// Bytes under names, among them the `output` and the `report` of the last call.
@@ -68,7 +68,7 @@ fn part_of(word: &str) -> Option<Part> {
     }
 }
 
-/// How the bytes of the outcome are to be like those of a part, by the words that follow the part's own.
+/// How the bytes of the outcome have to match those of a part, by the words after the part's name.
 fn matching_of(words: &str) -> Result<Matching, LineErr> {
     match words {
         "" => Ok(Matching::Whole),
@@ -82,7 +82,7 @@ fn matching_of(words: &str) -> Result<Matching, LineErr> {
 }
 
 impl Sheet {
-    /// No row yet.
+    /// A sheet before the first row.
     pub fn new(alloc: Global) -> Sheet {
         Sheet {
             alloc,
@@ -111,12 +111,12 @@ impl Sheet {
         }
     }
 
-    /// What the row wants.
+    /// The expected outcome of the row.
     pub fn wanted(&self) -> &Wanted {
         &self.wanted
     }
 
-    /// Hands the bytes that were given to a part that has no name, and takes what stood there for them.
+    /// Swaps the bytes that were given with those of an unnamed part.
     fn hand_over(&mut self, part: Part) {
         match part {
             Part::Input => mem::swap(&mut self.call.input, &mut self.content),
@@ -126,7 +126,7 @@ impl Sheet {
         }
     }
 
-    /// Hands the bytes that were given to the part that they are for.
+    /// Moves the bytes that were given to their part.
     fn close(&mut self) -> Result<(), AllocError> {
         let part = self.part;
         self.part = Part::Nothing;
@@ -192,7 +192,7 @@ impl Sheet {
         Ok(())
     }
 
-    /// Sets how the bytes of the outcome are to be like those of the part.
+    /// Sets how the bytes of the outcome have to match those of the part.
     fn set_matching(&mut self, part: Part, words: &str) -> Result<(), LineErr> {
         match part {
             Part::Output => self.wanted.output.0 = matching_of(words)?,
@@ -219,7 +219,7 @@ impl Sheet {
         }
     }
 
-    /// Does what a line says that begins no part.
+    /// Applies a line that does not begin a part.
     fn apply(&mut self, word: &str, rest: &str) -> Result<(), LineErr> {
         match word {
             "row" => self.begin(rest),
@@ -233,7 +233,7 @@ impl Sheet {
         }
     }
 
-    /// Does what the line says. A line that is not one of a row is refused.
+    /// Applies the line. A line that is not one of a row is refused.
     pub fn heed(&mut self, line: &str) -> Result<(), LineErr> {
         let (word, rest) = split(line);
         if word.is_empty() || word.starts_with("#") {

@@ -286,7 +286,7 @@ held_stuck l s k mv h e i = go (other_moves (candidates l s)) refl e
         ∙ sym (ap (λ (b : Bool). slice_get (if b then y ∷ xs else candidates l s) k) (some_there y xs)) ∙ e in
         absurd (clash (ap not (sym i) ∙ (kept_passes (λ v. not (is_issue v)) (candidates l s) k mv g).0))
 
--- a move is there to be picked, with Issue held back or not
+-- there is a move to pick, with Issue held back or not
 pub some_pick : (l : Plan) (s : State) → HasShape l s → (IsStuck l s → bar l s (Issue Next) ≡ None) →
     ((mv : Move) × Has (candidates l s) mv) × ((mv : Move) × Has (held_back (candidates l s)) mv)
 unfolding held_back

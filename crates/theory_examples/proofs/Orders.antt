@@ -19,7 +19,7 @@ abbrev pub skipping_a_sum : Machine
 skipping_a_sum = sample (0x63 ∷ 0x04 ∷ 0x00 ∷ 0x00 ∷ 0x93 ∷ 0x80 ∷ 0x10 ∷ 0x00 ∷ [])
 
 -- The branch is executed, and its turn is below it; above the turn's stage the branch waits to leave. What was issued
--- on the wrong guess is beside the turn and has asked for x1.
+-- on the wrong guess is beside the turn and has requested x1.
 abbrev pub wrong_guess : List Move
 wrong_guess = Issue Next ∷ Execute 1 ∷ Send 1 ∷ Climb 1 ∷ Issue Next ∷ []
 
@@ -37,7 +37,7 @@ pub turn_first : EndsIn tiny skipping_a_sum (wrong_guess ++ (Leave ∷ Meet 1 �
 unfolding on_literals
 turn_first = ends refl refl
 
--- The dead instruction meets the value that it asked for, at the top: nine moves.
+-- The dead instruction meets the value that it requested, at the top: nine moves.
 pub value_met_above : EndsIn tiny skipping_a_sum (wrong_guess ++ (Meet 1 ∷ Exit ∷ Leave ∷ Climb 1 ∷ Emit ∷ Meet 2 ∷ Leave ∷ Fall 2 ∷ Exit ∷ [])) common_end
 unfolding on_literals
 value_met_above = ends refl refl

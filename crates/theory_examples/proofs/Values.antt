@@ -69,7 +69,7 @@ asking = sample (0x93 ∷ 0x02 ∷ 0x15 ∷ 0x00 ∷ [])
 abbrev pub add_one : Instr
 add_one = instr.OpImm imm_op.Add 5 10 (pos 1)
 
--- The register file sends the value that was asked for down the pipe, where it finds the instruction that asked.
+-- The register file sends the requested value down the pipe, where it finds the instruction that requested it.
 pub asked_and_sent_down : EndsIn tiny asking
     (Issue Next ∷ Climb 1 ∷ Emit ∷ [])
     (record (opened tiny asking)

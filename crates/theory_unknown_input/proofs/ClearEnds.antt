@@ -177,7 +177,7 @@ exit_ends i (Value r v) false c w f h = h
 exit_ends i (Turn pc) b c w f h = cleared_ends w c
 exit_ends i Halt b c w f h = cleared_ends w c
 
--- Exit keeps it: the value that is kept at the bottom stood there before
+-- Exit keeps it: the value that is cached at the bottom was cached before
 pub exit_clear : {rest out : List ℕ} (l : Plan) (s : State) (x : Machine) → Suits l → bar l s Exit ≡ None → Sound l s rest out x → IsClear s →
     IsClear (moved l s Exit)
 exit_clear l s x acc e h k =

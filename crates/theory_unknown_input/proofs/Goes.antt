@@ -32,7 +32,7 @@ goes_here isa x y e = of (step isa x) e
     of (outcome.Trap cause pc detail) e = absurd (cc)
     of (outcome.Exit status) e = absurd (cc)
 
--- the machine's own steps, which find what is there, are such steps
+-- the machine's own steps, which find the actual input, are such steps
 pub goes_on : (isa : Isa) (x0 x y : Machine) (n g : ℕ) (written : List Line) → GoesTo isa x0 n x written → after isa x g ≡ Some y →
     GoesTo isa x0 (g + n) y (written ++ sequence isa x g)
 unfolding after sequence GoesTo

@@ -35,7 +35,7 @@ first_of (row ∷ rows) rest = first row.0 row.1 (first_of rows rest)
 abbrev pub at : List Cell → ℕ → (Cell → Option Bar) → Option Bar
 at cells i f = on (cell_at cells i) (Some NoSuchSite) f
 
--- what bars a move of the instruction in a stage: no instruction is there (NoPassenger), else as f says
+-- what bars a move of the instruction in a stage: there is no instruction (NoPassenger), else as f says
 abbrev pub of_passenger : Cell → (Passenger → Option Bar) → Option Bar
 of_passenger c f = on c.passenger (Some NoPassenger) f
 
@@ -92,7 +92,7 @@ abbrev pub emit_bar : List ℕ → Cell → Option Bar
 emit_bar [] c = Some LaneEmpty
 emit_bar (r ∷ lane) c = first_of ((is_some c.packet, Occupied) ∷ []) None
 
--- Climb: there is no stage i, or none above it (NoSuchSite); no instruction is there (NoPassenger); it has not met the
+-- Climb: there is no stage i, or none above it (NoSuchSite); there is no instruction (NoPassenger); it has not met the
 -- result of the stage (NotMet); it owes a result (Owes); it must be executed, launched or recovered here (NotDone); the
 -- stage above has an instruction (Occupied)
 abbrev pub climb_bar : Plan → Cell → ℕ → Option Cell → Option Bar
@@ -110,14 +110,14 @@ fall_bar c below = on below (Some NoSuchSite) (λ d. first_of (
     (is_full c, NotMet) ∷
     (is_some d.packet, Occupied) ∷ []) None)
 
--- Meet: there is no stage i (NoSuchSite); no instruction is there (NoPassenger); no result is there (NoPacket); they
+-- Meet: there is no stage i (NoSuchSite); there is no instruction (NoPassenger); no result is there (NoPacket); they
 -- have met (AlreadyMet)
 abbrev pub meet_bar : Cell → Option Bar
 meet_bar c = of_passenger c (λ p. first_of (
     (not (is_some c.packet), NoPacket) ∷
     (c.met, AlreadyMet) ∷ []) None)
 
--- Execute: there is no stage i (NoSuchSite); no instruction is there (NoPassenger); the instruction is dead (Dead); it
+-- Execute: there is no stage i (NoSuchSite); there is no instruction (NoPassenger); the instruction is dead (Dead); it
 -- is done (AlreadyDone); no unit for its class is here (NoUnit); a source has no value (SourceMissing)
 abbrev pub execute_bar : Plan → Cell → ℕ → Option Bar
 execute_bar plan c i = of_passenger c (λ p. first_of (
@@ -125,7 +125,7 @@ execute_bar plan c i = of_passenger c (λ p. first_of (
     (p.done, AlreadyDone) ∷
     (not (unit_at plan (kind p) i), NoUnit) ∷ []) (source_bar p None))
 
--- Send: there is no stage i (NoSuchSite); no instruction is there (NoPassenger); the instruction owes no result
+-- Send: there is no stage i (NoSuchSite); there is no instruction (NoPassenger); the instruction owes no result
 -- (OwesNothing); the stage has a result (Occupied)
 abbrev pub send_bar : Cell → Option Bar
 send_bar c = of_passenger c (λ p. first_of (
@@ -137,7 +137,7 @@ send_bar c = of_passenger c (λ p. first_of (
 abbrev pub entry_bar : Plan → State → Passenger → Option Bar
 entry_bar plan s p = on (siding_of plan (kind p)) None (λ k. first_of ((is_taken (slice_get (siding_at s k) 0), Occupied) ∷ []) None)
 
--- Launch: there is no stage i (NoSuchSite); no instruction is there (NoPassenger); the instruction is dead (Dead); it
+-- Launch: there is no stage i (NoSuchSite); there is no instruction (NoPassenger); the instruction is dead (Dead); it
 -- is done or launched (AlreadyDone); no siding for its class is entered from here (NoUnit); it is a load or a store and
 -- has not met the result of the stage (NotMet); a source has no value (SourceMissing); the first cell of the siding is
 -- taken (Occupied)
@@ -167,7 +167,7 @@ abbrev pub exit_op_bar : Plan → State → Passenger → Option Bar
 exit_op_bar plan s p = on (siding_of plan (kind p)) (Some NoUnit) (λ k.
     on (last_op (siding_at s k)) (Some OpNotThere) (λ op. first_of ((is_memory (kind p) && not (is_some op.answer), NotDone) ∷ []) None))
 
--- Recover: there is no stage i (NoSuchSite); no instruction is there (NoPassenger); no siding of its class is recovered
+-- Recover: there is no stage i (NoSuchSite); there is no instruction (NoPassenger); no siding of its class is recovered
 -- here (NoUnit); the instruction has not launched, or has recovered (AlreadyDone); no operation is at the siding's end
 -- (OpNotThere); it is a load or a store without an answer (NotDone)
 abbrev pub recover_bar : Plan → State → Cell → ℕ → Option Bar
@@ -175,7 +175,7 @@ recover_bar plan s c i = of_passenger c (λ p. first_of (
     (not (recovers plan (kind p) i), NoUnit) ∷
     (not p.launched || p.recovered, AlreadyDone) ∷ []) (exit_op_bar plan s p))
 
--- Leave: there is no stage N (NoSuchSite); no instruction is there (NoPassenger); it has not met the result of the
+-- Leave: there is no stage N (NoSuchSite); there is no instruction (NoPassenger); it has not met the result of the
 -- stage (NotMet); it owes a result (Owes); it is live and not done, or what it launched is not back (NotDone)
 abbrev pub leave_bar : Cell → Option Bar
 leave_bar c = of_passenger c (λ p. first_of (
@@ -190,7 +190,7 @@ exit_bar c = first_of (
     (not (is_some c.packet), NoPacket) ∷
     (is_full c, NotMet) ∷ []) None
 
--- Serve: there is no stage N (NoSuchSite); no instruction is there (NoPassenger); the instruction is dead (Dead); it is
+-- Serve: there is no stage N (NoSuchSite); there is no instruction (NoPassenger); the instruction is dead (Dead); it is
 -- done (AlreadyDone); it is neither ECALL nor FENCE.I (NoUnit); it has not met the result of the stage (NotMet)
 abbrev pub serve_bar : Cell → Option Bar
 serve_bar c = of_passenger c (λ p. first_of (

@@ -1,4 +1,4 @@
--- Old contents put back where they stood: in lists, in stages, in sidings.
+-- Old contents put back: in lists, in stages, in sidings.
 use Rattle.std.proofs.Common.{◌≡◌, ◌≢◌, ℕ, zero, suc, List, [], ◌∷◌, Option, Some, None, refl, sym, ap, ◌∙◌}
 use Rattle.std.specs.Prelude.{slice_get, slice_set}
 use Rattle.cf_bind.specs.declared.cell.Cell.{Cell}
@@ -24,7 +24,7 @@ set_nowhere [] k a e = refl
 set_nowhere (x ∷ q) zero a e = absurd (cc)
 set_nowhere (x ∷ q) (suc k) a e = ap (λ (l : List _). x ∷ l) (set_nowhere q k a e)
 
--- two places are written and then put back
+-- two entries are written and then put back
 pub two_back : {A : Type 0} → (q : List A) (i j : ℕ) (a b x y : A) → i ≢ j → slice_get q i ≡ Some a → slice_get q j ≡ Some b →
     slice_set (slice_set (slice_set (slice_set q i x) j y) i a) j b ≡ q
 two_back q i j a b x y n e f =

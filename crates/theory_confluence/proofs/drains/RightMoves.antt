@@ -16,7 +16,7 @@ use Rattle.cf_semantics.specs.claims.Walks.{walk}
 use Rattle.rv_inst.specs.declared.isa.Isa.{Isa}
 use Rattle.cf_semantics.specs.claims.Path as trail
 
--- Climb, Fall, Launch: another stage, or a mark that is not looked at
+-- Climb, Fall, Launch: another stage, or a flag that does not matter
 pub rider_label : (isa : Isa) (i j : ℕ) (p : Passenger) (w : Way) → past isa (Up i p) w ≡ past isa (Up j p) w
 unfolding past trail.past
 rider_label isa i j p w = refl

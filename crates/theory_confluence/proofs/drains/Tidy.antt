@@ -25,7 +25,7 @@ use Rattle.theory_refinement.proofs.moves.Send.{send_ready}
 use Rattle.cf_semantics.specs.runs.Runs.{IsRun, run, opened, empty_cell, empty_siding}
 use Rattle.theory_refinement.proofs.moves.Leave.{left_cells}
 
--- it has met only where both are there
+-- a stage has met only where both are there
 abbrev pub is_neat : Cell → Bool
 is_neat c = not c.met || (is_some c.passenger && is_some c.packet)
 
@@ -73,7 +73,7 @@ neat_on : {A : Type 0} → (o : Option A) (d : State) (f : A → State) → all_
 neat_on None d f h g = h
 neat_on (Some a) d f h g = g a refl
 
--- another instruction in the same place
+-- another instruction in the same stage
 seat_neat : (c : Cell) (p : Passenger) → is_neat c ≡ true → is_neat (with_passenger c p) ≡ true
 seat_neat c p h = grind arith
 

@@ -170,7 +170,7 @@ second i j b = grind arith
 two_within : (i j : ℕ) (c d : Cell) (x : Site) → touches (two_stages i c j d) x ≡ true → (among x (Stage i ∷ Stage j ∷ []) || false) ≡ true
 two_within i j c d x e = grind (arith, e)
 
--- two stages are looked at
+-- two stages are read
 on_two : {B : Type 0} → {a b c d : Option Cell} → (F : Option Cell → Option Cell → B) → a ≡ b → c ≡ d → F a c ≡ F b d
 on_two F e f = rw (e, f) refl
 

@@ -53,7 +53,7 @@ not_top l i p n h = go (ahead.has_served p) refl
     go false e = e
     go true e = absurd (let z = h.served e in omega arith)
 
--- below the highest stage nobody was served
+-- below the highest stage no instruction was served
 mute : (l : Plan) (xs : List Item) (w : dock.Dock) → Riders (λ j. j < l.stages) xs → Each l xs → Mute w (walk (dock.past (isa_of l)) xs w)
 mute l [] w r h = record { rest = refl; out = refl }
 mute l (Up i p ∷ xs) w r h =
@@ -112,7 +112,7 @@ no_riders i n false (Some k) = tt
 served_none : (l : Plan) (s : State) → l.stages ≡ zero → served_count l s ≡ 0
 served_none l s e = rw e refl
 
--- nobody was served: input and output are the machine's
+-- no instruction was served: input and output are the machine's
 pub record Silent (l : Plan) (s : State) (x : Machine) (rest out : List ℕ) : Type 0 where
   pub count : served_count l s ≡ 0
   pub is_rest : rest ≡ x.rest

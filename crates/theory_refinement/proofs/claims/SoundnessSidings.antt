@@ -47,7 +47,7 @@ answer_kept isa [] w h = refl
 answer_kept isa (Up i p ∷ xs) w h = answer_kept isa xs (dock.past isa (Up i p) w) h.1 ∙ answer_rider isa i p w h.0
 answer_kept isa (Down i k ∷ xs) w h = answer_kept isa xs (dock.past isa (Down i k) w) h ∙ answer_packet isa i k w
 
--- the answer is the value of the first instruction whose operation is there
+-- the answer is the value of the first instruction whose operation is in the siding
 answers_it : (isa : Isa) (i : ℕ) (p : Passenger) (w : dock.Dock) (v : Walk) (a : ℕ) → w.path ≡ v → flies p ≡ true → w.answer ≡ Some a →
     dock.Fits isa (Up i p) w → IsAnswer p.dst (after_step (step_at isa v.machine p.pc) v.machine).hart.regs a
 unfolding dock.Fits dock.DockedAt

@@ -64,7 +64,7 @@ flown_append l k (Up i p ∷ xs) ys = go (in_siding l k p) (flown_append l k xs 
     go false e = e
 flown_append l k (Down i q ∷ xs) ys = flown_append l k xs ys
 
--- what is known at a place
+-- what is known at a position
 pub record Here (l : Plan) (s : State) (x : Machine) (above old : List Item) : Type 0 where
   pub path_fit : Everywhere (sure.Fits (isa_of l)) (trail.past (isa_of l)) old (walk (trail.past (isa_of l)) above (trail.top s x))
   pub lone_fit : Everywhere lone.Fits (lone.past l) old (walk (lone.past l) above false)
@@ -88,7 +88,7 @@ here {rest} {out} l s x above old below e h = record {
   safe = walk_safe (isa_of l) above (dock.top l s x) (λ b. absurd (cc));
 }
 
--- what has to be shown of a change at its place
+-- what has to be shown of a change at its position
 pub record Owes (l : Plan) (s : State) (x : Machine) (above old new : List Item) : Type 0 where
   pub path : Replaces trail.Walk (sure.Fits (isa_of l)) (trail.past (isa_of l)) paths.Follows old new (walk (trail.past (isa_of l)) above (trail.top s x))
   pub lone : Replaces Bool lone.Fits (lone.past l) lones.Follows old new (walk (lone.past l) above false)

@@ -1,4 +1,4 @@
--- Cells at a place, and their part of the column.
+-- Cells at a position, and their part of the column.
 use Rattle.std.proofs.Common.{Bool, List, None, Some, [], add-zero, ap, append-nil, append_assoc, arith, false, length, refl, suc, sym, true, zero, ℕ, ◌++◌, ◌+◌, ◌∙◌, ◌∷◌, ◌≡◌}
 use Rattle.cf_bind.specs.declared.cell.Cell.{Cell}
 use Rattle.cf_bind.specs.declared.packet.Packet.{Packet}

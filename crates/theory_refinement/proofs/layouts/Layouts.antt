@@ -61,7 +61,7 @@ unit_stages plan acc c = go ((slice_get_cases plan.units (place_of c)).1)
     go (inl q) = rw (q.2) (subst (All (IsStage plan)) q.3 (All-get_or (All (IsStage plan)) plan.units (place_of c) q.0 q.1 acc.unit_stages))
     go (inr q) = rw (q.1) (All-nil (IsStage plan))
 
--- a class without a place has no units
+-- a class without an index has no units
 pub unplaced : (plan : Plan) → IsAccepted plan → (c : Class) → 9 ≤ place_of c → stages_of plan c ≡ []
 unfolding stages_of
 unplaced plan acc c n = rw (slice_get_past plan.units (place_of c) (rw acc.classes n)) refl
@@ -103,7 +103,7 @@ memory_only c siding e s = one c (rw e at s)
     one : (c : Class) → (same_class c Memory || false) ≡ true → c ≡ Memory
     one c s = grind (arith, nat_tests)
 
--- what holds of the places of all classes of a siding holds of the place of each class that it is for
+-- what holds of the indices of all classes of a siding holds of the index of each class that it is for
 pub computed : (classes : List Class) (c : Class) → All (λ d. place_of d < 9) classes → list_any (same_class c) classes ≡ true → place_of c < 9
 computed [] c h e = absurd (cc)
 computed (d ∷ classes) c h e = go (same_class c d) refl e (λ g. computed classes c (λ k b n. h (suc k) b (omega arith)) g)

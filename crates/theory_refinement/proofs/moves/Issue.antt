@@ -285,7 +285,7 @@ moored l s t col p e f h =
       berths = h.berths;
     })
 
--- units or a siding are there for it
+-- it has units or a siding
 fresh_homed : (l : Plan) → Suits l → (mem : Memory) (c : List (Option ℕ)) (pc : ℕ) (g : Guess) →
     is_plain (kind (fresh c (fetched (isa_of l) mem pc) pc g)) ≡ true → is_homed l (kind (fresh c (fetched (isa_of l) mem pc) pc g)) ≡ true
 fresh_homed l acc mem c pc g e = go (fetched (isa_of l) mem pc) refl e

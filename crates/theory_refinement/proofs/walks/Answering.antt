@@ -41,7 +41,7 @@ past_result : (isa : Isa) (i : ℕ) (k : Packet) (w : Dock) (b : Option ℕ) →
 unfolding past
 past_result isa i k w b = refl
 
--- above the first instruction that flies the answer is not looked at
+-- above the first instruction whose load or store is in the siding, the answer does not matter
 pub walk_landed : (isa : Isa) (xs : List Item) (w : Dock) (b : Option ℕ) → Landed xs → walk (past isa) xs (record w { answer = b })
     ≡ record (walk (past isa) xs w) { answer = b }
 walk_landed isa [] w b h = refl

@@ -147,7 +147,7 @@ launch_port isa i p w d u r n s m = record {
         go true e = let a = (m e).1 in grind arith
         go false e = grind arith
 
--- the answer is taken by the first instruction that flies
+-- the answer is taken by the first instruction whose load or store is in the siding
 pub flies_out : (l : Plan) (acc : Suits l) (p : Passenger) → in_siding l (port l) p ≡ true → ahead.flies p ≡ true
 flies_out l acc p e = go (siding_of l (kind p)) refl
   where
