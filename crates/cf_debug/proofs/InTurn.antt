@@ -76,7 +76,7 @@ next-is at now made c later policy drained count beside drained_is later_is on =
       ∙ ap (λ (n : ℕ). stopped now.core.plan.stages (paced n made.move made.event (is_drained made.state))) (sym count);
 }
 
--- what is offered by a count is offered beside the stages of the layout
+-- what is offered by a count is offered for the stages of the layout
 pub offered-offers : (c : PaceCount) (plan : Plan) (s : State) → c.stages ≡ plan.stages → 0 < length (offered plan c.count s) → 0 < length (offers_by c plan s)
 offered-offers c plan s beside some = subst (λ (moves : List Move). 0 < length moves) (sym (offers-offered c plan s beside)) some
 

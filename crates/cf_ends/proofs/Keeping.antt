@@ -1,9 +1,9 @@
--- The values that are kept, by the register.
+-- The cached values, by register.
 use Rattle.std.proofs.Common.{◌≡◌, ℕ, zero, suc, List, [], ◌∷◌, Option, None, length, replicate, refl, ap, subst}
 use Rattle.std.specs.Prelude.{slice_index_or}
 use Rattle.cf_semantics.specs.state.Passengers.{cached, cleared}
 
--- what is read at a register is what is kept for it
+-- what is read at a register is what is cached for it
 pub kept-at : (cache : List (Option ℕ)) (r : ℕ) → slice_index_or cache r None ≡ cached cache r
 kept-at [] r = refl
 kept-at (o ∷ cache) zero = refl

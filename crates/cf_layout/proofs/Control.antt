@@ -83,7 +83,7 @@ launch_of : (o : Option asked.Siding) (siding : asked.Siding) → o ≡ Some sid
 unfolding siding_plan
 launch_of o siding e = rw e refl
 
--- the stage from which memory is reached
+-- the stage from which loads and stores are launched
 pub launch_given : (sidings : List asked.Siding) (plan : Plan) → plan.sidings ≡ map siding_plan sidings → is_sided sidings Memory ≡ true →
     memory_launch plan ≡ memory_launch_in sidings
 unfolding memory_launch launch_stage siding_of memory_launch_in siding_for

@@ -102,7 +102,7 @@ abbrev pub launch_in : Option Siding → ℕ
 launch_in None = 0
 launch_in (Some siding) = natural siding.launch
 
--- the stage from which memory is reached
+-- the stage from which loads and stores are launched
 unfoldable pub memory_launch_in : List Siding → ℕ
 memory_launch_in sidings = launch_in (siding_for sidings Memory)
 
@@ -116,7 +116,8 @@ abbrev pub above : Class → ℕ → Option ℕ → Option LayoutErr
 above c launch None = None
 above c launch (Some stage) = Some (ControlAboveMemory c stage launch)
 
--- control turns nowhere above the stage from which memory is reached, or else the lowest stage where it does
+-- control turns nowhere above the stage from which loads and stores are launched, or else the lowest stage where it
+-- does
 unfoldable pub turn_refusal : Parts → Class → Option LayoutErr
 turn_refusal parts c = above c (memory_launch_in parts.sidings) (find (nat_lt (memory_launch_in parts.sidings))
     (turns_in (ascending (listed parts.units c)) (siding_for parts.sidings c)))

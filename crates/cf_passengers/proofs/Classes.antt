@@ -1,4 +1,4 @@
--- The class of an instruction is that of its instruction.
+-- The class of a Passenger is that of its decoded instruction.
 use Rattle.std.proofs.Common.{◌≡◌, Option, Some, None, refl}
 use Rattle.cf_bind.specs.declared.passenger.Passenger.{Passenger}
 use Rattle.rv_inst.specs.Operands.{class_of}

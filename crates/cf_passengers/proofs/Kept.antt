@@ -1,4 +1,4 @@
--- What holds of instructions and results is kept by all that happens to them.
+-- The invariants of instructions and results are preserved by all that happens to them.
 use Rattle.std.proofs.Common.{◌≡◌, ◌≢◌, ℕ, List, Option, Some, None, Bool, true, false, refl}
 use Rattle.std.specs.Prelude.{IfSome, ◌==◌, if◌then◌else◌}
 use Rattle.std.proofs.lemmas.Option.{IfSome_then}
@@ -32,7 +32,7 @@ pub undone_as : (c : Class) (cache : List (Option ℕ)) (i : Instr) (pc : ℕ) (
 undone_as class.Free cache i pc g h = absurd (h refl)
 undone_as _ cache i pc g h = refl
 
--- the instruction of an instruction of the set
+-- the Passenger of an instruction of the set
 pub undone-passenger : (isa : Isa) (cache : List (Option ℕ)) (i : Instr) (pc : ℕ) (g : Guess) → IsInstruction isa i →
     IsPassenger isa (fresh_undone cache i pc g)
 undone-passenger isa cache i pc g h = record {
@@ -60,13 +60,13 @@ passenger_as : (isa : Isa) (c : Class) (cache : List (Option ℕ)) (i : Instr) (
 passenger_as isa class.Free cache i pc g h = free-passenger isa i pc g (free_trap i pc) h
 passenger_as isa _ cache i pc g h = undone-passenger isa cache i pc g h
 
--- the instruction of what was fetched
+-- the Passenger of what was fetched
 pub fresh-passenger : (isa : Isa) (cache : List (Option ℕ)) (f : Fetched) (pc : ℕ) (g : Guess) → IsFetched isa f → IsPassenger isa (fresh cache f pc g)
 unfolding fresh
 fresh-passenger isa cache (Got i) pc g h = passenger_as isa (kind_of i) cache i pc g h
 fresh-passenger isa cache (Bad e) pc g h = end-passenger isa None pc g e tt
 
--- Finish, and what else makes an instruction done --
+-- Finish, and what else finishes an instruction --
 
 binding-with_value : (v : ℕ) (b : Option Binding) → IfSome b IsBinding → IfSome (with_value v b) IsBinding
 binding-with_value v None h = tt
@@ -184,7 +184,7 @@ instruction-in : (isa : Isa) (what : Option Instr) → IfSome what (IsInstructio
 instruction-in isa None h = record { fits = tt; base = λ e. refl }
 instruction-in isa (Some i) h = h
 
--- what is in for a missing instruction is one of each set
+-- what stands for a missing instruction is one of each set
 pub passenger-instruction : (isa : Isa) (p : Passenger) → IsPassenger isa p → IsInstruction isa (instruction p)
 passenger-instruction isa p h = instruction-in isa p.what h.instr
 

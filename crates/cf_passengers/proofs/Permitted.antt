@@ -22,7 +22,7 @@ is_memory-class : (c : Class) → is_memory c ≡ true → c ≡ Memory
 is_memory-class Memory e = refl
 is_memory-class c e = absurd (cc)
 
--- the operation is a load or a store where its instruction is
+-- the operation is a load or a store where its Passenger is
 pub operation-memory : (p : Passenger) → is_memory (kind p) ≡ true → class_of (operation p).instr ≡ Memory
 operation-memory p e = rw (← kind-class p) (is_memory-class (kind p) e)
 

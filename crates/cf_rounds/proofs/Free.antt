@@ -41,7 +41,7 @@ apart_pair : (plan : Plan) (s : State) (a b : Move) → HasSidings plan s → Is
     AreIndependent plan s a b
 apart_pair plan s a b h p q e = independent plan s a b h p q e (unshared_back plan a b e)
 
--- the number of cells stays
+-- the number of cells is unchanged
 pub sidings_stay : (plan : Plan) (m : Moment) (a : Move) → bar plan m.state a ≡ None → HasSidings plan m.state → HasSidings plan (next plan m a).state
 sidings_stay plan m a free h k = sym (((move_local plan m a).frame free).sizes k) ∙ h k
 

@@ -1,4 +1,4 @@
--- The candidates are gone through, one by one.
+-- The loop over the candidates.
 use Rattle.std.proofs.Common.{◌≡◌, ℕ, zero, suc, ◌+◌, ◌<◌, ◌≤◌, Bool, true, false, List, [], ◌∷◌, ◌++◌, length, drop, Option, Some, None, refl, sym, ap, subst, ◌∙◌, arith}
 use Rattle.std.specs.Prelude.{slice_get, if◌then◌else◌}
 use Rattle.std.specs.List.{AllByRecursion, find, list_any}
@@ -60,8 +60,8 @@ pub candidate_there : (plan : Plan) (s : State) (moves : List Move) (place : ℕ
     Some mv ≡ slice_get moves place → HasSites plan mv
 candidate_there plan s moves place mv p are e = there_allowed plan s mv p (all_at (IsAllowed plan s) moves place mv (candidates_allowed plan s moves are) e)
 
--- the moves that are taken so far: the layout has what they use, no two share a site, and with the candidates from the
--- site on they make the round
+-- the moves that are taken so far: the layout has the sites that they use, no two share a site, and with the candidates
+-- from the index on they make the round
 pub record TakenSoFar (plan : Plan) (moves round : List Move) (place : ℕ) : Type 0 where
   pub there : AllByRecursion (HasSites plan) round
   pub apart : AreApart plan round

@@ -55,7 +55,7 @@ unused_top plan mv apart = by (uses_place plan mv (Stage plan.stages)) refl
     by false e = e
     by true e = absurd (let both : shares plan Leave mv ≡ true = shared_at plan Leave mv (Stage plan.stages) (leave_there plan) e in cc)
 
--- and is no Leave
+-- and is not a Leave
 other_than_leave : (plan : Plan) (mv : Move) → shares plan Leave mv ≡ false → is_leave mv ≡ false
 other_than_leave plan mv apart = by (is_leave mv) refl
   where
@@ -63,7 +63,7 @@ other_than_leave plan mv apart = by (is_leave mv) refl
     by false e = e
     by true e = absurd (let both : shares plan Leave mv ≡ true = ap (shares plan Leave) (leave_one mv e) ∙ both_leave plan in cc)
 
--- so the call that is there, if one does, is one that was served or not as before
+-- so a call there was served or not, as before
 served_stays : (plan : Plan) (m : Moment) (mv : Move) → bar plan m.state mv ≡ None → shares plan Leave mv ≡ false →
     served_count plan (next plan m mv).state ≡ served_count plan m.state
 served_stays plan m mv free apart =

@@ -58,7 +58,7 @@ unfolding paced_by
 paced_more count [] made = refl
 paced_more count (first ∷ trace) made = paced_more (paced count first.move first.event (is_drained first.state)) trace made
 
--- what is seen with one more move
+-- what is shown with one more move
 all_one : (test : Made → Type 0) (trace : List Made) (made : Made) → AllByRecursion test trace → test made → AllByRecursion test (trace ++ made ∷ [])
 all_one test [] made h k = (k, tt)
 all_one test (first ∷ trace) made (h, hs) k = (h, all_one test trace made hs k)

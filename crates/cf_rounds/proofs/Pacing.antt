@@ -35,7 +35,7 @@ use Rattle.cf_rounds.specs.Rounds.{AreApart, round_of, taken}
 use Rattle.cf_rounds.specs.Running.{InRounds, all_of, state_after}
 use Rattle.cf_rounds.proofs.Chosen.{found_one, taken_all, taken_apart}
 
--- the move is no Issue while the candidates are held, unless no other move is allowed
+-- the move is not an Issue while the candidates are held, unless no other move is allowed
 abbrev MayIssue : Plan → ℕ → State → Move → Type 0
 MayIssue plan count s mv = is_held plan count ≡ true → is_issue mv ≡ true → IsStuck plan s
 
@@ -87,7 +87,7 @@ one_issue plan a b apart e = by (is_issue a) refl
     by false f = f
     by true f = absurd (let both : shares plan a b ≡ true = shared_at plan a b (Stage 1) (issue_there plan a f) (issue_there plan b e) in cc)
 
--- after a move that is no Issue the candidates are held only where they were
+-- after a move that is not an Issue the candidates are held only where they were
 held_before : (plan : Plan) (count : ℕ) (mv : Move) (e : Event) (drained : Bool) → IsAccepted plan → is_issue mv ≡ false →
     is_held plan (paced count mv e drained) ≡ true → is_held plan count ≡ true
 unfolding paced

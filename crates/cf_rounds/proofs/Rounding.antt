@@ -140,7 +140,7 @@ comes-first limit start pace number none paced zero_rounds within over = record 
   over = over;
 }
 
--- the layout stays
+-- the layout is unchanged
 pub same_plan : (limit : ℕ) (start now : RunPlace) (pace : PaceCount) (number : ℕ) → Comes limit start now pace number → now.core.plan ≡ start.core.plan
 same_plan limit start now pace number c = ap (λ (p : Processor). p.plan) c.reached.core
 
@@ -397,7 +397,7 @@ comes-end limit start now new pace later number ReadFault c t = comes-runs limit
 comes-end limit start now new pace later number WriteFault c t = comes-runs limit start now new pace number WriteFault c
     (fails-there limit start now new pace number t.moves t.round ran.WriteFault c t.goes t.offer t.serves t.does)
 
--- no move was counted where the run stops but those of the rounds
+-- where the run stops, only the moves of the rounds were counted
 pub end-bounded : (limit : ℕ) (start now new : RunPlace) (pace later : PaceCount) (number : ℕ) (answer : Clocked) → IsAccepted start.core.plan →
     length start.core.state.regs ≡ 32 → IsOpened start.core → Comes limit start now pace number → RoundTurns limit now new pace later (Some answer)
     → new.tally.moves ≤ most_moves start.core.plan limit

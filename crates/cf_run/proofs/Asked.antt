@@ -1,4 +1,4 @@
--- What the moves of a run ask, with one more move.
+-- The streams that the moves of a run use, with one more move.
 use Rattle.std.proofs.Common.{◌≡◌, ℕ, List, [], ◌∷◌, ◌++◌, Option, Some, None, inl, inr, ap, sym, subst, ◌∙◌}
 use Rattle.std.specs.Prelude.{◌⊎◌, Result, Ok}
 use Rattle.run_options.specs.declared.show.Show.{Show}
@@ -16,7 +16,7 @@ use Rattle.cf_run.specs.Scripts.{ScriptRun, Follows, ScriptTries}
 use Rattle.cf_run.specs.Asking.{SomeAsks, NextAsks}
 use Rattle.cf_run.proofs.Runs.{followed-more, followed-trace}
 
--- the moves of a longer list, where one of the first asks
+-- the moves of a longer list, where one of the first uses the stream
 some-first : (asks : Processor → Move → Type 0) (plan : Plan) (s : State) (trace others : List Made) → SomeAsks asks plan s trace →
     SomeAsks asks plan s (trace ++ others)
 unfolding SomeAsks
@@ -34,7 +34,7 @@ some-last asks plan limit told m (first ∷ trace) last made (rest, finds, is, h
     inr (subst (λ (s : State). SomeAsks asks plan s (trace ++ made ∷ [])) (sym is.state) (some-last asks plan limit told
     (next plan (record m { rest = rest }) first.move) trace last made h k))
 
--- what the moves that were made ask, or the next one asks, the moves with that one ask
+-- a stream that the moves made so far use, or the next one, the moves with that one use
 pub one-more : (asks : Processor → Move → Type 0) (limit : ℕ) (show : Show) (start now : RunPlace) (h : Reaches limit show start now) (made : Made) →
     SomeAsks asks start.core.plan start.core.state h.trace ⊎ asks now.core made.move
     → SomeAsks asks start.core.plan start.core.state (h.trace ++ made ∷ [])
@@ -50,7 +50,7 @@ same_next answer line other mv last e f =
     let same : (line, mv) ≡ (other, last) = cc in
     ap (λ (next : ℕ × Move). next.1) same
 
--- the next move of the script is the one that asks
+-- the next move of the script is the one that uses the stream
 next_asked : (asks : Processor → Move → Type 0) (limit : ℕ) (show : Show) (now new : ScriptRun) (t : ScriptTries limit show now new None) (made : Made) →
     made.move ≡ t.move → NextAsks asks limit now.place.core now.script → asks now.place.core made.move
 next_asked asks limit show now new t made same next =
@@ -71,7 +71,7 @@ asked-more asks limit show start now new f t asked =
     here (inl some) = inl some
     here (inr next) = let made = followed-trace limit show start now new f t in inr (next_asked asks limit show now new t made.0 made.1 next)
 
--- what no move asked has stayed as it was, with one more move
+-- a stream that no move used is unchanged, with one more move
 pub unasked-more : {T : Type 0} (asks : Processor → Move → Type 0) (limit : ℕ) (show : Show) (start now new : ScriptRun) (f : Follows limit show start now)
     (t : ScriptTries limit show now new None) (first between last : T) → ((SomeAsks asks start.place.core.plan start.place.core.state f.reaches.trace → ⊥) →
     between ≡ first) → ((NextAsks asks limit now.place.core now.script → ⊥) → last ≡ between)

@@ -94,7 +94,7 @@ turned-picks {P} picked onward limit shows begin now new policy at h t picks =
     subst (λ (trace : List Made). PicksTo picked onward begin policy trace (chooser_after picked onward limit shows at now new t))
     (sym (turned-trace picked limit shows begin now new at h t)) there
 
--- what no move asked has stayed as it was, with one more move
+-- a stream that no move used is unchanged, with one more move
 same_choice : (chosen : Option Move) (mv last : Move) → chosen ≡ Some mv → chosen ≡ Some last → mv ≡ last
 same_choice chosen mv last e f = cc
 

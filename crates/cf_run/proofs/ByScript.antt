@@ -1,4 +1,4 @@
--- The run of a script reaches some place by its first moves, as many as were counted, whatever stops it there.
+-- The run of a script reaches some RunPlace by its first moves, as many as were counted, whatever stops it there.
 use Rattle.std.proofs.Common.{◌≡◌, ℕ, List, [], ◌∷◌, ◌++◌, Some, None, sym, ap, subst, ◌∙◌}
 use Rattle.run_options.specs.declared.show.Show.{Show}
 use Rattle.cf_layout.specs.Accepted.{IsAccepted}

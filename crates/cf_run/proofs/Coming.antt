@@ -48,7 +48,7 @@ comes-first picked onward limit shows begin policy held stages none beside zero_
   count_is = zero_held ∙ ap (λ (n : ℕ). stopped n 0) beside;
 }
 
--- the layout stays
+-- the layout is unchanged
 same_plan : (limit : ℕ) (shows : Show) (begin now : RunPlace) → Reaches limit shows begin now → now.core.plan ≡ begin.core.plan
 same_plan limit shows begin now h = ap (λ (p : Processor). p.plan) h.core
 
@@ -108,7 +108,7 @@ comes-more {P} picked onward limit shows begin now new first current held later 
           ∙ paced-stopped stages c.at.count t.takes.move t.takes.event drained;
     }
 
--- what no move asked has stayed as it was, with one more pick
+-- a stream that no move used is unchanged, with one more pick
 pub unasked-comes : {P T : Type 0} (picked : P → List Move → ℕ) (onward : P → List Move → P) (asks : Processor → Move →
     Type 0) (limit : ℕ) (shows : Show) (begin now new : RunPlace) (first current : P) (held : ℕ) (later : Chooser P)
     (c : Comes picked onward limit shows begin now first current held) (t : Turned picked onward limit shows now new (chooser current held) later)
@@ -159,7 +159,7 @@ comes-counted picked onward limit shows begin now first current held accepted wi
     let b = bound_small begin.core.plan limit accepted few in
     omega (arith, a, b)
 
--- no more instructions than the limit have retired
+-- at most as many instructions as the limit have retired
 pub turned-within : {P : Type 0} (picked : P → List Move → ℕ) (onward : P → List Move → P) (limit : ℕ) (shows : Show) (now new : RunPlace)
     (at later : Chooser P) → Turned picked onward limit shows now new at later → new.core.state.retired ≤ limit
 unfolding MoveDoes
@@ -241,13 +241,13 @@ seen-count before after mv e seen drained stages is same beside =
     ap (λ (c : PaceCount). c.count) is ∙ ap (λ (d : Bool). stopped before.stages (paced before.count mv e d)) same
     ∙ ap (λ (n : ℕ). stopped n (paced before.count mv e drained)) beside
 
--- the layout stays
+-- the layout is unchanged
 pub turned-plan : {P : Type 0} (picked : P → List Move → ℕ) (onward : P → List Move → P) (limit : ℕ) (shows : Show) (now new : RunPlace)
     (at later : Chooser P) → Turned picked onward limit shows now new at later → new.core.plan ≡ now.core.plan
 unfolding MoveDoes
 turned-plan picked onward limit shows now new at later t = t.takes.does.makes.makes.plan
 
--- what asks at the next pick by the count that stops asks there
+-- what uses the stream at the next pick by the count that stops uses it there
 choice-asks : {P : Type 0} (asks : Processor → Move → Type 0) (picked : P → List Move → ℕ) (onward : P → List Move →
     P) (limit : ℕ) (shows : Show) (begin now : RunPlace) (first current : P) (held : ℕ) → (c : Comes picked onward limit shows begin now first current held) →
     ChoiceAsks asks picked limit (chooser current held) now.core → ChoiceAsks asks picked limit c.at now.core
@@ -260,7 +260,7 @@ choice-asks asks picked onward limit shows begin now first current held c a =
           a.asked;
     }
 
--- what no move of the run asked has stayed as it was
+-- a stream that no move of the run used is unchanged
 pub comes-unasked : {P S K : Type 0} (picked : P → List Move → ℕ) (onward : P → List Move →
     P) (limit : ℕ) (shows : Show) (begin now new : RunPlace) (first current later : P) (held : ℕ) (answer : Answer) (before between rest : S)
     (blank half full : K) → (c : Comes picked onward limit shows begin now first current held) →

@@ -90,7 +90,7 @@ traps (outcome.Next m line) cause pc detail e = absurd (cc)
 traps (outcome.Trap other at with) cause pc detail e = cc
 traps (outcome.Exit other) cause pc detail e = absurd (cc)
 
--- what is seen of a moment that is level with the count
+-- what a moment that is level with the count shows
 record Level (plan : Plan) (limit : ℕ) (begin new : RunPlace) (m : Moment) (answer : Answer) (at : Machine) : Type 0 where
   ends : EndsUnderLimit (isa_of plan) limit at answer
   retired : new.core.state.retired ≡ at.hart.retired
@@ -210,7 +210,7 @@ ends_told bound limit shows begin now hart rest answer accepted wide opens tells
       record { ends = l.ends; retired = l.retired; regs = l.regs; streams = l.streams },
     )
 
--- over an input that does not
+-- over an input whose remaining bytes are unknown
 ends_untold : (bound limit : ℕ) (shows : Show) (begin now : RunPlace) (hart : Hart) (answer : Answer) → IsAccepted begin.core.plan → length hart.regs ≡ 32 →
     begin.core ≡ opened begin.core.plan hart → begin.streams.input ≡ None → Reaches bound shows begin now → Over begin.core.plan limit now.core.state →
     IsOver limit now.core.state answer

@@ -64,7 +64,7 @@ count_there : (cells : List Cell) (n : ℕ) (c : Cell) (p q : Passenger) → cel
     on (cell_at (put_cell cells n (with_passenger c q)) n) 0 (λ c. on c.passenger 0 (λ p. one (has_served p))) ≡ 1
 count_there cells n c p q e k = rw (put_there cells n c (with_passenger c q) e, k) refl
 
--- the instruction in the highest stage is that of the instruction there
+-- the decoded instruction of the highest stage is that of the Passenger there
 calls_there : (cells : List Cell) (n : ℕ) (c : Cell) (p : Passenger) → cell_at cells n ≡ Some c → c.passenger ≡ Some p →
     Where (passenger_at cells n) ⊥ (λ q. instruction q ≡ Ecall) → instruction p ≡ Ecall
 calls_there cells n c p e f h =

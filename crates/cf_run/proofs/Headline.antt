@@ -1,5 +1,5 @@
 -- A run is a run of the sequential machine on which its processor was opened, whatever chose its moves and whatever
--- stops it, and whether or not the input exposes what it has left.
+-- stops it, and whether or not the input's remaining bytes are known.
 use Rattle.std.proofs.Common.{◌≡◌, ℕ, ◌+◌, List, Option, Some, None, refl, sym, ap, subst, ◌∙◌, length}
 use Rattle.run_options.specs.declared.show.Show.{Show}
 use Rattle.rv_machine.specs.Hart.{Hart}
@@ -34,7 +34,7 @@ run-told limit shows hart rest begin new moves answer accepted wide opens tells 
     c.stops x (moment_after plan x made) (hart.retired + 1) (lines_after plan x made) a.arrives in
     subst (λ (moves : List Move). RunsAs shows x moves begin new answer) c.moves_are (record { right = a.right; stops = h.stops; report = h.report })
 
--- and over one that does not expose
+-- and over one whose remaining bytes are unknown
 run-untold : (limit : ℕ) (shows : Show) (hart : Hart) (begin new : RunPlace) (moves : List Move) (answer : Scripted) → IsAccepted begin.core.plan →
     length hart.regs ≡ 32 → begin.core ≡ opened begin.core.plan hart → begin.streams.input ≡ None
     → ComesTo limit shows begin moves new answer → RunsOverUnknownInput shows hart begin new answer

@@ -1,4 +1,4 @@
--- What a move of the processor did, in the words of a move of a run.
+-- What a move of the processor did, as a move of a run.
 use Rattle.std.proofs.Common.{◌≡◌, ℕ, List, Option, Some, None, Ok, Err, refl, subst}
 use Rattle.run_options.specs.declared.show.Show.{Show}
 use Rattle.rv_machine.specs.Streams.{Streams}
@@ -51,7 +51,7 @@ made-unshown {T = T} {E = E} show mv now new e i j failed free h counts put =
     (record { move = mv; event = e; state = new.core.state })) (Err failed) in
     record { makes = made mv now new e free h counts; report = (subst P (same_plan mv now new e h) put).front }
 
--- the outside failed the move
+-- a stream failed the move
 pub does-read_fault : (show : Show) (mv : Move) (old new : Processor) (before after : Streams) (report : Option (List ℕ)) (tally : Tally) →
     bar old.plan old.state mv ≡ None → MakesOrFails old new mv before after (Err fault.Read) →
     MoveDoes show mv (place_of old before report tally) (place_of new after report tally) (Err ran.ReadFault)

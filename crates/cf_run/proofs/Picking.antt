@@ -43,7 +43,7 @@ picks-more {P} picked onward plan limit told m (first ∷ trace) last at now mad
     picks-more picked onward plan limit told t trace last on now made leads there next_is in
     (pick, subst (λ (s : State). Picks picked onward plan on s (trace ++ made ∷ []) (after_choice onward plan now last.state made)) (sym is.state) more)
 
--- a run of picks from a moment at which what every move keeps holds is a run under the hold rule
+-- a run of picks from a moment at which the invariant holds is a run under the hold rule
 pub picks-paced : {P : Type 0} (picked : P → List Move → ℕ) (onward : P → List Move → P) (plan : Plan) (limit : ℕ) (told : Option (List ℕ)) (x : Machine)
     (before : List Line) (m : Moment) (trace : List Made) (last : Moment) (at now : Chooser P) → IsAccepted plan → HoldsAnew plan x before m →
     Leads plan limit told m trace last → Picks picked onward plan at m.state trace now

@@ -261,7 +261,7 @@ pub followed-trace : (limit : ℕ) (show : Show) (start now new : ScriptRun) (f 
 unfolding DoesLine MoveDoes followed-more reached-more
 followed-trace limit show start now new f t = (record { move = t.move; event = t.does.0; state = new.place.core.state }, refl, refl)
 
--- no more instructions than the limit have retired
+-- at most as many instructions as the limit have retired
 retired-within : (limit : ℕ) (old new : Processor) (mv : Move) (before after : Streams) → old.state.retired < limit → Makes old new mv before after →
     new.state.retired ≤ limit
 retired-within limit old new mv before after below makes =
@@ -276,7 +276,7 @@ pub tried-within : (limit : ℕ) (show : Show) (now new : ScriptRun) → ScriptT
 unfolding DoesLine MoveDoes
 tried-within limit show now new t = made-within limit show now.place new.place t.move t.does.0 t.goes.below t.does.1
 
--- a script has one move less for each that is counted
+-- a script has one move fewer for each that is counted
 lengths : (moves : List (ℕ × Move)) (refused : Option ScriptErr) (line : ℕ) (mv : Move) → first_of moves refused ≡ Ok (Some (line, mv)) →
     length (drop 1 moves) + 1 ≡ length moves
 lengths [] refused line mv e = absurd (nothing-next refused line mv e)

@@ -1,5 +1,4 @@
--- From every moment at which what every move keeps holds the processor settles: with issue held back it drains, to one
--- end.
+-- From every moment at which the invariant holds the processor settles: with issue held back it drains, to one end.
 use Rattle.std.proofs.Common.{◌≡◌, ℕ, zero, suc, ◌*◌, ◌≤◌, List, [], ◌∷◌, Option, Some, None, Bool, true, false, refl, sym, ap, subst, ◌∙◌, length, arith}
 use Rattle.std.specs.Prelude.{filter, not}
 use Rattle.rv_machine.specs.Machine.{Machine}
@@ -29,7 +28,7 @@ use Rattle.theory_confluence.proofs.drains.Determined.{ends_as}
 use Rattle.theory_confluence.proofs.drains.Tidy.{IsTidy, tidy_next, tidy_opened, tidy_run}
 use Rattle.cf_run.specs.Headline.{Settles}
 
--- what every move keeps holds at the moment: the invariant, over the machine, and that the state is tidy
+-- what every move keeps, at the moment: the invariant over the machine, and that the state is tidy
 pub record IsKept (plan : Plan) (x : Machine) (m : Moment) : Type 0 where
   pub held : HoldsAfter plan x m
   pub tidy : IsTidy plan m.state

@@ -150,7 +150,7 @@ unwritten_stop shows begin now new mv accepted outside fails x m n written a = r
   report = broken_lines shows x m n written begin now new (Ran ran.WriteFault) mv a outside (λ text w. w);
 }
 
--- a report that got all that was to be put to it
+-- a report that got all that was to be written to it
 abbrev pub filled : Option (List ℕ) → List ℕ → Option (List ℕ)
 filled None text = None
 filled (Some told) text = Some (told ++ text)

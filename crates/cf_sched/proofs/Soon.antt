@@ -1,4 +1,4 @@
--- The first candidate after a move is the first after it of what is offered.
+-- The first candidate after a move is the first offered move after it.
 use Rattle.std.proofs.Common.{◌≡◌, Bool, Option, Some, None}
 use Rattle.std.specs.Prelude.{IfSome, MatchOption, slice_get}
 use Rattle.cf_bind.specs.declared.moves.Move.{Move}

@@ -22,11 +22,11 @@ set_index (o ∷ []) (suc n) q e = absurd (omega arith)
 set_index (o ∷ p ∷ cells) zero q e = absurd (omega arith)
 set_index (o ∷ p ∷ cells) (suc n) q e = ap (λ (l : List (Option Op)). o ∷ l) (set_index (p ∷ cells) n q (omega arith))
 
--- what is in the last cell
+-- the contents of the last cell
 pub last_op-index : (cells : List (Option Op)) → 0 < length cells → last_op cells ≡ slice_index_or cells (length cells - 1) None
 last_op-index cells h = last_index cells (length cells - 1) (omega arith)
 
--- something else in the last cell
+-- new contents of the last cell
 pub set_last-index : (cells : List (Option Op)) (q : Option Op) → 0 < length cells → set_last cells q ≡ slice_set cells (length cells - 1) q
 set_last-index cells q h = set_index cells (length cells - 1) q (omega arith)
 
@@ -35,7 +35,7 @@ pub last-within : (cells : List (Option Op)) → IsSome (last_op cells) → 0 < 
 last-within [] e = absurd (cc)
 last-within (o ∷ cells) e = omega arith
 
--- nor one that can be made
+-- nor one that can be carried out
 pub access-within : (cells : List (Option Op)) (mem : Memory) → CanAccess (last_op cells) mem → 0 < length cells
 access-within [] mem e = absurd e
 access-within (o ∷ cells) mem e = omega arith

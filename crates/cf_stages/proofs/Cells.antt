@@ -1,4 +1,4 @@
--- What holds of each stage holds of each after a change of one, and how many stages there are.
+-- What holds of each stage still holds after a change of one; and the number of stages.
 use Rattle.std.proofs.Common.{◌≡◌, ℕ, zero, suc, List, Some, length, refl, subst}
 use Rattle.std.specs.Prelude.{slice_set, All}
 use Rattle.std.proofs.lemmas.List.{length-set}

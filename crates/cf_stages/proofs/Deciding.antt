@@ -1,4 +1,4 @@
--- What `==` answers decides whether two instructions or results in the pipes are the same.
+-- `==` decides whether two instructions or results in the pipes are the same.
 use Rattle.std.proofs.Common.{◌≡◌, Bool, Option, Some, None, arith, refl, ap}
 use Rattle.std.proofs.lemmas.Bool.Decides.{nat_tests, Decides-and, Decides-eqb}
 use Rattle.std.specs.Bool.{Decides}
@@ -17,7 +17,7 @@ use Rattle.cf_bind.specs.contracts.passenger.EndPartialEq.TheImpl.{eq-value as e
 use Rattle.cf_bind.specs.declared.passenger.Passenger.{Passenger}
 use Rattle.cf_bind.specs.contracts.passenger.PassengerPartialEq.TheImpl.{eq-value as passenger_eq}
 
--- where it decides for the contents, it does so for what may be there
+-- where it decides for a type, it does so for its options
 pub option_decides : {X : Type 0} {E : X → X → Bool} → ((a b : X) → Decides (E a b) (a ≡ b)) → (o p : Option X) → Decides (option_eq E o p) (o ≡ p)
 option_decides decides None None = (λ _. refl, λ _. refl)
 option_decides decides None (Some b) = (λ t. absurd (cc), λ e. absurd (cc))
@@ -44,7 +44,7 @@ packet_decides a b = grind (arith, nat_tests)
 pub instr_decides : (a b : Instr) → Decides (instr_eq.it a b) (a ≡ b)
 instr_decides a b = grind (arith, nat_tests)
 
--- two instructions on their way
+-- two Passengers
 pub passenger_decides : (a b : Passenger) → Decides (passenger_eq.it a b) (a ≡ b)
 passenger_decides a b =
     let d = Decides-and _ _ (Decides-eqb a.pc b.pc)

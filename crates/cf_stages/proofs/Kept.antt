@@ -1,4 +1,4 @@
--- The pipes and the words still agree after one stage was changed, and what is in the stages then.
+-- The pipes and the words still agree after one stage was changed, and the contents of the stages then.
 use Rattle.std.proofs.Common.{◌≡◌, ◌∙◌, ℕ, zero, suc, ◌-◌, ◌<◌, ◌≤◌, List, [], ◌∷◌, All, Option, Some, None, Bool, true, false, IsTrue, length, length-set, refl, sym, ap, subst, arith}
 use Rattle.std.specs.Prelude.{IsSome, slice_get, slice_index_or, slice_set}
 use Rattle.std.proofs.lemmas.Option.{slice_get-get_or}
@@ -35,7 +35,7 @@ parts_put ps qs met i p q b low within e most =
     put-parts ps qs met (with_bit met (i - 1) b) i p q low within e most (λ k below off. bit-other met (i - 1) k b (omega arith) below off)
     ∙ ap (λ (m : Bool). put_cell (cells_of ps qs met) i (record { passenger = p; packet = q; met = m })) (bit-same met (i - 1) b (omega arith))
 
--- the parts agree with what is in the stages then
+-- the parts agree with the contents of the stages then
 agree_put : (ps ps1 : List (Option Passenger)) (qs qs1 : List (Option Packet)) (riding flying met riding1 flying1 met1 i : ℕ) (c : Cell) →
     AreParts ps qs riding flying met → 0 < i → i ≤ length ps →
     length ps1 ≡ length ps → length qs1 ≡ length qs → cells_of ps1 qs1 met1 ≡ put_cell (cells_of ps qs met) i c → IsCell c →

@@ -1,4 +1,4 @@
--- What is in the stages, and what the words say, after an instruction went to the stage above or a result to the one
+-- The contents of the stages and the bit words after an instruction moved to the stage above, or a result to the one
 -- below.
 use Rattle.std.proofs.Common.{◌≡◌, ◌∙◌, ℕ, ◌+◌, ◌-◌, ◌<◌, ◌≤◌, List, Option, Some, None, Bool, true, false, IsTrue, length, length-set, refl, sym, ap, subst, arith}
 use Rattle.std.specs.Prelude.{IsSome, slice_get, slice_index_or, slice_set}
@@ -21,7 +21,7 @@ read_any xs k x y within =
     let b = slice_get-get_or xs k y within in
     cc
 
--- the rider is in the stage above, and no rider is left in the stage where it was
+-- the instruction is in the stage above, and none is left in the stage where it was
 record Lifts (ps : List (Option Passenger)) (qs : List (Option Packet)) (met i : ℕ) : Type 0 where
   low : 0 < i
   within : i ≤ length ps
@@ -94,7 +94,7 @@ lifted-is ps ps1 qs riding flying met met1 i h c e m =
 
 pub ruleset lifting = (lifted-parts, lifted-is, climbs-low, climbs-high, count-read)
 
--- the result is in the stage below, and no result is left in the stage where it was
+-- the result is in the stage below, and none is left in the stage where it was
 record Drops (ps : List (Option Passenger)) (qs : List (Option Packet)) (met i : ℕ) (q : Option Packet) : Type 0 where
   low : 1 < i
   within : i ≤ length ps

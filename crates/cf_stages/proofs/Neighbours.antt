@@ -11,7 +11,7 @@ use Rattle.cf_stages.specs.Changes.{can_climb, can_fall, changed, passenger_at, 
 use Rattle.cf_stages.specs.Parts.{with_place}
 use Rattle.cf_stages.proofs.Parts.{cell-put-other, stage-low, stage-high}
 
--- what is in two different stages is changed
+-- the contents of two different stages are changed
 two_changed : (cells : List Cell) (i j : ℕ) (c d : Cell) (f g : Cell → Cell) → j ≢ i → cell_at cells i ≡ Some c → cell_at cells j ≡ Some d →
     changed (changed cells i f) j g ≡ put_cell (put_cell cells i (f c)) j (g d)
 two_changed cells i j c d f g off here there =

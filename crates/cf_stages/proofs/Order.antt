@@ -1,4 +1,4 @@
--- A move up or down leaves what is in the pipes in its order.
+-- A move up or down leaves the contents of the pipes in their order.
 use Rattle.std.proofs.Common.{◌≡◌, ◌∙◌, ℕ, zero, suc, ◌+◌, ◌-◌, List, [], ◌∷◌, ◌++◌, Option, Some, None, Bool, true, false, IsTrue, map, refl, sym, subst, ap, arith, append_assoc}
 use Rattle.std.specs.Prelude.{slice_get, slice_set}
 use Rattle.std.proofs.lemmas.List.{map-append}
@@ -12,7 +12,7 @@ use Rattle.cf_semantics.specs.moves.Moves.{without_passenger, without_packet}
 use Rattle.cf_stages.specs.Changes.{can_climb, can_fall, climbs, falls, climbed, fallen, with_new_passenger, with_new_packet}
 use Rattle.cf_stages.specs.Contents.{StageContent, content, contents}
 
--- what is in a stage, wherever that is
+-- the contents of a stage, without its number
 abbrev inside : Cell → List StageContent
 inside c = map content (items 1 c)
 

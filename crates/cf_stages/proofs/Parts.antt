@@ -1,4 +1,4 @@
--- What is in the stages, from the two pipes and the words, and after a change of one entry of each.
+-- The contents of the stages, from the two pipes and the bit words, and after a change of one entry of each.
 use Rattle.std.proofs.Common.{◌≡◌, ◌≢◌, ◌∙◌, ℕ, zero, suc, ◌+◌, ◌-◌, ◌<◌, ◌≤◌, List, [], ◌∷◌, Option, Some, Bool, true, false, length, refl, sym, ap, arith}
 use Rattle.std.specs.Prelude.{slice_get, slice_set, nat_eq}
 use Rattle.std.proofs.lemmas.Bool.Decides.{nat_tests}

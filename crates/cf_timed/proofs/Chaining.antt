@@ -69,7 +69,7 @@ all_more plan delays moves mv (done ∷ earlier) h = (
   all_more plan delays moves mv earlier h.1,
 )
 
--- the one that ends latest of those that pass a test, if any does
+-- the latest of those that pass a test, if any does
 record Latest (plan : Plan) (delays : List ℕ) (moves : List Move) (test : Move → Bool) (time : ℕ) : Type 0 where
   move : Move
   passes : test move ≡ true
@@ -153,7 +153,7 @@ own_time done moves = omega arith
 passing_time : (test : Done → Bool) (done : Done) (moves : List Done) → test done ≡ true → done.time ≤ greatest_time (filter test (done ∷ moves))
 passing_time test done moves e = let w = where_more test done moves in let z : cond (test done) done.time 0 ≡ done.time = rw e refl in omega (arith, w, z)
 
--- the time that a chain has reached is no later than what its next move waits for
+-- the time that a chain has reached is at most that for which its next move waits
 abbrev IsReady : Plan → List Done → ℕ → List Move → Type 0
 IsReady plan earlier s [] = Unit {0}
 IsReady plan earlier s (mv ∷ chain) = s ≤ greatest_time (before plan mv earlier)

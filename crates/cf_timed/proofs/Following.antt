@@ -56,7 +56,7 @@ map_same f g (x ∷ xs) kept same =
     let r = map_same f g xs kept.1 same in
     rw (h, r) refl
 
--- when a further move is done
+-- when a further move finishes
 pub finish_follows : (plan : Plan) (delays : List ℕ) (moves : List Done) (c : SiteTimes) (mv : Move) → Follows plan delays moves c → AreKept plan mv →
     finish c mv ≡ time_after plan delays moves mv
 unfolding finish time_after shares

@@ -186,7 +186,7 @@ is-timed Holds delays limit begin new later answer acc wide o few small within n
       holds = holds;
     }
 
--- so a timed run is what it should be, and this holds of its moves
+-- so a timed run meets its contract, and this holds of its moves
 pub record RunsTimedSo (Holds : List Move → Type 0) (delays : List ℕ) (limit : ℕ) (begin : RunPlace) (core : Processor) (streams : Streams) (clock : SiteTimes)
     (moves : ℕ) (answer : Timed) : Type 0 where
   pub timed : RunsTimed delays limit begin core streams clock moves answer

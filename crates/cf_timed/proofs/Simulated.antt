@@ -32,7 +32,7 @@ delay_few delays mv h = read delays (kind_place mv) (λ k d within. (h.each k d 
     read (x ∷ xs) zero h = h 0 0 (omega arith)
     read (x ∷ xs) (suc i) h = read xs i (λ k d within. h (suc k) d (omega (arith, within)))
 
--- a move is done at most its delay after all earlier ones
+-- a move finishes at most its delay after all earlier ones
 pub all_time : (done : Done) (moves : List Done) → greatest_time (done ∷ moves) ≡ max done.time (greatest_time moves)
 unfolding greatest_time
 all_time done moves = refl

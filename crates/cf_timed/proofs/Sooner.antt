@@ -1,4 +1,4 @@
--- The move that finishes earliest is one that issues, or the first of the others.
+-- The move that finishes earliest is an Issue, or the first of the others.
 use Rattle.std.proofs.Common.{◌≡◌, ◌∙◌, sym, refl, ap, ℕ, zero, suc, ◌+◌, ◌-◌, ◌^◌, ◌<◌, ◌≤◌, List, [], ◌∷◌, ◌++◌, All, fold, length, get_or, Bool, true, false, nat_lt, Some, None, arith}
 use Rattle.std.specs.Prelude.{IfSome, slice_get}
 use Rattle.std.proofs.lemmas.Bool.Decides.{nat_tests}
@@ -24,7 +24,7 @@ use Rattle.cf_timed.specs.declared.soonest.Due.{Due}
 use Rattle.cf_timed.proofs.Leasts.{least-after, least-front, least-of_all}
 use Rattle.cf_timed.proofs.Sought.{found-bound, found-least}
 
--- all that issue use the same sites, and are of one kind
+-- all Issues use the same sites, and are of one kind
 issue_time : (c : SiteTimes) (g : Guess) → capped c (Issue g) ≡ capped c (Issue Next)
 unfolding finish delay
 issue_time c g = refl
@@ -38,7 +38,7 @@ all_issues c (suc (suc (suc k))) d below = absurd (omega arith)
 each_issue : (c : SiteTimes) (plan : Plan) (s : State) → All (λ mv. capped c mv ≡ capped c (Issue Next)) (allowed_issues plan s)
 each_issue c plan s = All-filter (is_allowed plan s) (λ mv. capped c mv ≡ capped c (Issue Next)) (Issue Next ∷ Issue Taken ∷ Issue Wait ∷ []) (all_issues c)
 
--- no move that issues is done by the time
+-- no Issue finishes by the time
 pub none_held : (c : SiteTimes) (plan : Plan) (s : State) (held : Bool) (by : ℕ) → held ≡ true → AreLater c (unheld_issues held plan s) by
 none_held c plan s true by e = λ k d below. absurd (omega arith)
 none_held c plan s false by e = absurd (cc)
@@ -70,7 +70,7 @@ issue_there c plan s false by time mv e free soon at =
       soon = soon;
     }
 
--- an Issue is first where none of the others is done before it
+-- an Issue is first where none of the others finishes before it
 front : (c : SiteTimes) (xs ys : List Move) (mv : Move) → Some mv ≡ slice_get xs 0 → All (λ x. capped c x ≡ capped c mv) xs →
     ((k : ℕ) (d : Move) → k < length ys → capped c mv ≤ capped c (get_or ys k d)) → Some mv ≡ slice_get (xs ++ ys) (first_least (capped c) (xs ++ ys))
 front c [] ys mv at same later = absurd (cc)

@@ -25,7 +25,7 @@ use Rattle.run_ledger.proofs.Latests.{latest_any, latest_kinds, latest_never, la
 use Rattle.run_ledger.proofs.Marked.{marks_put, put_size}
 use Rattle.run_ledger.proofs.Numbered.{charged_numbered}
 
--- the done moves that use the site
+-- the finished moves that use the site
 abbrev pub at_place : Plan → Site → Done → Bool
 at_place plan x done = uses_place plan done.move x
 
@@ -57,7 +57,7 @@ map_twice : (marks : List ChainMark) (xs : List Site) → map (mark_at marks) (m
 map_twice marks [] = refl
 map_twice marks (x ∷ xs) = ap (λ (l : List ChainMark). mark_at marks (place_number x) ∷ l) (map_twice marks xs)
 
--- the mark that a move follows is that of the latest that uses a site which it uses
+-- the mark that a move follows is that of the latest that shares a site with it
 follows_latest : (plan : Plan) (delays : List ℕ) (moves : List Move) (l : Ledger) (mv : Move) → Keeps plan delays moves l → AreKept plan mv →
     followed l mv ≡ latest_where plan delays (λ d. shares plan mv d.move) (times plan delays moves)
 unfolding followed shares

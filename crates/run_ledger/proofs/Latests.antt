@@ -130,7 +130,7 @@ latest_any {X} plan delays p test (x ∷ xs) moves =
     turned true b c = refl
     turned false b c = refl
 
--- the last that passes and is done at a time, none that passes being done later
+-- the last that passes and finishes at a time, where none that passes finishes later
 at_time : (plan : Plan) (delays : List ℕ) (p : Done → Bool) (moves : List Done) (s : ℕ) → (latest_where plan delays p moves).time ≤ s →
     last_where plan delays (λ d. p d && nat_eq d.time s) moves ≡ cond (nat_eq (latest_where plan delays p moves).time s)
     (latest_where plan delays p moves) no_mark
@@ -179,7 +179,7 @@ at_time plan delays p (done ∷ earlier) s h =
             let below : done.time < s = grind (arith, nat_tests, few) in
             r ∙ stays (nat_eq (latest_where plan delays p earlier).time s) refl below
 
--- so the latest is the last that passes and is done when the latest is
+-- so the latest is the last that passes and finishes last
 pub latest_last : (plan : Plan) (delays : List ℕ) (p : Done → Bool) (moves : List Done) → last_where plan delays (λ d. p d
     && nat_eq d.time (latest_where plan delays p moves).time) moves ≡ latest_where plan delays p moves
 latest_last plan delays p moves =

@@ -1,4 +1,4 @@
--- The chain of a run that is followed from the last move that is done last is a longest one.
+-- The chain of a run that is followed from the last of the moves that finish last is a longest one.
 use Rattle.std.proofs.Common.{◌≡◌, ◌∙◌, refl, sym, ap, subst, ℕ, ◌+◌, ◌-◌, List, [], ◌∷◌, ◌++◌, max, Bool, true, false, cond, nat_eq, arith, append-nil, append_assoc}
 use Rattle.std.specs.Prelude.{◌&&◌}
 use Rattle.std.proofs.lemmas.Bool.Decides.{nat_tests}
@@ -43,7 +43,7 @@ part-of plan delays test (d ∷ earlier) = by (test d) (part-of plan delays (lea
     by true h g = part_last (chain_to plan delays (leads_to plan delays d) earlier) (run_of earlier) d.move h
     by false h g = part_more (chain_to plan delays test earlier) (run_of earlier) d.move g
 
--- each move of it uses a site that the next one uses
+-- each move of it shares a site with the next one
 both-hold : (a b : Bool) → (a && b) ≡ true → a ≡ true
 both-hold true b e = refl
 both-hold false b e = e
@@ -71,7 +71,7 @@ linked-of plan delays test (d ∷ earlier) = by (test d) (linked-to plan delays 
     by true h g = h
     by false h g = g
 
--- the chain to the last of those that pass and are done latest takes as long as they do
+-- the chain to the last of those that pass and finish latest takes as long as they do
 start-is : (plan : Plan) (delays : List ℕ) (earlier : List Done) (d : Done) → d.time ≡ time_after plan delays earlier d.move →
     d.time ≡ greatest_where (λ e. shares plan d.move e.move) earlier + delay delays d.move
 unfolding time_after

@@ -77,7 +77,7 @@ at_put (m ∷ marks) (suc i) zero mark within = let e : nat_eq 0 (suc i) ≡ fal
 at_put (m ∷ marks) (suc i) (suc j) mark within = let e : nat_eq (suc j) (suc i) ≡ nat_eq j i = grind (arith, nat_tests) in
     rw e (at_put marks i j mark (omega arith))
 
--- their number stays
+-- their number is unchanged
 set_size : (marks : List ChainMark) (i : ℕ) (mark : ChainMark) → length (slice_set marks i mark) ≡ length marks
 set_size [] i mark = refl
 set_size (m ∷ marks) zero mark = refl

@@ -59,7 +59,7 @@ charged_numbered counts more f g n numbers is grows =
     (λ i within. ap (λ (xs : List ℕ). plus_if (counts i) (number_at xs i) more) is ∙ ap (λ (k : ℕ). plus_if (counts i) k more) (numbered_at f n i within)
     ∙ grows i within)
 
--- their number stays
+-- their number is unchanged
 pub set_length : (xs : List ℕ) (i v : ℕ) → length (slice_set xs i v) ≡ length xs
 set_length [] i v = refl
 set_length (x ∷ xs) zero v = refl

@@ -1,4 +1,4 @@
--- The line of a move, read again, gives that move.
+-- The line of a move, read back, gives that move.
 use Rattle.std.proofs.Common.{◌≡◌, ℕ, ◌<◌, ◌^◌, List, [], ◌∷◌, ◌++◌, refl, ◌∙◌, ap, Ok, lit<}
 use Rattle.std.specs.Prelude.{codes, decimal}
 use Rattle.cf_bind.specs.declared.passenger.Guess.TheVariants as guess

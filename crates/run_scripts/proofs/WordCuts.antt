@@ -26,7 +26,7 @@ split_by : (b : Bool) (x : ℕ) (whole front back : List (List ℕ)) → whole �
 split_by true x whole front back e some = ap (λ parts. [] ∷ parts) e
 split_by false x whole front back e some = ap (onto_first x) e ∙ onto_first-append x front back some
 
--- a separator parts the text in two
+-- a separator splits the text in two
 split-at : (p : ℕ → Bool) (xs : List ℕ) (y : ℕ) (ys : List ℕ) → p y ≡ true
     → slice_split p (xs ++ y ∷ ys) ≡ slice_split p xs ++ slice_split p ys
 split-at p [] y ys h = rw h refl

@@ -159,8 +159,8 @@ fn assert_begins_elsewhere(rt: &(impl Abort + AllocGlobal), other: &Core) {
     assert!(rt; !core.same(other), "the same state");
 }
 
-/// All orders of moves that drain one state lead to one state, apart from what is kept at the bottom; and that is
-/// another state.
+/// All orders of moves that drain one state lead to one state, apart from the cache at the bottom; and that is another
+/// state.
 #[test]
 fn drains_end_in_one_state(rt: HostRuntime) {
     let first = drained(&rt, DIES_FIRST, &[]);

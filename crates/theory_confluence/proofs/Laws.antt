@@ -62,8 +62,8 @@ pub run_bounded : (plan : Plan) (x : Machine) (moves : List Move) → IsAccepted
     length moves ≤ moves_per_issue plan * issues moves
 run_bounded plan x moves acc wide allowed = bounded_run plan x moves (accepted_suits plan acc) wide allowed
 
--- a reached state in which no move but Issue is allowed, and that has not ended, is drained where the machine is, and
--- Issue is allowed there
+-- a reached state in which no move but Issue is allowed, and that has not ended, is drained at the machine, and Issue
+-- is allowed there
 pub stuck_rests : (plan : Plan) (x : Machine) (m : Moment) → IsAccepted plan → length x.hart.regs ≡ 32 → IsReached plan x m → m.state.ending ≡ None →
     IsStuck plan m.state → Rests plan x m
 stuck_rests plan x m acc wide reached going stuck =
@@ -124,7 +124,7 @@ some_pick plan x m acc wide reached going =
     in
     (has_some (candidates plan m.state) p.0.0 p.0.1, has_some (held_back (candidates plan m.state)) p.1.0 p.1.1)
 
--- in a drained state that has not ended, each value that is kept at the bottom is its register's
+-- in a drained state that has not ended, each cached value is its register's
 pub kept_is_true : (plan : Plan) (x : Machine) (m : Moment) → IsAccepted plan → length x.hart.regs ≡ 32 → IsReached plan x m → m.state.ending ≡ None →
     is_drained m.state ≡ true → KeepsRegisters m.state
 kept_is_true plan x m acc wide reached going drained = kept_true plan x m (reached_holds plan x m acc wide reached) going drained

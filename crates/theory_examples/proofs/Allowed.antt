@@ -1,4 +1,4 @@
--- Moves of which none is barred are a run.
+-- Moves that are not barred are a run.
 use Rattle.std.proofs.Common.{◌≡◌, List, [], ◌∷◌, Option, Some, None, refl}
 use Rattle.cf_layout.specs.Layout.{Plan}
 use Rattle.rv_machine.specs.Machine.{Machine}

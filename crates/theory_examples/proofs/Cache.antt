@@ -1,4 +1,4 @@
--- Worked runs: values that are kept at the bottom of the pipe.
+-- Worked runs: values that are in the cache at the bottom of the pipe.
 use Rattle.std.specs.Prelude.{[], ◌∷◌, Some, None, refl, replicate, slice_set, pos}
 use Rattle.rv_inst.specs.declared.instruction.Instr.{Instr}
 use Rattle.rv_inst.specs.declared.instruction.Instr.TheVariants as instr
@@ -24,7 +24,7 @@ put_five = instr.OpImm imm_op.Add 1 0 (pos 5)
 abbrev pub add_one : Instr
 add_one = instr.OpImm imm_op.Add 2 1 (pos 1)
 
--- The value that left at the bottom is kept there: the next instruction has it when it is issued.
+-- A value that leaves at the bottom is cached there: the next instruction has it when it is issued.
 pub kept_and_used : EndsIn tiny_with_cache kept_value
     (Issue Next ∷ Execute 1 ∷ Send 1 ∷ Exit ∷ Climb 1 ∷ Issue Next ∷ Execute 1 ∷ [])
     (record (opened tiny_with_cache kept_value) {
@@ -44,7 +44,7 @@ kept_until_a_turn = sample (0x93 ∷ 0x00 ∷ 0x50 ∷ 0x00 ∷ 0x6f ∷ 0x00 �
 abbrev pub jump_on : Instr
 jump_on = instr.Jal 0 (pos 4)
 
--- A turn that leaves at the bottom clears what is kept.
+-- A turn that leaves at the bottom clears the cache.
 pub turn_clears : EndsIn tiny_with_cache kept_until_a_turn
     (Issue Next ∷ Execute 1 ∷ Send 1 ∷ Exit ∷ Climb 1 ∷ Issue Wait ∷ Execute 1 ∷ Send 1 ∷ Exit ∷ [])
     (record (opened tiny_with_cache kept_until_a_turn) {

@@ -1,4 +1,4 @@
--- What is unfolded to compute runs of the moves on given programs.
+-- The definitions to unfold when computing runs on given programs.
 use Rattle.std.specs.Prelude.{⊤}
 use Rattle.rv_inst.specs.Accesses.{access_made, load_value, extended}
 use Rattle.rv_inst.specs.Arithmetic.{op_value, is_taken, alu_value, next_pc}

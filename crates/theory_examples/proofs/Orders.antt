@@ -23,7 +23,7 @@ skipping_a_sum = sample (0x63 ∷ 0x04 ∷ 0x00 ∷ 0x00 ∷ 0x93 ∷ 0x80 ∷ 0
 abbrev pub wrong_guess : List Move
 wrong_guess = Issue Next ∷ Execute 1 ∷ Send 1 ∷ Climb 1 ∷ Issue Next ∷ []
 
--- Its weight allows for 19 moves before the next issue.
+-- Its weight allows for 19 moves before the next Issue.
 pub weighs_19 : weight tiny (after_moves tiny skipping_a_sum wrong_guess) ≡ 19
 unfolding on_literals
 weighs_19 = refl
@@ -47,7 +47,7 @@ pub value_first : EndsIn tiny skipping_a_sum (wrong_guess ++ (Emit ∷ Meet 2 �
 unfolding on_literals
 value_first = ends refl refl
 
--- How many moves each issue allows for: in the small layout, and in the built-in one.
+-- How many moves each Issue allows for: in the small layout, and in the built-in one.
 pub tiny_allows : moves_per_issue tiny ≡ 25
 unfolding on_literals
 tiny_allows = refl

@@ -26,7 +26,7 @@ branch_by_8 = instr.Branch cond.Eq 0 0 (pos 8)
 abbrev pub store_x1 : Instr
 store_x1 = instr.Store store.Word 2 1 (pos 0)
 
--- The turn of the branch kills the store below it, which is never made.
+-- The turn of the branch kills the store below it, which is never carried out.
 pub store_dies : EndsIn tiny skipping_a_store
     (Issue Next ∷ Execute 1 ∷ Send 1 ∷ Climb 1 ∷ Issue Next ∷ Meet 1 ∷ [])
     (record (opened tiny skipping_a_store) {

@@ -91,17 +91,17 @@ pub executes_only_with_values : IsBarred tiny asking
 unfolding on_literals
 executes_only_with_values = barred refl refl
 
--- what is still to be done at most, without another issue, is 11 moves once the first instruction is issued
+-- once the first instruction is issued, at most 11 moves are left without another Issue
 pub eleven_moves_at_most : weight tiny (after_moves tiny seven (Issue Next ∷ [])) ≡ 11
 unfolding on_literals
 eleven_moves_at_most = refl
 
--- and nothing at the start
+-- and none at the start
 pub nothing_to_do : weight tiny (opened tiny seven) ≡ 0
 unfolding on_literals
 nothing_to_do = refl
 
--- an issue is taken back by what was kept of the state before it
+-- an Issue is taken back by what was kept of the state before it
 pub issue_taken_back : restored (moved tiny (opened tiny seven) (Issue Next)) (kept tiny (opened tiny seven) (Issue Next)) ≡ opened tiny seven
 unfolding on_literals
 issue_taken_back = refl

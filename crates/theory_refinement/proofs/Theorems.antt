@@ -22,7 +22,7 @@ pub holds_after : (plan : Plan) (x0 : Machine) (moves : List Move) → IsAccepte
     HoldsAfter plan x0 (run plan (start plan x0) moves)
 holds_after plan x0 moves acc wide allowed = runs.holds_after plan x0 moves (accepted_suits plan acc) wide allowed
 
--- what is seen of every run is what the sequential machine does
+-- what every run shows from outside is what the sequential machine does
 pub run_refines : (plan : Plan) (x0 : Machine) (moves : List Move) → IsAccepted plan → length x0.hart.regs ≡ 32 → IsRun plan (start plan x0) moves →
     Refines plan x0 (lines plan (start plan x0) moves) (run plan (start plan x0) moves)
 run_refines plan x0 moves acc wide allowed = refines.run_refines plan x0 moves (accepted_suits plan acc) wide allowed
@@ -34,7 +34,7 @@ pub lines_prefix : (plan other : Plan) (x0 : Machine) (moves others : List Move)
 lines_prefix plan other x0 moves others acc accepted wide allowed permitted = refines.lines_prefix plan other x0 moves others (accepted_suits plan acc)
     (accepted_suits other accepted) wide allowed permitted
 
--- off the sequential path no move changes anything that is seen
+-- off the sequential path no move changes anything that shows from outside
 pub run_heeds : (plan : Plan) (x0 : Machine) (moves : List Move) (mv : Move) → IsAccepted plan → length x0.hart.regs ≡ 32 → IsRun plan (start plan x0) moves →
     bar plan (run plan (start plan x0) moves).state mv ≡ None → KeepsOrActsOnPath plan x0 (run plan (start plan x0) moves) mv
 run_heeds plan x0 moves mv acc wide allowed free = heeds.run_heeds plan x0 moves mv (accepted_suits plan acc) wide allowed free

@@ -1,4 +1,4 @@
--- Runs, and what is claimed of them.
+-- Runs, and the claims about them.
 pub mod Runs
 pub mod Soundness
 pub mod SoundnessPath

@@ -1,4 +1,4 @@
--- The column and the sidings as lists, and how a change in the middle carries over to a walk.
+-- The column and the sidings as lists, and how a change in the middle affects a walk.
 pub mod Column
 pub mod Stretch
 pub mod Fold

@@ -1,4 +1,4 @@
--- What is used of single instructions, of what is fetched and of memory.
+-- What the proofs use about single instructions, fetching and memory.
 pub mod Classes
 pub mod Steps
 pub mod Fetches

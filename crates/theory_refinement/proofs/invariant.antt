@@ -1,4 +1,4 @@
--- What every move keeps: all that soundness claims, and what else the induction needs.
+-- The invariant: all that soundness claims, and what else the induction needs.
 pub mod Sure
 pub mod Port
 pub mod Lone

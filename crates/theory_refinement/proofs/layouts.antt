@@ -1,3 +1,3 @@
--- From the rules of layouts to what the moves need.
+-- What the moves need, from the rules of layouts.
 pub mod Layouts
 pub mod Accepted

@@ -1,4 +1,4 @@
--- The walks of the path, of the port and of what nothing may follow: what each change leaves of them.
+-- The walks of the path, of the port and of what nothing may follow, after each change.
 pub mod Path
 pub mod PathMeet
 pub mod PathFinish

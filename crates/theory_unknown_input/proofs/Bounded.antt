@@ -21,7 +21,7 @@ use Rattle.theory_unknown_input.proofs.Found.{found}
 use Rattle.theory_unknown_input.proofs.Rechosen.{over}
 use Rattle.theory_unknown_input.proofs.Theorems.{anew_kept, anew_started, held_anew}
 
--- what a move costs where the moment holds with the input that the move finds
+-- what a move costs where the invariant holds with the input that the move finds
 costs_by : (plan : Plan) (x : Machine) (m : Moment) (mv : Move) → Suits plan → bar plan m.state mv ≡ None → HoldsAfter plan x m →
     suc (weight plan (next plan m mv).state) ≤ weight plan m.state + moves_per_issue plan * counts (is_issue mv) 1
 costs_by plan x m mv acc free h = costs plan m h.machine mv acc free (sound_at plan x m mv free h)

@@ -39,20 +39,20 @@ unfoldable pub past : Item → (ℕ → Bool) → (ℕ → Bool)
 past (Up i p) w = λ r. gives p r || w r
 past (Down i k) w = w
 
--- below all: nor is one kept at the bottom
+-- below all: nor is one cached
 abbrev pub Ends : (ℕ → Bool) → List (Option ℕ) → Type 0
 Ends w cache = (r v : ℕ) → cached cache r ≡ Some v → w r ≡ false
 
--- no value of a register that an answer is still to give is below that call, nor is one kept at the bottom
+-- no value of a register that an answer is still to give is below that call, nor is one cached
 pub record IsClear (s : State) : Type 0 where
   pub fit : Everywhere Fits past (column s) none_awaited
   pub ends : Ends (walk past (column s) none_awaited) s.cache
 
--- with v no register is waited for that is not waited for with w
+-- every register that is waited for with v is waited for with w
 pub record Follows (w v : ℕ → Bool) : Type 0 where
   pub fewer : (r : ℕ) → v r ≡ true → w r ≡ true
 
--- what is not waited for with w is not with v
+-- a register that is not waited for with w is not with v
 pub not_awaited : (w v : ℕ → Bool) (r : ℕ) → Follows w v → w r ≡ false → v r ≡ false
 not_awaited w v r f e = go (v r) refl
   where

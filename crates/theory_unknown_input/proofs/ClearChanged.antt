@@ -137,13 +137,13 @@ serve_clear l m e h =
         clear_replaced m.state (with_cell m.state l.stages (with_passenger r.here p)) q.above (Up l.stages r.who ∷ []) (Up l.stages p ∷ []) q.below q.was
         (q.is p) refl (quiet_clear l.stages l.stages r.who p _ (done_quiet p refl)) h
 
--- Slide: the column stays
+-- Slide: the column is unchanged
 pub slide_clear : (l : Plan) (s : State) (k c : ℕ) → bar l s (Slide k c) ≡ None → IsClear s → IsClear (moved l s (Slide k c))
 slide_clear l s k c e h =
     let r = slide_ready l s k c (bar_row l s (Slide k c) e) in
     rw (next_slide l s k c r.what r.here) (record { fit = h.fit; ends = h.ends })
 
--- Access: the column stays
+-- Access: the column is unchanged
 pub access_clear : (l : Plan) (s : State) → bar l s Access ≡ None → IsClear s → IsClear (moved l s Access)
 access_clear l s e h =
     let r = access_ready l s (bar_row l s Access e) in

@@ -53,7 +53,7 @@ past_settled : (n : ℕ) (p : Passenger) (w : ℕ → Bool) → awaits p ≡ fal
 unfolding past
 past_settled n p w e = ap {B = ℕ → Bool} (λ (b : Bool). λ (r : ℕ). (b && has_reg p.dst r) || w r) e
 
--- the cache stays at Leave
+-- the cache is unchanged at Leave
 left_cache : (s : State) (n : ℕ) (c : Cell) (p : Passenger) → (left s n c p).cache ≡ s.cache
 left_cache s n c p = grind arith
 
@@ -108,9 +108,9 @@ emit_clear l s x acc e h k =
       ends = rw is (subst (λ (w : ℕ → Bool). Ends (walk past (column s) w) s.cache) same k.ends);
     })
 
--- What is kept at the bottom
+-- The cache at the bottom
 
--- a value may be kept of a register that is not waited for
+-- a value may be cached for a register that is not waited for
 keep_ends : (w : ℕ → Bool) (c : List (Option ℕ)) (r v : ℕ) → w r ≡ false → Ends w c → Ends w (slice_set c r (Some v))
 keep_ends w c r v e h q u f = go (set_cached c r q u (Some v) f)
   where
@@ -118,7 +118,7 @@ keep_ends w c r v e h q u f = go (set_cached c r q u (Some v) f)
     go (inl a) = rw a.0 e
     go (inr a) = h q u a.1
 
--- where all is cleared no value is kept
+-- where the cache is cleared it has no value
 cleared_ends : (w : ℕ → Bool) (c : List (Option ℕ)) → Ends w (cleared c)
 cleared_ends w c r v e = let z = cached_cleared c r in absurd (cc)
 
@@ -169,7 +169,7 @@ issue_clear l s x g acc e h k =
 
 -- Exit
 
--- what is kept of a result that fits is of no register that is waited for
+-- what is cached of a result that fits is of no register that is waited for
 exit_ends : (i : ℕ) (k : Packet) (b : Bool) (c : List (Option ℕ)) (w : ℕ → Bool) → Fits (Down i k) w → Ends (past (Down i k) w) c → Ends w (keeps b c k)
 unfolding Fits past
 exit_ends i (Value r v) true c w f h = keep_ends w c r v f h
@@ -177,7 +177,7 @@ exit_ends i (Value r v) false c w f h = h
 exit_ends i (Turn pc) b c w f h = cleared_ends w c
 exit_ends i Halt b c w f h = cleared_ends w c
 
--- Exit keeps it: the value that is cached at the bottom was cached before
+-- Exit keeps it: the cached value was cached before
 pub exit_clear : {rest out : List ℕ} (l : Plan) (s : State) (x : Machine) → Suits l → bar l s Exit ≡ None → Sound l s rest out x → IsClear s →
     IsClear (moved l s Exit)
 exit_clear l s x acc e h k =

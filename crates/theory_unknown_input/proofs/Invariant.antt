@@ -1,4 +1,4 @@
--- What every move keeps over an input whose remaining bytes are unknown.
+-- The invariant over an input whose remaining bytes are unknown.
 use Rattle.std.specs.Prelude.{◌≡◌, ◌+◌, ℕ, List}
 use Rattle.rv_machine.specs.Machine.{Machine}
 use Rattle.cf_layout.specs.Layout.{Plan}

@@ -74,7 +74,7 @@ way_grows isa (i ∷ items) w =
     one (Up j p) = past_grows isa j p w
     one (Down j k) = unfold past in (omega arith, λ e. e)
 
--- a sure instruction at the top is where the machine is
+-- a sure instruction at the top has the machine's address
 stands_there : (isa : Isa) (p : Passenger) (s : State) (x : Machine) → sure.SureAt isa p (trail.top s x) → p.pc ≡ x.hart.pc
 unfolding sure.SureAt
 stands_there isa p s x h = let e = h.0.path in cc

@@ -83,7 +83,7 @@ walk_alike isa (Up i p ∷ xs) awaited w v q a = absurd q
 walk_alike isa (Down i k ∷ xs) awaited w v q a = walk_alike isa xs (clear.past (Down i k) awaited) (trail.past isa (Down i k) w) (trail.past isa (Down i k) v) q
     (passed_alike isa i k awaited w v a)
 
--- fetch and what is kept at the bottom fit one where they fit the other
+-- fetch and the cache at the bottom fit one where they fit the other
 ends_alike : (f : Fetch) (awaited : ℕ → Bool) (w v : trail.Walk) → Alike awaited w v → sure.Ends w f → sure.Ends v f
 ends_alike f awaited w v a h = rw (a.barred, a.goto) h
 

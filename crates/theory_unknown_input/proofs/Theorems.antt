@@ -190,7 +190,7 @@ pub holds_anew : (plan : Plan) (x : Machine) (moves : List Move) (m : Moment) (w
 holds_anew plan x moves m written accepted wide leads = anew_after plan x (start plan x) m moves [] written (accepted_suits plan accepted) leads
     (anew_started plan x wide)
 
--- what is seen of every run is what the sequential machine does
+-- what every run shows from outside is what the sequential machine does
 pub refines_anew : (plan : Plan) (x : Machine) (moves : List Move) (m : Moment) (written : List Line) → IsAccepted plan → length x.hart.regs ≡ 32 →
     LeadsTo plan (start plan x) moves m written → RefinesOverUnknownInput plan x written m
 refines_anew plan x moves m written accepted wide leads =

@@ -102,7 +102,7 @@ pub past_grows : (isa : Isa) (i : ℕ) (p : Passenger) (w : Way) → (w.count �
 unfolding past
 past_grows isa i p w = (grind arith, λ e. grind (arith, e))
 
--- an instruction that is where the machine is adds to it, or ends it
+-- an instruction at the machine's address adds to it, or ends it
 pub past_first : (isa : Isa) (i : ℕ) (p : Passenger) (s : State) (x : Machine) → p.dead ≡ false → p.pc ≡ x.hart.pc →
     (1 ≤ (past isa (Up i p) (begin s x)).count) ⊎ ((past isa (Up i p) (begin s x)).stop ≡ true)
 unfolding past follows stops

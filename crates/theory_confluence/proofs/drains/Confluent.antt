@@ -1,5 +1,5 @@
--- Two runs without Issue from one moment that cannot be extended end alike; and what is kept at the bottom of a drained
--- state is the registers'.
+-- Two runs without Issue from one moment that cannot be extended end alike; and the cached values of a drained state
+-- are the registers'.
 use Rattle.std.proofs.Common.{◌≡◌, ◌+◌, List, [], ◌∷◌, Some, None, Bool, true, false, refl, sym, ap, subst, ◌∙◌}
 use Rattle.rv_inst.specs.declared.isa.Isa.{Isa}
 use Rattle.rv_machine.specs.Machine.{Machine}
@@ -88,7 +88,7 @@ halted_alike l m t u e f a b =
     let q : m ≡ u = halted l m b.moves e f b.allowed ∙ sym b.is in
     subst (λ (v : Moment). EndAlike v u) p (subst (λ (v : Moment). EndAlike m v) q (alike_self m e f))
 
--- in a drained state that has not ended, each value that is kept at the bottom is its register's
+-- in a drained state that has not ended, each cached value is its register's
 pub kept_true : (l : Plan) (x0 : Machine) (m : Moment) → HoldsAfter l x0 m → m.state.ending ≡ None → is_drained m.state ≡ true → KeepsRegisters m.state
 kept_true l x0 m h e d =
     let sound : Sound l m.state m.rest m.output h.machine = subst (HoldsAt l m.state m.rest m.output h.machine) e h.stage in

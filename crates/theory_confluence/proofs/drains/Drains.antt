@@ -352,7 +352,7 @@ issue_free l s c pc acc e f g h =
     let room : nat_lt l.lane (0 + length (requests p)) ≡ false = let r = acc.lane in grind (arith, r, n) in
     rw (g, f) (rw (h, e, room) refl)
 
--- nothing is anywhere, and fetch runs where the machine is
+-- nothing is in the processor, and fetch runs at the machine's address
 pub record IsEmpty (plan : Plan) (s : State) (x : Machine) : Type 0 where
   pub column : column s ≡ []
   pub lane : s.lane ≡ []

@@ -28,7 +28,7 @@ after_lost : (isa : Isa) (i : ℕ) (p : Passenger) (w : Way) → w.path.barred �
 unfolding past sure.Fits trail.past sure.SureAt follows stops
 after_lost isa i p w b a h = grind arith
 
--- a rider is not counted below a barrier
+-- an instruction is not counted below a barrier
 barred_count : (isa : Isa) (i : ℕ) (p : Passenger) (w : Way) → w.path.barred ≡ true → ((past isa (Up i p) w).count ≡ w.count)
     × ((past isa (Up i p) w).on ≡ w.on) × ((past isa (Up i p) w).stop ≡ w.stop)
 unfolding past

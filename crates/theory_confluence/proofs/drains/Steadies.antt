@@ -130,7 +130,7 @@ execute_steady {rest} {out} l s x i acc e h =
     (owes_nothing l i p r.undone k.stands.0) (goes_straight p c) (λ d b. sure_finishes (isa_of l) p u.path r.undone r.has1 r.has2 c
     (sure_at (isa_of l) i p u.path d b fits))))
 
--- the column and the lane stay
+-- the column and the lane are unchanged
 pub slide_steady : (l : Plan) (s : State) (x : Machine) (k c : ℕ) → bar l s (Slide k c) ≡ None →
     Steady (way (isa_of l) s x) (way (isa_of l) (moved l s (Slide k c)) x)
 slide_steady l s x k c e =

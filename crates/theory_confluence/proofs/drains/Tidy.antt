@@ -1,4 +1,4 @@
--- What else every move keeps: a stage that has met holds an instruction and a result, no siding comes or goes, and
+-- What else every move preserves: a stage that has met holds an instruction and a result, no siding comes or goes, and
 -- nothing fails.
 use Rattle.std.proofs.Common.{◌≡◌, ℕ, zero, suc, ◌+◌, ◌-◌, List, [], ◌∷◌, length, Option, Some, None, Bool, true, false, ◌&&◌, ◌||◌, not, refl, ap, ◌∙◌, arith}
 use Rattle.std.specs.Prelude.{slice_get, slice_set, replicate, map}

@@ -153,7 +153,7 @@ stored_same m n addr width v e f = go (is_aligned addr width)
     go true = changed_same addr width (le_bytes width v) m.areas n.areas e f
     go false = f
 
--- the bytes after an access depend on the bytes before it, and the break stays
+-- the bytes after an access depend on the bytes before it, and the break is unchanged
 pub after_same : (i : Instr) (a b : ℕ) (m n : Memory) → bounds_of m ≡ bounds_of n → bytes_of m ≡ bytes_of n →
     bytes_of (mem_after i a b m) ≡ bytes_of (mem_after i a b n)
 unfolding mem_after

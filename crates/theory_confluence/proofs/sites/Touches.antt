@@ -189,7 +189,7 @@ pub bounds_stay : (o : Option Op) (mem : regions.Memory) → bounds_of (accessin
 bounds_stay None mem = refl
 bounds_stay (Some op) mem = bounds_after op.instr op.a op.b mem
 
--- what an effect does not touch stays
+-- what an effect does not touch is unchanged
 pub untouched : (e : Effect) (m : Moment) (x : Site) → touches e x ≡ false → content (made e m) x ≡ content m x
 untouched e m (Stage j) h = ap OfStage (stages_other e.stages m.state.cells j h)
 untouched e m (SidingCell k c) h = ap OfCell (ops_other e.ops m.state.sidings k c h)

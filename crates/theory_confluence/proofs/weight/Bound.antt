@@ -1,4 +1,4 @@
--- A run has no more moves than its Issue moves pay for.
+-- A run has at most as many moves as its Issue moves allow for.
 use Rattle.std.proofs.Common.{◌≡◌, ℕ, zero, suc, ◌+◌, ◌*◌, ◌<◌, ◌≤◌, List, [], ◌∷◌, ◌++◌, Option, Some, None, Bool, true, false, refl, sym, ap, subst, ◌∙◌, arith, length, length-append}
 use Rattle.cf_bind.specs.declared.cell.Cell.{Cell}
 use Rattle.cf_bind.specs.declared.moves.Move.{Move}
@@ -31,7 +31,7 @@ use Rattle.rv_inst.specs.declared.classes.Class.TheVariants.{Serial}
 use Rattle.rv_machine.specs.Machine.{Machine}
 use Rattle.std.specs.Prelude.{map, replicate}
 
--- a rider is where it may
+-- an instruction is where it may be
 pub stands_at : {rest out : List ℕ} (l : Plan) (s : State) (x : Machine) (i : ℕ) (c : Cell) (p : Passenger) → cell_at s.cells i ≡ Some c →
     c.passenger ≡ Some p → Sound l s rest out x → Stands l i p
 stands_at {rest} {out} l s x i c p e f h =

@@ -115,7 +115,7 @@ emit_cell n d c k l e = grind arith
 less_within : (a b c x : ℕ) → x < a → (x + b) + c < (a + b) + c
 less_within a b c x h = omega arith
 
--- the cells fall and all else stays
+-- the cells fall and all else is unchanged
 cells_fall : (l : Plan) (s : State) (cells : List Cell) → cells_weight l.stages (most_cells l.sidings) 1 cells < cells_weight l.stages
     (most_cells l.sidings) 1 s.cells → weight l (record s { cells = cells }) < weight l s
 unfolding weight

@@ -72,7 +72,7 @@ pub docked_of : (isa : Isa) (i : ℕ) (p : Passenger) (w : dock.Dock) → dock.F
 unfolding dock.Fits
 docked_of isa i p w h = h
 
--- what a rider does to the walk, if it is live and sure
+-- what an instruction does to the walk, if it is live and sure
 pub sure_past : (isa : Isa) (i : ℕ) (p : Passenger) (w : dock.Dock) → p.dead ≡ false → w.path.barred ≡ false →
     ((dock.past isa (Up i p) w).path.machine ≡ after_step (step_at isa w.path.machine p.pc) w.path.machine) × ((dock.past isa (Up i p) w).path.goto ≡ goto p)
 unfolding dock.past trail.past
@@ -110,7 +110,7 @@ pub result_past : (isa : Isa) (i : ℕ) (k : Packet) (w : dock.Dock) (t : ahead.
 unfolding dock.past trail.past ahead.counted
 result_past isa i k w t = (grind arith, grind arith, refl, refl, refl, λ e. grind arith)
 
--- at a rider
+-- at an instruction
 pub live_on : (l : Plan) (m : Machine) (n i : ℕ) (p : Passenger) (w : dock.Dock) (t : ahead.PortTally) → Stands l i p → sure.Fits (isa_of l) (Up i p) w.path →
     dock.Fits (isa_of l) (Up i p) w → (w.path.barred ≡ true → w.risky ≡ true) → p.dead ≡ false → (dock.past (isa_of l) (Up i p) w).risky ≡ false →
     still p ≡ false → OnPath (isa_of l) m n w t → OnPath (isa_of l) m n (dock.past (isa_of l) (Up i p) w) (ahead.counted (Up i p) t)

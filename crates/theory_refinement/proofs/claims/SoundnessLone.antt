@@ -38,7 +38,7 @@ harmless plan (Up i p ∷ xs) h = no_rider i p h.0
 harmless plan (Down i k ∷ xs) h =
     (no_barrier i k h.0, harmless plan xs (subst (λ (b : Bool). Everywhere lone.Fits (lone.past plan) xs b) (shut_past plan (Down i k)) h.1))
 
--- an item that nothing may follow, in its position
+-- an item that nothing may follow, at its position
 alone : {rest out : List ℕ} (plan : Plan) (s : State) (x : Machine) (above : List Item) (i : Item) (below : List Item) → column s ≡ above ++ (i ∷ below) →
     ((b : Bool) → lone.past plan i b ≡ true) → Sound plan s rest out x → IsHarmless below × (s.fetch ≡ Waiting)
 alone plan s x above i below e shut h =

@@ -33,7 +33,7 @@ stops {rest} {out} plan s x h = record {
     stands : (p : Standing s) → Stands plan p.stage p.who
     stands p = (here plan s x p.above (Up p.stage p.who ∷ []) p.below p.split h).stands.0
 
--- (f) sidings above the first instruction whose operation is in Memory's siding the answer stays
+-- (f) sidings above the first instruction whose operation is in Memory's siding the answer is unchanged
 answer_rider : (isa : Isa) (i : ℕ) (p : Passenger) (w : dock.Dock) → flies p ≡ false → (dock.past isa (Up i p) w).answer ≡ w.answer
 unfolding dock.past
 answer_rider isa i p w e = rw e refl

@@ -123,7 +123,7 @@ top_cell cells n c l e =
     let at : (d : Cell) → column_from 1 (p.below ++ d ∷ p.above) ≡ items n d ++ column_from 1 p.below = λ d. rw z (column_at n p.below [] d p.number) in
     record { below = p.below; number = p.number; was = ap (column_from 1) p.split ∙ at c; set = λ d. ap (column_from 1) (p.set d) ∙ at d }
 
--- a rider that has met what is in its stage is first
+-- an instruction that has met the result of its stage comes first
 pub rider_first : (i : ℕ) (c : Cell) (p : Passenger) → c.passenger ≡ Some p → is_full c ≡ false → items i c ≡ Up i p ∷ packet_in i c.packet
 rider_first i c p e f = grind arith
 

@@ -68,7 +68,7 @@ pub berthed : (l : Plan) → Suits l → (s : State) (xs : List Item) (k : ℕ) 
     (n : ℕ) × (length (siding_at s k) ≡ suc n)
 berthed l acc s xs k h c e = let b = acc.berth c k e in (b.0, h.berths k ∙ b.1)
 
--- one siding's cells change, the others stay
+-- one siding's cells change, the others are unchanged
 pub rehung : (l : Plan) (s t : State) (xs ys : List Item) (k : ℕ) (q : List (Option Op)) → t.sidings ≡ slice_set s.sidings k q → (n : ℕ) →
     length (siding_at s k) ≡ suc n → length q ≡ length (siding_at s k) → operations_in q ≡ operations_of l k ys →
     ((j : ℕ) → j ≢ k → operations_of l j xs ≡ operations_of l j ys) → LastAnswered q → (k ≢ (port l) → AreUnanswered q) → IsMoored l s xs → IsMoored l t ys
@@ -146,7 +146,7 @@ pub some_cells : {A : Type 0} → (l : List A) (c : ℕ) (a : A) → slice_get l
 some_cells [] c a e = absurd (cc)
 some_cells (b ∷ l) c a e = (length l, refl)
 
--- where one siding changes, the port's answer stays if that siding's does
+-- where one siding changes, the port's answer is unchanged if that siding's is
 pub answer_here : (l : Plan) (s t : State) (k : ℕ) (q : List (Option Op)) (n : ℕ) → t.sidings ≡ slice_set s.sidings k q → length (siding_at s k) ≡ suc n →
     (k ≡ (port l) → last_answer q ≡ last_answer (siding_at s k)) → last_answer (siding_at t (port l)) ≡ last_answer (siding_at s (port l))
 answer_here l s t k q n e b f = go (k == (port l)) refl

@@ -1,11 +1,11 @@
--- The riders of the column, from the top, are at ever lower stages.
+-- The instructions of the column, from the top, are at ever lower stages.
 use Rattle.std.proofs.Common.{ℕ, suc, ◌+◌, ◌<◌, ◌≤◌, List, [], ◌∷◌, ◌++◌, Option, Some, None, Bool, true, false, arith, length}
 use Rattle.cf_bind.specs.declared.cell.Cell.{Cell}
 use Rattle.cf_bind.specs.declared.packet.Packet.{Packet}
 use Rattle.cf_bind.specs.declared.passenger.Passenger.{Passenger}
 use Rattle.cf_semantics.specs.state.Column.{Down, Item, Up, column_from, in_order, items, packet_in, passenger_in}
 
--- P holds of each rider's stage
+-- P holds of the stage of each instruction
 abbrev pub Riders : (ℕ → Type 0) → List Item → Type 0
 Riders P [] = Unit {0}
 Riders P (Up i p ∷ xs) = P i × Riders P xs
@@ -67,7 +67,7 @@ sorted i [] = tt
 sorted i (c ∷ cs) = sorted_append i (column_from (suc i) cs) (items i c) (sorted (suc i) cs) (sorted_items i c.met c.passenger c.packet)
     (riders_column (λ j. i < j) (suc i) cs (λ j e. omega arith)) (riders_items (λ j. j ≤ i) i c.met c.passenger c.packet (omega arith))
 
--- on both sides of a rider
+-- on both sides of an instruction
 pub under : (above below : List Item) (i : ℕ) (p : Passenger) → Sorted (above ++ (Up i p ∷ below)) → Riders (λ j. j < i) below
 under [] below i p h = h.0
 under (Up n q ∷ above) below i p h = under above below i p h.1
@@ -78,7 +78,7 @@ over [] below i p h = tt
 over (Up n q ∷ above) below i p h = ((riders_back (λ j. j < n) above (Up i p ∷ below) h.0).0, over above below i p h.1)
 over (Down n k ∷ above) below i p h = over above below i p h
 
--- the stages of all riders
+-- the stages of all instructions
 pub riders_below : (n i : ℕ) (cells : List Cell) → i + length cells ≤ n → Riders (λ j. j < n) (column_from i cells)
 riders_below n i [] h = tt
 riders_below n i (c ∷ cs) h = riders_append (λ j. j < n) (column_from (suc i) cs) (items i c) (riders_below n (suc i) cs (omega arith))

@@ -1,4 +1,4 @@
--- A rider in its stage, and the column above and below it.
+-- An instruction in its stage, and the column above and below it.
 use Rattle.std.proofs.Common.{◌≡◌, ℕ, suc, ◌<◌, ◌≤◌, List, [], ◌∷◌, ◌++◌, Option, Some, None, Bool, true, false, ◌&&◌, not, refl, ap, subst, ◌∙◌, arith, length, length-append, append_assoc, append-nil}
 use Rattle.cf_bind.specs.declared.cell.Cell.{Cell}
 use Rattle.cf_bind.specs.declared.packet.Packet.{Packet}

@@ -31,7 +31,7 @@ word_in_text pc (a ∷ areas) = go (fetches_in pc a) (word_in_text pc areas)
     go true e = refl
     go false e = e
 
--- memories of the same code have the same word at each address
+-- memories with the same code have the same word at each address
 fetch_alike : (m n : Memory) (pc : ℕ) → code_of m ≡ code_of n → fetch_at m pc ≡ fetch_at n pc
 unfolding code_of fetch_at
 fetch_alike m n pc e =

@@ -1,4 +1,4 @@
--- What the proofs about moves use of single instructions: nowhere else do they look into the instruction set.
+-- What the proofs about moves use about single instructions: nowhere else do they depend on the instruction set.
 use Rattle.std.proofs.Common.{◌≡◌, ◌≢◌, ℕ, ◌-◌, ◌%◌, ◌<◌, List, [], Option, Some, None, Bool, true, false, Result, Ok, Err, refl, sym, ap, ◌∙◌, arith, length, length-set, append-nil}
 use Rattle.std.proofs.lemmas.Bool.Decides.{nat_tests}
 use Rattle.std.proofs.lemmas.List.{get_or-set_other}
@@ -196,7 +196,7 @@ kept x word i access (Ok done) w d = rw d (retires x (stored x.hart.mem access.a
 kept x word i access (Err Misaligned) w d = rw w refl
 kept x word i access (Err NoAccess) w d = rw w refl
 
--- what an access asks does not depend on what a store would write
+-- an access does not depend on the value that a store would write
 asked_address : (i : Instr) (a b : ℕ) → ((access_made i a b).addr ≡ (access_made i a 0).addr) × ((access_made i a b).width ≡ (access_made i a 0).width)
     × ((access_made i a b).write ≡ (access_made i a 0).write)
 unfolding access_made
@@ -206,7 +206,7 @@ pub store_bare : (i : Instr) (a b : ℕ) → (access_made i a b).write ≡ true 
 unfolding access_made
 store_bare i a b e = grind arith
 
--- accesses of one address and direction are refused alike
+-- accesses of one address and direction are refused for the same reason
 refused_alike : (pc : ℕ) (access other : Access) (r : Result (Unit {0}) MemErr) → other.addr ≡ access.addr →
     other.write ≡ access.write → refused pc other r ≡ refused pc access r
 refused_alike pc access other (Ok done) e f = refl
@@ -239,7 +239,7 @@ accesses_as x word i a b access true e w =
 accesses_as x word i a b access false e w =
     rw (← load_at-permits x.hart.mem access.addr access.width) (loaded x word i access (load_at x.hart.mem access.addr access.width) w)
 
--- the step that goes on, or traps as is said
+-- the step that goes on, or traps as stated
 abbrev or_trap : StepResult → Option End → StepResult
 or_trap s o = on o s Stops
 

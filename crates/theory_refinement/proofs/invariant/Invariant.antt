@@ -1,4 +1,4 @@
--- The invariant: what every move keeps. It has all that soundness claims, and what else the induction needs.
+-- The invariant, which every move preserves. It has all that soundness claims, and what else the induction needs.
 use Rattle.std.specs.Prelude.{◌≡◌, ◌+◌, ℕ, List, Option, Some, None, false, length}
 use Rattle.rv_machine.specs.Machine.{Machine}
 use Rattle.rv_machine.specs.After.{after}

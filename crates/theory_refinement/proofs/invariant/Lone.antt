@@ -9,7 +9,7 @@ use Rattle.cf_semantics.specs.state.Layouts.{port}
 use Rattle.cf_semantics.specs.claims.Path.{turns}
 use Rattle.cf_semantics.specs.claims.Soundness.{is_lone}
 
--- above the stage from which memory is reached
+-- above the stage from which loads and stores are launched
 abbrev pub is_high : Plan → ℕ → Bool
 is_high plan i = nat_lt (launch_stage plan (port plan)) i
 

@@ -68,7 +68,7 @@ Fits isa (Down i k) w = When (not w.barred) (PacketFits k w)
 abbrev pub Ends : Walk → Fetch → Type 0
 Ends w f = When (not w.barred) (f ≡ fetch_at w.goto)
 
--- each value that is kept is the register's
+-- each cached value is the register's
 abbrev pub AreRegisters : List (Option ℕ) → List ℕ → Type 0
 AreRegisters cache regs = (r v : ℕ) → cached cache r ≡ Some v → v ≡ slice_index regs r
 

@@ -16,7 +16,7 @@ use Rattle.theory_refinement.proofs.invariant.Lone.{is_high}
 use Rattle.theory_refinement.proofs.invariant.Suited.{Suits, is_extra, is_plain}
 use Rattle.theory_refinement.proofs.layouts.Layouts.{computed, homes_are, memory_only, none_or_some, of_any, of_sided, sided_for, sided_is, sidings_of, unit_home, unit_stages, unplaced}
 
--- the stage from which memory is reached
+-- the stage from which loads and stores are launched
 pub launch_is : (plan : Plan) → memory_launch plan ≡ launch_stage plan (port plan)
 unfolding memory_launch port
 launch_is plan = go (siding_of plan Memory)
@@ -141,7 +141,7 @@ last_stage_is plan acc c = by c
     by Mul = general Mul
     by Div = general Div
 
--- control turns at or below the stage from which memory is reached
+-- control turns at or below the stage from which loads and stores are launched
 control_low : (plan : Plan) → IsAccepted plan → (c : Class) (i : ℕ) → is_control c ≡ true → unit_at plan c i ≡ true → i ≤ launch_stage plan (port plan)
 control_low plan acc c i t e = subst (λ (m : ℕ). i ≤ m) (launch_is plan) (acc.control_units c i t e)
 

@@ -239,7 +239,7 @@ stands_first l p g acc n m home =
     empty None = tt
     empty (Some r) = refl
 
--- the port takes no notice of it
+-- the port's walk is unchanged
 not_served : (p : Passenger) (g : Guess) → IsFresh p g → ahead.has_served p ≡ false
 not_served p g n = go p.done refl
   where

@@ -117,7 +117,7 @@ pub sure_stops : (isa : Isa) (p : Passenger) (w : trail.Walk) (e : End) → p.en
 unfolding sure.SureAt
 sure_stops isa p w e n h = h.0.values.ends e n
 
--- what is left of the invariant once the highest rider is gone
+-- what is left of the invariant once the highest instruction is gone
 gone : {rest out : List ℕ} (l : Plan) (s t : State) (x y : Machine) (n : ℕ) (p : Passenger) (below : List Item) → column s ≡ Up n p ∷ below → column t ≡ below →
     t.fetch ≡ s.fetch → t.cache ≡ s.cache → length t.cells ≡ length s.cells → t.regs ≡ y.hart.regs → length y.hart.regs ≡ 32 → t.sidings ≡ s.sidings →
     t.mem ≡ s.mem → ((k : ℕ) → in_siding l k p ≡ false) → paths.Follows (trail.past (isa_of l) (Up n p) (trail.top s x)) (trail.top t y) →

@@ -1,5 +1,5 @@
--- What the proof of each move begins with: the row of an allowed move bars nothing, and other contents of a stage leave
--- the number of stages.
+-- The start of each move's proof: the row of an allowed move bars nothing, and new contents of a stage leave the number
+-- of stages unchanged.
 use Rattle.std.proofs.Common.{◌≡◌, ℕ, zero, suc, List, None, refl, arith, length, length-set}
 use Rattle.cf_bind.specs.declared.cell.Cell.{Cell}
 use Rattle.cf_bind.specs.declared.moves.Move.{Move}

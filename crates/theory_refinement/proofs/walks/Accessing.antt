@@ -1,4 +1,4 @@
--- Access: the port's memory goes on by one store or load, and all else stays.
+-- Access: the port's memory goes on by one store or load, and all else is unchanged.
 use Rattle.rv_inst.specs.declared.instruction.Instr.{Instr}
 use Rattle.mem_regions.specs.Memory as memory
 use Rattle.std.proofs.Common.{◌≡◌, ℕ, List, [], ◌∷◌, ◌++◌, Option, Some, None, true, false, refl, sym, ap, subst, ◌∙◌, arith}
@@ -34,7 +34,7 @@ mem_result : (isa : Isa) (i : ℕ) (k : _) (w : Dock) (m : memory.Memory) → pa
 unfolding past
 mem_result isa i k w m = refl
 
--- below, memory is handed on as it is
+-- below, memory is passed on unchanged
 pub walk_waiting : (isa : Isa) (xs : List Item) (w : Dock) (m : memory.Memory) → Waiting xs → w.answer ≡ None →
     walk (past isa) xs (record w { mem = m }) ≡ record (walk (past isa) xs w) { mem = m }
 walk_waiting isa [] w m h e = refl

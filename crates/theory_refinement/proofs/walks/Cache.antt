@@ -4,7 +4,7 @@ use Rattle.std.specs.Prelude.{slice_index, slice_set}
 use Rattle.theory_refinement.proofs.invariant.Sure.{AreRegisters}
 use Rattle.cf_semantics.specs.state.Passengers.{cached, cleared, forgets}
 
--- what is kept of q once r was set
+-- what the cache has for q once r was set
 pub set_cached : (c : List (Option ℕ)) (r q v : ℕ) (o : Option ℕ) → cached (slice_set c r o) q ≡ Some v →
     ((q ≡ r) × (o ≡ Some v)) ⊎ ((q ≢ r) × (cached c q ≡ Some v))
 set_cached [] r q v o e = absurd (grind arith)
@@ -32,7 +32,7 @@ cached_cleared (o ∷ c) (suc r) = cached_cleared c r
 pub clear_holds : (c : List (Option ℕ)) (regs : List ℕ) → AreRegisters (cleared c) regs
 clear_holds c regs r v e = let z = cached_cleared c r in absurd (cc)
 
--- a new destination is forgotten, and the other registers stay
+-- a new destination is forgotten, and the other registers are unchanged
 pub forget_holds : (c : List (Option ℕ)) (d : Option ℕ) (regs news : List ℕ) → ((r : ℕ) → d ≢ Some r → slice_index news r ≡ slice_index regs r) →
     AreRegisters c regs → AreRegisters (forgets d c) news
 forget_holds c None regs news k h r v e = h r v e ∙ sym (k r (λ z. absurd (cc)))

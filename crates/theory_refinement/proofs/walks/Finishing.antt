@@ -104,7 +104,7 @@ pub finish_lone : (l : Plan) (i : ℕ) (p : Passenger) (w : Bool) → lone.shuts
 unfolding lone.Fits lone.past
 finish_lone l i p w s = record { fit = λ h. h; follows = λ h. record { shut = rw s (λ e. grind arith) } }
 
--- the port takes no notice of a plain instruction apart from its turn or its trap, which was to be expected
+-- the port's walk ignores a plain instruction apart from its turn or its trap, which was to be expected
 plain_port : (c : Class) → is_plain c ≡ true → (is_memory c ≡ false) × (is_serial c ≡ false)
 plain_port c e = grind arith
 

@@ -34,7 +34,7 @@ use Rattle.cf_semantics.specs.claims.Soundness.{as_launched, in_siding, operatio
 abbrev pub sent_out : Passenger → Passenger
 sent_out p = record p { launched = true }
 
--- the path takes no notice
+-- the path is unchanged
 out_at : (isa : Isa) (p : Passenger) (w : trail.Walk) → sure.SureAt isa p w → sure.SureAt isa (sent_out p) w
 out_at isa p w h = marked_at isa true p.recovered p w h
 

@@ -1,4 +1,4 @@
--- An instruction whose marks, launched and recovered, are set: the path takes no notice.
+-- An instruction whose flags `launched` and `recovered` are set: the path is unchanged.
 use Rattle.std.proofs.Common.{Bool}
 use Rattle.cf_bind.specs.declared.passenger.Passenger.{Passenger}
 use Rattle.cf_semantics.specs.moves.Instructions.{Bad, Fetched, Got, fetched}

@@ -103,7 +103,7 @@ steady l i p acc n h o d u = go (is_control (kind p)) (is_serial (kind p)) refl 
     go false true e f = absurd (grind arith)
     go false false e f = grind arith
 
--- what is known once a rider is passed
+-- what is known once an instruction is passed
 calm_rider : (isa : Isa) (i : ℕ) (p : Passenger) (w : dock.Dock) → w.path.barred ≡ false → w.risky ≡ false → trail.turns p.owes ≡ false →
     (p.dead ≡ false → p.done ≡ false → steers (kind p) ≡ false) → (p.dead ≡ false → is_some p.ending ≡ false) →
     ((dock.past isa (Up i p) w).path.barred ≡ false) × ((dock.past isa (Up i p) w).risky ≡ false)

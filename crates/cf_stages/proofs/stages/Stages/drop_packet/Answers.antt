@@ -1,4 +1,4 @@
--- The words keep up with a result that goes to the stage below.
+-- The bit words follow a result to the stage below.
 use Rattle.std.proofs.Common.{◌∙◌, ◌-◌, ℕ, IsTrue, List, sym, ap, subst, true, false}
 use Rattle.cf_bind.specs.declared.cell.Cell.{Cell}
 use Rattle.cf_stages.specs.Changes.{falls}

@@ -1,4 +1,4 @@
--- Two words of 0 say that nothing is anywhere.
+-- Two bit words of 0 say that the stages are empty.
 use Rattle.cf_stages.proofs.Empty.{empty-else, empty-then}
 use Rattle.cf_stages.proofs.stages.Stages.is_empty.Goals as goal
 

@@ -1,4 +1,4 @@
--- The words keep up with an instruction that goes to the stage above.
+-- The bit words follow an instruction to the stage above.
 use Rattle.std.proofs.Common.{◌∙◌, ◌+◌, ◌-◌, ℕ, IsTrue, List, sym, ap, subst, true, false}
 use Rattle.cf_bind.specs.declared.cell.Cell.{Cell}
 use Rattle.cf_stages.specs.Changes.{climbs}

@@ -1,4 +1,4 @@
--- The stage after its instruction and its result have met.
+-- The contents of the stage after its instruction and its result have met.
 use Rattle.std.proofs.Common.{◌∙◌, ap, List, sym}
 use Rattle.cf_bind.specs.declared.cell.Cell.{Cell}
 use Rattle.cf_stages.specs.Changes.{changed}

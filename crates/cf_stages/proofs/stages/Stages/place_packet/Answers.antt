@@ -1,4 +1,4 @@
--- The words keep up with a result that comes or goes.
+-- The bit words follow a result that comes or goes.
 use Rattle.std.proofs.Common.{sym, subst, List}
 use Rattle.std.specs.Prelude.{IsSome}
 use Rattle.cf_bind.specs.declared.cell.Cell.{Cell}

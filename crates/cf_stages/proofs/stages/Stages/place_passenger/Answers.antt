@@ -1,4 +1,4 @@
--- The words keep up with an instruction that comes or goes.
+-- The bit words follow an instruction that comes or goes.
 use Rattle.cf_stages.proofs.Kept.{passenger-parts, within-pipe}
 use Rattle.cf_stages.proofs.stages.Stages.place_passenger.Goals as goal
 

@@ -1,4 +1,4 @@
--- The words are unchanged when an instruction is replaced by another.
+-- The bit words are unchanged when an instruction is replaced by another.
 use Rattle.std.proofs.Common.{sym, subst, List}
 use Rattle.std.specs.Prelude.{IsSome}
 use Rattle.cf_bind.specs.declared.cell.Cell.{Cell}
