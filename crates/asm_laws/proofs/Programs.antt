@@ -1,4 +1,4 @@
--- What the two looks at the lines make is the program of the lines.
+-- The result of the two passes over the lines is the program of the lines.
 use Rattle.std.proofs.Common.{◌≡◌, ℕ, ◌+◌, ◌<◌, ◌≤◌, Bool, true, false, List, [], ◌∷◌, ◌++◌, length, map, refl, sym, ◌∙◌, ap, subst, cond, arith, append_assoc, append-nil, Option, Some, None}
 use Rattle.std.proofs.lemmas.List.{map-append}
 use Rattle.std.specs.Prelude.{Result, Ok, Err, is_some, nat_lt}
@@ -84,7 +84,7 @@ labelled labels next place (Some name) e =
 same-item : (answer : Result SourceItem AsmKind) (i j : SourceItem) → answer ≡ Ok i → answer ≡ Ok j → i ≡ j
 same-item answer i j e h = cc
 
--- the labels of the first look are those of the items
+-- the labels of the first pass are those of the items
 labels-are : (above : ℕ) (labels marks : List LabelView) (place end : SectionPlace) (last : Draft) (lines : List (List ℕ)) (items : List Placed)
     → draft_from above (record { place = place; labels = labels }) lines ≡ Ok last → AllStand marks place lines items end
     → last.labels ≡ labels ++ labels_of lines items

@@ -82,12 +82,12 @@ are_more : (trace : List Made) (made : Made) → AreReadBack trace → IsReadBac
 are_more [] made h k = (k, tt)
 are_more (first ∷ trace) made (h, hs) k = (h, are_more trace made hs k)
 
--- a group is no empty text
+-- a group is not an empty text
 pub shown-some : (plan : Plan) (n : ℕ) (made : Made) → 0 < length (shown show.Moves plan n made)
 unfolding shown numbered_move
 shown-some plan n made = omega arith
 
--- what was put after what agreed
+-- what was written after what agreed
 pub put-after : (now new : Comparison) (piece : List ℕ) → now.other ≡ None → told_by new ≡ told_by now ++ piece →
     (new.text ≡ now.text) × (put_of new ≡ take now.agreed now.text ++ piece)
 put-after now new piece none told =

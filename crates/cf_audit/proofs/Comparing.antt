@@ -1,4 +1,4 @@
--- What is put to a comparison.
+-- What is written to a comparison.
 use Rattle.std.proofs.Common.{◌≡◌, ℕ, zero, suc, ◌+◌, ◌<◌, ◌≤◌, true, false, List, [], ◌∷◌, ◌++◌, length, take, drop, map, length-drop, min, Option, Some, None, Ok, Err, refl, sym, ap, subst, ◌∙◌, append_assoc, append-nil, arith}
 use Rattle.std.specs.Prelude.{slice_get, is_some, IfSome, IsSome}
 use Rattle.std.proofs.Math.Seq.{take-add}
@@ -13,7 +13,7 @@ one_more (x ∷ bytes) (suc same) within =
     let count : min (suc (length bytes)) (suc same + 1) ≡ suc (min (length bytes) (same + 1)) = omega arith in
     rw count (ap (λ (rest : List ℕ). x ∷ rest) (one_more bytes same (omega arith)))
 
--- what was put, with a prefix of more bytes that agree, and the byte after it
+-- what was written, with a prefix of more bytes that agree, and the byte after it
 put_more : (text bytes : List ℕ) (agreed same : ℕ) → same ≤ length bytes → take same (drop agreed text) ≡ take same bytes
     → take (agreed + same) text ++ alone (slice_get bytes same) ≡ (take agreed text ++ []) ++ take (min (length bytes) (same + 1)) bytes
 put_more text bytes agreed same within agrees =
@@ -109,7 +109,7 @@ other_there : (text : List ℕ) (agreed faults : ℕ) (other : Option ℕ) → I
 other_there text agreed faults None was some = absurd (cc)
 other_there text agreed faults (Some byte) was some = record { other = byte; is = refl; differs = was.other; within = was.within }
 
--- a byte was put that does not agree
+-- a byte was written that does not agree
 pub has-other : (text : List ℕ) (agreed faults : ℕ) (other : Option ℕ) (seen : Comparison) →
     record { text = text; agreed = agreed; other = other; faults = faults } ≡ seen
     → IsComparison (record { text = text; agreed = agreed; other = other; faults = faults }) → is_some other ≡ true → HasOther seen
@@ -126,7 +126,7 @@ raised_same (x ∷ one) (y ∷ other) put more e =
     let both = raised_same one other put more rest in
     (cc, both.1)
 
--- a comparison to which a piece was put has the same text, and the piece follows what was put to it before
+-- a comparison to which a piece was written has the same text, and the piece follows what was written before
 pub told-more : (now new : Comparison) (piece : List ℕ) → told_by new ≡ told_by now ++ piece → (new.text ≡ now.text) × (put_of new ≡ put_of now ++ piece)
 unfolding told_by
 told-more now new piece told = raised_same new.text now.text (put_of new) (put_of now ++ piece) (told ∙ append_assoc (map suc now.text) (0 ∷ put_of now) piece)

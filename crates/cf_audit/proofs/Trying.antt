@@ -1,4 +1,4 @@
--- What a move that was made and shown says of the next group of the trace.
+-- What a move that was made and shown says about the next group of the trace.
 use Rattle.std.proofs.Common.{◌≡◌, ℕ, ◌≤◌, List, length, Option, Some, None, Ok, Err, sym, subst, arith}
 use Rattle.std.proofs.Math.Seq.{take-length}
 use Rattle.run_options.specs.declared.show.Show.TheVariants as show
@@ -14,7 +14,7 @@ use Rattle.run_scripts.specs.declared.trace_refusal.TraceKind.TheVariants.{NotAM
 use Rattle.cf_audit.specs.Compared.{Comparison, HasOther}
 use Rattle.cf_audit.specs.Turns.{AuditRun, ComparisonAnswers, ShownDiffers, PutsSome, AuditTries, input_tested}
 
--- all of a text was put
+-- all of a text was written
 puts_all : (a b : Option (List ℕ)) (text : List ℕ) → Writes a b text → PutsSome a b text
 puts_all a b text h = (length text, omega arith, subst (Writes a b) (sym (take-length text)) h)
 

@@ -51,7 +51,7 @@ last_made plan limit told m (first ∷ trace) made last (rest, finds, is, h) =
     last_made plan limit told (next_moment plan (record m { rest = rest }) first.move) trace made last h in
     record { at = l.at; leads = (rest, finds, is, l.leads); rest = l.rest; finds = l.finds; is = l.is; last_is = l.last_is }
 
--- where the group of the next move and the text part
+-- where the group of the next move and the text differ first
 record PartsThere (text : List ℕ) (start : RunPlace) (now new : AuditRun) (reached : Reaches most_retired show.Moves start now.place) : Type 0 where
   last : Moment
   leads : Leads start.core.plan most_retired start.streams.input (moment_of start.core reached.rest) reached.trace last
@@ -185,7 +185,7 @@ agrees_all text start now new n h none count same =
       still_there text start now new h same,
     )
 
--- the index where the group of a move and the text part, among all bytes
+-- the index where the group of a move and the text differ first, among all bytes
 parted_place : (text : List ℕ) (start : RunPlace) (now new : AuditRun) (h : Comes text start now) (line : ℕ) → PartsThere text start now new h.reached →
     line ≡ line_of text new.seen.agreed → line ≡ line_of text (now.seen.agreed + (new.seen.agreed - now.seen.agreed))
 parted_place text start now new h line p line_is =

@@ -217,7 +217,7 @@ wrong-for-none core told text line n kind stop end w b =
     no_trace core.plan told (moment_of core told) 1 (w.n + 1) a.trace b.trace w.last end w.left w.place kind stop
     (omega (arith, a.count)) first second a.read_back b.read_back w.agrees.some w.fails whole
 
--- so what an audit answers is the one answer
+-- so what an audit answers is the only answer
 pub agrees-with-all : (core new : Processor) (told now : Option (List ℕ)) (text : List ℕ) (answer : Audit) → Audits core new told now text answer →
     AgreesWithAll core told text answer
 unfolding Audits

@@ -1,4 +1,4 @@
--- A sink that compares what is put to it with a text (a convention of this project).
+-- A sink that compares what is written to it with a text (a convention of this project).
 use Rattle.std.specs.Prelude.{◌≡◌, ℕ, ◌≤◌, ◌<◌, suc, List, [], ◌∷◌, ◌++◌, length, take, map, slice_get, Option, Some, None, IfSome, IsSome}
 
 -- the text, how many of its bytes were written, the byte after them that differs, if there is one, and how often the

@@ -1,4 +1,4 @@
-//! A sink that compares what is put to it with a text.
+//! A sink that compares what is written to it with a text.
 
 ghost use Rattle.std.specs.Prelude.{◌≡◌, ◌≤◌, ◌↔◌, IsTrue, None, Some, drop, false, true, length};
 ghost use Rattle.cf_io.specs.Causes.{HasCause};

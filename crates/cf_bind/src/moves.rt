@@ -44,7 +44,7 @@ pub enum Move {
     /// The result in the lowest stage leaves.
     Exit,
 
-    /// The instruction in the highest stage asks the environment.
+    /// The instruction in the highest stage calls the environment.
     Serve,
 }
 

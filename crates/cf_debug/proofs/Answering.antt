@@ -111,7 +111,7 @@ auto-spent n now stop written after i j answer spent put =
     carries-told (Auto n) (debugger_state now stop) (debugger_state now stop) (refused_line (codes "Limit")) written after i j answer (refl, h)
     (inl (refl, h)) put
 
--- its moves were made, and how many is put
+-- its moves were made, and their number is written
 pub auto-made : (n : ℕ) (now new : ProcessorState) (stop : Option ℕ) (written between after : Option (List ℕ)) (count number i j : ℕ)
     (answer : Result (Unit {0}) Failed) → SessionGoesOn now → DrivesOut n stop now new written between (Ok count) → number ≡ count →
     PutsText between after i j (counted_line (codes "auto ") number) answer → CommandLeaves (Auto n) (debugger_state now stop)
@@ -140,14 +140,14 @@ auto-made n now new stop written between after count number i j (Err failed) bel
       (counted_line (codes "auto ") number) told put.front,
 )
 
--- or they broke off
+-- or they stopped at a fault
 auto-broken : (n : ℕ) (now new : ProcessorState) (stop : Option ℕ) (written after : Option (List ℕ)) (b : Broken) →
     DrivesOut n stop now new written after (Err b) → CommandLeaves (Auto n) (debugger_state now stop) (debugger_state new stop) written after (Err b)
 unfolding CommandLeaves CommandAnswersPart DrivesOut RunsAground
 auto-broken n now new stop written after broken.Report (lines, drives, put) = (lines, inr (refl, drives), put)
 auto-broken n now new stop written after broken.Output (lines, drives, put) = (lines, drives, put)
 
--- and what broke them off is passed on
+-- and that fault is passed on
 pub auto-stopped : (n : ℕ) (now new : ProcessorState) (stop : Option ℕ) (written after : Option (List ℕ)) (b : Broken) (answer : Result (Unit {0}) Broken) →
     IsErrAnd answer (λ e. e ≡ b) → DrivesOut n stop now new written after (Err b) → CommandLeaves (Auto n) (debugger_state now stop)
     (debugger_state new stop) written after answer
@@ -187,7 +187,7 @@ ends-command line command now new written after (Err broken.Report) is other (te
 ends-command line command now new written after (Err broken.Output) is other (text, h, put) =
     (text, subst (λ (told : Result DebugCommand Refusal). FailsAnswer told now new text) (sym is) h, put)
 
--- so in the words of the session
+-- so as the session states it
 pub ends-told : (line : List ℕ) (command : DebugCommand) (now new : DebuggerState) (written after : Option (List ℕ)) (answer : Result (Unit {0}) Broken)
     (end : Option Debugged) → end ≡ ended_by answer → command_in line ≡ Ok command → command ≢ End → CommandLeaves command now new written after answer →
     LineLeaves line now new written after end
@@ -206,7 +206,7 @@ ended-report before now (Ok done) end is h = subst (λ (e : Option Debugged). Ha
 ended-report before now (Err broken.Output) end is h = subst (λ (e : Option Debugged). HasCause before now (report_ended e)) (sym is) h
 ended-report before now (Err broken.Report) end is h = subst (λ (e : Option Debugged). HasCause before now (report_ended e)) (sym is) h
 
--- a refusal was put, or failed
+-- a refusal was written, or failed
 ends_refused : {E : Type 0} (line : List ℕ) (refusal : Refusal) (now : DebuggerState) (written after : Option (List ℕ)) (i j : ℕ) (done : Unit {0}) →
     command_in line ≡ Err refusal → PutsText {E = E} written after i j (refused_line (refusal_text refusal)) (Ok done) →
     LineLeaves line now now written after None
@@ -229,7 +229,7 @@ ends_unrefused line refusal now written after i j failed is put = (
   put.front,
 )
 
--- so in the words of the session
+-- so as the session states it
 pub ends-refusal : (line : List ℕ) (refusal : Refusal) (now : DebuggerState) (written after : Option (List ℕ)) (i j : ℕ) (answer : Result (Unit {0}) Failed)
     (told : Result (Unit {0}) Broken) (end : Option Debugged) → end ≡ ended_by told → told ≡ of_report answer → command_in line ≡ Err refusal →
     PutsText written after i j (refused_line (refusal_text refusal)) answer → LineLeaves line now now written after end

@@ -36,7 +36,7 @@ use Rattle.cf_debug.proofs.KeptMoves.{makes-stands}
 abbrev made_of : Move → Event → ProcessorState → Made
 made_of mv e new = record { move = mv; event = e; state = new.core.state }
 
--- the move that is picked was made, and its line put
+-- the move that is picked was made, and its line written
 pub steers-on : (stop : Option ℕ) (at later : Turn) (now new : ProcessorState) (mv : Move) (e : Event) (last : Bool) (written after : Option (List ℕ)) (i j : ℕ)
     (answer : Unit {0})
     → GoesOn most_retired now.core.state → pick at now ≡ Some mv → MakesKeptOrFails mv now new (Ok e) → last ≡ breaks stop now.core.state mv →
@@ -106,7 +106,7 @@ chosen-next last policy c later now new mv e drained beside drained_is later_is 
 -- Moves so far --
 
 -- this many moves were made, none of which issued an instruction at the break address; the turn is kept by a count that
--- stops, and their lines were put
+-- stops, and their lines were written
 pub record Comes (stop : Option ℕ) (start now : ProcessorState) (held : Turn) (written after : Option (List ℕ)) (count : ℕ) : Type 0 where
   pub trace : List Made
   pub at : Turn
@@ -225,7 +225,7 @@ steers-plan stop at later now new written after last (made, takes, hit, next, pu
 ends_here : (trace : List Made) → trace ++ [] ≡ trace
 ends_here trace = append-nil trace
 
--- there are enough, or the run is over
+-- enough moves were made, or the run is over
 pub drives-over : (n : ℕ) (stop : Option ℕ) (start now : ProcessorState) (held : Turn) (written after : Option (List ℕ)) (count : ℕ) → count ≤ n →
     Comes stop start now held written after count → (count ≡ n) ⊎ (GoesOn most_retired now.core.state → ⊥) → DrivesOut n stop start now written after (Ok count)
 unfolding DrivesOut

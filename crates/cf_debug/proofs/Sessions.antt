@@ -1,4 +1,4 @@
--- Where a session has arrived, one more byte, and how it ends.
+-- The progress of a session: one more byte, and how it ends.
 use Rattle.std.proofs.Common.{◌≡◌, ◌≢◌, ℕ, ◌+◌, ◌<◌, ◌≤◌, List, [], ◌∷◌, ◌++◌, length, Option, Some, None, Ok, Err, refl, sym, ap, subst, ◌∙◌, append-nil, append_assoc, inl, inr, arith}
 use Rattle.std.specs.Prelude.{◌⊎◌, Result}
 use Rattle.std.proofs.lemmas.List.{length-append}
@@ -247,7 +247,7 @@ ends-last before begin now new commands fed_commands report after line feed next
       ends = ends-same line c.unfinished now new report after (Some answer) told ends;
     })
 
--- there are more bytes than there may be
+-- there are more bytes than the limit allows
 pub ends-limit : (before : Session) (begin now : DebuggerState) (commands after report : Option (List ℕ)) (line : List ℕ) (feed next : Feeding) →
     Comes before begin now commands report line feed → Feeds commands after feed next TooMany →
     EndsSession before (session_of now.processor after report) begin now Limit

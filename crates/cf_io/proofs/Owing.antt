@@ -1,4 +1,4 @@
--- Texts that are put one after the other, as parts of a whole text that is owed.
+-- Texts that are written one after the other, as parts of a whole text that is owed.
 use Rattle.std.proofs.Common.{◌≡◌, ℕ, ◌+◌, ◌≤◌, List, [], ◌++◌, length, take, Option, Some, None, refl, ap, sym, ◌∙◌, subst, append-nil, append_assoc, arith}
 use Rattle.std.specs.Prelude.{Result, Ok, Err, OnErr}
 use Rattle.std.proofs.lemmas.Result.{on_err_weaker}
@@ -6,7 +6,7 @@ use Rattle.std.proofs.lemmas.List.{length-append, take-append-le}
 use Rattle.std.proofs.Math.Seq.{take-append-add}
 use Rattle.cf_io.specs.Puts.{Writes, WritesFront}
 
--- nothing was put
+-- nothing was written
 pub writes-nothing : (told : Option (List ℕ)) → Writes told told []
 writes-nothing None = tt
 writes-nothing (Some told) = ap Some (sym (append-nil told))
@@ -41,7 +41,7 @@ pub record Owes (before now : Option (List ℕ)) (rest whole : List ℕ) : Type 
 pub owes-all : (told : Option (List ℕ)) (whole : List ℕ) → Owes told told whole whole
 owes-all told whole = record { done = []; told = writes-nothing told; parts = refl }
 
--- the next text was put
+-- the next text was written
 pub owes-next : (a b c : Option (List ℕ)) (rest next after whole : List ℕ) → Owes a b rest whole → rest ≡ next ++ after → Writes b c next → Owes a c after whole
 owes-next a b c rest next after whole o e h = record {
   done = o.done ++ next;
@@ -49,7 +49,7 @@ owes-next a b c rest next after whole o e h = record {
   parts = append_assoc o.done next after ∙ ap (λ (l : List ℕ). o.done ++ l) (sym e) ∙ o.parts;
 }
 
--- a prefix of it was put
+-- a prefix of it was written
 pub owes-front : (a b c : Option (List ℕ)) (rest next after whole : List ℕ) → Owes a b rest whole → rest ≡ next ++ after → WritesFront b c next →
     WritesFront a c whole
 owes-front a b c rest next after whole o e h =

@@ -1,4 +1,4 @@
--- The parts that ask for a layout: where it is accepted they are acceptable, and describe it again.
+-- The parts that request a layout: where it is accepted they are acceptable, and describe it again.
 use Rattle.std.proofs.Common.{◌≡◌, ℕ, ℤ, pos, zero, suc, ◌+◌, ◌<◌, ◌≤◌, List, [], ◌∷◌, ◌++◌, All, Bool, true, false, cond, Option, Some, None, length, map, get_or, refl, ap, arith, ◌∙◌, sym, subst}
 use Rattle.std.specs.Prelude.{find, filter, nat_eq, nat_lt, option_map, ◌||◌, slice_get, unwrap_or, ◌≢◌, ◌<ℤ◌}
 use Rattle.std.specs.List.Sorted.{IsStrictlyIncreasing}

@@ -76,7 +76,7 @@ is_sided sidings c = list_any (λ siding. names siding.classes c) sidings
 unfoldable pub is_asked : Parts → Class → Bool
 is_asked parts c = is_unit parts.units c || is_sided parts.sidings c
 
--- the numbers of a siding are naturals of 32 bits
+-- the numbers of a siding are natural numbers of 32 bits
 pub record IsSmallSiding (siding : Siding) : Type 0 where
   pub launch : is_within 0 4294967295 siding.launch ≡ true
   pub recover : is_within 0 4294967295 siding.recover ≡ true

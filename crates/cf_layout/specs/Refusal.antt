@@ -86,14 +86,14 @@ abbrev pub missing : Option Class → Option LayoutErr
 missing None = None
 missing (Some c) = Some (MissingUnit c)
 
--- each class that every processor computes is there; of multiplication and division both or neither
+-- no class that every processor computes is missing; of multiplication and division both are present or neither
 unfoldable pub missing_refusal : Parts → Option LayoutErr
 missing_refusal parts =
     option_or (missing (find (λ c. not (is_asked parts c)) needed_classes))
     (option_or (unless (is_asked parts Mul || not (is_asked parts Div)) (MissingUnit Mul))
     (unless (is_asked parts Div || not (is_asked parts Mul)) (MissingUnit Div)))
 
--- the siding that is asked for the class: the first that names it
+-- the requested siding for the class: the first that names it
 unfoldable pub siding_for : List Siding → Class → Option Siding
 siding_for sidings c = find (λ siding. names siding.classes c) sidings
 
@@ -111,7 +111,7 @@ abbrev pub turns_in : List ℕ → Option Siding → List ℕ
 turns_in stages None = stages
 turns_in stages (Some siding) = natural siding.recover ∷ []
 
--- the stage, which is above the one from which memory is reached
+-- the stage, where it is above the one from which loads and stores are launched
 abbrev pub above : Class → ℕ → Option ℕ → Option LayoutErr
 above c launch None = None
 above c launch (Some stage) = Some (ControlAboveMemory c stage launch)
@@ -135,7 +135,7 @@ refusal parts =
     (option_or (missing_refusal parts)
     (control_refusal parts))))
 
--- what a test answers
+-- the outcome of a test
 abbrev pub told : Option LayoutErr → Result (Unit {0}) LayoutErr
 told None = Ok tt
 told (Some e) = Err e

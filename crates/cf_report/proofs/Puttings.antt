@@ -1,4 +1,4 @@
--- What a report has after one text was put and then another, or after the first one failed.
+-- What a report has after one text was written and then another, or after the first one failed.
 use Rattle.std.proofs.Common.{◌≡◌, ℕ, ◌+◌, ◌≤◌, List, [], ◌++◌, length, take, Option, Some, None, Ok, Err, refl, sym, ap, ◌∙◌, subst, append-nil, append_assoc, arith}
 use Rattle.std.specs.Prelude.{Result}
 use Rattle.std.specs.Result.{IsErr}
@@ -26,7 +26,7 @@ again a b c i j k x y t (Err e) h g = record {
   };
 }
 
--- one text was put, and then another
+-- one text was written, and then another
 pub puts-again : {T U E : Type 0} {a b c : Option (List ℕ)} {i j k : ℕ} {x y : List ℕ} (z : List ℕ) {first : Result T E} {answer : Result U E} {t : T}
     → first ≡ Ok t → x ++ y ≡ z → PutsText a b i j x first → PutsText b c j k y answer → PutsText a c i k z answer
 puts-again {a = a} {b = b} {c = c} {i = i} {j = j} {k = k} {x = x} {y = y} z {answer = answer} {t = t} ok both h g =
@@ -47,7 +47,7 @@ pub puts-stopped : {T U E : Type 0} {a b : Option (List ℕ)} {i j : ℕ} {x : L
 puts-stopped {a = a} {b = b} {i = i} {j = j} {x = x} y z {answer = answer} {e = e} err both failed h =
     rw both at (stopped a b i j x y e answer failed (rw err at h))
 
--- a text was put so far, and no fault was counted
+-- a text was written so far, and no fault was counted
 pub record HasPut (written after : Option (List ℕ)) (before now : ℕ) (text : List ℕ) : Type 0 where
   pub told : Writes written after text
   pub still : now ≡ before
@@ -62,7 +62,7 @@ put-more a b c i j k x y t h g = record {
   still = g.cause.still ∙ h.still;
 }
 
--- one more text was put after it
+-- one more text was written after it
 pub has-more : {T E : Type 0} {a b c : Option (List ℕ)} {i j k : ℕ} {x y : List ℕ} {answer : Result T E} {t : T} → answer ≡ Ok t → HasPut a b i j x →
     PutsText b c j k y answer → HasPut a c i k (x ++ y)
 has-more {a = a} {b = b} {c = c} {i = i} {j = j} {k = k} {x = x} {y = y} {t = t} ok h g = put-more a b c i j k x y t h (rw ok at g)
@@ -77,7 +77,7 @@ pub put-all : {E : Type 0} {a b : Option (List ℕ)} {i j : ℕ} {x : List ℕ} 
 put-all z answer ok same h =
     rw (ok, ← same) (record { all = h.told; front = tt; cause = record { never_falls = omega (arith, h.still); rose = tt; still = h.still } })
 
--- the last text was put after it, or failed
+-- the last text was written after it, or failed
 put-last : {T E : Type 0} (a b c : Option (List ℕ)) (i j k : ℕ) (x y : List ℕ) (answer : Result T E) → HasPut a b i j x → PutsText b c j k y answer →
     PutsText a c i k (x ++ y) answer
 put-last a b c i j k x y (Ok t) h g = record {

@@ -92,7 +92,7 @@ fn advance<P: Policy, S: Source, K: Sink, R: Sink>(
 /// not counted. `ReportFault` comes only where the report failed, after a move that was made and counted. In each case
 /// that object's count of faults rose.
 ///
-/// Where no move of the run asks the input, what the input exposes is unchanged; the output likewise.
+/// Where no move of the run uses the input, what the input exposes is unchanged; the output likewise.
 pub fn run_policy<P: Policy, S: Source, K: Sink, R: Sink>(
     core: &mut Core,
     candidates: &mut Candidates,

@@ -70,13 +70,13 @@ fn advance<S: Source, K: Sink, R: Sink>(
 
 /// Runs a script: makes its moves one after another until the program ends, as many instructions have retired as the
 /// limit allows, or the next move cannot be read or made. These are tested in this order before each move, and no line
-/// after that point is read. What `show` says is put to the report as the run goes on.
+/// after that point is read. What `show` selects is written to the report during the run.
 ///
 /// `ReadFault` and `WriteFault` come only where the input or the output failed a call of the environment; that move is
 /// not counted. `ReportFault` comes only where the report failed, after a move that was made and counted. In each case
 /// that object's count of faults rose.
 ///
-/// Where no move of the run asks the input, what the input exposes is unchanged; the output likewise. Only Serve uses
+/// Where no move of the run uses the input, what the input exposes is unchanged; the output likewise. Only Serve uses
 /// them, for an ECALL that reads or writes.
 ///
 /// Where the processor was opened on a machine, the run is a run of that machine, in whatever order the script makes

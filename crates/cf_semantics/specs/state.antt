@@ -1,4 +1,4 @@
--- States: what is in the pipes and beside them, and what the moves ask about it.
+-- States: what is in the pipes and beside them, and what the moves need to know about them.
 pub mod Options
 pub mod State
 pub mod Column

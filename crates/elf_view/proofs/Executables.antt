@@ -62,7 +62,7 @@ passed-identity file e =
       version = ones.2;
     }
 
--- what the file is made for
+-- the target of the file
 passed-target : (h : FileHeader) → target_refusal h ≡ None → HasTarget h
 unfolding target_refusal not_executable not_riscv needs_compressed needs_float needs_rve
 passed-target h e =

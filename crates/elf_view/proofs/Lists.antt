@@ -1,4 +1,4 @@
--- What holds of each element of a list that is gone through.
+-- What holds of each element of a list in a loop.
 use Rattle.std.proofs.Common.{◌≡◌, suc, List, [], ◌∷◌, All, Option, Some, None, subst, sym, arith}
 use Rattle.std.specs.Prelude.{MatchOption}
 

@@ -125,7 +125,7 @@ unfoldable pub refusal : List ℕ → Option ElfErr
 refusal file =
     first_of (identity_refusal file ∷ target_refusal (file_header file) ∷ table_refusal file ∷ segment_refusal file ∷ bad_symbols file ∷ [])
 
--- what a test answers
+-- the outcome of a test
 abbrev pub view_answer : Option ElfErr → Result (Unit {0}) ElfErr
 view_answer None = Ok tt
 view_answer (Some e) = Err e

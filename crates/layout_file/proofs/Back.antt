@@ -34,7 +34,7 @@ integers-fit (z ∷ zs) = let (a, b) = integers-fit zs in (a, rw b)
 integers-array : (zs : List ℤ) → length zs ≤ 1000 → is_list_of Integer (array (integers zs)) ≡ true
 integers-array zs few = let (a, b) = integers-fit zs in rw (b, le-leb (length zs) 1000 few, a)
 
--- the word of a class is read as that class, in this format
+-- the name of a class is read as that class, in this format
 abbrev pub IsWord : Bool → Class → Type 0
 IsWord second c = class_of second (class_name c) ≡ Some c
 
@@ -59,7 +59,7 @@ siding-right : (second : Bool) (s : Siding) → AreWords second s.classes → le
 unfolding siding_fault form_fault knows fits
 siding-right second s words few = let (a, b, t, n) = names-back second s.classes words in rw (names-array second s.classes words few, b)
 
--- each siding's classes are few, and words of the format
+-- each siding's classes are few, and have names in the format
 abbrev pub AreRight : Bool → List Siding → Type 0
 AreRight second [] = Unit {0}
 AreRight second (s ∷ ss) = ((length s.classes ≤ 1000) × AreWords second s.classes) × AreRight second ss
@@ -91,7 +91,7 @@ abbrev pub AllDiffer : List Class → Type 0
 AllDiffer [] = Unit {0}
 AllDiffer (c ∷ cs) = ClassesDiffer c cs × AllDiffer cs
 
--- none of these classes has its word as a key
+-- none of these classes has its name as a key
 abbrev pub NoneIn : List Class → Members → Type 0
 NoneIn [] ms = Unit {0}
 NoneIn (c ∷ cs) ms = (get_member (class_name c) ms ≡ None) × NoneIn cs ms
@@ -194,7 +194,7 @@ fits-class second c zs few = integers-array zs few
 abbrev RightUnits : Bool → Members → Type 0
 RightUnits second ms = (first_unknown (form.Units second) ms ≡ None) × (first_misfit (form.Units second) ms ≡ None)
 
--- the stages are few, and the class is a word of the format where it has some
+-- the stages are few, and the class has a name in the format where it has some
 abbrev pub IsRightUnit : Bool → Class → List ℕ → Type 0
 IsRightUnit second c stages = (length stages ≤ 1000) × (1 ≤ length stages → IsWord second c)
 

@@ -10,7 +10,7 @@ use Rattle.cf_layout.specs.declared.parts.Siding.{Siding}
 use Rattle.cf_layout.specs.declared.parts.Parts.{Parts}
 use Rattle.layout_file.specs.Names.{class_name}
 
--- arrays of integers and of the words of classes
+-- arrays of integers and of the names of classes
 abbrev pub integers : List ℤ → Items
 integers [] = no_items
 integers (z ∷ zs) = item (integer z) (integers zs)
@@ -89,7 +89,7 @@ top_table second p units = cache_member second p.cache (member (codes "format") 
 abbrev pub table_of : Bool → Parts → Members
 table_of second p = top_table second p (unit_table p.units no_members)
 
--- no array of integers or of words is an array of tables
+-- no array of integers or of names is an array of tables
 pub integers_pair : (zs : List ℤ) → is_section (array (integers zs)) ≡ false
 integers_pair [] = refl
 integers_pair (z ∷ zs) = refl

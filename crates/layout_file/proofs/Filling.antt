@@ -1,4 +1,4 @@
--- What the lines of a layout fill in.
+-- The table that the lines of a layout fill in.
 use Rattle.std.proofs.Common.{◌≡◌, ℕ, ℤ, Ordering, Less, Equal, Greater, nat_cmp, is_eq, Bool, true, false, cond, List, [], ◌∷◌, codes, Option, Some, None, refl, sym, ◌∙◌}
 use Rattle.std.proofs.lemmas.Bool.{false≢true}
 use Rattle.std.proofs.lemmas.Option.{none-some}

@@ -49,7 +49,7 @@ distinct_from : (f : Class → List ℕ) (cs : List Class) → AllDiffer cs → 
 distinct_from f [] differ = tt
 distinct_from f (c ∷ cs) differ = distinct_one f c cs (f c) (others_from f c cs differ.0) (distinct_from f cs differ.1)
 
--- the words of `mul` and `div` need format 2
+-- the names of `mul` and `div` need format 2
 abbrev NeedsSecond : Bool → Class → Type 0
 NeedsSecond second c = ((c ≡ Mul) → second ≡ true) × ((c ≡ Div) → second ≡ true)
 

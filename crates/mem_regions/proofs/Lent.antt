@@ -1,4 +1,4 @@
--- What `part_mut` learns of its test, and how it lends itself out for the call that makes the test.
+-- What `part_mut` learns from its test, and how it is borrowed for the call that makes the test.
 use Rattle.std.proofs.Common.{◌≡◌, ℕ, List, [], ◌∷◌, Bool, true, false, Option, Some, None, not, T, IsTrue, refl, sym, ◌∙◌}
 use Rattle.std.specs.Prelude.{position}
 use seplogic.Ra.Ura.{Ura}

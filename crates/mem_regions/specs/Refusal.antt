@@ -56,7 +56,7 @@ first_overlap parts = overlap_from [] parts
 unfoldable pub refusal : List Part → Option LoadErr
 refusal parts = option_or (too_many parts) (option_or (first_wrapping parts) (option_or (too_large parts) (first_overlap parts)))
 
--- what a test answers
+-- the outcome of a test
 abbrev pub load_answer : Option LoadErr → Result (Unit {0}) LoadErr
 load_answer None = Ok tt
 load_answer (Some e) = Err e

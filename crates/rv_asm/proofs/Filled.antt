@@ -75,7 +75,7 @@ goes_on s out new text h f =
       };
     }
 
--- the lines above have been put into the sections, and the answer is what the others make of these
+-- the sections hold the earlier lines, and the answer is what the other lines make of them
 pub record IsReached (above : ℕ) (out : Output) (lines : List (List ℕ)) (answer : Result Sections AsmErr) : Type 0 where
   pub sections : Sections
   pub shows : HoldsSections sections out

@@ -203,7 +203,7 @@ lines-sized above s t (line ∷ lines) h e =
     let r = passes (at_line (above + 1) (filled s (said line))) (λ (next : Sections). sections_from (above + 1) next lines) t e in
     lines-sized (above + 1) r.first t lines (filled-sized s r.first (said line) h (passes_line (above + 1) (filled s (said line)) r.first r.is)) r.goes
 
--- what the first look knows, and what the second makes of it
+-- what the first pass knows, and what the second makes of it
 pub record Looks (lines : List (List ℕ)) (sections : Sections) : Type 0 where
   pub labels : List LabelView
   pub drafted : (place : SectionPlace) × (draft_from 0 (record { place = start; labels = [] }) lines ≡ Ok (record { place = place; labels = labels }))

@@ -16,7 +16,7 @@ use Rattle.rv_machine.specs.Buffers.{Fills, FillsSome}
 use Rattle.rv_machine.specs.Acts.{Serves}
 use Rattle.rv_machine.proofs.InputKnown.{some_rest, rest-told, rest-spent, stays}
 
--- an answer that asks nothing of the streams
+-- an answer that does not use the streams
 serves-plain : (regs : List ℕ) (mem new : Memory) (s : Streams) (value : ℕ) →
     ((rest : List ℕ) → call regs mem rest ≡ answered value new rest) →
     Serves regs mem new s s (served.Value value)
@@ -149,7 +149,7 @@ reads-fault regs mem new left after output n fd len can (taken, takes) = record 
   output = refl;
 }
 
--- such a read asks the input
+-- such a read uses the input
 pub reads-asking : {A : Type 0} (regs : List ℕ) (mem : Memory) → number_in regs ≡ 63 →
     first_argument regs ≡ 0 → third_argument regs ≢ 0 →
     can_write mem (second_argument regs) (third_argument regs) ≡ true →
@@ -158,7 +158,7 @@ unfolding asks_input
 reads-asking regs mem n fd len can asks =
     let no : true ≡ false = rw (n, fd, other 0 len, can) at asks in cc
 
--- no read asks the output, and no write the input
+-- no read uses the output, and no write the input
 not-output : (regs : List ℕ) (mem : Memory) → number_in regs ≡ 63 → IsTrue (asks_output regs mem) → ⊥
 unfolding asks_output
 not-output regs mem n asks = let no : false ≡ true = rw n at asks in cc
@@ -258,7 +258,7 @@ writes-fault regs mem input written after bytes n fd len some front = (
   refl,
 )
 
--- such a write asks the output
+-- such a write uses the output
 pub writes-asking : {A : Type 0} (regs : List ℕ) (mem : Memory) (bytes : List ℕ) →
     number_in regs ≡ 64 → is_output (first_argument regs) ≡ true → third_argument regs ≢ 0 →
     range_of mem (second_argument regs) (third_argument regs) ≡ Some bytes →

@@ -1,4 +1,4 @@
--- What streams expose where nothing is asked of them, and after one use and then another.
+-- What streams expose where they are not used, and after one use and then another.
 use Rattle.std.proofs.Common.{◌≡◌, ℕ, List, [], ◌++◌, Option, Some, None, refl, ap, sym, ◌∙◌, subst, append-nil, append_assoc}
 use Rattle.std.specs.Prelude.{unwrap_or}
 use Rattle.cf_io.specs.Puts.{Writes}
@@ -16,7 +16,7 @@ pub rest-spent : (told : Option (List ℕ)) → IsSpent told (some_rest told)
 rest-spent None = refl
 rest-spent (Some told) = tt
 
--- an input that nothing was taken from, and an output that nothing was put to
+-- an input that nothing was taken from, and an output that nothing was written to
 input-stays : (told : Option (List ℕ)) (rest : List ℕ) → IsTold told rest → Becomes told told rest
 input-stays None rest h = tt
 input-stays (Some told) rest h = ap Some (sym h)
@@ -25,7 +25,7 @@ output-stays : (told : Option (List ℕ)) → Writes told told []
 output-stays None = tt
 output-stays (Some told) = ap Some (sym (append-nil told))
 
--- streams that nothing was asked of
+-- streams that were not used
 pub stays : (s : Streams) (rest : List ℕ) → IsTold s.input rest → Leaves s s rest []
 stays s rest h = record { input = input-stays s.input rest h; output = output-stays s.output }
 

@@ -63,7 +63,7 @@ cache-at m places pc cache has below small =
     let P : ℕ → Type 0 = λ n. found_at m n ≡ found.Instruction d.word d.instr in
     subst P e (cache (place_at pc) nothing_kept below (rw e small))
 
--- what is kept is an instruction
+-- what the cache keeps is an instruction
 pub cache-has : (m : Memory) (places : List Decoded) (pc : ℕ) → IsCacheOf m places → keeps places pc ≡ true →
     place_at pc < length places → pc < 2 ^ 32 → is_instruction (found_at m pc) ≡ true
 cache-has m places pc cache has below small = rw (cache-at m places pc cache has below small) refl

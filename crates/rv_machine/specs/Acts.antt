@@ -66,7 +66,7 @@ pub record CallsHere (isa : Isa) (h : Hart) : Type 0 where
   pub fetched : fetch_at h.mem h.pc ≡ Ok word
   pub decoded : decoded_as isa word ≡ Some Ecall
 
--- one step of a machine that has this instruction set; a stream fails only an environment call that asks it
+-- one step of a machine that has this instruction set; a stream fails only an environment call that uses it
 abbrev pub Steps : Isa → Hart → Hart → Streams → Streams → Stepped → Type 0
 Steps isa old new before after result =
     Acts (CallsHere isa old) (step_on isa old) old new before after result
@@ -92,7 +92,7 @@ pub record Quits (asked : List ℕ → Called) (status : ℕ) (mem new : Memory)
   pub memory : new ≡ mem
   pub streams : after ≡ before
 
--- the environment call that the registers ask for came about, or a stream that it asks failed it
+-- the environment call that the registers ask for came about, or a stream that it uses failed it
 unfoldable pub Serves : List ℕ → Memory → Memory → Streams → Streams → Served → Type 0
 Serves regs mem new before after (served.Value value) =
     Returns (call regs mem) new before after value

@@ -43,7 +43,7 @@ bad_address = word_of (negsuc 13)
 abbrev pub no_such_call : ℕ
 no_such_call = word_of (negsuc 37)
 
--- an answer that asks neither input nor output
+-- an answer that uses neither input nor output
 abbrev pub answered : ℕ → Memory → List ℕ → Called
 answered value mem rest = Value (record { value = value; mem = mem; rest = rest; output = [] })
 
@@ -116,7 +116,7 @@ call regs mem rest =
     if is_exit number then exit a else
     if number == 214 then brk a mem rest else answered no_such_call mem rest
 
--- the call asks the input: it is a read that passes its tests
+-- the call uses the input: it is a read that passes its tests
 unfoldable pub asks_input : List ℕ → Memory → Bool
 asks_input regs mem =
     let addr = second_argument regs in
@@ -124,7 +124,7 @@ asks_input regs mem =
     (number_in regs == 63) && (first_argument regs == 0) && not (len == 0)
     && can_write mem addr len
 
--- the call asks the output: it is a write that passes its tests
+-- the call uses the output: it is a write that passes its tests
 unfoldable pub asks_output : List ℕ → Memory → Bool
 asks_output regs mem =
     let addr = second_argument regs in

@@ -11,7 +11,7 @@ use Rattle.rv_machine.specs.Call.{second_argument, third_argument, asks_input, a
 use Rattle.rv_machine.specs.Streams.{Streams}
 use Rattle.rv_machine.specs.Buffers.{TakesInto}
 
--- the call asked the input, which failed after some bytes; what the output exposes is unchanged
+-- the call used the input, which failed after some bytes; what the output exposes is unchanged
 pub record FailsReading (regs : List ℕ) (mem new : Memory) (before after : Streams) : Type 0 where
   pub asks : IsTrue (asks_input regs mem)
   pub taken : List ℕ
@@ -19,7 +19,7 @@ pub record FailsReading (regs : List ℕ) (mem new : Memory) (before after : Str
       before.input after.input taken
   pub output : after.output ≡ before.output
 
--- the call asked the output, which failed after a prefix of the buffer's bytes; what the input exposes is unchanged
+-- the call used the output, which failed after a prefix of the buffer's bytes; what the input exposes is unchanged
 pub record FailsWriting (regs : List ℕ) (mem : Memory) (before after : Streams) : Type 0 where
   pub asks : IsTrue (asks_output regs mem)
   pub bytes : List ℕ

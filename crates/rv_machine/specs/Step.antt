@@ -106,7 +106,7 @@ synchronizes _ = false
 unfoldable pub synchronize : Hart → ℕ → Outcome Hart
 synchronize h word = retire (record h { mem = synced h.mem }) word (word_sum h.pc 4) 0 0
 
--- ECALL asks the environment; FENCE.I makes the code that is fetched that of memory
+-- ECALL calls the environment; FENCE.I makes the code that is fetched that of memory
 unfoldable pub serial : Hart → List ℕ → ℕ → Instr → Outcome Machine
 serial h rest word i =
     if synchronizes i

@@ -143,7 +143,7 @@ impl Machine {
     ///
     /// After `Next` the machine has executed the instruction; after a trap, an exit or a fault its program counter,
     /// registers and count are unchanged. A fault comes only from an environment call, as [`serve`] says. Unless the
-    /// instruction is an environment call that asks the input, what the input exposes is unchanged; the output
+    /// instruction is an environment call that uses the input, what the input exposes is unchanged; the output
     /// likewise.
     #[inline(always)]
     pub fn step<S: Source, K: Sink>(&mut self, input: &mut S, output: &mut K) -> Stepped

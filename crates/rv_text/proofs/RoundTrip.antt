@@ -1,4 +1,4 @@
--- LineReading what was written gives the instruction back.
+-- Reading back what was written gives the instruction.
 use Rattle.std.proofs.Common.{◌≡◌, ℕ, ◌+◌, ◌-◌, ◌%◌, ◌^◌, ◌<◌, ◌≤◌, ◌≤ℤ◌, ◌<ℤ◌, Bool, true, false, List, [], ◌∷◌, ◌++◌, refl, ◌∙◌, ap, arith, Ok, ℤ, pos, negsuc, lit<, lit≤}
 use Rattle.std.specs.Prelude.{codes, nat_eq, ◌==◌, ◌&&◌, if◌then◌else◌, Result}
 use Rattle.std.specs.Int.{w32}

@@ -5,7 +5,7 @@ ghost use Rattle.rv_inst.specs.Ranges.{Fits};
 ghost use Rattle.rv_text.specs.Writing.{text_of};
 ghost use Rattle.rv_text.specs.LineReading.{read_text};
 
-/// The text of an instruction at an address, read at that address, gives the instruction back.
+/// The text of an instruction at an address, read back at that address, gives the instruction.
 #[tactic(auto, using(crate::proofs::RoundTrip::reading_back))]
 pub fn read_back()
     ensures { (i : Instruction) (pc : ℕ) → Fits i → pc < 2 ^ 32 → read_text (text_of i pc) pc ≡ Ok i }

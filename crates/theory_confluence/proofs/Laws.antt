@@ -111,7 +111,7 @@ reached_shape plan x m acc wide reached going =
     let s : Sound plan m.state m.rest m.output h.machine = subst (HoldsAt plan m.state m.rest m.output h.machine) going h.stage in
     record { cells = s.size; sidings = s.moored.berths }
 
--- where the candidates are held, an Issue is one of them only if no other move is allowed, as the hold rule asks
+-- where the candidates are held, an Issue is one of them only if no other move is allowed, as the hold rule requires
 pub held_stuck : (plan : Plan) (x : Machine) (m : Moment) (k : ℕ) (mv : Move) → IsAccepted plan → length x.hart.regs ≡ 32 → IsReached plan x m →
     m.state.ending ≡ None → slice_get (held_back (candidates plan m.state)) k ≡ Some mv → is_issue mv ≡ true → IsStuck plan m.state
 held_stuck plan x m k mv acc wide reached going there issue = candidates_held plan m.state k mv (reached_shape plan x m acc wide reached going) there issue

@@ -160,7 +160,7 @@ abbrev pub access_bar : Option Op → Option Bar
 access_bar o = on o (Some OpNotThere) (λ op. first_of ((is_some op.answer, AlreadyDone) ∷ []) None)
 
 -- what bars taking from the end of the class's siding: the class has no siding (NoUnit); no operation is there
--- (OpNotThere); it is a load or a store without an answer (NotDone). Right only in reached states: nothing here asks
+-- (OpNotThere); it is a load or a store without an answer (NotDone). Right only in reached states: nothing here tests
 -- whose operation this is. There it is the instruction's own, since a siding holds operations in the order of their
 -- instructions, and none of these climbs past the stage where it is to recover its own.
 abbrev pub exit_op_bar : Plan → State → Passenger → Option Bar

@@ -37,11 +37,11 @@ set_last [] q = []
 set_last (o ∷ []) q = q ∷ []
 set_last (o ∷ p ∷ ops) q = o ∷ set_last (p ∷ ops) q
 
--- what f makes of stage i; where there is no such stage, the state as it is
+-- f applied to stage i; where there is no such stage, the state is unchanged
 abbrev pub on_cell : State → ℕ → (Cell → State) → State
 on_cell s i f = on (cell_at s.cells i) s f
 
--- what f makes of stage i and its instruction; where either is missing, the state as it is
+-- f applied to stage i and its instruction; where either is missing, the state is unchanged
 abbrev pub on_passenger : State → ℕ → (Cell → Passenger → State) → State
 on_passenger s i f = on_cell s i (λ c. on c.passenger s (f c))
 
@@ -160,7 +160,7 @@ abbrev pub exited : Plan → State → Cell → State
 exited plan s c = on c.packet s (λ k.
     record (with_cell s 1 (without_packet c)) { fetch = turned s.fetch k; cache = keeps plan.cache s.cache k })
 
--- the state after an allowed move other than Serve, which asks the outside
+-- the state after an allowed move other than Serve, which calls the environment
 unfoldable pub moved : Plan → State → Move → State
 moved plan s (Issue g) = on_cell s 1 (λ c. on (running s.fetch) s (issued plan s g c))
 moved plan s Emit = on_cell s plan.stages (emitted s plan.stages s.lane)
@@ -192,7 +192,7 @@ served m n c p (called.Value a) = record {
 served m n c p (called.Exit status) =
     record m { state = with_cell m.state n (with_passenger c (record p { done = true; ending = Some (ending.Exit status) })) }
 
--- the instruction in the highest stage asks the environment
+-- the instruction in the highest stage calls the environment
 abbrev pub asked : Moment → ℕ → Cell → Passenger → Moment
 asked m n c p = served m n c p (serve_of (instruction p) m.state.regs m.state.mem m.rest)
 

@@ -21,7 +21,7 @@ is_extra Mul = true
 is_extra Div = true
 is_extra _ = false
 
--- what the moves ask of a layout
+-- what the moves need of a layout
 pub record Suits (plan : Plan) : Type 0 where
   pub plain : (c : Class) (i : ℕ) → unit_at plan c i ≡ true → is_plain c ≡ true
   pub control_low : (c : Class) (i : ℕ) → is_control c ≡ true → unit_at plan c i ≡ true → is_high plan i ≡ false

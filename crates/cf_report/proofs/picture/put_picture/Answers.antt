@@ -1,4 +1,4 @@
--- What was put so far comes before what the picture says next.
+-- What was written so far comes before the next part of the picture.
 use Rattle.cf_report.specs.Picture.{picture}
 use Rattle.cf_report.proofs.Puttings.{put-nothing, has-more, has-last, has-failed, failed-more}
 use Rattle.cf_report.proofs.picture.put_picture.Goals as goal

@@ -3,7 +3,7 @@ use Rattle.cf_report.specs.Picture.{siding_lines}
 use Rattle.cf_report.proofs.Puttings.{HasPut}
 use Rattle.cf_report.proofs.picture.put_sidings.Given as goal
 
--- the sidings so far are put
+-- the sidings so far are written
 abbrev pub invariant-loop-siding : goal.invariant-loop-siding
 invariant-loop-siding g l =
     HasPut (g.R.Sink.written l.initial.report) (g.R.Sink.written l.report) (g.R.Sink.faults l.initial.report)

@@ -3,7 +3,7 @@ use Rattle.cf_report.specs.Picture.{stage_lines}
 use Rattle.cf_report.proofs.Puttings.{HasPut}
 use Rattle.cf_report.proofs.picture.put_stages.Given as goal
 
--- the stages above are put
+-- the higher stages are written
 abbrev pub invariant-loop-stage : goal.invariant-loop-stage
 invariant-loop-stage g l = record {
   put : HasPut (g.R.Sink.written l.initial.report) (g.R.Sink.written l.report) (g.R.Sink.faults l.initial.report)

@@ -5,7 +5,7 @@ use Rattle.report_closing.specs.Parts.{part_moves, lines_in}
 use Rattle.report_closing.specs.declared.parts.TheConstants.{PARTS}
 use Rattle.report_closing.proofs.moves.put_moves.Given as goal
 
--- the lines of the parts so far are put
+-- the lines of the parts so far are written
 abbrev pub invariant-loop-part : goal.invariant-loop-part
 invariant-loop-part g l =
     HasPut (g.R.Sink.written l.initial.report) (g.R.Sink.written l.report) (g.R.Sink.faults l.initial.report)

@@ -4,7 +4,7 @@ use Rattle.report_closing.specs.Moves.{siding_moves}
 use Rattle.report_closing.specs.Parts.{lines_in}
 use Rattle.report_closing.proofs.moves.put_slides.Given as goal
 
--- the lines of the sidings so far are put
+-- the lines of the sidings so far are written
 abbrev pub invariant-loop-siding : goal.invariant-loop-siding
 invariant-loop-siding g l =
     HasPut (g.R.Sink.written l.initial.report) (g.R.Sink.written l.report) (g.R.Sink.faults l.initial.report)

@@ -3,7 +3,7 @@ use Rattle.report_closing.specs.Parts.{move_at}
 use Rattle.report_closing.proofs.Listed.{lines_from}
 use Rattle.report_closing.proofs.moves.put_stages.Given as goal
 
--- the lines of the stages so far are put
+-- the lines of the stages so far are written
 abbrev pub invariant-loop-below : goal.invariant-loop-below
 invariant-loop-below g l =
     HasPut (g.R.Sink.written l.initial.report) (g.R.Sink.written l.report) (g.R.Sink.faults l.initial.report)
