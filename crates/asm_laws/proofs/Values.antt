@@ -6,7 +6,7 @@ use Rattle.std.specs.Int.{bytes_low_first}
 use Rattle.rv_inst.specs.declared.instruction.Instr.{Instr}
 use Rattle.rv_inst.specs.Words.{word_difference}
 use Rattle.rv_text.specs.declared.statement.Jump.{Jump}
-use Rattle.rv_text.specs.LineReading.{aimed, distance_of}
+use Rattle.rv_text.specs.Reading.{aimed, distance_of}
 use Rattle.rv_asm.specs.declared.refusal.AsmKind.{AsmKind}
 use Rattle.rv_asm.specs.declared.refusal.AsmKind.TheVariants.{NoLabel}
 use Rattle.rv_asm.specs.declared.operations.Width.{Width}

@@ -29,7 +29,7 @@ use Rattle.cf_core.proofs.StillMarks.{Same, moved-same}
 use Rattle.cf_core.proofs.KeptServe.{unbarred}
 use Rattle.cf_core.proofs.SameMarks.{cell-but, rest-but, rest-same}
 use Rattle.cf_core.proofs.Sites.{touched-within}
-use Rattle.cf_core.proofs.StepsOrBarred.{next_moved}
+use Rattle.cf_core.proofs.Steps.{next_moved}
 use Rattle.cf_core.proofs.Touched.{moved-but}
 
 -- what the environment answers changes only the highest stage

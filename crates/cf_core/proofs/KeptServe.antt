@@ -33,7 +33,7 @@ use Rattle.cf_semantics.specs.declared.event.Event.{Event}
 use Rattle.cf_core.proofs.KeptMoves.{kept_moved}
 use Rattle.cf_core.proofs.KeptParts.{cell-kept, kept_bounds, stage-at}
 use Rattle.cf_core.proofs.KeptStages.{passenger-changed, passenger-in}
-use Rattle.cf_core.proofs.StepsOrBarred.{next_moved}
+use Rattle.cf_core.proofs.Steps.{next_moved}
 
 -- an answer leaves the regions' bounds and flags as they were
 abbrev Keeps : Memory → Called → Type 0

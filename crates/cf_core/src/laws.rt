@@ -15,7 +15,7 @@ ghost use Rattle.cf_semantics.specs.moves.Bars.{bar};
 ghost use Rattle.cf_semantics.specs.claims.Determined.{Drains, EndsAs, EndAlike, KeepsRegisters, Rests};
 ghost use Rattle.cf_semantics.specs.state.Drained.{is_drained, IsStuck};
 ghost use Rattle.cf_semantics.specs.moves.Events.{Shows};
-ghost use Rattle.cf_semantics.specs.claims.KeepsOrActsOnPath.{KeepsOrActsOnPath};
+ghost use Rattle.cf_semantics.specs.claims.OnPath.{KeepsOrActsOnPath};
 ghost use Rattle.cf_semantics.specs.moves.Kept.{kept, taken_back};
 ghost use Rattle.cf_semantics.specs.claims.Laws.{ComputesAsFinished, AccessesAsLaunched, ServesAndPasses, ReadsAsIssued};
 ghost use Rattle.cf_semantics.specs.runs.Lines.{line_read, lines};

@@ -99,7 +99,7 @@ impl Processor {
     {
         StageMark {
             owes: passenger.owes.is_some(),
-            ..Mark::of_none()
+            ..StageMark::of_none()
         }
     }
 

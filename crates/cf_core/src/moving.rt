@@ -88,7 +88,7 @@ impl Processor {
 
     /// Makes an allowed move, and answers what is seen of it, or that the input or the output failed it.
     #[inline(always)]
-    #[tactic(auto, using(crate::proofs::StepsOrBarred::stepping), unfolding(cf_semantics::specs::moves::Bars::bar, crate::specs::Stepping::MakesOrFails))]
+    #[tactic(auto, using(crate::proofs::Steps::stepping), unfolding(cf_semantics::specs::moves::Bars::bar, crate::specs::Stepping::MakesOrFails))]
     pub(crate) fn make<S: Source, K: Sink>(
         &mut self,
         m: Move,

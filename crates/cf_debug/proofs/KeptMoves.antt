@@ -16,7 +16,7 @@ use Rattle.cf_core.specs.Stepping.{Makes, MakesOrFails as StepsOrFails}
 use Rattle.cf_core.specs.Undo.{CanStand, kept_by}
 use Rattle.cf_core.specs.declared.fault.Fault.TheVariants as fault
 use Rattle.cf_core.specs.declared.undo.Undo.{Undo}
-use Rattle.cf_core.proofs.StepsOrBarred.{next_moved}
+use Rattle.cf_core.proofs.Steps.{next_moved}
 use Rattle.cf_run.proofs.AfterOutput.{next-after}
 use Rattle.cf_debug.specs.Making.{ProcessorState, MakesAndKeeps, FailsOne, processor_state}
 use Rattle.cf_debug.specs.Rings.{WasKept, ring_after, with_record}

@@ -3,7 +3,7 @@
 ghost use Rattle.std.specs.Prelude.{◌≡◌, ◌≤◌, ◌↔◌, None, IfOk, IfSome, take, vec_len};
 ghost use Rattle.std.specs.IoError.{error_kind};
 ghost use Rattle.std.specs.declared.io.ErrorKind.TheVariants as kind;
-ghost use Rattle.cf_io.specs.ReadsFile.{ReadsFile, HasReadCause, CountsReadFaults};
+ghost use Rattle.cf_io.specs.Reads.{ReadsFile, HasReadCause, CountsReadFaults};
 
 use crate::files::{Files, FilesErr};
 use std::alloc::Global;

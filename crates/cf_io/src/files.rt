@@ -1,7 +1,7 @@
 //! Files, as the simulator sees them.
 
 ghost use Rattle.std.specs.Prelude.{ℕ, Option, ◌≤◌, IfOk, vec_len};
-ghost use Rattle.cf_io.specs.ReadsFile.{FilesSeen, ReadsFile, HasReadCause};
+ghost use Rattle.cf_io.specs.Reads.{FilesSeen, ReadsFile, HasReadCause};
 
 use std::alloc::Global;
 

@@ -3,7 +3,7 @@
 ghost use Rattle.std.specs.Prelude.{◌≡◌, ◌<◌, ◌≤◌, [], ◌∷◌, ◌++◌, Some, None, map, take, IfSome, IfNone, IfOk, IfErr, string_bytes};
 ghost use Rattle.std.specs.Prelude.{vec_len, vec_capacity};
 ghost use Rattle.cf_io.specs.Causes.{raised};
-ghost use Rattle.cf_io.specs.ReadsFile.{ReadsFile, HasReadCause};
+ghost use Rattle.cf_io.specs.Reads.{ReadsFile, HasReadCause};
 ghost use Rattle.cf_io.specs.MemoryFiles.{unread_files, told_by, ReadsCounted};
 ghost use Rattle.cf_io.specs.NamedFiles.{content_of, entry_of};
 

@@ -10,7 +10,7 @@ mod reading;
 mod retiring;
 mod stopping;
 
-pub use asking::{Asked, requests};
+pub use asking::{RequestedSources, requests};
 pub use finishing::{answered, back_in, finish, quits, trapped};
 pub use guessing::{goto, guessed, may_guess};
 pub use issuing::{fetched, fresh, isa_of};

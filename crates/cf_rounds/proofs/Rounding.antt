@@ -46,7 +46,7 @@ use Rattle.cf_rounds.specs.declared.answer.Fired.TheVariants as fault
 use Rattle.cf_rounds.specs.Firing.{FiresAll, Fires, MakesAll, input_fired, output_fired, paced_by}
 use Rattle.cf_rounds.specs.Rounds.{AreCandidates, IsRound, round_of}
 use Rattle.cf_rounds.specs.Running.{InRounds, FailsThere, RunsRounds, StopsRounds, all_of, ran_of, state_after}
-use Rattle.cf_rounds.specs.RoundTurns.{IsOffered, RoundTurns, finish_with, input_turned, output_turned}
+use Rattle.cf_rounds.specs.Turns.{IsOffered, RoundTurns, finish_with, input_turned, output_turned}
 use Rattle.cf_rounds.proofs.Level.{round-level}
 use Rattle.cf_rounds.proofs.Making.{leaves, falls, left_first}
 use Rattle.cf_rounds.proofs.Pacing.{rounds_paced}

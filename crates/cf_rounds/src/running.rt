@@ -1,5 +1,5 @@
 //! A run in rounds.
-#![tactic(auto, unfolding(crate::specs::RoundTurns::RoundTurns, crate::specs::Firing::Fires))]
+#![tactic(auto, unfolding(crate::specs::Turns::RoundTurns, crate::specs::Firing::Fires))]
 
 ghost use Rattle.std.specs.Prelude.{◌≡◌, ℕ, ◌+◌, ◌<◌, ◌≤◌, ◌^◌, MatchOption, None, Some, length};
 ghost use Rattle.run_options.specs.Limits.{most_limit};
@@ -13,7 +13,7 @@ ghost use Rattle.cf_run.specs.Moving.{place_of};
 ghost use Rattle.cf_run.specs.Policies.{IsOpened, most_moves};
 ghost use Rattle.cf_run.specs.Reaching.{GoesOn, IsOver, no_tally};
 ghost use Rattle.cf_rounds.specs.Running.{RoundsRunRight, ran_of};
-ghost use Rattle.cf_rounds.specs.RoundTurns.{RoundTurns, finish_with, input_turned, output_turned};
+ghost use Rattle.cf_rounds.specs.Turns.{RoundTurns, finish_with, input_turned, output_turned};
 
 use crate::answer::{Clocked, Fired};
 use crate::choosing::choose;

@@ -9,7 +9,7 @@ use Rattle.cf_report.specs.declared.tally.Tally.{Tally}
 use Rattle.cf_rounds.specs.declared.answer.Clocked.{Clocked}
 use Rattle.cf_rounds.specs.declared.answer.Clocked.TheVariants as clocked
 use Rattle.cf_rounds.specs.Running.{RoundsRunRight, ran_of}
-use Rattle.cf_rounds.specs.RoundTurns.{input_turned, output_turned}
+use Rattle.cf_rounds.specs.Turns.{input_turned, output_turned}
 use Rattle.cf_run.specs.declared.answer.Ran.{Ran as Answer}
 use Rattle.cf_run.specs.declared.answer.Scripted.TheVariants.{Ran}
 use Rattle.cf_run.specs.Ending.{EndsSequentially}

@@ -1,7 +1,7 @@
 -- The answer of a command that reads one file and puts a text to the output, and what it leaves of the outside.
 use Rattle.std.specs.Prelude.{◌≡◌, ℕ, List, [], codes, Option}
 use Rattle.cf_io.specs.Puts.{Writes, WritesFront}
-use Rattle.cf_io.specs.ReadsFile.{FilesSeen}
+use Rattle.cf_io.specs.Reads.{FilesSeen}
 use Rattle.texts.specs.Lines.{line}
 use Rattle.cli_files.specs.Outside.{Outside}
 use Rattle.cli_files.specs.Files.{IsFrontOf, LacksBytes}

@@ -1,7 +1,7 @@
 -- What the objects lent to a command tell, as it begins and as it ends.
 use Rattle.std.specs.Prelude.{ℕ, List, Option}
 use Rattle.std.specs.Borrow.{MutBor}
-use Rattle.cf_io.specs.ReadsFile.{FilesSeen}
+use Rattle.cf_io.specs.Reads.{FilesSeen}
 use Rattle.rv_machine.specs.Streams.{Streams as StreamsTold, streams_of}
 use Rattle.cli_files.specs.Outside.{Outside, Report, outside_of, report_of}
 use Rattle.cfpp_cli.specs.declared.streams.RunStreams.{RunStreams}

@@ -4,7 +4,7 @@ use Rattle.std.proofs.lemmas.List.{length-take, length-take-le, take-append-le, 
 use Rattle.std.proofs.Math.Seq.{take-length}
 use Rattle.std.proofs.lemmas.Bool.{cases_order}
 use Rattle.cli_arguments.specs.Words.{Asked, Asks, IsBadAt}
-use Rattle.cli_arguments.specs.ArgumentReading.{ReadingState, start, follow, completed}
+use Rattle.cli_arguments.specs.Reading.{ReadingState, start, follow, completed}
 use Rattle.cli_arguments.proofs.InTurn.{after, reads, reads-append}
 use Rattle.cli_arguments.proofs.Grammar.{reads-sound, asks-read}
 use Rattle.cli_arguments.proofs.Completions.{complete-reached}

@@ -14,7 +14,7 @@ use Rattle.cli_arguments.specs.Values.{is_file_name, count_in}
 use Rattle.cli_arguments.specs.Commands.{word_of, fewest, most, counts, is_positional}
 use Rattle.cli_arguments.specs.Options.{key_word, takes_key, has_lines, has_sites, script_from, Given, Schedule}
 use Rattle.cli_arguments.specs.Words.{Asked, gen, moves, layout_in, limit_of, asked_by}
-use Rattle.cli_arguments.specs.ArgumentReading.{ReadingState, start, placed, options, valued, bare, one_more, follow, has_key, nothing_given, positional_in, completed}
+use Rattle.cli_arguments.specs.Reading.{ReadingState, start, placed, options, valued, bare, one_more, follow, has_key, nothing_given, positional_in, completed}
 use Rattle.cli_arguments.proofs.InTurn.{after, reads, reads-step, reads-append}
 use Rattle.cli_arguments.proofs.Grammar.{positional-read}
 use Rattle.cli_arguments.proofs.Reached.{Reached, HasPlaces, Stands, has_value, reached-last, words-read, stands}

@@ -9,7 +9,7 @@ use Rattle.cli_arguments.specs.declared.reading.Subject.{Subject}
 use Rattle.cli_arguments.specs.Commands.{word_of, fewest, most, is_positional}
 use Rattle.cli_arguments.specs.Options.{key_of, value_words, written, takes, Setting, Given, given_in}
 use Rattle.cli_arguments.specs.Words.{Asked, asked_by, Asks}
-use Rattle.cli_arguments.specs.ArgumentReading.{ReadingState, start, placed, options, valued, bare, one_more, nothing_given, positional_in, completed}
+use Rattle.cli_arguments.specs.Reading.{ReadingState, start, placed, options, valued, bare, one_more, nothing_given, positional_in, completed}
 use Rattle.cli_arguments.proofs.Steps.{start-read, start-follows, place-tests, tests-place, placed-read, placed-follows, first-option}
 use Rattle.cli_arguments.proofs.InTurn.{after, reads, reads-split, reads-step, none-left}
 use Rattle.cli_arguments.proofs.Settings.{both, put_all, Fresh, fresh-once, once-fresh, put-given, IsWhole, Tail, tail-read, settings-read}

@@ -1,6 +1,6 @@
 -- Words read in turn.
 use Rattle.std.proofs.Common.{◌≡◌, ℕ, List, [], ◌∷◌, ◌++◌, refl, Option, Some, None, sym, ◌∙◌, ap}
-use Rattle.cli_arguments.specs.ArgumentReading.{ReadingState, follow}
+use Rattle.cli_arguments.specs.Reading.{ReadingState, follow}
 
 -- all words in turn
 abbrev pub after : {A B : Type 0} → Option A → (A → Option B) → Option B

@@ -3,7 +3,7 @@ use Rattle.std.proofs.Common.{◌≡◌, ◌≤◌, ◌<◌, ◌+◌, ℕ, List,
 use Rattle.std.specs.Option.{ok_or}
 use Rattle.std.proofs.lemmas.List.{get_or-map, length-map, length-take-le, take_more, take_all}
 use Rattle.cli_arguments.specs.Words.{Asked, Asks, IsBadAt, IsBounded}
-use Rattle.cli_arguments.specs.ArgumentReading.{ReadingState, start, follow, completed}
+use Rattle.cli_arguments.specs.Reading.{ReadingState, start, follow, completed}
 use Rattle.cli_arguments.proofs.InTurn.{after, reads, reads-append}
 use Rattle.cli_arguments.proofs.Bounds.{asks-bounded}
 use Rattle.cli_arguments.proofs.Grammar.{reads-sound}

@@ -8,7 +8,7 @@ use Rattle.cli_arguments.specs.declared.options.Key.TheVariants as keys
 use Rattle.cli_arguments.specs.declared.reading.Subject.{Subject}
 use Rattle.cli_arguments.specs.Commands.{fewest, most}
 use Rattle.cli_arguments.specs.Options.{key_of, takes_key, Setting, limit_to, show_lines, show_sites, script_from, seed_from, with_mul, with_run, Given}
-use Rattle.cli_arguments.specs.ArgumentReading.{ReadingState, start, placed, options, valued, follow, after_key, has_key, is_there, nothing_given}
+use Rattle.cli_arguments.specs.Reading.{ReadingState, start, placed, options, valued, follow, after_key, has_key, is_there, nothing_given}
 use Rattle.cli_arguments.proofs.Steps.{put, start-read, place-tests, placed-read, option-read, value-read}
 use Rattle.cli_arguments.proofs.InTurn.{reads, reads-split, none-left}
 

@@ -6,7 +6,7 @@ use Rattle.cli_arguments.specs.declared.options.Key.{Key}
 use Rattle.cli_arguments.specs.declared.options.Key.TheVariants as keys
 use Rattle.cli_arguments.specs.declared.reading.Subject.{Subject}
 use Rattle.cli_arguments.specs.Options.{key_word, show_word, key_of, value_words, written, takes_key, is_value, takes, Matter, limits, showing, schedules, multiplies, running, matter_of, Without, NoneTwice, Setting, limit_to, show_lines, show_sites, script_from, seed_from, with_mul, with_run, Given, given_in}
-use Rattle.cli_arguments.specs.ArgumentReading.{ReadingState, start, placed, options, valued, after_key, has_key, is_settled, is_there, nothing_given}
+use Rattle.cli_arguments.specs.Reading.{ReadingState, start, placed, options, valued, after_key, has_key, is_settled, is_there, nothing_given}
 use Rattle.cli_arguments.proofs.InTurn.{reads, reads-split, reads-step, none-left}
 use Rattle.cli_arguments.proofs.Steps.{put, option-read, value-read, option-follows, limit-follows, lines-follow, sites-follow, script-follows, seed-follows}
 

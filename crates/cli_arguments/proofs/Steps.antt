@@ -12,7 +12,7 @@ use Rattle.cli_arguments.specs.declared.reading.Subject.{Subject}
 use Rattle.cli_arguments.specs.Values.{is_file_name, is_number, count_in}
 use Rattle.cli_arguments.specs.Commands.{word_of, fewest, most, counts, is_positional}
 use Rattle.cli_arguments.specs.Options.{key_word, show_word, key_of, value_words, takes_key, has_lines, has_sites, is_value, most_seed, Setting, limit_to, show_lines, show_sites, script_from, seed_from, with_mul, with_run, by_script, by_seed, Given}
-use Rattle.cli_arguments.specs.ArgumentReading.{ReadingState, start, placed, options, valued, bare, one_more, follow, when, after_name, after_key, after_option, after_value, has_place, has_key, is_text, with_value, with_limit, with_seed, with_lines, name_in, key_in, lines_in, number_in, nothing_given}
+use Rattle.cli_arguments.specs.Reading.{ReadingState, start, placed, options, valued, bare, one_more, follow, when, after_name, after_key, after_option, after_value, has_place, has_key, is_text, with_value, with_limit, with_seed, with_lines, name_in, key_in, lines_in, number_in, nothing_given}
 use Rattle.cli_arguments.proofs.Texts.{is-text, name-read, name-written, key-read, key-written, lines-read, lines-written, lines-no-sites}
 
 -- what is given with one more option

@@ -10,7 +10,7 @@ use Rattle.cli_arguments.specs.declared.options.Key.{Key}
 use Rattle.cli_arguments.specs.declared.options.Key.TheVariants as keys
 use Rattle.cli_arguments.specs.Commands.{word_of}
 use Rattle.cli_arguments.specs.Options.{key_word, show_word}
-use Rattle.cli_arguments.specs.ArgumentReading.{is_text, name_in, key_in, lines_in}
+use Rattle.cli_arguments.specs.Reading.{is_text, name_in, key_in, lines_in}
 
 -- a word that passes the test is the text
 pub is-text : (word text : List ℕ) → is_text word text ≡ true → word ≡ text

@@ -11,7 +11,7 @@ use Rattle.cli_arguments.specs.declared.command.LayoutWord.{LayoutWord}
 use Rattle.cli_arguments.specs.declared.command.LayoutWord.TheVariants as layout_words
 use Rattle.cli_arguments.specs.Options.{Schedule, by_script, by_seed, by_rule, Given}
 use Rattle.cli_arguments.specs.Words.{NamedLayout, plain, in_file, layout_in, Asked, machine, run, moves, rounds, debug, time, audit, check, asm, listing, gen, help, version}
-use Rattle.cli_arguments.specs.ArgumentReading.{ReadingState, start, placed, options, valued}
+use Rattle.cli_arguments.specs.Reading.{ReadingState, start, placed, options, valued}
 
 -- what chooses the moves
 abbrev pub schedule_view : rust_schedule.Schedule → Schedule

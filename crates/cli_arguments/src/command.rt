@@ -1,10 +1,10 @@
 //! What the words of the command line ask.
-#![tactic(auto, unfolding(crate::specs::ArgumentReading::completed))]
+#![tactic(auto, unfolding(crate::specs::Reading::completed))]
 
 ghost use Rattle.std.specs.Prelude.{◌≡◌, ◌≤◌, [], ◌∷◌, IfOk, MatchResult, drop, length, map, string_bytes, option_map, take};
 ghost use Rattle.cli_arguments.specs.Options.{Given};
 ghost use Rattle.cli_arguments.specs.Words.{Asks, IsBadAt, IsBounded, asked_by, layout_in};
-ghost use Rattle.cli_arguments.specs.ArgumentReading.{completed};
+ghost use Rattle.cli_arguments.specs.Reading.{completed};
 ghost use Rattle.cli_arguments.specs.Views.{state_of, given_of, asked_of, layout_of};
 
 use crate::names::CommandName;
@@ -299,7 +299,7 @@ fn positional(words: &[String], count: usize) -> &[String]
 }
 
 /// What is asked where no word is left, or None where one is missing.
-#[tactic(auto, using(crate::proofs::Completions::mapped), unfolding(crate::specs::ArgumentReading::completed))]
+#[tactic(auto, using(crate::proofs::Completions::mapped), unfolding(crate::specs::Reading::completed))]
 fn complete<'a>(words: &'a [String], reading: ArgumentReading<'a>) -> Option<Command<'a>>
     ensures { option_map asked_of result ≡ completed (map string_bytes words.entry.now) (state_of reading.entry) }
 {

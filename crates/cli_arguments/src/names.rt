@@ -1,10 +1,10 @@
 //! The commands by their first words, and which positional words they have.
-#![tactic(auto, unfolding(crate::specs::Commands::is_positional, crate::specs::ArgumentReading::name_in))]
+#![tactic(auto, unfolding(crate::specs::Commands::is_positional, crate::specs::Reading::name_in))]
 
 ghost use Rattle.std.specs.Prelude.{◌≡◌};
 ghost use Rattle.cli_arguments.specs.Values.{is_file_name};
 ghost use Rattle.cli_arguments.specs.Commands.{fewest, most, counts, is_positional};
-ghost use Rattle.cli_arguments.specs.ArgumentReading.{name_in};
+ghost use Rattle.cli_arguments.specs.Reading.{name_in};
 
 use crate::numbers::read_count;
 

@@ -1,11 +1,11 @@
 //! Numbers on the command line.
-#![tactic(auto, unfolding(crate::specs::ArgumentReading::number_in), using(crate::proofs::Digits::digits))]
+#![tactic(auto, unfolding(crate::specs::Reading::number_in), using(crate::proofs::Digits::digits))]
 
 ghost use Rattle.std.specs.Prelude.{◌≡◌, ◌≤◌, IfSome};
 ghost use Rattle.std.specs.List.{list_all};
 ghost use Rattle.texts.specs.Bytes.{is_digit};
 ghost use Rattle.cli_arguments.specs.Values.{is_numeral as is_number_word, count_in};
-ghost use Rattle.cli_arguments.specs.ArgumentReading.{number_in};
+ghost use Rattle.cli_arguments.specs.Reading.{number_in};
 
 /// The longest number: ten decimal digits.
 const MOST_DIGITS: usize = 10;
@@ -38,7 +38,7 @@ pub(crate) fn read_number(word: &str, most: u64) -> Option<u64>
 }
 
 /// The number of statements that a word writes, from 1 to 30,000.
-#[tactic(auto, unfolding(crate::specs::Values::count_in, crate::specs::ArgumentReading::number_in))]
+#[tactic(auto, unfolding(crate::specs::Values::count_in, crate::specs::Reading::number_in))]
 pub(crate) fn read_count(word: &str) -> Option<u32>
     ensures { result ≡ count_in word.now }
 {

@@ -1,9 +1,9 @@
 //! The options of the commands, and what they give.
-#![tactic(auto, unfolding(crate::specs::ArgumentReading::key_in, crate::specs::ArgumentReading::lines_in, crate::specs::ArgumentReading::with_value))]
+#![tactic(auto, unfolding(crate::specs::Reading::key_in, crate::specs::Reading::lines_in, crate::specs::Reading::with_value))]
 
 ghost use Rattle.std.specs.Prelude.{◌≡◌, option_map};
 ghost use Rattle.cli_arguments.specs.Options.{takes_key, has_lines};
-ghost use Rattle.cli_arguments.specs.ArgumentReading.{key_in, lines_in, has_key, nothing_given, with_shown, with_value};
+ghost use Rattle.cli_arguments.specs.Reading.{key_in, lines_in, has_key, nothing_given, with_shown, with_value};
 ghost use Rattle.cli_arguments.specs.Views.{given_of};
 
 use crate::names::{CommandName, is_file_name};

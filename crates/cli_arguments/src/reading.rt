@@ -1,8 +1,8 @@
 //! The words read one by one: what is known after each of them.
-#![tactic(auto, unfolding(crate::specs::ArgumentReading::follow))]
+#![tactic(auto, unfolding(crate::specs::Reading::follow))]
 
 ghost use Rattle.std.specs.Prelude.{◌≡◌, ◌+◌, ◌<◌, ◌^◌, option_map};
-ghost use Rattle.cli_arguments.specs.ArgumentReading.{follow, has_place, one_more, after_option, after_place, nothing_given};
+ghost use Rattle.cli_arguments.specs.Reading.{follow, has_place, one_more, after_option, after_place, nothing_given};
 ghost use Rattle.cli_arguments.specs.Views.{given_of, state_of};
 
 use crate::names::CommandName;

@@ -1,6 +1,6 @@
 -- The trace that a file holds, and why it holds none.
 use Rattle.std.specs.Prelude.{◌≡◌, ◌<◌, ◌≤◌, ◌+◌, ◌⊎◌, ℕ, List, length, codes, Option}
-use Rattle.cf_io.specs.ReadsFile.{FilesSeen}
+use Rattle.cf_io.specs.Reads.{FilesSeen}
 use Rattle.cf_audit.specs.Limits.{most_trace}
 use Rattle.cli_files.specs.Files.{IsFrontOf, LacksBytes}
 use Rattle.cli_files.specs.declared.status.Status.{Status}

@@ -2,7 +2,7 @@
 use Rattle.std.proofs.Common.{◌≡◌, ℕ, List, take, Option, Some, None, Ok, refl}
 use Rattle.std.specs.Prelude.{option_map, Vec}
 use Rattle.std.specs.Global.{Global}
-use Rattle.cf_io.specs.ReadsFile.{FilesSeen, ReadsFile, with_read}
+use Rattle.cf_io.specs.Reads.{FilesSeen, ReadsFile, with_read}
 use Rattle.cli_files.specs.Files.{IsFrontOf}
 
 -- the file that the front was taken of

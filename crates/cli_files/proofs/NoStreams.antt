@@ -1,7 +1,7 @@
 -- No answer that is given in place of what a file holds says that the program's input or output failed.
 use Rattle.std.proofs.Common.{◌≡◌, ℕ, List, Option, Result, Ok, Err, inl, inr, refl, arith}
 use Rattle.cf_io.specs.Causes.{HasCause}
-use Rattle.cf_io.specs.ReadsFile.{FilesSeen}
+use Rattle.cf_io.specs.Reads.{FilesSeen}
 use Rattle.cli_arguments.specs.Words.{NamedLayout, plain, in_file}
 use Rattle.cli_files.specs.Causes.{input_answered, output_answered}
 use Rattle.cli_files.specs.Layouts.{IsNoLayout, LacksLayout}

@@ -1,6 +1,6 @@
 -- A program that a file holds, or that it does not.
 use Rattle.std.proofs.Common.{◌≡◌, ℕ, ◌+◌, List, Option, Result, Ok, Err, IfOk, IfErr, inl}
-use Rattle.cf_io.specs.ReadsFile.{FilesSeen}
+use Rattle.cf_io.specs.Reads.{FilesSeen}
 use Rattle.rv_machine.specs.Hart.{Hart}
 use Rattle.cli_files.specs.Files.{IsFrontOf}
 use Rattle.cli_files.specs.Image.{most_bytes, IsProgramFile, opened}

@@ -3,7 +3,7 @@ use Rattle.std.proofs.Common.{◌≡◌, ◌<◌, ◌+◌, ◌⊎◌, ℕ, List,
 use Rattle.std.proofs.lemmas.List.{take-append-le}
 use Rattle.std.proofs.Math.Seq.{take-length, take-append-add}
 use Rattle.cf_io.specs.Causes.{raised}
-use Rattle.cf_io.specs.ReadsFile.{FilesSeen, with_failed, with_read, with_unheld}
+use Rattle.cf_io.specs.Reads.{FilesSeen, with_failed, with_read, with_unheld}
 use Rattle.rv_machine.specs.Hart.{Hart}
 use Rattle.cf_layout.specs.Layout.{Plan}
 use Rattle.cli_arguments.specs.Options.{Schedule, by_script, by_seed, by_rule}

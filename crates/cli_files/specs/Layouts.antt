@@ -1,6 +1,6 @@
 -- The layout that a word of the command line names, and why it names none.
 use Rattle.std.specs.Prelude.{◌≡◌, ◌≢◌, ◌⊎◌, ℕ, ◌+◌, List, codes, Option}
-use Rattle.cf_io.specs.ReadsFile.{FilesSeen}
+use Rattle.cf_io.specs.Reads.{FilesSeen}
 use Rattle.cf_layout.specs.Layout.{Plan}
 use Rattle.cf_layout.specs.Plain as built_in
 use Rattle.layout_file.specs.declared.fault.FileErr.{FileErr}

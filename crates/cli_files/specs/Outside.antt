@@ -1,6 +1,6 @@
 -- The outside of the top call at one moment: what each part of it tells, and how often it has failed.
 use Rattle.std.specs.Prelude.{ℕ, List, Option}
-use Rattle.cf_io.specs.ReadsFile.{FilesSeen}
+use Rattle.cf_io.specs.Reads.{FilesSeen}
 use Rattle.rv_machine.specs.Streams.{Streams, streams_of}
 
 -- the files and the program's streams

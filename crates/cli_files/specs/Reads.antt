@@ -1,7 +1,7 @@
 -- Which files were read: those that the words name, one after another, each once, up to the last that was wanted.
 use Rattle.std.specs.Prelude.{◌≡◌, ◌<◌, ◌≤◌, ◌⊎◌, ℕ, List, [], ◌∷◌, ◌++◌, length, take, Option, Some, None}
 use Rattle.cf_io.specs.Causes.{raised}
-use Rattle.cf_io.specs.ReadsFile.{FilesSeen}
+use Rattle.cf_io.specs.Reads.{FilesSeen}
 use Rattle.cli_arguments.specs.Options.{Schedule, by_script, by_seed, by_rule}
 use Rattle.cli_arguments.specs.Words.{NamedLayout, plain, in_file}
 

@@ -1,6 +1,6 @@
 -- What chooses the moves of a run, once its files are read.
 use Rattle.std.specs.Prelude.{◌≡◌, ◌≤◌, ℕ, List, length, vec_items, Option}
-use Rattle.cf_io.specs.ReadsFile.{FilesSeen}
+use Rattle.cf_io.specs.Reads.{FilesSeen}
 use Rattle.cli_arguments.specs.Options.{Schedule, by_script, by_seed, by_rule}
 use Rattle.run_scripts.specs.Limits.{most_script}
 use Rattle.cli_files.specs.Scripts.{IsScriptAt, LacksScript}

@@ -1,6 +1,6 @@
 -- The script that a file holds, and why it holds none.
 use Rattle.std.specs.Prelude.{◌≡◌, ◌<◌, ◌≤◌, ◌+◌, ◌⊎◌, ℕ, List, length, codes, Option}
-use Rattle.cf_io.specs.ReadsFile.{FilesSeen}
+use Rattle.cf_io.specs.Reads.{FilesSeen}
 use Rattle.run_scripts.specs.Limits.{most_script}
 use Rattle.texts.specs.Lines.{line}
 use Rattle.cli_files.specs.Files.{IsFrontOf, LacksBytes}

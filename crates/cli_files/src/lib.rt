@@ -21,6 +21,6 @@ pub use loading::{Loaded, load};
 pub use opening::{MOST_BYTES, is_elf, open_again};
 pub use programs::{open_image, program_at};
 pub use report_refusals::{DelaysFault, ProgramErr, ScriptFault, TraceFault};
-pub use run_files::{Ready, read_files};
+pub use run_files::{ReadyRun, read_files};
 pub use schedules::ReadySchedule;
 pub use status::{Status, Which};

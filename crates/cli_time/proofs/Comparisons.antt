@@ -3,7 +3,7 @@ use Rattle.std.proofs.Common.{◌≡◌, ◌∙◌, ap, subst, ℕ, List, [], �
 use Rattle.std.specs.Prelude.{codes, slice_get}
 use Rattle.std.specs.Result.{IsErr}
 use Rattle.cf_io.specs.Puts.{Writes, WritesFront}
-use Rattle.cf_io.specs.ReadsFile.{FilesSeen}
+use Rattle.cf_io.specs.Reads.{FilesSeen}
 use Rattle.cf_io.specs.declared.failed.Failed.{Failed}
 use Rattle.cf_io.proofs.Owing.{writes-again}
 use Rattle.rv_machine.specs.Hart.{Hart}

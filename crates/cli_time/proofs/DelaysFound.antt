@@ -1,6 +1,6 @@
 -- Delays that a file gives, or that it does not.
 use Rattle.std.proofs.Common.{◌≡◌, ◌≤◌, ℕ, ◌+◌, List, length, Option, Result, Ok, Err, IfOk, IfErr, inl}
-use Rattle.cf_io.specs.ReadsFile.{FilesSeen}
+use Rattle.cf_io.specs.Reads.{FilesSeen}
 use Rattle.cf_timed.specs.DelayLines.{delays_in}
 use Rattle.cli_files.specs.Files.{IsFrontOf}
 use Rattle.cli_files.specs.declared.answer.Answer.{Answer}

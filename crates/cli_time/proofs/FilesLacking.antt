@@ -1,6 +1,6 @@
 -- The first of the files of `time` that is not there.
 use Rattle.std.proofs.Common.{ℕ, List, Option, inl, inr}
-use Rattle.cf_io.specs.ReadsFile.{FilesSeen}
+use Rattle.cf_io.specs.Reads.{FilesSeen}
 use Rattle.cli_files.specs.declared.status.Status.{Status}
 use Rattle.cli_time.specs.Asked.{TimeFiles}
 use Rattle.cli_time.specs.Reading.{LacksTimeFile, LacksDelaysOrLayouts}

@@ -2,7 +2,7 @@
 use Rattle.std.proofs.Common.{◌≡◌, ◌∙◌, ℕ, suc, ◌+◌, List, [], ◌∷◌, ◌++◌, length, map, take, drop, ◌<◌, String, Option, Some, refl, sym, ap, subst, inl, inr, arith}
 use Rattle.std.specs.Prelude.{codes, slice_get, slice_index_or, string_bytes}
 use Rattle.std.specs.Global.{Global}
-use Rattle.cf_io.specs.ReadsFile.{FilesSeen}
+use Rattle.cf_io.specs.Reads.{FilesSeen}
 use Rattle.cf_layout.specs.Layout.{Plan}
 use Rattle.texts.specs.Lines.{line}
 use Rattle.cli_arguments.specs.Words.{NamedLayout, layout_in}

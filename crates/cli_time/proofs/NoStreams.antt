@@ -1,6 +1,6 @@
 -- No answer that is given in place of what a file holds says that the program's input or output failed.
 use Rattle.std.proofs.Common.{ℕ, List, [], ◌∷◌, Option, inl, inr}
-use Rattle.cf_io.specs.ReadsFile.{FilesSeen}
+use Rattle.cf_io.specs.Reads.{FilesSeen}
 use Rattle.cli_arguments.specs.Words.{NamedLayout}
 use Rattle.cli_files.specs.declared.status.Status.{Status}
 use Rattle.cli_files.proofs.NoStreams.{SaysNoStream, lacks-layout-says, lacks-program-says}

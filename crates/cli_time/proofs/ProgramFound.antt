@@ -1,6 +1,6 @@
 -- A program whose bytes were read and opened.
 use Rattle.std.proofs.Common.{ℕ, ◌+◌, List, Option, refl}
-use Rattle.cf_io.specs.ReadsFile.{FilesSeen}
+use Rattle.cf_io.specs.Reads.{FilesSeen}
 use Rattle.cli_files.specs.Files.{IsFrontOf}
 use Rattle.cli_files.specs.Image.{most_bytes, IsProgramFile, opened}
 use Rattle.cli_files.specs.Programs.{IsProgramAt}

@@ -1,6 +1,6 @@
 -- The delays that a file gives, and why it gives none.
 use Rattle.std.specs.Prelude.{◌≡◌, ◌<◌, ◌≤◌, ◌+◌, ◌⊎◌, ℕ, List, length, codes, Option, Ok, Err}
-use Rattle.cf_io.specs.ReadsFile.{FilesSeen}
+use Rattle.cf_io.specs.Reads.{FilesSeen}
 use Rattle.cf_timed.specs.DelayLines.{delays_in}
 use Rattle.cf_timed.specs.Limits.{most_delays}
 use Rattle.cli_files.specs.Files.{IsFrontOf, LacksBytes}

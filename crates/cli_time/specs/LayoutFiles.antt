@@ -1,6 +1,6 @@
 -- The layouts that some words name, read one after another, and the first that is not there.
 use Rattle.std.specs.Prelude.{◌≡◌, ◌⊎◌, ℕ, List, [], ◌∷◌, Option}
-use Rattle.cf_io.specs.ReadsFile.{FilesSeen}
+use Rattle.cf_io.specs.Reads.{FilesSeen}
 use Rattle.cf_layout.specs.Layout.{Plan}
 use Rattle.cli_arguments.specs.Words.{NamedLayout}
 use Rattle.cli_files.specs.Layouts.{IsLayoutAt, LacksLayout}

@@ -1,6 +1,6 @@
 -- The files that `time` reads, one after another: that of the delays, those of the layouts in their order, and the program's.
 use Rattle.std.specs.Prelude.{◌⊎◌, ℕ, List, Option}
-use Rattle.cf_io.specs.ReadsFile.{FilesSeen}
+use Rattle.cf_io.specs.Reads.{FilesSeen}
 use Rattle.rv_machine.specs.Hart.{Hart}
 use Rattle.cf_layout.specs.Layout.{Plan}
 use Rattle.cli_arguments.specs.Words.{NamedLayout}

@@ -1,7 +1,7 @@
 -- What the command `time` answers, and its report.
 use Rattle.std.specs.Prelude.{◌≡◌, ◌<◌, ◌⊎◌, ℕ, List, ◌++◌, codes, length, map, slice_get, Option, Some}
 use Rattle.cf_io.specs.Puts.{Writes, WritesFront}
-use Rattle.cf_io.specs.ReadsFile.{FilesSeen}
+use Rattle.cf_io.specs.Reads.{FilesSeen}
 use Rattle.rv_machine.specs.Hart.{Hart}
 use Rattle.cf_layout.specs.Layout.{Plan}
 use Rattle.texts.specs.Lines.{line}

@@ -2,7 +2,7 @@
 
 ghost use Rattle.std.specs.Prelude.{◌≡◌, ◌+◌, ◌*◌, ◌≤◌, ◌++◌, ◌∷◌, [], map, length};
 ghost use Rattle.report_refusals.specs.Variants.{cut, spaced, variant};
-ghost use Rattle.report_refusals.specs.KeptValue.{kept_text};
+ghost use Rattle.report_refusals.specs.Kept.{kept_text};
 ghost use Rattle.texts.specs.Room.{page_room};
 
 use crate::cutting::cut;

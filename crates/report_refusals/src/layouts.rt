@@ -5,7 +5,7 @@ ghost use Rattle.std.specs.Prelude.{◌≡◌, ◌+◌, ◌≤◌, ◌++◌, len
 ghost use Rattle.report_refusals.specs.Layouts.{layout_refusal, layout_file_refusal, bad_layout as report_of};
 ghost use Rattle.texts.specs.Room.{page_room};
 
-use crate::kept::Kept::{Class, Integer, Number};
+use crate::kept::KeptValue::{Class, Integer, Number};
 use crate::kept::{push_text, push_variant};
 use cf_layout::LayoutErr;
 use layout_file::FileErr;

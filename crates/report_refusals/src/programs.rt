@@ -6,7 +6,7 @@ ghost use Rattle.report_refusals.specs.Programs.{elf_refusal, load_refusal, prog
 ghost use Rattle.texts.specs.Room.{page_room};
 
 use crate::faults::ProgramErr;
-use crate::kept::Kept::Number;
+use crate::kept::KeptValue::Number;
 use crate::kept::push_variant;
 use elf_view::ElfErr;
 use mem_regions::LoadErr;

@@ -5,7 +5,7 @@ ghost use Rattle.std.specs.Prelude.{◌≡◌, ◌+◌, ◌≤◌, ◌++◌, len
 ghost use Rattle.report_refusals.specs.Sources.{instruction_refusal, source_refusal, bad_source as report_of};
 ghost use Rattle.texts.specs.Room.{page_room};
 
-use crate::kept::Kept::{Integer, Number};
+use crate::kept::KeptValue::{Integer, Number};
 use crate::kept::push_variant;
 use rv_asm::{AsmErr, AsmKind};
 use rv_text::TextErr;

@@ -1,6 +1,5 @@
 -- Reading the line of a move (a format of this project).
-use Rattle.std.specs.Prelude.{◌≡◌, ◌==◌, ◌<◌, ◌^◌, ℕ, Bool, Option, Some, None, Result, Ok, Err, MatchResult, List, length, drop, codes, nat_lt, if◌then◌else◌}
-use Rattle.std.specs.List.{list_all}
+use Rattle.std.specs.Prelude.{◌≡◌, ◌==◌, ◌<◌, ◌^◌, ℕ, Option, Some, None, Result, Ok, Err, MatchResult, List, length, drop, codes, if◌then◌else◌}
 use Rattle.std.specs.Str.{bytes_eq}
 use Rattle.texts.specs.Bytes.{is_ascii}
 use Rattle.texts.specs.Answers.{and_then}

@@ -1,5 +1,5 @@
 -- The words of a line, and the numbers that they spell (a format of this project).
-use Rattle.std.specs.Prelude.{ℕ, ◌==◌, Bool, true, false, Option, Some, None, Result, Ok, Err, List, [], ◌∷◌, length, if◌then◌else◌}
+use Rattle.std.specs.Prelude.{ℕ, ◌==◌, Bool, true, false, Option, None, Result, List, [], ◌∷◌, length, if◌then◌else◌}
 use Rattle.std.specs.List.{filter, slice_split}
 use Rattle.texts.specs.Answers.{needed}
 use Rattle.rv_text.specs.Pieces.{is_blank}

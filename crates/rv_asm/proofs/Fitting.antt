@@ -10,7 +10,7 @@ use Rattle.rv_text.specs.declared.statement.Jump.{Jump}
 use Rattle.rv_text.specs.declared.statement.Jump.TheVariants as jump
 use Rattle.rv_text.specs.declared.text_err.TextErr.{TextErr}
 use Rattle.texts.specs.Answers.{and_then}
-use Rattle.rv_text.specs.LineReading.{aimed, is_distance, if_fits}
+use Rattle.rv_text.specs.Reading.{aimed, is_distance, if_fits}
 use Rattle.rv_asm.specs.Seen.{JumpFits}
 
 -- a distance that fits

@@ -22,7 +22,7 @@ use Rattle.rv_text.specs.Registers.{register_of, register_only, register_numbere
 use Rattle.rv_text.specs.Tables.{look_up}
 use Rattle.texts.specs.Answers.{and_then, needed}
 use Rattle.rv_text.specs.Fields.{within, register_in, number_in, immediate_in, field_below, immediate_of, offset_in, base_in, enclosed, is_open}
-use Rattle.rv_text.specs.LineReading.{LineReading, WholeOf, AimedAt, whole, upper_form, address_form, immediate_form, register_form, set_form, fence_form, jump_form, branch_form, operands_read, takes, wanted, counted, statement_by}
+use Rattle.rv_text.specs.Reading.{LineReading, WholeOf, AimedAt, whole, upper_form, address_form, immediate_form, register_form, set_form, fence_form, jump_form, branch_form, operands_read, takes, wanted, counted, statement_by}
 use Rattle.rv_text.proofs.Spellings.{FindsRegister, usual_names-find}
 use Rattle.rv_asm.specs.Seen.{JumpFits}
 use Rattle.rv_asm.proofs.Fitting.{ok_then}

@@ -4,7 +4,7 @@ use Rattle.rv_text.specs.declared.text_err.TextErr.{TextErr}
 use Rattle.rv_text.specs.declared.text_err.TextErr.TheVariants.{WrongCount}
 use Rattle.rv_text.specs.Pieces.{trimmed, pieces, operand_count}
 use Rattle.rv_text.specs.Fields.{number_in}
-use Rattle.rv_text.specs.LineReading.{counted}
+use Rattle.rv_text.specs.Reading.{counted}
 use Rattle.rv_asm.specs.declared.operations.Width.{Width}
 use Rattle.rv_asm.specs.declared.operations.Width.TheVariants.{Byte, Half, Word}
 use Rattle.texts.specs.Answers.{and_then}

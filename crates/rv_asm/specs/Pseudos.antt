@@ -15,7 +15,7 @@ use Rattle.rv_text.specs.declared.text_err.TextErr.TheVariants.{BadNumber}
 use Rattle.rv_text.specs.Pieces.{operand_at}
 use Rattle.rv_text.specs.Numbers.{number_of}
 use Rattle.rv_text.specs.Fields.{register_in, number_in}
-use Rattle.rv_text.specs.LineReading.{aimed_at}
+use Rattle.rv_text.specs.Reading.{aimed_at}
 use Rattle.rv_asm.specs.declared.item.Far.{Far}
 use Rattle.rv_asm.specs.declared.item.Far.TheVariants as far
 use Rattle.rv_asm.specs.declared.operations.Pseudo.{Pseudo}

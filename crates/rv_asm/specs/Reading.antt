@@ -9,7 +9,7 @@ use Rattle.rv_text.specs.declared.text_err.TextErr.TheVariants.{UnknownName, Wro
 use Rattle.rv_text.specs.Pieces.{trimmed, name_part, operand_part, operand_count, operand_at}
 use Rattle.rv_text.specs.Fields.{number_in}
 use Rattle.rv_text.specs.Names.{mnemonic_named}
-use Rattle.rv_text.specs.LineReading.{LineReading, WholeOf, AimedAt, statement_by}
+use Rattle.rv_text.specs.Reading.{LineReading, WholeOf, AimedAt, statement_by}
 use Rattle.rv_asm.specs.declared.refusal.AsmKind.{AsmKind}
 use Rattle.rv_asm.specs.declared.refusal.AsmKind.TheVariants.{Text, UnknownDirective, BadString}
 use Rattle.rv_asm.specs.declared.operations.Width.{Width}

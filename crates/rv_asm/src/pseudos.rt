@@ -110,7 +110,7 @@ fn reached(far: Far, pc: u32, operand: &[u8]) -> Result<SourceItem<'_>, TextErr>
 }
 
 /// A jump or a branch to the target of an operand.
-#[tactic(auto, unfolding(crate::specs::Pseudos::jumped, rv_text::specs::LineReading::aimed_at), using(crate::proofs::Fitting::jumps))]
+#[tactic(auto, unfolding(crate::specs::Pseudos::jumped, rv_text::specs::Reading::aimed_at), using(crate::proofs::Fitting::jumps))]
 pub fn jumped(jump: Jump, pc: u32, operand: &[u8]) -> Result<SourceItem<'_>, TextErr>
     requires { JumpFits jump }
     ensures item { ReadsItem result (jumped jump pc operand.now) }

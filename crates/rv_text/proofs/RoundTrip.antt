@@ -26,7 +26,7 @@ use Rattle.rv_text.specs.Pieces.{operand_count}
 use Rattle.texts.specs.Answers.{and_then}
 use Rattle.texts.specs.Hexadecimal.{hex8}
 use Rattle.rv_text.specs.Writing.{hexadecimal, register_text, operand_text, listed, text_of}
-use Rattle.rv_text.specs.LineReading.{distance_of, is_distance, aimed, LineReading, AimedAt, aimed_at, placed, takes, upper_form, address_form, immediate_form, register_form, set_form, fence_form, whole, jump_form, branch_form, operands_read, statement_by, statement_of, read_text}
+use Rattle.rv_text.specs.Reading.{distance_of, is_distance, aimed, LineReading, AimedAt, aimed_at, placed, takes, upper_form, address_form, immediate_form, register_form, set_form, fence_form, whole, jump_form, branch_form, operands_read, statement_by, statement_of, read_text}
 use Rattle.rv_text.proofs.Solid.{IsSolid, IsCut, cut_alone, cut_before, two_operands, three_operands, no_operands, two_end, three_end}
 use Rattle.rv_text.proofs.Named.{all_named}
 use Rattle.rv_text.proofs.Written.{number_of-target, register_solid, target_solid, upper_solid, signed_solid}

@@ -3,7 +3,7 @@ use Rattle.std.specs.Prelude.{◌≡◌, Result, Ok, Err, MatchResult}
 use Rattle.rv_text.specs.declared.statement.Statement.{Statement}
 use Rattle.rv_text.specs.declared.statement.Statement.TheVariants.{Whole, Aimed}
 use Rattle.rv_text.specs.declared.text_err.TextErr.{TextErr}
-use Rattle.rv_text.specs.LineReading.{LineReading, WholeOf, AimedAt}
+use Rattle.rv_text.specs.Reading.{LineReading, WholeOf, AimedAt}
 
 -- a statement, with its target's text
 abbrev pub seen : Statement → LineReading

@@ -3,7 +3,7 @@ ghost use Rattle.std.specs.Prelude.{◌≡◌, ◌<◌, ◌^◌, ℕ, Ok};
 ghost use Rattle.rv_inst.specs.declared.instruction.Instr.{Instr as Instruction};
 ghost use Rattle.rv_inst.specs.Ranges.{Fits};
 ghost use Rattle.rv_text.specs.Writing.{text_of};
-ghost use Rattle.rv_text.specs.LineReading.{read_text};
+ghost use Rattle.rv_text.specs.Reading.{read_text};
 
 /// The text of an instruction at an address, read back at that address, gives the instruction.
 #[tactic(auto, using(crate::proofs::RoundTrip::reading_back))]

@@ -1,9 +1,9 @@
 //! The instruction that a text spells.
-#![tactic(auto, unfolding(crate::specs::LineReading::upper_form, crate::specs::LineReading::address_form, crate::specs::LineReading::immediate_form, crate::specs::LineReading::register_form, crate::specs::LineReading::set_form, crate::specs::LineReading::fence_form, crate::specs::LineReading::jump_form, crate::specs::LineReading::branch_form, crate::specs::LineReading::takes))]
+#![tactic(auto, unfolding(crate::specs::Reading::upper_form, crate::specs::Reading::address_form, crate::specs::Reading::immediate_form, crate::specs::Reading::register_form, crate::specs::Reading::set_form, crate::specs::Reading::fence_form, crate::specs::Reading::jump_form, crate::specs::Reading::branch_form, crate::specs::Reading::takes))]
 
 ghost use Rattle.std.specs.Prelude.{◌≡◌, Ok, Err, MatchResult};
 ghost use Rattle.rv_text.specs.Seen.{ReadsStatement};
-ghost use Rattle.rv_text.specs.LineReading.{upper_form, address_form, immediate_form, register_form, set_form, fence_form, jump_form, branch_form, operands_read, wanted, is_fence, takes, counted, statement_by, statement_of, aimed_at, read_text};
+ghost use Rattle.rv_text.specs.Reading.{upper_form, address_form, immediate_form, register_form, set_form, fence_form, jump_form, branch_form, operands_read, wanted, is_fence, takes, counted, statement_by, statement_of, aimed_at, read_text};
 
 use crate::fields::{base_in, field_below, immediate_of, offset_in, register_in};
 use crate::mnemonic::Mnemonic;
@@ -82,7 +82,7 @@ fn branch_form(cond: Cond, text: &[u8]) -> Result<Statement<'_>, TextErr>
     Ok(Statement::Aimed(Jump::Branch(cond, rs1, rs2), operand(text, 2)))
 }
 
-#[tactic(auto, unfolding(crate::specs::LineReading::operands_read))]
+#[tactic(auto, unfolding(crate::specs::Reading::operands_read))]
 fn read_operands(mnemonic: Mnemonic, text: &[u8]) -> Result<Statement<'_>, TextErr>
     ensures { ReadsStatement result (operands_read mnemonic text.now) }
 {
@@ -169,7 +169,7 @@ fn takes(mnemonic: Mnemonic, count: usize) -> bool
 
 /// What the text after a name says: `WrongCount` where there are too many or too few operands, else the first refusal
 /// of an operand from left to right.
-#[tactic(auto, unfolding(crate::specs::LineReading::statement_by))]
+#[tactic(auto, unfolding(crate::specs::Reading::statement_by))]
 pub fn read_statement_of(mnemonic: Mnemonic, text: &[u8]) -> Result<Statement<'_>, TextErr>
     ensures { ReadsStatement result (statement_by mnemonic text.now) }
 {
@@ -185,7 +185,7 @@ pub fn read_statement_of(mnemonic: Mnemonic, text: &[u8]) -> Result<Statement<'_
 
 /// What a text says before its target is read: `UnknownName` where its first word is not an instruction's name, else
 /// what `read_statement_of` returns for the rest.
-#[tactic(auto, unfolding(crate::specs::LineReading::statement_of))]
+#[tactic(auto, unfolding(crate::specs::Reading::statement_of))]
 pub fn read_statement(text: &[u8]) -> Result<Statement<'_>, TextErr>
     ensures { ReadsStatement result (statement_of text.now) }
 {
@@ -196,7 +196,7 @@ pub fn read_statement(text: &[u8]) -> Result<Statement<'_>, TextErr>
     }
 }
 
-#[tactic(auto, unfolding(crate::specs::LineReading::aimed_at))]
+#[tactic(auto, unfolding(crate::specs::Reading::aimed_at))]
 fn aim(jump: Jump, target: &[u8], pc: u32) -> Result<Instr, TextErr>
     ensures { result ≡ aimed_at jump target.now pc }
 {
@@ -207,7 +207,7 @@ fn aim(jump: Jump, target: &[u8], pc: u32) -> Result<Instr, TextErr>
 /// The instruction that a text spells at `pc`; its target, if it has one, is an address.
 ///
 /// The first refusal is the answer: of the name, of the count of operands, of the operands from left to right.
-#[tactic(auto, unfolding(crate::specs::LineReading::read_text))]
+#[tactic(auto, unfolding(crate::specs::Reading::read_text))]
 pub fn read_instr(text: &str, pc: u32) -> Result<Instr, TextErr>
     ensures { result ≡ read_text text.now pc }
 {

@@ -1,9 +1,9 @@
 //! What a text says before its target is read.
-#![tactic(auto, unfolding(crate::specs::LineReading::distance_of, crate::specs::LineReading::is_distance, crate::specs::LineReading::aimed))]
+#![tactic(auto, unfolding(crate::specs::Reading::distance_of, crate::specs::Reading::is_distance, crate::specs::Reading::aimed))]
 
 ghost use Rattle.std.specs.Prelude.{◌≡◌, pos, ◌<ℤ◌};
 ghost use Rattle.std.specs.Int.RustNames.{unsigned_abs};
-ghost use Rattle.rv_text.specs.LineReading.{aimed, is_distance, distance_of};
+ghost use Rattle.rv_text.specs.Reading.{aimed, is_distance, distance_of};
 
 use crate::text_err::TextErr;
 use rv_inst::{Cond, Instr};

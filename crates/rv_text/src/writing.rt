@@ -6,7 +6,7 @@ ghost use Rattle.std.specs.List.{prefix_len};
 ghost use Rattle.std.specs.Fmt.{signed_decimal};
 ghost use Rattle.rv_inst.specs.Ranges.{Fits};
 ghost use Rattle.rv_text.specs.Writing.{hexadecimal, register_text, operand_text, listed, target_of, fence_operands, operands_of, text_of};
-ghost use Rattle.rv_text.specs.LineReading.{read_text};
+ghost use Rattle.rv_text.specs.Reading.{read_text};
 
 use crate::mnemonic::Mnemonic;
 use crate::operands::Operand::{self, Address, Number, Register, Target, Upper};

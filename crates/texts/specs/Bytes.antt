@@ -1,5 +1,6 @@
 -- Kinds of bytes and of texts.
-use Rattle.std.specs.Prelude.{ℕ, Bool, ◌&&◌, List, list_all, nat_le, nat_lt}
+use Rattle.std.specs.Prelude.{ℕ, Bool, ◌&&◌, List, nat_le, nat_lt}
+use Rattle.std.specs.List.{list_all}
 
 -- a decimal digit
 abbrev pub is_digit : ℕ → Bool

@@ -5,7 +5,7 @@ use Rattle.cf_layout.specs.Accepted.{IsAccepted}
 use Rattle.cf_layout.specs.Layout.{Plan}
 use Rattle.cf_bind.specs.declared.moves.Move.{Move}
 use Rattle.cf_semantics.specs.moves.Bars.{bar}
-use Rattle.cf_semantics.specs.claims.KeepsOrActsOnPath.{KeepsOrActsOnPath}
+use Rattle.cf_semantics.specs.claims.OnPath.{KeepsOrActsOnPath}
 use Rattle.cf_semantics.specs.runs.Lines.{lines}
 use Rattle.cf_semantics.specs.claims.Refines.{IsPrefix, Refines}
 use Rattle.cf_semantics.specs.runs.Runs.{IsRun, run, start}

@@ -10,7 +10,7 @@ use Rattle.mem_regions.specs.declared.access.MemErr.{MemErr}
 use Rattle.mem_regions.specs.declared.access.MemErr.TheVariants.{Misaligned, NoAccess}
 use Rattle.rv_inst.specs.declared.accesses.Access.{Access}
 use Rattle.rv_inst.specs.declared.classes.Class.{Class}
-use Rattle.rv_inst.specs.declared.classes.Class.TheVariants.{Branch, Jump, Memory as MemoryClass, Serial, Free}
+use Rattle.rv_inst.specs.declared.classes.Class.TheVariants.{Memory as MemoryClass, Serial, Free}
 use Rattle.rv_inst.specs.declared.instruction.Instr.{Instr}
 use Rattle.rv_inst.specs.declared.instruction.Instr.TheVariants.{Jal, Jalr, Branch as BranchInstr}
 use Rattle.rv_inst.specs.declared.isa.Isa.{Isa}

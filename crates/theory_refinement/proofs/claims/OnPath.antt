@@ -19,7 +19,7 @@ use Rattle.theory_refinement.proofs.claims.Runs.{going, holds_after}
 use Rattle.theory_refinement.proofs.moves.Serve.{serve_ready}
 use Rattle.theory_refinement.proofs.column.Sorted.{Riders, Sorted, over, sorted}
 use Rattle.theory_refinement.proofs.walks.Stands.{each_front}
-use Rattle.cf_semantics.specs.claims.KeepsOrActsOnPath.{Acted, KeepsOrActsOnPath, OnWay, Unmoved, as_launched}
+use Rattle.cf_semantics.specs.claims.OnPath.{Acted, KeepsOrActsOnPath, OnWay, Unmoved, as_launched}
 use Rattle.cf_semantics.specs.claims.Refines.{gained}
 use Rattle.theory_refinement.proofs.invariant.Invariant.{HoldsAt, Sound}
 use Rattle.theory_refinement.proofs.invariant.Stands.{Each}

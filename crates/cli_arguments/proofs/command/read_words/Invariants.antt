@@ -1,6 +1,6 @@
 -- The words before the index are read.
 use Rattle.std.proofs.Common.{◌≡◌, map, string_bytes, take, Some}
-use Rattle.cli_arguments.specs.ArgumentReading.{start}
+use Rattle.cli_arguments.specs.Reading.{start}
 use Rattle.cli_arguments.specs.Views.{state_of}
 use Rattle.cli_arguments.proofs.InTurn.{reads}
 use Rattle.cli_arguments.proofs.command.read_words.Given as goal

@@ -1,6 +1,6 @@
 use Rattle.std.proofs.Common.{◌≡◌, ◌≤◌, ◌+◌, ◌*◌, ◌++◌, drop, length, map}
 use Rattle.report_refusals.specs.Variants.{spaced}
-use Rattle.report_refusals.specs.KeptValue.{kept_text}
+use Rattle.report_refusals.specs.Kept.{kept_text}
 use Rattle.report_refusals.proofs.kept.push_spaced.Given as goal
 
 -- what is written and the values that are left make the whole text
