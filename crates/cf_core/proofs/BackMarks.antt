@@ -12,7 +12,7 @@ use Rattle.cf_core.specs.Undo.{HasJustMade}
 use Rattle.cf_core.specs.declared.marks.Marks.{Marks}
 use Rattle.cf_core.specs.declared.touching.Touched.{Touched}
 use Rattle.cf_core.proofs.Bits.{marks-two}
-use Rattle.cf_core.proofs.KeptServe.{unbarred}
+use Rattle.cf_core.proofs.moves.KeptServe.{unbarred}
 use Rattle.cf_core.proofs.Places.{earlier-restored}
 use Rattle.cf_core.proofs.Sites.{touched-within}
 use Rattle.cf_core.proofs.Touched.{moved-but}

@@ -219,7 +219,7 @@ impl Core {
     /// The input is asked only by Serve where the instruction in the highest stage is an ECALL whose call asks the input; the
     /// output likewise. Every other move leaves both as they are, whatever they tell of themselves.
     #[inline(always)]
-    #[tactic(auto, using(crate::proofs::KeptServe::making))]
+    #[tactic(auto, using(crate::proofs::moves::KeptServe::making))]
     pub fn make<S: Source, K: Sink>(
         &mut self,
         m: Move,

@@ -1,16 +1,16 @@
-//! Moves that leave what is kept of the stages as it is.
+//! The moves that leave the marks of all stages as they are.
 
 ghost use Rattle.std.specs.Prelude.{◌≡◌, ◌<◌, ◌≤◌, None};
 ghost use Rattle.cf_bind.specs.declared.moves.Move.TheVariants as mv;
 ghost use Rattle.cf_semantics.specs.moves.Bars.{row_bar};
-ghost use Rattle.cf_core.specs.Marks.{is_free, keeps_marks as keeps_all, marks_of, passes_by as stands_by};
+ghost use Rattle.cf_core.specs.Marks.{is_free, marks_of, keeps_marks as keeps_all};
 ghost use Rattle.cf_core.specs.Masks.{rides, stops_there};
 ghost use Rattle.cf_core.specs.Processors.{IsProcessor};
 ghost use Rattle.cf_core.specs.Riders.{is_spent as has_done_all};
 
 use crate::marks::Marks;
 use crate::processor::Processor;
-use crate::riding::{is_passed_by, is_spent};
+use crate::riding::is_spent;
 use cf_bind::Move;
 use cf_stages::has_bit;
 
@@ -30,7 +30,7 @@ impl Processor {
         }
     }
 
-    /// Whether no test in the row of Launch bars the stage, by the words that are kept.
+    /// Whether no test in the row of Launch bars the stage, by the marks.
     #[inline(always)]
     #[tactic(auto, using(crate::proofs::StillMarks::launch_bits))]
     fn launches_at(&self, marks: Marks, i: u32) -> bool
@@ -43,7 +43,7 @@ impl Processor {
         has_bit(marks.launch, i)
     }
 
-    /// Whether the instruction of the stage stops there, by the words that are kept.
+    /// Whether the instruction of the stage must not climb on yet, by the marks.
     #[inline(always)]
     #[tactic(auto, using(crate::proofs::StillMarks::stop_bits))]
     fn stops_by(&self, marks: Marks, i: u32) -> bool
@@ -56,24 +56,9 @@ impl Processor {
         has_bit(marks.stops, i)
     }
 
-    /// Whether an instruction is in the stage beside the value of a register that it does not await.
-    #[inline(always)]
-    fn passes_by(&self, i: u32) -> bool
-        requires above { 0 < i }
-        requires within { i ≤ self.now.plan.stages }
-        requires facts { IsProcessor self.now.plan self.now.state }
-        ensures { result ≡ stands_by self.now.state i }
-    {
-        let _stages = self.layout.stages();
-        match self.stages.passenger(i) {
-            Some(passenger) => is_passed_by(passenger, self.stages.packet(i)),
-            None => false,
-        }
-    }
-
-    /// Whether an allowed move leaves what is kept of all stages as it is, as most moves do: those of an instruction that has
-    /// nothing left to do, a meeting with a value that the instruction does not await, where it does not stop, and those of a
-    /// result, unless it comes to a stage where an operation can be launched, which it may bar.
+    /// Whether an allowed move leaves the marks of all stages as they are. Most moves do: the moves of an instruction that has
+    /// nothing left to do; a meeting with a value that the instruction does not wait for, where it may climb on; and the moves
+    /// of a result. But a result that comes to a stage with an operation to launch may bar the launch.
     #[inline(always)]
     #[tactic(auto, using(crate::proofs::Sites::moving), unfolding(crate::specs::Marks::keeps_marks))]
     pub(crate) fn keeps_marks(&self, marks: Marks, m: Move) -> bool

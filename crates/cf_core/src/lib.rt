@@ -1,32 +1,28 @@
 //! The processor: every change of it is one local move.
 #![tactic(auto)]
 
-mod allowing;
 mod back;
 mod before;
-mod beside;
-mod bottom;
 mod counterflow;
 mod draining;
 mod fault;
 mod issuing;
 mod keeping;
 pub mod laws;
+mod marking;
 mod marks;
 mod masks;
-mod moving;
+mod moves;
 mod old_number;
-mod pipes;
+mod pipe_ends;
 mod processor;
 mod riding;
 mod rows;
 mod same;
-mod serving;
+mod siding_ends;
 mod step;
-mod top;
 mod touching;
 mod undo;
-mod units;
 mod weighing;
 
 pub use cf_bind::{Cell, Op};

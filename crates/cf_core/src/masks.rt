@@ -1,13 +1,14 @@
-//! Words of what stands at each stage and of what can be done there.
+//! The masks: one word for each fact about the stages that a caller sees. Unlike the marks, from which they are read, they
+//! have no move allowed once the program has ended, or the input or the output has failed.
 
-ghost use Rattle.std.specs.Prelude.{◌≡◌, ◌&&◌, if◌then◌else◌, not};
+ghost use Rattle.std.specs.Prelude.{◌≡◌, if◌then◌else◌, ◌&&◌, not};
 ghost use Rattle.cf_semantics.specs.state.Options.{is_some};
 ghost use Rattle.cf_core.specs.Masks.{masks_of};
 
 use crate::counterflow::Core;
 use crate::processor::Processor;
 
-/// Words of what stands at each stage and of what can be done there: bit i - 1 stands for stage i.
+/// What stands at each stage and what can be done there, a word for each fact: bit i - 1 for stage i.
 #[derive(Clone, Copy, PartialEq, Eq)]
 pub struct Masks {
     /// An instruction is there.
@@ -54,7 +55,8 @@ impl Processor {
 }
 
 impl Core {
-    /// The words of the present state. They are kept up to date move by move, so that no call walks the stages.
+    /// The masks of the present state. They are read from marks that are kept up to date move by move, so that no call walks
+    /// the stages.
     #[inline(always)]
     pub fn masks(&self) -> Masks
         ensures { result ≡ masks_of self.now.plan self.now.state }

@@ -1,13 +1,14 @@
 //! A row of the table of moves: tests, each with its bar, of which the first that holds bars the move.
 
-ghost use Rattle.std.specs.Prelude.{◌≡◌, ◌<◌, ◌≤◌, IfErr, IfOk, None, OnOk, Some, find};
 ghost use Rattle.std.specs.Option.{option_copied};
-ghost use Rattle.cf_semantics.specs.moves.Bars.{at, first_of as first_bar_of, of_passenger};
+ghost use Rattle.std.specs.Prelude.{◌≡◌, find, None, ◌<◌, ◌≤◌, IfErr, IfOk, OnOk, Some};
+ghost use Rattle.cf_semantics.specs.moves.Bars.{first_of as first_bar_of, at, of_passenger, source_bar as bar_of_sources};
 ghost use Rattle.cf_stages.specs.Changes.{passenger_at};
 ghost use Rattle.cf_core.specs.Processors.{IsProcessor};
 
 use crate::processor::Processor;
 use cf_bind::{Bar, Passenger};
+use cf_passengers::first_missing;
 
 /// The first test that holds, with its bar.
 #[inline(always)]
@@ -47,4 +48,12 @@ impl Processor {
             None => Err(Bar::NoPassenger),
         }
     }
+}
+
+/// What bars an instruction that needs the values of its sources: the first one without a value.
+#[inline(always)]
+pub(crate) fn source_bar(passenger: &Passenger) -> Option<Bar>
+    ensures { result ≡ bar_of_sources passenger.now None }
+{
+    first_missing(passenger).map(Bar::SourceMissing)
 }

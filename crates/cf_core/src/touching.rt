@@ -1,16 +1,16 @@
-//! Which stages a move can change.
+//! Which stages a move can change: the marks of all others stay as they are.
 
-ghost use Rattle.std.specs.Prelude.{◌≡◌, ◌<◌, ◌≤◌, None, length};
+ghost use Rattle.std.specs.Prelude.{◌≡◌, ◌<◌, length, ◌≤◌, None};
 ghost use Rattle.cf_semantics.specs.moves.Bars.{row_bar};
 ghost use Rattle.cf_semantics.specs.state.Options.{on};
-ghost use Rattle.cf_core.specs.Marks.{home_at, sites as sites_of, touched as touched_by};
+ghost use Rattle.cf_core.specs.Marks.{sites as sites_of, home_at, touched as touched_by};
 ghost use Rattle.cf_core.specs.Processors.{IsProcessor};
 
 use crate::processor::Processor;
 use cf_bind::Move;
 use cf_passengers::kind;
 
-/// The stages for which what holds can change with a move: one or two.
+/// The stages whose marks a move can change: one or two.
 #[derive(Clone, Copy)]
 pub(crate) struct Touched {
     pub(crate) low: u32,
@@ -57,7 +57,7 @@ impl Processor {
         }
     }
 
-    /// The stages for which what holds can change with an allowed move.
+    /// The stages whose marks an allowed move can change.
     #[inline(always)]
     #[tactic(auto, using(crate::proofs::Sites::touching), unfolding(crate::specs::Marks::touched))]
     pub(crate) fn touched(&self, m: Move) -> Touched

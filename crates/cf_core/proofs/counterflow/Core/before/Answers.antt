@@ -1,7 +1,7 @@
 use Rattle.std.proofs.Common.{◌≡◌, None, sym, subst}
 use Rattle.cf_semantics.specs.moves.Bars.{bar}
 use Rattle.cf_core.specs.Processors.{Processor}
-use Rattle.cf_core.proofs.KeptServe.{unbarred}
+use Rattle.cf_core.proofs.moves.KeptServe.{unbarred}
 use Rattle.cf_core.proofs.counterflow.Core.before.Goals as goal
 
 pub undo_of-requires-clause-allowed : goal.undo_of-requires-clause-allowed

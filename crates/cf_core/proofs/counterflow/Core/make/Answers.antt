@@ -4,7 +4,7 @@ use Rattle.rv_machine.specs.Streams.{streams_of}
 use Rattle.cf_semantics.specs.moves.Bars.{bar}
 use Rattle.cf_core.specs.Processors.{Processor}
 use Rattle.cf_core.proofs.KeptMarks.{kept-marks, made-marks, made-within}
-use Rattle.cf_core.proofs.KeptServe.{made-kept, unbarred}
+use Rattle.cf_core.proofs.moves.KeptServe.{made-kept, unbarred}
 use Rattle.cf_core.proofs.counterflow.Core.make.Goals as goal
 
 pub keeps_marks-keeps-requires-clause-allowed : goal.keeps_marks-keeps-requires-clause-allowed

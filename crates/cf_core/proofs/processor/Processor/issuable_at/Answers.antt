@@ -4,7 +4,7 @@ use Rattle.cf_bind.specs.declared.passenger.Guess.TheVariants as guess
 use Rattle.cf_semantics.specs.state.Passengers.{requests}
 use Rattle.cf_core.specs.Processors.{Processor}
 use Rattle.cf_core.specs.declared.issuing.Issuable.{Issuable}
-use Rattle.cf_core.proofs.Guesses.{issue-fits, issue-full}
+use Rattle.cf_core.proofs.moves.Guesses.{issue-fits, issue-full}
 use Rattle.cf_core.proofs.processor.Processor.issuable_at.Goals as goal
 
 pub returns-then-lane-lane_len-clause-taken : goal.returns-then-lane-lane_len-clause-taken

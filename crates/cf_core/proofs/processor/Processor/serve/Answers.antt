@@ -8,8 +8,8 @@ use Rattle.cf_semantics.specs.state.Passengers.{instruction}
 use Rattle.cf_stages.specs.Changes.{passenger_at}
 use Rattle.cf_core.specs.Places.{with_memory}
 use Rattle.cf_core.specs.Processors.{Processor}
-use Rattle.cf_core.proofs.Served.{call-takes, fence-takes, serial-calls}
-use Rattle.cf_core.proofs.Asked.{input-unasked, output-unasked}
+use Rattle.cf_core.proofs.moves.Served.{call-takes, fence-takes, serial-calls}
+use Rattle.cf_core.proofs.moves.Asked.{input-unasked, output-unasked}
 use Rattle.cf_core.proofs.processor.Processor.serve.Goals as goal
 
 pub returns-in-FenceI-clause-serves : goal.returns-in-FenceI-clause-serves

@@ -25,7 +25,7 @@ use Rattle.cf_semantics.specs.state.Passengers.{instruction, kind}
 use Rattle.cf_semantics.specs.moves.Moves.{next, asked, served, answered, with_passenger}
 use Rattle.cf_stages.specs.Changes.{changed, passenger_at}
 use Rattle.cf_core.specs.Processors.{Processor, in_state}
-use Rattle.cf_core.proofs.Exits.{exit-any_rest}
+use Rattle.cf_core.proofs.moves.Exits.{exit-any_rest}
 use Rattle.cf_core.proofs.Quiet.{with_rest, still-makes}
 use Rattle.cf_core.specs.declared.fault.Fault.{Fault}
 use Rattle.cf_core.specs.Places.{with_memory}

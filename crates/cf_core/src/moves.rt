@@ -1,12 +1,31 @@
-//! The table of moves: which row bars a move, and what each move does.
+//! The table of moves: what bars each move, and what it does.
+//!
+//! The row of each move has a file of its own in `moves/`. It holds the function that answers the first bar, for a caller that
+//! names a move; the test whether nothing bars it, for a policy, which asks this of every move at each step and needs no
+//! reason; and the effect. A fact about a stage that only one move asks for stands there too.
+
+mod access;
+mod climb;
+mod emit;
+mod execute;
+mod exit;
+mod fall;
+mod issue;
+mod launch;
+mod leave;
+mod meet;
+mod recover;
+mod send;
+mod serve;
+mod slide;
 
 ghost use Rattle.std.specs.Prelude.{◌≡◌, ◌≢◌, ◌+◌, ◌<◌, ◌^◌, None};
 ghost use Rattle.rv_machine.specs.Streams.{streams_of};
 ghost use Rattle.cf_bind.specs.declared.moves.Move.TheVariants as mv;
-ghost use Rattle.cf_semantics.specs.moves.Bars.{bar as first_bar, row_bar as bar_of_row};
+ghost use Rattle.cf_semantics.specs.moves.Bars.{row_bar as bar_of_row, bar as first_bar};
 ghost use Rattle.cf_semantics.specs.moves.Events.{IsEvent};
 ghost use Rattle.cf_core.specs.Asking.{AsksInput, AsksOutput, LeavesStream};
-ghost use Rattle.cf_core.specs.Processors.{after_move, IsProcessor};
+ghost use Rattle.cf_core.specs.Processors.{IsProcessor, after_move};
 ghost use Rattle.cf_core.specs.Stepping.{MakesOrFails, input_made, output_made};
 
 use crate::fault::Fault;
@@ -57,7 +76,7 @@ impl Processor {
     }
 
     /// Makes an allowed move, which is not Serve, and answers what is seen of it.
-    // Rare moves are calls, so that the others become a part of the loop of a run.
+    // Rare moves stay calls; the frequent ones become a part of the loop of a run.
     #[inline(always)]
     fn make_inside(&mut self, m: Move) -> Event
         requires facts { IsProcessor self.old.plan self.old.state }

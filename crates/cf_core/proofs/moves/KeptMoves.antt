@@ -7,9 +7,9 @@ use Rattle.cf_semantics.specs.moves.Bars.{row_bar}
 use Rattle.cf_semantics.specs.moves.Moves.{moved}
 use Rattle.cf_semantics.specs.state.State.{State}
 use Rattle.cf_core.specs.Processors.{Processor, after_move, IsProcessor}
-use Rattle.cf_core.proofs.KeptStages.{climb-kept, execute-kept, fall-kept, meet-kept, send-kept}
-use Rattle.cf_core.proofs.KeptEnds.{emit-kept, exit-kept, issue-kept, leave-kept}
-use Rattle.cf_core.proofs.KeptSidings.{access-kept, launch-kept, recover-kept, slide-kept}
+use Rattle.cf_core.proofs.moves.KeptStages.{climb-kept, execute-kept, fall-kept, meet-kept, send-kept}
+use Rattle.cf_core.proofs.moves.KeptEnds.{emit-kept, exit-kept, issue-kept, leave-kept}
+use Rattle.cf_core.proofs.moves.KeptSidings.{access-kept, launch-kept, recover-kept, slide-kept}
 
 -- the table says nothing of Serve, which asks the outside
 serve-kept : (plan : Plan) (s : State) → IsProcessor plan s → IsProcessor plan (moved plan s Serve)

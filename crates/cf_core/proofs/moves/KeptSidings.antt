@@ -27,7 +27,7 @@ use Rattle.cf_passengers.proofs.Permitted.{operation-permitted}
 use Rattle.cf_sidings.proofs.Last.{length-set_last}
 use Rattle.cf_core.specs.Processors.{IsOp, IsProcessor, IsCellOfSet}
 use Rattle.cf_core.proofs.KeptParts.{all-at, cell-kept, kept-or, kept-where, kept_bounds, siding-kept}
-use Rattle.cf_core.proofs.KeptStages.{change-kept, passenger-changed}
+use Rattle.cf_core.proofs.moves.KeptStages.{change-kept, passenger-changed}
 use Rattle.cf_core.proofs.Ported.{last-all}
 
 -- What a siding holds --

@@ -8,7 +8,7 @@ use Rattle.cf_semantics.specs.state.Passengers.{instruction}
 use Rattle.cf_stages.specs.Changes.{passenger_at}
 use Rattle.cf_core.specs.Processors.{Processor}
 use Rattle.cf_core.specs.Asking.{CallsInput, CallsOutput}
-use Rattle.cf_core.proofs.Served.{calls_here}
+use Rattle.cf_core.proofs.moves.Served.{calls_here}
 
 refuted : (b : Bool) → (IsTrue b → ⊥) → b ≡ false
 refuted true h = absurd (h (cc))

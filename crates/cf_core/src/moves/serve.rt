@@ -1,17 +1,21 @@
-//! Serve: the instruction in the highest stage asks the environment.
+//! Serve: the environment answers the instruction in the highest stage, which needs the whole machine.
 
-ghost use Rattle.std.specs.Prelude.{◌≡◌, Some, None};
+ghost use Rattle.std.specs.Prelude.{◌≡◌, None, Some};
 ghost use Rattle.rv_machine.specs.Streams.{streams_of};
 ghost use Rattle.cf_bind.specs.declared.moves.Move.TheVariants as mv;
-ghost use Rattle.cf_semantics.specs.moves.Instructions.{is_serial as needs_machine};
 ghost use Rattle.cf_semantics.specs.moves.Bars.{row_bar};
+ghost use Rattle.cf_semantics.specs.moves.Instructions.{is_serial as needs_machine};
 ghost use Rattle.cf_stages.specs.Changes.{passenger_at};
 ghost use Rattle.cf_core.specs.Asking.{CallsInput, CallsOutput, LeavesStream};
-ghost use Rattle.cf_core.specs.Processors.{in_state, IsProcessor};
+ghost use Rattle.cf_core.specs.Marks.{is_free};
+ghost use Rattle.cf_core.specs.Masks.{is_allowed};
+ghost use Rattle.cf_core.specs.Processors.{IsProcessor, in_state};
 ghost use Rattle.cf_core.specs.Stepping.{ServesOrFails, input_served, output_served, synchronized, taken, told_of};
 
+use crate::counterflow::Core;
 use crate::fault::Fault;
 use crate::processor::Processor;
+use crate::riding::is_undone;
 use crate::rows::first_of;
 use cf_bind::{Bar, Passenger};
 use cf_io::{Sink, Source};
@@ -28,7 +32,7 @@ pub(crate) fn is_serial(class: Class) -> bool
 }
 
 impl Processor {
-    /// What bars the instruction in the highest stage from asking the environment.
+    /// The first bar of Serve.
     #[inline(never)]
     pub(crate) fn serve_bar(&self) -> Option<Bar>
         requires { IsProcessor self.now.plan self.now.state }
@@ -46,9 +50,25 @@ impl Processor {
         ])
     }
 
+    /// Whether no test in the row of Serve holds, without telling which one does.
+    #[inline(always)]
+    #[tactic(auto, using(crate::proofs::moves::Allows::serve_free))]
+    fn serves(&self) -> bool
+        requires { IsProcessor self.now.plan self.now.state }
+        ensures { result ≡ is_free self.now.plan self.now.state mv.Serve }
+    {
+        let top = self.stages.count();
+        match self.stages.passenger(top) {
+            Some(passenger) => {
+                is_undone(passenger) && is_serial(kind(passenger)) && !self.stages.is_full(top)
+            }
+            None => false,
+        }
+    }
+
     /// The environment answers the instruction in the highest stage, ends the program by it, or fails.
     #[inline(never)]
-    #[tactic(auto, using(crate::proofs::Served::serving))]
+    #[tactic(auto, using(crate::proofs::moves::Served::serving))]
     pub(crate) fn serve<S: Source, K: Sink>(
         &mut self,
         input: &mut S,
@@ -115,5 +135,17 @@ impl Processor {
                 Err(Fault::Write)
             }
         }
+    }
+}
+
+impl Core {
+    /// Whether Serve is allowed.
+    #[inline(always)]
+    #[tactic(auto, using(crate::proofs::moves::Allows::allowing))]
+    pub fn may_serve(&self) -> bool
+        ensures { result ≡ is_allowed self.now.plan self.now.state mv.Serve }
+    {
+        let processor = &self.processor;
+        processor.goes_on() && processor.serves()
     }
 }

@@ -30,9 +30,9 @@ use Rattle.cf_core.specs.Stepping.{Makes, FailsToRead, FailsToWrite, MakesOrFail
 use Rattle.cf_core.specs.declared.fault.Fault.{Fault}
 use Rattle.cf_core.specs.declared.fault.Fault.TheVariants as fault
 use Rattle.cf_semantics.specs.declared.event.Event.{Event}
-use Rattle.cf_core.proofs.KeptMoves.{kept_moved}
+use Rattle.cf_core.proofs.moves.KeptMoves.{kept_moved}
 use Rattle.cf_core.proofs.KeptParts.{cell-kept, kept_bounds, stage-at}
-use Rattle.cf_core.proofs.KeptStages.{passenger-changed, passenger-in}
+use Rattle.cf_core.proofs.moves.KeptStages.{passenger-changed, passenger-in}
 use Rattle.cf_core.proofs.Steps.{next_moved}
 
 -- an answer leaves the regions' bounds and flags as they were

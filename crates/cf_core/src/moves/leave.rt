@@ -1,56 +1,26 @@
-//! The top of the pipes: the register file answers a request, and an instruction leaves.
+//! Leave: the instruction of the highest stage leaves; a live one retires, or ends the program.
 
-ghost use Rattle.std.specs.Prelude.{◌≡◌, ◌+◌, ◌<◌, ◌^◌, None, Some, IfSome};
+ghost use Rattle.std.specs.Prelude.{◌≡◌, IfSome, ◌+◌, ◌<◌, ◌^◌, None};
 ghost use Rattle.cf_bind.specs.declared.moves.Move.TheVariants as mv;
 ghost use Rattle.cf_semantics.specs.moves.Bars.{row_bar};
 ghost use Rattle.cf_semantics.specs.moves.Events.{IsEvent};
 ghost use Rattle.cf_semantics.specs.moves.Moves.{left_live};
-ghost use Rattle.cf_semantics.specs.state.State.{cell_at};
 ghost use Rattle.cf_passengers.specs.Facts.{IsBinding};
 ghost use Rattle.cf_core.specs.Ends.{written_back};
-ghost use Rattle.cf_core.specs.Processors.{after_move, in_state, IsProcessor};
+ghost use Rattle.cf_core.specs.Marks.{is_free};
+ghost use Rattle.cf_core.specs.Masks.{is_allowed};
+ghost use Rattle.cf_core.specs.Processors.{IsProcessor, in_state, after_move};
 
+use crate::counterflow::Core;
 use crate::processor::Processor;
+use crate::riding::{is_out, is_undone};
 use crate::rows::first_of;
-use cf_bind::{Bar, Binding, Cell, Passenger};
+use cf_bind::{Bar, Binding, Passenger};
 use cf_passengers::{leaving, value_in};
 use cf_semantics::Event;
 
 impl Processor {
-    /// What stands in the highest stage.
-    #[inline(always)]
-    pub(crate) fn top(&self) -> Cell
-        requires { IsProcessor self.now.plan self.now.state }
-        ensures { Some result ≡ cell_at self.now.state.cells self.now.plan.stages }
-    {
-        self.stages.cell(self.stages.count())
-    }
-
-    /// What bars the register file from answering a request.
-    #[inline(always)]
-    pub(crate) fn emit_bar(&self) -> Option<Bar>
-        requires { IsProcessor self.now.plan self.now.state }
-        ensures { result ≡ row_bar self.now.plan self.now.state mv.Emit }
-    {
-        if self.ends.lane_len() == 0 {
-            return Some(Bar::LaneEmpty);
-        }
-        first_of(&[(self.top().packet.is_some(), Bar::Occupied)])
-    }
-
-    /// The register file answers the first request.
-    #[inline(always)]
-    #[tactic(auto, unfolding(cf_semantics::specs::moves::Moves::moved))]
-    pub(crate) fn emit(&mut self)
-        requires facts { IsProcessor self.old.plan self.old.state }
-        requires allowed { row_bar self.old.plan self.old.state mv.Emit ≡ None }
-        ensures { self.new ≡ after_move self.old mv.Emit }
-    {
-        let packet = self.ends.answer();
-        self.stages.put_packet(self.stages.count(), packet, false);
-    }
-
-    /// What bars the instruction of the highest stage from leaving.
+    /// The first bar of Leave.
     #[inline(always)]
     pub(crate) fn leave_bar(&self) -> Option<Bar>
         requires { IsProcessor self.now.plan self.now.state }
@@ -70,6 +40,25 @@ impl Processor {
         ])
     }
 
+    /// Whether no test in the row of Leave holds, without telling which one does.
+    #[inline(always)]
+    #[tactic(auto, using(crate::proofs::moves::Allows::leave_free))]
+    fn leaves(&self) -> bool
+        requires { IsProcessor self.now.plan self.now.state }
+        ensures { result ≡ is_free self.now.plan self.now.state mv.Leave }
+    {
+        let top = self.stages.count();
+        match self.stages.passenger(top) {
+            Some(passenger) => {
+                !self.stages.is_full(top)
+                    && passenger.owes.is_none()
+                    && !is_undone(passenger)
+                    && !is_out(passenger)
+            }
+            None => false,
+        }
+    }
+
     /// Writes the value of a destination, where there is one, into the register file.
     #[inline(always)]
     fn write_back(&mut self, destination: Option<Binding>)
@@ -81,7 +70,7 @@ impl Processor {
         }
     }
 
-    /// A live instruction has left: it ends the program, or it retires.
+    /// A live instruction that has left ends the program, or retires.
     #[inline(always)]
     fn retire(&mut self, passenger: &Passenger)
         requires destination { IfSome passenger.now.dst IsBinding }
@@ -97,7 +86,7 @@ impl Processor {
         }
     }
 
-    /// The instruction of the highest stage leaves, and what is seen of it from outside.
+    /// The instruction of the highest stage leaves. Answers what this shows to the outside.
     #[inline(never)]
     #[tactic(auto, unfolding(cf_semantics::specs::moves::Moves::moved))]
     pub(crate) fn leave(&mut self) -> Event
@@ -112,5 +101,17 @@ impl Processor {
             self.retire(&passenger);
         }
         leaving(&passenger)
+    }
+}
+
+impl Core {
+    /// Whether Leave is allowed.
+    #[inline(always)]
+    #[tactic(auto, using(crate::proofs::moves::Allows::allowing))]
+    pub fn may_leave(&self) -> bool
+        ensures { result ≡ is_allowed self.now.plan self.now.state mv.Leave }
+    {
+        let processor = &self.processor;
+        processor.goes_on() && processor.leaves()
     }
 }

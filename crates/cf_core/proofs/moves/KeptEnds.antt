@@ -27,7 +27,7 @@ use Rattle.cf_passengers.proofs.Decoded.{decoded-instruction}
 use Rattle.cf_passengers.proofs.Kept.{fresh-passenger}
 use Rattle.cf_core.specs.Processors.{IsProcessor, IsCellOfSet}
 use Rattle.cf_core.proofs.KeptParts.{cell-kept, ends-kept, kept-or, kept-where, stage-at}
-use Rattle.cf_core.proofs.KeptStages.{change-kept, packet-gone, packet-new, passenger-gone, passenger-new}
+use Rattle.cf_core.proofs.moves.KeptStages.{change-kept, packet-gone, packet-new, passenger-gone, passenger-new}
 
 -- What is fetched and requested --
 

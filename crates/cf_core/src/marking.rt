@@ -1,0 +1,117 @@
+//! The marks of a stage by what stands there now.
+
+ghost use Rattle.std.specs.Prelude.{◌≡◌, None, Some, ◌<◌, ◌≤◌, true};
+ghost use Rattle.cf_layout.specs.Layout.{siding_of};
+ghost use Rattle.cf_semantics.specs.state.Passengers.{kind as kind_of_passenger};
+ghost use Rattle.cf_stages.specs.Changes.{passenger_at};
+ghost use Rattle.cf_core.specs.Marks.{mark_at, marked, Within, remarked as remarked_by};
+ghost use Rattle.cf_core.specs.Processors.{IsProcessor};
+ghost use Rattle.cf_core.specs.Riders.{StandsBeside, is_idle};
+
+use crate::marks::{Marks, StageMark};
+use crate::processor::Processor;
+use crate::riding::is_idle;
+use crate::touching::Touched;
+use cf_bind::Passenger;
+use cf_passengers::kind;
+use rv_inst::Class;
+
+impl Processor {
+    /// The marks of the stage, whose instruction is of a class without a siding.
+    #[inline(always)]
+    #[tactic(auto, using(crate::proofs::Rides::units), unfolding(crate::specs::Marks::mark_at))]
+    fn mark_at_units(&self, passenger: &Passenger, class: Class, i: u32) -> StageMark
+        requires here { passenger_at self.now.state.cells i ≡ Some passenger.now }
+        requires class { class ≡ kind_of_passenger passenger.now }
+        requires units { siding_of self.now.plan class ≡ None }
+        ensures { result ≡ mark_at self.now.plan self.now.state i }
+    {
+        StageMark {
+            owes: passenger.owes.is_some(),
+            stops: self.stops_at_units(passenger, class, i),
+            execute: self.executes(passenger, class, i),
+            launch: false,
+            recover: false,
+        }
+    }
+
+    /// The marks of the stage, whose instruction is of a class with a siding.
+    #[inline(always)]
+    #[tactic(auto, using(crate::proofs::Rides::owed), unfolding(crate::specs::Marks::mark_at))]
+    fn mark_at_siding(&self, passenger: &Passenger, class: Class, k: u32, i: u32) -> StageMark
+        requires facts { IsProcessor self.now.plan self.now.state }
+        requires stands { StandsBeside self.now.plan self.now.state passenger.now class k i }
+        ensures { result ≡ mark_at self.now.plan self.now.state i }
+    {
+        StageMark {
+            owes: passenger.owes.is_some(),
+            stops: self.stops_at_siding(passenger, k, i),
+            execute: self.executes(passenger, class, i),
+            launch: self.launches(passenger, class, k, i),
+            recover: self.recovers(passenger, k, i),
+        }
+    }
+
+    /// The marks of the stage in which this instruction stands.
+    #[inline(never)]
+    pub(crate) fn mark_of(&self, passenger: &Passenger, i: u32) -> StageMark
+        requires above { 0 < i }
+        requires within { i ≤ self.now.plan.stages }
+        requires facts { IsProcessor self.now.plan self.now.state }
+        requires here { passenger_at self.now.state.cells i ≡ Some passenger.now }
+        ensures { result ≡ mark_at self.now.plan self.now.state i }
+    {
+        let class = kind(passenger);
+        match self.layout.siding_of(class) {
+            Some(k) => self.mark_at_siding(passenger, class, k, i),
+            None => self.mark_at_units(passenger, class, i),
+        }
+    }
+
+    /// The marks of a stage whose instruction waits for no unit and for no siding.
+    #[inline(always)]
+    #[tactic(auto, using(crate::proofs::Rides::idle, crate::proofs::Rides::owed))]
+    fn mark_idle(&self, passenger: &Passenger, i: u32) -> StageMark
+        requires here { passenger_at self.now.state.cells i ≡ Some passenger.now }
+        requires idle { is_idle passenger.now ≡ true }
+        ensures { result ≡ mark_at self.now.plan self.now.state i }
+    {
+        StageMark {
+            owes: passenger.owes.is_some(),
+            ..StageMark::of_none()
+        }
+    }
+
+    /// The marks with those of this stage brought up to date.
+    #[inline(always)]
+    #[tactic(auto, using(crate::proofs::Rides::mark_none))]
+    fn with_stage(&self, marks: Marks, i: u32) -> Marks
+        requires above { 0 < i }
+        requires within { i ≤ self.now.plan.stages }
+        requires facts { IsProcessor self.now.plan self.now.state }
+        ensures { result ≡ marked marks i (mark_at self.now.plan self.now.state i) }
+    {
+        let _stages = self.layout.stages();
+        match self.stages.passenger(i) {
+            Some(passenger) if is_idle(passenger) => marks.with(i, self.mark_idle(passenger, i)),
+            Some(passenger) => marks.with(i, self.mark_of(passenger, i)),
+            None => marks.with(i, StageMark::of_none()),
+        }
+    }
+
+    /// The marks with those of the two stages brought up to date.
+    #[inline(always)]
+    #[tactic(auto, using(crate::proofs::Bits::marked_once))]
+    pub(crate) fn remarked(&self, marks: Marks, touched: Touched) -> Marks
+        requires within { Within self.now.plan touched }
+        requires facts { IsProcessor self.now.plan self.now.state }
+        ensures { result ≡ remarked_by self.now.plan self.now.state marks touched }
+    {
+        let marks = self.with_stage(marks, touched.low);
+        if touched.low == touched.high {
+            marks
+        } else {
+            self.with_stage(marks, touched.high)
+        }
+    }
+}

@@ -1,0 +1,63 @@
+//! Execute: a unit of a stage executes the instruction there.
+
+ghost use Rattle.std.specs.Prelude.{◌≡◌, Some, None};
+ghost use Rattle.cf_bind.specs.declared.moves.Move.TheVariants as mv;
+ghost use Rattle.cf_semantics.specs.moves.Bars.{row_bar};
+ghost use Rattle.cf_semantics.specs.state.Passengers.{kind as kind_of_passenger};
+ghost use Rattle.cf_stages.specs.Changes.{passenger_at};
+ghost use Rattle.cf_core.specs.Marks.{is_free};
+ghost use Rattle.cf_core.specs.Processors.{IsProcessor, after_move};
+
+use crate::processor::Processor;
+use crate::riding::{has_sources, is_undone};
+use crate::rows::{first_of, source_bar};
+use cf_bind::{Bar, Passenger};
+use cf_passengers::{finish, kind};
+use rv_inst::Class;
+
+impl Processor {
+    /// The first bar of Execute in this stage.
+    #[inline(always)]
+    pub(crate) fn execute_bar(&self, i: u32) -> Option<Bar>
+        requires { IsProcessor self.now.plan self.now.state }
+        ensures { result ≡ row_bar self.now.plan self.now.state (mv.Execute i) }
+    {
+        let passenger = match self.rider(i) {
+            Ok(passenger) => passenger,
+            Err(bar) => return Some(bar),
+        };
+        let bar = first_of(&[
+            (passenger.dead, Bar::Dead),
+            (passenger.done, Bar::AlreadyDone),
+            (!self.layout.unit_at(kind(&passenger), i), Bar::NoUnit),
+        ]);
+        if bar.is_some() {
+            return bar;
+        }
+        source_bar(&passenger)
+    }
+
+    /// Whether no test in the row of Execute holds.
+    #[inline(always)]
+    #[tactic(auto, using(crate::proofs::Rides::execute_free))]
+    pub(crate) fn executes(&self, passenger: &Passenger, class: Class, i: u32) -> bool
+        requires here { passenger_at self.now.state.cells i ≡ Some passenger.now }
+        requires class { class ≡ kind_of_passenger passenger.now }
+        ensures { result ≡ is_free self.now.plan self.now.state (mv.Execute i) }
+    {
+        is_undone(passenger) && self.layout.unit_at(class, i) && has_sources(passenger)
+    }
+
+    /// A unit of the stage executes its instruction.
+    #[inline(never)]
+    #[tactic(auto, using(cf_passengers::proofs::Computing::computing), unfolding(cf_semantics::specs::moves::Moves::moved))]
+    pub(crate) fn execute(&mut self, i: u32)
+        requires facts { IsProcessor self.old.plan self.old.state }
+        requires allowed { row_bar self.old.plan self.old.state (mv.Execute i) ≡ None }
+        ensures { self.new ≡ after_move self.old (mv.Execute i) }
+    {
+        if let Some(passenger) = self.stages.cell(i).passenger {
+            self.stages.set_passenger(i, finish(passenger, None));
+        }
+    }
+}

@@ -1,0 +1,173 @@
+//! Issue: an instruction enters the lowest stage, with a guess of the address from which fetch goes on.
+
+ghost use Rattle.std.specs.Prelude.{◌≡◌, ◌+◌, ◌≤◌, IfSome, length, None};
+ghost use Rattle.cf_bind.specs.declared.moves.Move.TheVariants as mv;
+ghost use Rattle.cf_bind.specs.declared.packet.Fetch.TheVariants as fetching;
+ghost use Rattle.cf_bind.specs.declared.passenger.Guess.TheVariants as guess;
+ghost use Rattle.cf_semantics.specs.moves.Bars.{row_bar};
+ghost use Rattle.cf_semantics.specs.moves.Moves.{fetch_at as fetch_there};
+ghost use Rattle.cf_semantics.specs.state.Layouts.{isa_of as set_of};
+ghost use Rattle.cf_stages.specs.Changes.{passenger_at};
+ghost use Rattle.cf_passengers.specs.Facts.{IsPassenger, IsWritable, IsBinding};
+ghost use Rattle.cf_passengers.specs.Waiting.{listed_one, listed};
+ghost use Rattle.cf_core.specs.Ends.{issued_at as issued_there, requested, forgotten};
+ghost use Rattle.cf_core.specs.Marks.{is_free};
+ghost use Rattle.cf_core.specs.Masks.{is_allowed};
+ghost use Rattle.cf_core.specs.Processors.{IsProcessor, in_state, after_move};
+
+use crate::counterflow::Core;
+use crate::issuing::Issuable;
+use crate::processor::Processor;
+use crate::rows::first_of;
+use cf_bind::{Bar, Binding, Fetch, Guess, Passenger};
+use cf_passengers::{RequestedSources, fetched, fresh, goto, isa_of, may_guess, requests};
+
+/// Fetch at the address; where there is none, fetch waits.
+#[inline(always)]
+fn fetch_at(place: Option<u32>) -> Fetch
+    ensures { result ≡ fetch_there place }
+{
+    match place {
+        Some(pc) => Fetch::Running(pc),
+        None => Fetch::Waiting,
+    }
+}
+
+impl Processor {
+    /// The instruction that is issued at the address with the guess.
+    #[inline(always)]
+    pub(crate) fn issued_at(&self, pc: u32, guess: Guess) -> Passenger
+        ensures passenger { result ≡ issued_there self.now.plan self.now.state pc guess }
+        ensures facts { IsPassenger (set_of self.now.plan) result }
+    {
+        let instruction = fetched(isa_of(&self.layout), &self.memory, pc);
+        fresh(&self.ends, instruction, pc, guess)
+    }
+
+    /// The first bar of Issue with this guess.
+    #[inline(never)]
+    pub(crate) fn issue_bar(&self, guess: Guess) -> Option<Bar>
+        requires { IsProcessor self.now.plan self.now.state }
+        ensures { result ≡ row_bar self.now.plan self.now.state (mv.Issue guess) }
+    {
+        let Fetch::Running(pc) = self.ends.fetch() else {
+            return Some(Bar::FetchWaiting);
+        };
+        let passenger = self.issued_at(pc, guess);
+        let lane_len = self.ends.lane_len() + requests(&passenger).count();
+        first_of(&[
+            (self.bottom().passenger.is_some(), Bar::Occupied),
+            (!may_guess(guess, &passenger), Bar::BadGuess),
+            (self.layout.lane() < lane_len, Bar::LaneFull),
+        ])
+    }
+
+    /// Requests the register, where there is one.
+    #[inline(always)]
+    fn request_one(&mut self, register: Option<u8>)
+        requires register { IfSome register IsWritable }
+        requires room { length self.old.state.lane + length (listed_one register) ≤ self.old.plan.lane }
+        ensures { self.new ≡ in_state self.old (requested self.old.state (listed_one register)) }
+    {
+        if let Some(register) = register {
+            self.ends.request(register);
+        }
+    }
+
+    /// Requests the registers, in order.
+    #[inline(always)]
+    fn request(&mut self, asked: RequestedSources)
+        requires first { IfSome asked.first IsWritable }
+        requires second { IfSome asked.second IsWritable }
+        requires room { length self.old.state.lane + length (listed asked) ≤ self.old.plan.lane }
+        ensures { self.new ≡ in_state self.old (requested self.old.state (listed asked)) }
+    {
+        self.request_one(asked.first);
+        self.request_one(asked.second);
+    }
+
+    /// Drops the cached value of the destination, where there is one.
+    #[inline(always)]
+    fn forget(&mut self, destination: Option<Binding>)
+        requires { IfSome destination IsBinding }
+        ensures { self.new ≡ in_state self.old (forgotten self.old.state destination) }
+    {
+        if let Some(binding) = destination {
+            self.ends.forget(binding.reg);
+        }
+    }
+
+    /// A new instruction enters the lowest stage, and fetch goes on by the guess.
+    #[inline(never)]
+    #[tactic(auto, unfolding(cf_semantics::specs::moves::Moves::moved))]
+    pub(crate) fn issue(&mut self, guess: Guess)
+        requires { row_bar self.old.plan self.old.state (mv.Issue guess) ≡ None }
+        ensures { self.new ≡ after_move self.old (mv.Issue guess) }
+    {
+        if let Fetch::Running(pc) = self.ends.fetch() {
+            let passenger = self.issued_at(pc, guess);
+            self.stages.put_passenger(passenger);
+            self.request(requests(&passenger));
+            self.forget(passenger.dst);
+            self.ends.set_fetch(fetch_at(goto(&passenger)));
+        }
+    }
+
+    /// The guesses that the row of Issue allows at this address, where the lowest stage is free. The instruction is the same
+    /// for all guesses, so it is decoded once.
+    #[inline(always)]
+    fn issuable_at(&self, pc: u32) -> Issuable
+        requires facts { IsProcessor self.now.plan self.now.state }
+        requires runs { self.now.state.fetch ≡ fetching.Running pc }
+        requires free { passenger_at self.now.state.cells 1 ≡ None }
+        ensures next { result.next ≡ is_free self.now.plan self.now.state (mv.Issue guess.Next) }
+        ensures taken { result.taken ≡ is_free self.now.plan self.now.state (mv.Issue guess.Taken) }
+        ensures wait { result.wait ≡ is_free self.now.plan self.now.state (mv.Issue guess.Wait) }
+    {
+        let passenger = self.issued_at(pc, Guess::Next);
+        if self.layout.lane() < self.ends.lane_len() + requests(&passenger).count() {
+            return Issuable::never();
+        }
+        Issuable {
+            next: true,
+            taken: may_guess(Guess::Taken, &passenger),
+            wait: may_guess(Guess::Wait, &passenger),
+        }
+    }
+
+    /// The guesses that the row of Issue allows.
+    #[inline(always)]
+    #[tactic(auto, using(crate::proofs::moves::Guesses::issue_barred))]
+    fn issuable_now(&self) -> Issuable
+        requires { IsProcessor self.now.plan self.now.state }
+        ensures next { result.next ≡ is_free self.now.plan self.now.state (mv.Issue guess.Next) }
+        ensures taken { result.taken ≡ is_free self.now.plan self.now.state (mv.Issue guess.Taken) }
+        ensures wait { result.wait ≡ is_free self.now.plan self.now.state (mv.Issue guess.Wait) }
+    {
+        if self.stages.passenger(1).is_some() {
+            return Issuable::never();
+        }
+        match self.ends.fetch() {
+            Fetch::Running(pc) => self.issuable_at(pc),
+            Fetch::Waiting => Issuable::never(),
+        }
+    }
+}
+
+impl Core {
+    /// The guesses that an instruction can be issued with. Nothing is decoded where the lowest stage is occupied.
+    #[inline(always)]
+    #[tactic(auto, using(crate::proofs::moves::Allows::allowing))]
+    pub fn issuable(&self) -> Issuable
+        ensures next { result.next ≡ is_allowed self.now.plan self.now.state (mv.Issue guess.Next) }
+        ensures taken { result.taken ≡ is_allowed self.now.plan self.now.state (mv.Issue guess.Taken) }
+        ensures wait { result.wait ≡ is_allowed self.now.plan self.now.state (mv.Issue guess.Wait) }
+    {
+        let processor = &self.processor;
+        if processor.goes_on() {
+            processor.issuable_now()
+        } else {
+            Issuable::never()
+        }
+    }
+}

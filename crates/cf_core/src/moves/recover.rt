@@ -1,0 +1,95 @@
+//! Recover: the instruction of a stage takes its operation out of the siding.
+
+ghost use Rattle.std.specs.Prelude.{◌≡◌, ◌==◌, ◌<◌, ◌&&◌, length, Some, None};
+ghost use Rattle.cf_bind.specs.declared.moves.Move.TheVariants as mv;
+ghost use Rattle.cf_layout.specs.Layout.{recover_stage, siding_of};
+ghost use Rattle.cf_semantics.specs.moves.Bars.{exit_op_bar as bar_of_return, row_bar};
+ghost use Rattle.cf_semantics.specs.state.Passengers.{kind as kind_of_passenger};
+ghost use Rattle.cf_stages.specs.Changes.{passenger_at};
+ghost use Rattle.cf_core.specs.Marks.{is_free};
+ghost use Rattle.cf_core.specs.Processors.{IsProcessor, after_move};
+ghost use Rattle.cf_core.specs.Riders.{is_out as is_beside};
+
+use crate::processor::Processor;
+use crate::riding::is_out;
+use crate::rows::first_of;
+use crate::siding_ends::is_memory;
+use cf_bind::{Bar, Passenger};
+use cf_passengers::{back_in, kind, recovers};
+
+impl Processor {
+    /// The last tests in the row of Recover: whether the operation is at the end of its siding, and answered.
+    #[inline(always)]
+    #[tactic(auto, using(crate::proofs::Ported::ported))]
+    pub(crate) fn return_bar(&self, passenger: &Passenger) -> Option<Bar>
+        requires { IsProcessor self.now.plan self.now.state }
+        ensures { result ≡ bar_of_return self.now.plan self.now.state passenger.now }
+    {
+        let class = kind(passenger);
+        let Some(k) = self.layout.siding_of(class) else {
+            return Some(Bar::NoUnit);
+        };
+        let Some(op) = self.last_op(k) else {
+            return Some(Bar::OpNotThere);
+        };
+        first_of(&[(is_memory(class) && op.answer.is_none(), Bar::NotDone)])
+    }
+
+    /// The first bar of Recover in this stage.
+    #[inline(never)]
+    pub(crate) fn recover_bar(&self, i: u32) -> Option<Bar>
+        requires { IsProcessor self.now.plan self.now.state }
+        ensures { result ≡ row_bar self.now.plan self.now.state (mv.Recover i) }
+    {
+        let passenger = match self.rider(i) {
+            Ok(passenger) => passenger,
+            Err(bar) => return Some(bar),
+        };
+        let bar = first_of(&[
+            (!recovers(&self.layout, kind(&passenger), i), Bar::NoUnit),
+            (!passenger.launched || passenger.recovered, Bar::AlreadyDone),
+        ]);
+        if bar.is_some() {
+            return bar;
+        }
+        self.return_bar(&passenger)
+    }
+
+    /// Whether the siding recovers at this stage, and the operation of the instruction is yet to come back.
+    #[inline(always)]
+    pub(crate) fn is_to_recover(&self, passenger: &Passenger, k: u32, i: u32) -> bool
+        requires { k < length self.now.plan.sidings }
+        ensures { result ≡ (is_beside passenger.now && (recover_stage self.now.plan k == i)) }
+    {
+        is_out(passenger) && self.layout.recover_stage(k) == i
+    }
+
+    /// Whether no test in the row of Recover holds. The class of the instruction has a siding.
+    #[inline(always)]
+    #[tactic(auto, using(crate::proofs::Rides::recover_free))]
+    pub(crate) fn recovers(&self, passenger: &Passenger, k: u32, i: u32) -> bool
+        requires facts { IsProcessor self.now.plan self.now.state }
+        requires here { passenger_at self.now.state.cells i ≡ Some passenger.now }
+        requires siding { siding_of self.now.plan (kind_of_passenger passenger.now) ≡ Some k }
+        requires inside { k < length self.now.plan.sidings }
+        ensures { result ≡ is_free self.now.plan self.now.state (mv.Recover i) }
+    {
+        self.is_to_recover(passenger, k, i) && self.return_bar(passenger).is_none()
+    }
+
+    /// The instruction of the stage takes its operation out of the siding. A live one finishes.
+    #[inline(never)]
+    #[tactic(auto, using(crate::proofs::moves::Returning::returning), unfolding(cf_semantics::specs::moves::Moves::moved))]
+    pub(crate) fn recover(&mut self, i: u32)
+        requires facts { IsProcessor self.old.plan self.old.state }
+        requires allowed { row_bar self.old.plan self.old.state (mv.Recover i) ≡ None }
+        ensures { self.new ≡ after_move self.old (mv.Recover i) }
+    {
+        if let Some(passenger) = self.stages.cell(i).passenger {
+            if let Some(k) = self.layout.siding_of(kind(&passenger)) {
+                let op = self.sidings.recover(k);
+                self.stages.set_passenger(i, back_in(passenger, op.answer));
+            }
+        }
+    }
+}
