@@ -23,7 +23,7 @@ impl Processor {
         requires facts { IsProcessor self.now.plan self.now.state }
         ensures { result ≡ rides self.now.state i has_done_all }
     {
-        let _stages = self.layout.stages();
+        self.know_stages();
         match self.stages.passenger(i) {
             Some(passenger) => is_spent(passenger),
             None => false,
@@ -39,7 +39,7 @@ impl Processor {
         requires marks { marks ≡ marks_of self.now.plan self.now.state }
         ensures { result ≡ is_free self.now.plan self.now.state (mv.Launch i) }
     {
-        let _stages = self.layout.stages();
+        self.know_stages();
         has_bit(marks.launch, i)
     }
 
@@ -52,7 +52,7 @@ impl Processor {
         requires marks { marks ≡ marks_of self.now.plan self.now.state }
         ensures { result ≡ stops_there self.now.plan self.now.state i }
     {
-        let _stages = self.layout.stages();
+        self.know_stages();
         has_bit(marks.stops, i)
     }
 

@@ -91,7 +91,7 @@ impl Processor {
         requires facts { IsProcessor self.now.plan self.now.state }
         ensures { result ≡ marked marks i (mark_at self.now.plan self.now.state i) }
     {
-        let _stages = self.layout.stages();
+        self.know_stages();
         match self.stages.passenger(i) {
             Some(passenger) if is_idle(passenger) => marks.with(i, self.mark_idle(passenger, i)),
             Some(passenger) => marks.with(i, self.mark_of(passenger, i)),

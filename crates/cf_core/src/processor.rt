@@ -1,5 +1,7 @@
 //! The parts of a processor.
 
+ghost use Rattle.cf_layout.specs.Accepted.{IsAccepted};
+
 use cf_bind::End;
 use cf_ends::Ends;
 use cf_layout::Layout;
@@ -30,4 +32,16 @@ impl Model for Processor {
     ghost view = { λ p. record { plan = p.layout; state = record { cells = p.stages; sidings = p.sidings; lane = p.ends.lane; fetch = p.ends.fetch; cache = p.ends.cache; regs = p.ends.regs; mem = p.memory; retired = p.retired; ending = p.ending; failed = p.failed } } };
 
     ghost invariant = { λ p. p.ends.room ≡ p.layout.lane };
+}
+
+impl Processor {
+    /// Does nothing: it is called for its contract. A proof knows that the layout is an accepted one, and so how many
+    /// stages there can be, only where the function calls the layout, and a function that reads only the stages or the
+    /// marks does not.
+    #[inline(always)]
+    pub(crate) fn know_stages(&self)
+        ensures { IsAccepted self.now.plan }
+    {
+        let _stages = self.layout.stages();
+    }
 }

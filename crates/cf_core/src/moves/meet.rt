@@ -108,7 +108,7 @@ impl Processor {
         requires facts { IsProcessor self.now.plan self.now.state }
         ensures { result ≡ stands_by self.now.state i }
     {
-        let _stages = self.layout.stages();
+        self.know_stages();
         match self.stages.passenger(i) {
             Some(passenger) => is_passed_by(passenger, self.stages.packet(i)),
             None => false,
