@@ -1,5 +1,5 @@
-//! The first move over the stages after another. The word of a kind of move is made only where the kinds before
-//! it have no such move.
+//! The first move over the stages that comes after another in the order of all moves. The word of a kind is computed only
+//! when no kind before it has such a move.
 
 ghost use Rattle.std.specs.Prelude.{◌≡◌, filter, find};
 ghost use Rattle.cf_core.specs.Masks.{masks_of};

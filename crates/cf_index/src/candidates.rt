@@ -33,7 +33,7 @@ impl Model for Candidates {
 }
 
 impl Candidates {
-    /// No candidates. There is always memory for them, as they need none.
+    /// No candidates. This takes no memory, so it never fails.
     #[tactic(auto, using(crate::proofs::Parts::nothing), unfolding(crate::specs::Listed::entering_moves, crate::specs::Listed::passing_moves, crate::specs::Listed::leaving_moves))]
     pub fn new(_alloc: Global) -> Result<Candidates, AllocError>
         ensures { result ≡ Ok [] }
@@ -106,7 +106,7 @@ impl Candidates {
         }
     }
 
-    /// Takes each Issue out, unless nothing else is there.
+    /// Removes each Issue, unless there is no other candidate.
     #[inline(always)]
     pub fn hold(&mut self)
         ensures { self.new ≡ held_back self.old }

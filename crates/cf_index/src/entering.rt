@@ -1,4 +1,4 @@
-//! The candidates that let something into the two pipes.
+//! The candidates by which an instruction or a result enters the pipes.
 
 ghost use Rattle.std.specs.Prelude.{◌≡◌, ◌<◌, ◌≤◌, Some, length, slice_get};
 ghost use Rattle.cf_semantics.specs.moves.Candidates.{other_moves};
@@ -63,7 +63,7 @@ impl Entering {
         }
     }
 
-    /// How many come before the first after the move in the order of all moves.
+    /// The place of the first that comes after this move in the order of all moves.
     #[inline(always)]
     #[tactic(auto, unfolding(crate::specs::Listed::entering_moves, crate::specs::Order::passed))]
     pub(crate) fn passed(&self, last: Move) -> usize

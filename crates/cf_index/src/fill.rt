@@ -1,4 +1,4 @@
-//! The candidates of a processor.
+//! The candidates are computed from a processor.
 
 ghost use Rattle.std.specs.Prelude.{◌≡◌, ℕ, ◌+◌, ◌-◌, ◌*◌, ◌/◌, ◌%◌, ◌<◌, ◌≤◌, ◌&&◌, ◌||◌, filter, length, nat_eq, nat_lt};
 ghost use Rattle.cf_layout.specs.Layout.{cells_of};
@@ -28,7 +28,7 @@ fn cells(core: &Core, k: u32) -> u32
     core.layout().cells_of(k)
 }
 
-/// The word with the cells of a siding from which an operation is allowed to move on: bit 8k + c for siding k, cell c.
+/// The word with the cells of one siding added from which Slide is allowed: bit 8k + c for siding k, cell c.
 #[inline(always)]
 fn with_siding(core: &Core, k: u32, word: u64) -> u64
     requires { k < length core.now.plan.sidings }
@@ -41,7 +41,7 @@ fn with_siding(core: &Core, k: u32, word: u64) -> u64
     word
 }
 
-/// The cells from which an operation is allowed to move on.
+/// The cells from which Slide is allowed.
 #[inline(always)]
 pub(crate) fn slides(core: &Core) -> u64
     ensures { slides_of result ≡ filter (is_allowed core.now.plan core.now.state) (slides_from 0 core.now.plan.sidings) }
@@ -53,7 +53,7 @@ pub(crate) fn slides(core: &Core) -> u64
     word
 }
 
-/// What is allowed to enter.
+/// The candidates by which something enters.
 #[inline(always)]
 #[tactic(auto, unfolding(crate::specs::Listed::entering_moves))]
 fn entering(core: &Core) -> Entering
@@ -68,7 +68,7 @@ fn entering(core: &Core) -> Entering
     }
 }
 
-/// What is allowed in the stages.
+/// The candidates within the stages.
 #[inline(always)]
 pub(crate) fn passing(core: &Core, masks: &Masks) -> Passing
     requires { masks.now ≡ masks_of core.now.plan core.now.state }
@@ -85,7 +85,7 @@ pub(crate) fn passing(core: &Core, masks: &Masks) -> Passing
     }
 }
 
-/// What is allowed to leave.
+/// The candidates by which something leaves.
 #[inline(always)]
 pub(crate) fn leaving(core: &Core, masks: &Masks) -> Leaving
     requires { masks.now ≡ masks_of core.now.plan core.now.state }
@@ -102,7 +102,7 @@ pub(crate) fn leaving(core: &Core, masks: &Masks) -> Leaving
 }
 
 impl Candidates {
-    /// They become the moves that are allowed.
+    /// Replaces them by the moves that are allowed now.
     #[inline(always)]
     pub fn fill(&mut self, core: &Core)
         ensures { self.new ≡ candidates core.now.plan core.now.state }

@@ -1,4 +1,4 @@
-//! The candidates that take something out of the sidings and of the two pipes.
+//! The candidates by which something leaves the sidings or the pipes.
 
 ghost use Rattle.std.specs.Prelude.{◌≡◌, ◌<◌, ◌≤◌, Some, length, slice_get};
 ghost use Rattle.cf_index.specs.Listed.{leaving_moves};
@@ -8,7 +8,7 @@ ghost use Rattle.cf_index.specs.Order.{passed};
 use crate::bits::{count, count_below, nth};
 use cf_bind::Move;
 
-/// Access, the stages where Recover can be made, with bit i - 1 for stage i, and Leave, Exit and Serve.
+/// Access; the stages where Recover can be made, with bit i - 1 for stage i; and Leave, Exit and Serve.
 #[derive(Clone, Copy)]
 pub(crate) struct Leaving {
     pub(crate) access: bool,
@@ -61,7 +61,7 @@ impl Leaving {
         }
     }
 
-    /// How many come before the first after the move in the order of all moves.
+    /// The place of the first that comes after this move in the order of all moves.
     #[inline(always)]
     #[tactic(auto, using(crate::proofs::PassedEnds::leaving))]
     pub(crate) fn passed(&self, last: Move) -> usize

@@ -1,5 +1,5 @@
-//! The first move after another within the sidings, and of those that leave. What a move needs is looked at
-//! only where no move before it is found.
+//! The first move within the sidings, or of those by which something leaves, that comes after another. A move is tested only
+//! when no move before it was found.
 
 ghost use Rattle.std.specs.Prelude.{◌≡◌, ◌≢◌, ◌∷◌, ◌++◌, [], filter, find, slice_get};
 ghost use Rattle.cf_bind.specs.declared.moves.Move.TheVariants as mv;
@@ -17,7 +17,7 @@ use crate::stages::stages;
 use cf_bind::Move;
 use cf_core::{Core, Masks};
 
-/// Serve, where it is allowed and comes after the rank.
+/// Serve, if it is allowed and comes after the rank.
 #[inline(always)]
 fn next_serve(core: &Core, last: Rank) -> Option<Move>
     ensures { result ≡ find (is_past last) (filter (is_allowed core.now.plan core.now.state) (mv.Serve ∷ [])) }
@@ -29,7 +29,7 @@ fn next_serve(core: &Core, last: Rank) -> Option<Move>
     }
 }
 
-/// Exit, where it is allowed and comes after the rank, or else the first of those after Exit.
+/// Exit, if it is allowed and comes after the rank, or else the first move of the kinds after Exit.
 #[inline(always)]
 fn next_exit(core: &Core, last: Rank) -> Option<Move>
     ensures { result ≡ find (is_past last) (filter (is_allowed core.now.plan core.now.state) (mv.Exit ∷ mv.Serve ∷ [])) }
@@ -41,7 +41,7 @@ fn next_exit(core: &Core, last: Rank) -> Option<Move>
     }
 }
 
-/// Leave, where it is allowed and comes after the rank, or else the first of those after Leave.
+/// Leave, if it is allowed and comes after the rank, or else the first move of the kinds after Leave.
 #[inline(always)]
 fn next_leave(core: &Core, last: Rank) -> Option<Move>
     ensures { result ≡ find (is_past last) (filter (is_allowed core.now.plan core.now.state) (mv.Leave ∷ mv.Exit ∷ mv.Serve ∷ [])) }
@@ -66,7 +66,7 @@ fn next_recover(core: &Core, masks: &Masks, last: Rank) -> Option<Move>
     }
 }
 
-/// The first after the rank of the moves that leave.
+/// The first move after the rank by which something leaves.
 #[inline(always)]
 fn next_leaving(core: &Core, last: Rank) -> Option<Move>
     ensures { result ≡ find (is_past last) (filter (is_allowed core.now.plan core.now.state) (all_leaving core.now.plan)) }
@@ -105,7 +105,7 @@ fn next_slide(core: &Core, last: Rank) -> Option<Move>
     }
 }
 
-/// The first move within the sidings, or of those that leave, after a move that is not within them.
+/// The first move within the sidings, or else by which something leaves, after a move that is not within them.
 #[inline(always)]
 pub(crate) fn next_outward(core: &Core, last: Rank) -> Option<Move>
     ensures { last.kind ≢ slide_place → result ≡ find (is_past last) (filter (is_allowed core.now.plan core.now.state) (slides_from 0 core.now.plan.sidings) ++ filter (is_allowed core.now.plan core.now.state) (all_leaving core.now.plan)) }

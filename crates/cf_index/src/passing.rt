@@ -1,4 +1,4 @@
-//! The candidates in the stages of the two pipes.
+//! The candidates within the stages.
 
 ghost use Rattle.std.specs.Prelude.{◌≡◌, ◌<◌, ◌≤◌, Some, length, slice_get};
 ghost use Rattle.cf_index.specs.Listed.{passing_moves};
@@ -69,7 +69,7 @@ impl Passing {
         Move::Launch(nth(self.launch as u64, i - sends) + 1)
     }
 
-    /// How many come before the first after the move in the order of all moves.
+    /// The place of the first that comes after this move in the order of all moves.
     #[inline(always)]
     #[tactic(auto, using(crate::proofs::PassedStages::passing))]
     pub(crate) fn passed(&self, last: Move) -> usize

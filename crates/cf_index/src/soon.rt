@@ -1,4 +1,4 @@
-//! The first candidate after a move, found without a look at all of them.
+//! The first candidate after a move, found without computing all candidates.
 
 ghost use Rattle.std.specs.Prelude.{◌≡◌, ◌≢◌, ◌++◌, false, IfSome, Some, filter, find, slice_get};
 ghost use Rattle.cf_bind.specs.declared.moves.Move.{Move as Step};
@@ -16,7 +16,7 @@ use crate::stages::goes_on;
 use cf_bind::{Guess, Move};
 use cf_core::Core;
 
-/// The first move that does not enter, after one that is not within the sidings.
+/// The first move by which nothing enters, after one that is not within the sidings.
 #[inline(always)]
 fn next(core: &Core, last: Rank) -> Option<Move>
     ensures { last.kind ≢ slide_place → result ≡ find (is_past last) (filter (is_allowed core.now.plan core.now.state) (all_passing core.now.plan) ++ (filter (is_allowed core.now.plan core.now.state) (slides_from 0 core.now.plan.sidings) ++ filter (is_allowed core.now.plan core.now.state) (all_leaving core.now.plan))) }
@@ -82,8 +82,8 @@ fn first_unissued(core: &Core, held: bool) -> Option<Move>
 }
 
 impl Candidates {
-    /// The first candidate of a processor after the move of this rank, or the first of all where none comes after it, with Issue held
-    /// back or not. It is not given after Slide, nor where it takes a look at all candidates: where an Issue may come after another.
+    /// The first candidate of a processor after the move of this rank, or the first of all if none comes after it, with Issue held
+    /// back or not. There is no answer after Slide, nor where one Issue may follow another: there all candidates are needed.
     #[inline(always)]
     pub fn soon(core: &Core, last: Rank, held: bool) -> Option<Move>
         ensures next { (mv : Step) → last ≡ rank_of mv → IfSome result (λ next. Some next ≡ slice_get (withheld held (candidates core.now.plan core.now.state))

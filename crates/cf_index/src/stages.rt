@@ -1,4 +1,4 @@
-//! The words of the moves that are allowed over the stages, each for itself.
+//! For each kind of move over the stages, the word of the stages where it is allowed.
 
 ghost use Rattle.std.specs.Prelude.{◌≡◌, ◌≤◌, if◌then◌else◌, length};
 ghost use Rattle.cf_core.specs.Masks.{masks_of};

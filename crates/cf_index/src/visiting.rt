@@ -1,4 +1,4 @@
-//! The candidates are shown one after another, each kind from number to number of its word.
+//! A visitor is shown the candidates one after another. Those of a kind are found by walking the bits of its word.
 
 ghost use Rattle.std.specs.Prelude.{◌≡◌, ◌<◌, ◌≤◌, ◌∷◌, [], filter, fold, length, map, slice_get};
 ghost use Rattle.cf_bind.specs.declared.moves.Move.{Move as Step};
@@ -20,17 +20,17 @@ use crate::passing::Passing;
 use cf_bind::{Guess, Move};
 use cf_core::{Core, Masks};
 
-/// What is shown moves, one after another. What it is after a move depends only on what it was and on the move.
+/// Something that is shown moves one after another. Its new state depends only on its old state and the move.
 pub trait Visitor {
     /// The visitor after a move.
     ghost after: { Self → Step → Self };
 
-    /// It is shown a move.
+    /// Shows it a move.
     fn visit(&mut self, mv: Move)
         ensures { self.new ≡ after self.old mv };
 }
 
-/// The kinds of moves for which there is a word: a move at each stage, or at each cell of the sidings.
+/// The kinds of moves that have a word, with one bit for each stage or for each cell of the sidings.
 #[derive(Clone, Copy)]
 pub(crate) enum Spread {
     Climb,
@@ -63,7 +63,7 @@ impl Spread {
     }
 }
 
-/// Shows a move where it is there.
+/// Shows a move if it is a candidate.
 #[inline(always)]
 fn visit_if<V: Visitor>(visitor: &mut V, there: bool, mv: Move)
     ensures { visitor.new ≡ fold V.after visitor.old (flagged there mv) }
@@ -145,7 +145,7 @@ impl Candidates {
     }
 }
 
-/// Shows Emit where it is allowed.
+/// Shows Emit if it is allowed.
 #[inline(always)]
 #[tactic(auto, using(crate::proofs::Others::emit_chosen))]
 fn visit_emit<V: Visitor>(core: &Core, visitor: &mut V)
@@ -154,7 +154,7 @@ fn visit_emit<V: Visitor>(core: &Core, visitor: &mut V)
     visit_if(visitor, core.may_emit(), Move::Emit);
 }
 
-/// Shows what is allowed in the stages.
+/// Shows the allowed moves within the stages.
 #[inline(always)]
 fn visit_passing<V: Visitor>(core: &Core, masks: &Masks, visitor: &mut V)
     requires { masks.now ≡ masks_of core.now.plan core.now.state }
@@ -166,7 +166,7 @@ fn visit_passing<V: Visitor>(core: &Core, masks: &Masks, visitor: &mut V)
     passing.visit(visitor);
 }
 
-/// Shows what is allowed within the sidings.
+/// Shows the allowed moves within the sidings.
 #[inline(always)]
 #[tactic(auto, using(crate::proofs::Parts::lengths), unfolding(crate::specs::Listed::slides_of))]
 fn visit_slides<V: Visitor>(core: &Core, visitor: &mut V)
@@ -178,7 +178,7 @@ fn visit_slides<V: Visitor>(core: &Core, visitor: &mut V)
     visit_word(visitor, Spread::Slide, slides);
 }
 
-/// Shows what is allowed to leave.
+/// Shows the allowed moves by which something leaves.
 #[inline(always)]
 fn visit_leaving<V: Visitor>(core: &Core, masks: &Masks, visitor: &mut V)
     requires { masks.now ≡ masks_of core.now.plan core.now.state }

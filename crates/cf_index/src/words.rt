@@ -24,7 +24,7 @@ fn common(word: u32, other: u32) -> u32
     word & other
 }
 
-/// For each stage, what the word says of the one above.
+/// The word shifted so that the bit of each stage is that of the stage above.
 #[inline(always)]
 #[tactic(auto, using(crate::proofs::WordBits::of_next))]
 fn above(word: u32) -> u32
@@ -33,7 +33,7 @@ fn above(word: u32) -> u32
     word >> 1
 }
 
-/// For each stage, what the word says of the one below.
+/// The word shifted so that the bit of each stage is that of the stage below.
 #[inline(always)]
 #[tactic(auto, using(crate::proofs::WordBits::of_last))]
 fn below(word: u32) -> u32
@@ -42,7 +42,7 @@ fn below(word: u32) -> u32
     word << 1
 }
 
-/// The lowest stages, this many.
+/// This many of the lowest stages.
 #[inline(always)]
 #[tactic(auto, using(crate::proofs::WordBits::of_lowest))]
 fn lowest(count: u32) -> u32
@@ -52,7 +52,7 @@ fn lowest(count: u32) -> u32
     ((1_u64 << count) - 1) as u32
 }
 
-/// The stages where an instruction and a result are and have not met.
+/// The stages where an instruction and a result stand that have not met.
 #[inline(always)]
 pub(crate) fn full(masks: &Masks) -> u32
     ensures { (k : ℕ) → has_bit result k ≡ full_bit masks.now k }
@@ -83,7 +83,7 @@ pub(crate) fn falling(masks: &Masks) -> u32
     without(clear, lowest(1))
 }
 
-/// The stages where what the instruction owes can be sent.
+/// The stages where the instruction can send the result that it owes.
 #[inline(always)]
 pub(crate) fn sending(masks: &Masks) -> u32
     ensures { (k : ℕ) → has_bit result k ≡ send_bit masks.now k }
