@@ -1,71 +1,25 @@
 -- The answer of a command says which files it read.
-use Rattle.std.proofs.Common.{◌+◌, ℕ, List, [], ◌∷◌, ◌++◌, true, false, Option, Result, Ok, Err, inl, inr}
+use Rattle.std.proofs.Common.{ℕ, List, [], ◌++◌, true, false, Option, Result, Ok, Err}
 use Rattle.run_options.specs.declared.show.Show.TheVariants as shows
-use Rattle.cli_arguments.specs.Words.{Asked, NamedLayout, machine, run, moves, rounds, debug, time, audit, check, asm, listing, gen, help, version}
+use Rattle.cli_arguments.specs.Words.{Asked, machine, run, moves, rounds, debug, time, audit, check, asm, listing, gen, help, version}
 use Rattle.cli_audit.specs.Audit.{audit_asked, side_of as audit_side}
 use Rattle.cli_audit.proofs.Reading.{audited-read}
 use Rattle.cli_debug.proofs.Reading.{debugged-read, broken-read}
-use Rattle.cli_files.specs.Image.{most_bytes}
 use Rattle.cli_files.specs.Outside.{Outside}
-use Rattle.cli_files.specs.Reads.{layout_files, WereRead}
+use Rattle.cli_files.specs.Reads.{WereRead}
 use Rattle.cli_files.specs.RunFiles.{run_asked}
 use Rattle.cli_files.specs.declared.status.Status.{Status}
-use Rattle.cli_files.proofs.Reading.{one-read, were-all, were-none, were-lacking, layout-read, layout-lacking, program-read, program-lacking, loaded-read, loaded-lacking, files-read, answered-read}
+use Rattle.cli_files.proofs.Reading.{were-none, files-read, answered-read}
 use Rattle.cli_time.specs.Asked.{time_asked}
 use Rattle.cli_time.proofs.FilesRead.{timed-read, broken-read as time-broken}
-use Rattle.cfpp_cli.specs.Check.{AnswersCheck}
-use Rattle.cfpp_cli.specs.FileCommands.{FileSide, side_of}
-use Rattle.cfpp_cli.specs.Listings.{AnswersList}
-use Rattle.cfpp_cli.specs.Machine.{AnswersMachine, BreaksProgram}
+use Rattle.cli_reports.specs.FileCommands.{side_of}
 use Rattle.cfpp_cli.specs.NamedFiles.{files_named}
-use Rattle.cfpp_cli.specs.Options.{Chosen}
-use Rattle.cfpp_cli.specs.Rounds.{RoundsAsked, AnswersRounds}
-use Rattle.cfpp_cli.specs.Sources.{most_source, AnswersAsm}
 use Rattle.cfpp_cli.specs.Top.{Answers, Breaks}
-
--- of `machine`
-machine-read : (name : List ℕ) (chosen : Chosen) (before after : Outside) (answer : Status) (shown closing : List ℕ) →
-    AnswersMachine name chosen before after answer shown closing → WereRead (name ∷ []) before.files after.files
-machine-read name chosen before after answer shown closing (inl r) =
-    were-all (name ∷ []) before.files after.files (program-read name before.files after.files r.start r.program)
-machine-read name chosen before after answer shown closing (inr r) =
-    program-lacking name before.files after.files answer (shown ++ closing) r.lacks
-
-machine-broken : (name : List ℕ) (chosen : Chosen) (before after : Outside) (blank full : Option (List ℕ)) →
-    BreaksProgram name chosen before after blank full → WereRead (name ∷ []) before.files after.files
-machine-broken name chosen before after blank full r =
-    were-all (name ∷ []) before.files after.files (program-read name before.files after.files r.start r.program)
-
--- of `rounds`
-rounds-read : (asked : RoundsAsked) (before after : Outside) (answer : Status) (report : List ℕ) →
-    AnswersRounds asked before after answer report → WereRead (layout_files asked.layout ++ asked.program ∷ []) before.files after.files
-rounds-read asked before after answer report (inl r) =
-    were-all (layout_files asked.layout ++ asked.program ∷ []) before.files after.files
-    (loaded-read asked.layout asked.program before.files after.files r.plan r.hart r.loaded)
-rounds-read asked before after answer report (inr r) =
-    loaded-lacking asked.layout asked.program before.files after.files answer report r.lacks
-
--- of the commands that read one file
-check-read : (layout : NamedLayout) (before after : FileSide) (answer : Status) (report : List ℕ) →
-    AnswersCheck layout before after answer report → WereRead (layout_files layout) before.files after.files
-check-read layout before after answer report (inl w) =
-    were-all (layout_files layout) before.files after.files (layout-read layout before.files after.files w.plan w.named)
-check-read layout before after answer report (inr r) =
-    layout-lacking layout before.files after.files answer report r.lacks
-
-source-read : (name : List ℕ) (before after : FileSide) (answer : Status) (report : List ℕ) →
-    AnswersAsm name before after answer report → WereRead (name ∷ []) before.files after.files
-source-read name before after answer report (inl c) =
-    were-all (name ∷ []) before.files after.files (one-read most_source before.files after.files name c.bytes c.front)
-source-read name before after answer report (inr (lacks, same)) =
-    were-lacking _ _ name before.files after.files answer report lacks
-
-listing-read : (name : List ℕ) (before after : FileSide) (answer : Status) (report : List ℕ) →
-    AnswersList name before after answer report → WereRead (name ∷ []) before.files after.files
-listing-read name before after answer report (inl c) =
-    were-all (name ∷ []) before.files after.files (one-read (most_bytes + 1) before.files after.files name c.bytes c.front)
-listing-read name before after answer report (inr (lacks, same)) =
-    were-lacking _ _ name before.files after.files answer report lacks
+use Rattle.cli_machine.proofs.Reading.{machine-read, machine-broken}
+use Rattle.cli_rounds.proofs.Reading.{rounds-read}
+use Rattle.cli_check.proofs.Reading.{check-read}
+use Rattle.cli_asm.proofs.Reading.{source-read}
+use Rattle.cli_list.proofs.Reading.{listing-read}
 
 pub answers-read : (reading : Result Asked ℕ) (before after : Outside) (blank : Option (List ℕ)) (answer : Status)
     (shown closing : List ℕ) → Answers reading before after blank answer shown closing → WereRead (files_named reading) before.files after.files

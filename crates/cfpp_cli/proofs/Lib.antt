@@ -1,10 +1,3 @@
+pub mod Beside
 pub mod FilesRead
-pub mod InRounds
-pub mod Machines
-pub mod ProcessorRuns
-pub mod ProgramFiles
-pub mod PutReports
-pub mod Reports
-pub mod RunFiles
-pub mod Runs
 pub mod Tops

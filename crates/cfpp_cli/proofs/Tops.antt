@@ -1,4 +1,4 @@
--- What was decided from the words is what the top call does.
+-- What was decided from the arguments is what the top call does.
 use Rattle.std.proofs.Common.{◌≡◌, ◌≤◌, ◌⊎◌, ℕ, List, false, Result, Ok, Err, refl, inl, inr}
 use Rattle.cf_io.specs.Causes.{HasCause, Rose}
 use Rattle.cf_io.specs.Puts.{Writes, WritesFront}
@@ -7,10 +7,10 @@ use Rattle.cli_arguments.specs.Words.{Asked}
 use Rattle.cli_files.specs.Causes.{files_answered, input_answered, output_answered}
 use Rattle.cfpp_cli.specs.Deciding.{Decided}
 use Rattle.cli_files.specs.Outside.{Outside, Report}
-use Rattle.cfpp_cli.specs.Reporting.{PutsReport}
-use Rattle.cfpp_cli.specs.OutsideChanges.{OutsideChange}
+use Rattle.cli_reports.specs.Reporting.{PutsReport}
+use Rattle.cli_reports.specs.OutsideChanges.{OutsideChange}
 use Rattle.cfpp_cli.specs.Top.{Completes, IsTop, NoneRose, Reports, says_fault}
-use Rattle.cfpp_cli.specs.declared.reporting.Reported.{Reported}
+use Rattle.cli_reports.specs.declared.reporting.Reported.{Reported}
 use Rattle.cfpp_cli.proofs.FilesRead.{answers-read, breaks-read}
 use Rattle.cli_files.specs.declared.status.Status.{Status}
 use Rattle.cli_files.specs.declared.status.Status.TheVariants as status

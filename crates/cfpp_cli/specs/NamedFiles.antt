@@ -1,4 +1,4 @@
--- Which files the words name, in the order in which they are read.
+-- Which files the arguments name, in the order in which they are read.
 use Rattle.std.specs.Prelude.{ℕ, List, [], ◌∷◌, ◌++◌, Result, Ok, Err}
 use Rattle.cli_arguments.specs.Words.{Asked, machine, run, moves, rounds, debug, time, audit, check, asm, listing, gen, help, version}
 use Rattle.cli_files.specs.Reads.{layout_files, files_of_layouts, script_files}
@@ -20,7 +20,7 @@ files_of (gen number runs) = []
 files_of help = []
 files_of version = []
 
--- words that ask for nothing name no file
+-- arguments that ask for nothing name no file
 abbrev pub files_named : Result Asked ℕ → List (List ℕ)
 files_named (Ok asked) = files_of asked
 files_named (Err index) = []

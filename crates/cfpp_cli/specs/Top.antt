@@ -6,7 +6,7 @@ use Rattle.cf_io.specs.Puts.{Writes, WritesFront}
 use Rattle.cf_gen.specs.Program.{program_text}
 use Rattle.texts.specs.Lines.{counted_line}
 use Rattle.cli_arguments.specs.Words.{Asks, IsBadAt, Asked, machine, run, moves, rounds, debug, time, audit, check, asm, listing, gen, help, version}
-use Rattle.cfpp_cli.specs.Options.{chosen_of}
+use Rattle.cli_machine.specs.Options.{chosen_of}
 use Rattle.cli_audit.specs.Audit.{AnswersAudit, audit_asked, side_of as audit_side}
 use Rattle.cli_debug.specs.Debug.{AnswersDebug, BreaksDebug}
 use Rattle.cli_time.specs.Asked.{time_asked}
@@ -14,27 +14,27 @@ use Rattle.cli_time.specs.Times.{AnswersTime, BreaksTime}
 use Rattle.cli_files.specs.Causes.{files_answered, input_answered, output_answered}
 use Rattle.cli_files.specs.Outside.{Outside, Report}
 use Rattle.cli_files.specs.Reads.{WereRead}
-use Rattle.cfpp_cli.specs.Machine.{AnswersMachine, BreaksProgram}
-use Rattle.cfpp_cli.specs.Check.{AnswersCheck}
-use Rattle.cfpp_cli.specs.Drawn.{AnswersDrawn, BreaksDrawn}
-use Rattle.cfpp_cli.specs.FileCommands.{PutsOrFails, side_of}
-use Rattle.cfpp_cli.specs.Listings.{AnswersList}
+use Rattle.cli_machine.specs.Machine.{AnswersMachine, BreaksProgram}
+use Rattle.cli_check.specs.Check.{AnswersCheck}
+use Rattle.cli_gen.specs.Drawn.{AnswersDrawn, BreaksDrawn}
+use Rattle.cli_reports.specs.FileCommands.{PutsOrFails, side_of}
+use Rattle.cli_list.specs.Listings.{AnswersList}
 use Rattle.cfpp_cli.specs.NamedFiles.{files_named}
-use Rattle.cfpp_cli.specs.Sources.{AnswersAsm}
+use Rattle.cli_asm.specs.Sources.{AnswersAsm}
 use Rattle.cli_files.specs.RunFiles.{run_asked}
-use Rattle.cfpp_cli.specs.Rounds.{rounds_asked, AnswersRounds}
-use Rattle.cfpp_cli.specs.Run.{AnswersRun, BreaksRun}
+use Rattle.cli_rounds.specs.Rounds.{rounds_asked, AnswersRounds}
+use Rattle.cli_run.specs.Run.{AnswersRun, BreaksRun}
 use Rattle.cfpp_cli.specs.declared.help.TheConstants.{HELP, VERSION}
-use Rattle.cfpp_cli.specs.declared.tail.Tail.TheVariants.{Nothing, Moves}
+use Rattle.cli_run.specs.declared.tail.Tail.TheVariants.{Nothing, Moves}
 use Rattle.cli_files.specs.declared.status.Status.{Status}
 use Rattle.cli_files.specs.declared.status.Status.TheVariants as status
 
--- the words ask this of a command, or this is the index of the first word that has no place
+-- the arguments ask this of a command, or this is the index of the first argument that has no place
 abbrev pub ReadsArguments : List (List ℕ) → Result Asked ℕ → Type 0
 ReadsArguments words (Ok asked) = Asks words asked
 ReadsArguments words (Err index) = IsBadAt words index
 
--- the words are those of no command, and no file was read
+-- the arguments are those of no command, and no file was read
 pub record RefusesWords (index : ℕ) (before after : Outside) (answer : Status)
     (report : List ℕ) : Type 0 where
   pub status_is : answer ≡ status.BadWords index
@@ -48,7 +48,7 @@ pub record PutsAlone (text : List ℕ) (before after : Outside) (answer : Status
   pub files : after.files ≡ before.files
   pub input : after.streams.input ≡ before.streams.input
 
--- by what the words ask for: the answer, what is shown of a run, and the lines that close the report, after what the
+-- by what the arguments ask for: the answer, what is shown of a run, and the lines that close the report, after what the
 -- report told before; what is shown and these lines together are the whole report
 abbrev pub Answers : Result Asked ℕ → Outside → Outside → Option (List ℕ) → Status → (shown closing : List ℕ) → Type 0
 Answers (Ok (machine program limit retired mul)) before after blank answer shown closing =
@@ -101,7 +101,7 @@ Breaks (Ok asked) before after blank full = ⊥
 Breaks (Err index) before after blank full = ⊥
 
 -- what was shown was put, and after it the closing lines, and the status is the answer; or the report failed after a
--- front of these, its count of faults rose, and the status is WriteFault
+-- prefix of these, its count of faults rose, and the status is WriteFault
 pub record Reports (before after : Report) (shown closing : List ℕ) (answer result : Status) : Type 0 where
   pub told : Option (List ℕ)
   pub shows : Writes before.written told shown
@@ -130,7 +130,7 @@ pub record ReportFailsFirst (reading : Result Asked ℕ) (before after : Outside
   pub input : before.input_faults ≤ after.input_faults
   pub output : before.output_faults ≤ after.output_faults
 
--- the top call: its words, the outside and the report before and after it, and its status; of the files that the words
+-- the top call: its arguments, the outside and the report before and after it, and its status; of the files that the arguments
 -- name it read the first ones, in their order and each once
 pub record IsTop (words : List (List ℕ)) (before after : Outside) (blank full : Report)
     (result : Status) : Type 0 where

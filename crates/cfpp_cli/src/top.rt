@@ -5,31 +5,28 @@ ghost use Rattle.cf_io.specs.Causes.{HasCause};
 ghost use Rattle.cli_files.specs.Causes.{input_answered, output_answered};
 ghost use Rattle.cli_files.specs.Outside.{outside_of, report_of};
 ghost use Rattle.cfpp_cli.specs.Deciding.{Decided};
-ghost use Rattle.cfpp_cli.specs.Reporting.{FaultsReported, files_reported};
+ghost use Rattle.cli_reports.specs.Reporting.{FaultsReported, files_reported};
 ghost use Rattle.cfpp_cli.specs.Top.{IsTop, NoneRose, says_fault};
-ghost use Rattle.cfpp_cli.specs.OutsideChanges.{outside_change, input_left, output_left};
+ghost use Rattle.cli_reports.specs.OutsideChanges.{outside_change, input_left, output_left};
 
-use crate::asm::assemble_program;
-use crate::check::check_layout;
-use crate::drawn::{put_drawn, run_drawn};
 use crate::help::{HELP, VERSION};
-use crate::listing::list_program;
-use crate::machine::run_program;
-use crate::putting::put_text;
-use crate::reporting::{Reported, put_answer, put_decided};
-use crate::rounds::run_in_rounds;
-use crate::run::run_processor;
-use crate::streams::RunStreams;
-use crate::tail::Tail;
 use cf_io::{Failed, Files, Sink, Source};
 use cli_arguments::{Command, RunOptions, Show, read_words};
+use cli_asm::assemble_program;
 use cli_audit::audit_trace;
+use cli_check::check_layout;
 use cli_debug::debug_program;
 use cli_files::{Answer, Status, bad_words};
+use cli_gen::{put_drawn, run_drawn};
+use cli_list::list_program;
+use cli_machine::run_program;
+use cli_reports::{Reported, RunStreams, put_answer, put_decided, put_text};
+use cli_rounds::run_in_rounds;
+use cli_run::{Tail, run_processor};
 use cli_time::compare_layouts;
 use std::alloc::Global;
 
-/// Carries out what the words ask for, and puts its report. It fails where the report fails before the lines that close it.
+/// Carries out what the arguments ask for, and puts its report. It fails where the report fails before the lines that close it.
 fn decide<F: Files, S: Source, K: Sink, R: Sink>(
     alloc: Global,
     words: &[String],
@@ -156,7 +153,7 @@ fn decide<F: Files, S: Source, K: Sink, R: Sink>(
     }
 }
 
-/// Does what the words say: `machine PROGRAM` runs a program's file on the sequential machine, `run LAYOUT PROGRAM` on
+/// Does what the arguments say: `machine PROGRAM` runs a program's file on the sequential machine, `run LAYOUT PROGRAM` on
 /// the processor of a layout, by the moves of a script with `--script FILE`, by moves drawn from a seed with `--seed
 /// N`, and by a fixed rule without either; `moves LAYOUT PROGRAM --script FILE` does the same and then says which
 /// moves can be made where the script ends. `rounds LAYOUT PROGRAM` runs the processor in rounds of moves that share no
@@ -164,7 +161,7 @@ fn decide<F: Files, S: Source, K: Sink, R: Sink>(
 /// processor and take moves back, `audit LAYOUT PROGRAM TRACE` says whether a recorded trace is that of a run, and
 /// `time DELAYS PROGRAM LAYOUT ..` compares how long the program takes on up to eight layouts, and with `--show sites` says what
 /// each of these times is made of.
-/// `check LAYOUT` writes a layout's one text to the output, `asm SOURCE` the ELF file that an assembly source stands
+/// `check LAYOUT` writes a layout to the output in its canonical form, `asm SOURCE` the ELF file that an assembly source stands
 /// for, `list PROGRAM` a program's listing, and `gen N` the text of a program that is drawn from a number, which `gen N
 /// --run` assembles and runs. `help`, `--help` and `--version` write what their names say.
 ///

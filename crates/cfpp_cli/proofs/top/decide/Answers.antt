@@ -3,14 +3,14 @@ use Rattle.std.specs.Prelude.{string_bytes}
 use Rattle.rv_machine.specs.Streams.{streams_of}
 use Rattle.cli_arguments.specs.Words.{layout_in, machine, run, moves, rounds, debug, time, audit, check, asm, listing, gen, help, version}
 use Rattle.cli_arguments.specs.Views.{layout_of, schedule_view}
-use Rattle.cfpp_cli.specs.Drawn.{AnswersDrawn, BreaksDrawn}
+use Rattle.cli_gen.specs.Drawn.{AnswersDrawn, BreaksDrawn}
 use Rattle.cli_debug.specs.Debug.{AnswersDebug, BreaksDebug}
 use Rattle.cli_files.specs.Causes.{input_answered, output_answered}
 use Rattle.cli_files.specs.Outside.{outside_of, report_of}
 use Rattle.cli_time.specs.Asked.{time_asked}
 use Rattle.cli_time.specs.Times.{AnswersTime, BreaksTime}
-use Rattle.cfpp_cli.proofs.PutReports.{shows-none, decided-comes, decided-tells, decided-files}
-use Rattle.cfpp_cli.proofs.RunFiles.{comes-beside, untouched}
+use Rattle.cli_reports.proofs.PutReports.{shows-none, decided-comes, decided-tells, decided-files}
+use Rattle.cfpp_cli.proofs.Beside.{comes-beside, untouched}
 use Rattle.cfpp_cli.proofs.top.decide.Goals as goal
 
 pub returns-in-Ok-Machine-clause-decided : goal.returns-in-Ok-Machine-clause-decided

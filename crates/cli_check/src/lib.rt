@@ -1,0 +1,6 @@
+//! The command `check`: a layout is put to the output in its canonical form.
+#![tactic(auto)]
+
+mod check;
+
+pub use check::check_layout;

@@ -1,0 +1,110 @@
+//! The command `gen`.
+
+ghost use Rattle.std.specs.Prelude.{◌≡◌, ◌≤◌, Ok, IfOk, IfErr};
+ghost use Rattle.run_options.specs.Limits.{most_statements};
+ghost use Rattle.cf_io.specs.Causes.{HasCause};
+ghost use Rattle.cf_gen.specs.Program.{program_text};
+ghost use Rattle.cli_files.specs.Causes.{files_answered, input_answered, output_answered};
+ghost use Rattle.cli_gen.specs.Drawn.{AnswersDrawn, BreaksDrawn, IsUndrawn, StartsDrawn};
+ghost use Rattle.cli_reports.specs.FileCommands.{PutsOrFails};
+ghost use Rattle.cli_reports.specs.Reporting.{ComesOver, FaultsReported, files_reported};
+ghost use Rattle.cli_reports.specs.OutsideChanges.{streams_change, input_left, output_left};
+
+use cf_gen::generate;
+use cf_io::{Failed, MemSink, Sink, Source};
+use cf_layout::plain;
+use cli_arguments::{DEFAULT_LIMIT, RunOptions, Schedule, Show};
+use cli_asm::file_of;
+use cli_files::{Answer, ReadyRun, ReadySchedule, done, no_memory, open_image, write_fault};
+use cli_reports::{Reported, RunStreams, put_answer};
+use cli_run::{Tail, run_ready};
+use rv_machine::Machine;
+use std::alloc::Global;
+
+/// The room for the text of a program: as much as a source may have.
+const MOST_TEXT: usize = 1_048_576;
+
+/// Carries out `gen` without `--run`: puts the text of the program that is drawn from a number to the output.
+pub fn put_drawn<K: Sink>(number: u32, output: &mut K) -> Answer
+    requires some { 1 ≤ number }
+    requires limit { number ≤ most_statements }
+    ensures comes { PutsOrFails (program_text number) (K.written output.old) (K.written output.new) result.status result.closing }
+    ensures files { files_answered result.status ≡ Ok tt }
+    ensures input { input_answered result.status ≡ Ok tt }
+    ensures output { HasCause (K.faults output.old) (K.faults output.new) (output_answered result.status) }
+{
+    match generate(number, output) {
+        Ok(()) => done(),
+        Err(_) => write_fault(),
+    }
+}
+
+/// The text of that program, or the answer where there is no memory for it.
+fn drawn_text(alloc: Global, number: u32) -> Result<MemSink, Answer>
+    requires some { 1 ≤ number }
+    requires limit { number ≤ most_statements }
+    ensures text { IfOk result (λ sink. sink.written ≡ program_text number) }
+    ensures lacks { IfErr result (λ answer. IsUndrawn number answer.status answer.closing) }
+{
+    let Ok(mut text) = MemSink::new(alloc, MOST_TEXT, Vec::new(alloc)) else {
+        return Err(no_memory());
+    };
+    match generate(number, &mut text) {
+        Ok(()) => Ok(text),
+        Err(_) => Err(no_memory()),
+    }
+}
+
+/// The machine that the program starts, or the answer where it starts no machine.
+fn drawn_machine(alloc: Global, number: u32) -> Result<Machine, Answer>
+    requires some { 1 ≤ number }
+    requires limit { number ≤ most_statements }
+    ensures machine { IfOk result (StartsDrawn number) }
+    ensures count { IfOk result (λ machine. machine.retired ≡ 0) }
+    ensures lacks { IfErr result (λ answer. IsUndrawn number answer.status answer.closing) }
+{
+    let text = match drawn_text(alloc, number) {
+        Ok(text) => text,
+        Err(answer) => return Err(answer),
+    };
+    let file = match file_of(alloc, text.bytes()) {
+        Ok(file) => file,
+        Err(answer) => return Err(answer),
+    };
+    match open_image(alloc, file.as_slice()) {
+        Ok(machine) => Ok(machine),
+        Err(answer) => Err(answer),
+    }
+}
+
+/// Carries out `gen` with `--run`: assembles the text, runs it on the built-in layout by moves that are drawn from the same
+/// number, and puts what `run` puts. It fails where the report fails during the run; nothing more is then put to the report.
+pub fn run_drawn<S: Source, K: Sink, R: Sink>(
+    alloc: Global,
+    number: u32,
+    streams: RunStreams<'_, S, K, R>,
+) -> Result<Reported, Failed>
+    requires some { 1 ≤ number }
+    requires limit { number ≤ most_statements }
+    ensures answers { ComesOver (AnswersDrawn number) (BreaksDrawn number)
+        (streams_change S.left K.written R.written R.faults streams.entry streams.exit) result }
+    ensures files { files_reported result ≡ Ok tt }
+    ensures input { FaultsReported input_answered (S.faults streams.entry.input.now) (S.faults (input_left streams.exit)) result }
+    ensures output { FaultsReported output_answered (K.faults streams.entry.output.now) (K.faults (output_left streams.exit)) result }
+{
+    let machine = match drawn_machine(alloc, number) {
+        Ok(machine) => machine,
+        Err(answer) => return Ok(put_answer(answer, streams.report)),
+    };
+    let ready = ReadyRun {
+        layout: plain(),
+        machine,
+        schedule: ReadySchedule::Seed(number),
+    };
+    let options = RunOptions {
+        schedule: Schedule::Seed(number),
+        limit: DEFAULT_LIMIT,
+        show: Show::Report,
+    };
+    run_ready(alloc, ready, options, Tail::Nothing, streams)
+}

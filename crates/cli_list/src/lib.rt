@@ -1,0 +1,6 @@
+//! The command `list`: the listing of a program is put to the output.
+#![tactic(auto)]
+
+mod listing;
+
+pub use listing::list_program;

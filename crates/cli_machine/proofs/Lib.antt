@@ -1,0 +1,4 @@
+pub mod ProgramFiles
+pub mod Reading
+pub mod Reports
+pub mod Runs

@@ -1,0 +1,65 @@
+use Rattle.std.proofs.Common.{◌+◌, ap, refl, ◌∙◌, arith}
+use Rattle.cli_machine.proofs.Runs.{reached-none, reached-next, breaks-off, runs-exit, runs-trap, runs-read-fault, runs-write-fault}
+use Rattle.cli_machine.proofs.running.run.Goals as goal
+
+pub loop-options-init : goal.loop-options-init
+loop-options-init g c = record {
+  reached = (0, omega arith, reached-none _ _ _ _);
+  within = omega (arith, c.retired.ensures);
+  last = ap (λ n. n + c.args.options.limit) c.retired.ensures;
+  input = refl;
+  output = refl;
+  report = refl;
+}
+
+pub loop-options-preserved : goal.loop-options-preserved
+loop-options-preserved g c =
+    let r = c.loop-options.invariant.reached in
+    record {
+      reached = (
+        r.0 + 1,
+        omega (arith, c.in-Next.ensures.count, r.1),
+        reached-next _ _ _ _ _ _ _ _ _ _ _ _ _ r.2
+            (rw c.instruction_set-isa.ensures at c.in-Next.ensures.steps) c.retired-in-Next.ensures c.in-Ok.ensures.ok,
+      );
+      within = omega (arith, c.in-Next.ensures.count, c.retired-in-loop-options.ensures, c.loop-options-test.true);
+      last = c.loop-options.invariant.last;
+      input = c.in-Next.ensures.input.still ∙ c.loop-options.invariant.input;
+      output = c.in-Next.ensures.output.still ∙ c.loop-options.invariant.output;
+      report = c.in-Ok.ensures.cause.still ∙ c.loop-options.invariant.report;
+    }
+
+pub returns-in-Err-clause-runs : goal.returns-in-Err-clause-runs
+returns-in-Err-clause-runs g c =
+    let r = c.loop-options.invariant.reached in
+    breaks-off _ _ _ _ _ _ _ _ _ _ _ _ _ (omega (arith, r.1, c.loop-options.invariant.last, c.retired-in-loop-options.ensures, c.loop-options-test.true)) r.2
+    (rw c.instruction_set-isa.ensures at c.in-Next.ensures.steps) c.retired-in-Next.ensures c.in-Err.ensures.shows
+    c.in-Err.ensures.err
+
+pub returns-in-Exit-clause-runs : goal.returns-in-Exit-clause-runs
+returns-in-Exit-clause-runs g c =
+    let r = c.loop-options.invariant.reached in
+    runs-exit _ _ _ _ _ _ _ _ _ _ _ r.2
+    (omega (arith, r.1, c.loop-options.invariant.last, c.retired-in-loop-options.ensures, c.loop-options-test.true))
+    r.1 (rw c.instruction_set-isa.ensures at c.in-Exit.ensures.steps)
+
+pub returns-in-Trap-clause-runs : goal.returns-in-Trap-clause-runs
+returns-in-Trap-clause-runs g c =
+    let r = c.loop-options.invariant.reached in
+    runs-trap _ _ _ _ _ _ _ _ _ _ _ _ _ r.2
+    (omega (arith, r.1, c.loop-options.invariant.last, c.retired-in-loop-options.ensures, c.loop-options-test.true))
+    r.1 (rw c.instruction_set-isa.ensures at c.in-Trap.ensures.steps)
+
+pub returns-in-ReadFault-clause-runs : goal.returns-in-ReadFault-clause-runs
+returns-in-ReadFault-clause-runs g c =
+    let r = c.loop-options.invariant.reached in
+    runs-read-fault _ _ _ _ _ _ _ _ _ _ r.2
+    (omega (arith, r.1, c.loop-options.invariant.last, c.retired-in-loop-options.ensures, c.loop-options-test.true))
+    r.1 (rw c.instruction_set-isa.ensures at c.in-ReadFault.ensures.steps)
+
+pub returns-in-WriteFault-clause-runs : goal.returns-in-WriteFault-clause-runs
+returns-in-WriteFault-clause-runs g c =
+    let r = c.loop-options.invariant.reached in
+    runs-write-fault _ _ _ _ _ _ _ _ _ _ r.2
+    (omega (arith, r.1, c.loop-options.invariant.last, c.retired-in-loop-options.ensures, c.loop-options-test.true))
+    r.1 (rw c.instruction_set-isa.ensures at c.in-WriteFault.ensures.steps)

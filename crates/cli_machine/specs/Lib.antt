@@ -1,0 +1,6 @@
+pub mod Closing
+pub mod Finish
+pub mod Lines
+pub mod Machine
+pub mod Options
+pub mod Statuses

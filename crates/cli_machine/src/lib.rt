@@ -1,0 +1,9 @@
+//! The command `machine`: a program runs on the sequential machine.
+#![tactic(auto)]
+
+mod closing;
+mod machine;
+mod running;
+
+pub use closing::status_of_run;
+pub use machine::run_program;

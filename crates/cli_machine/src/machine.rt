@@ -1,0 +1,70 @@
+//! The command `machine`.
+
+ghost use Rattle.std.specs.Prelude.{◌≡◌, Ok};
+ghost use Rattle.cf_io.specs.Causes.{HasCause};
+ghost use Rattle.cli_files.specs.Causes.{input_answered, output_answered};
+ghost use Rattle.cli_machine.specs.Machine.{RunsHart, BreaksHart, AnswersMachine, BreaksProgram};
+ghost use Rattle.cli_machine.specs.Options.{chosen_of};
+ghost use Rattle.cli_reports.specs.Reporting.{CarriesOut, ComesOver, FaultsReported, files_reported};
+ghost use Rattle.cli_reports.specs.OutsideChanges.{streams_change, outside_change, input_left, output_left};
+
+use crate::closing::close_machine;
+use crate::running::run;
+use cf_io::{Failed, Files, Sink, Source};
+use cli_arguments::MachineOptions;
+use cli_files::program_at;
+use cli_reports::{Reported, RunStreams, put_answer};
+use rv_machine::Machine;
+use std::alloc::Global;
+
+/// Runs a machine that has retired nothing yet, and puts the lines that it shows and those that close its report.
+// The machine is moved into a local of a function of its own: since nothing but the run points to it, the compiler need not
+// read its parts again after each store to memory.
+#[inline(never)]
+fn run_machine<S: Source, K: Sink, R: Sink>(
+    machine: Machine,
+    options: MachineOptions,
+    streams: RunStreams<'_, S, K, R>,
+) -> Result<Reported, Failed>
+    requires { machine.retired ≡ 0 }
+    ensures comes { ComesOver
+        (λ before after blank. RunsHart (chosen_of options.limit options.show_retired options.mul) machine before after)
+        (BreaksHart (chosen_of options.limit options.show_retired options.mul) machine)
+        (streams_change S.left K.written R.written R.faults streams.entry streams.exit) result }
+    ensures files { files_reported result ≡ Ok tt }
+    ensures input { FaultsReported input_answered (S.faults streams.entry.input.now) (S.faults (input_left streams.exit)) result }
+    ensures output { FaultsReported output_answered (K.faults streams.entry.output.now) (K.faults (output_left streams.exit)) result }
+{
+    let RunStreams {
+        input,
+        output,
+        report,
+    } = streams;
+    let mut running = machine;
+    let finish = run(&mut running, options, input, output, report);
+    close_machine(&running, options.limit, finish, report)
+}
+
+/// Carries out `machine`: reads the program's file and runs it, and puts the lines that are to be shown, then how the run
+/// finished, how many instructions retired, and the registers. It fails where the report fails during the run; nothing
+/// more is then put to the report.
+pub fn run_program<F: Files, S: Source, K: Sink, R: Sink>(
+    alloc: Global,
+    program: &str,
+    options: MachineOptions,
+    files: &mut F,
+    streams: RunStreams<'_, S, K, R>,
+) -> Result<Reported, Failed>
+    ensures answers { CarriesOut
+        (λ before after blank. AnswersMachine program.now (chosen_of options.limit options.show_retired options.mul) before after)
+        (BreaksProgram program.now (chosen_of options.limit options.show_retired options.mul))
+        (outside_change F.told F.faults S.left S.faults K.written K.faults R.written R.faults files.old files.new streams.entry streams.exit) result }
+    ensures files { HasCause (F.faults files.old) (F.faults files.new) (files_reported result) }
+    ensures input { FaultsReported input_answered (S.faults streams.entry.input.now) (S.faults (input_left streams.exit)) result }
+    ensures output { FaultsReported output_answered (K.faults streams.entry.output.now) (K.faults (output_left streams.exit)) result }
+{
+    match program_at(alloc, program, files) {
+        Ok(machine) => run_machine(machine, options, streams),
+        Err(answer) => Ok(put_answer(answer, streams.report)),
+    }
+}

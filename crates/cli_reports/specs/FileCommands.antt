@@ -1,0 +1,52 @@
+-- The answer of a command that reads one file and puts a text to the output, and what it leaves of the outside.
+use Rattle.std.specs.Prelude.{◌≡◌, ℕ, List, [], codes, Option}
+use Rattle.cf_io.specs.Puts.{Writes, WritesFront}
+use Rattle.cf_io.specs.Reads.{FilesSeen}
+use Rattle.texts.specs.Lines.{line}
+use Rattle.cli_files.specs.Outside.{Outside}
+use Rattle.cli_files.specs.Files.{IsFrontOf, LacksBytes}
+use Rattle.cli_files.specs.declared.status.Status.{Status}
+use Rattle.cli_files.specs.declared.status.Status.TheVariants as status
+use Rattle.cli_files.specs.declared.status.Which.{Which}
+
+-- what such a command deals with at one moment: the files, and what was written to the output
+pub record FileSide : Type 0 where
+  pub files : Option FilesSeen
+  pub output : Option (List ℕ)
+
+abbrev pub file_side : Option FilesSeen → Option (List ℕ) → FileSide
+file_side files output = record { files = files; output = output }
+
+abbrev pub side_of : Outside → FileSide
+side_of outside = file_side outside.files outside.streams.output
+
+-- the text was put to the output, and no report is made
+pub record PutsOutput (text : List ℕ) (before after : Option (List ℕ)) (report : List ℕ) : Type 0 where
+  pub put : Writes before after text
+  pub reports : report ≡ []
+
+-- the output failed after a prefix of the text
+pub record FailsText (text : List ℕ) (before after : Option (List ℕ)) (report : List ℕ) : Type 0 where
+  pub put : WritesFront before after text
+  pub reports : report ≡ line (codes "write fault output")
+
+-- the text was put to the output, or the output failed while it was put
+abbrev pub PutsOrFails : List ℕ → Option (List ℕ) → Option (List ℕ) → Status → List ℕ → Type 0
+PutsOrFails text before after status.Done report = PutsOutput text before after report
+PutsOrFails text before after status.WriteFault report = FailsText text before after report
+PutsOrFails text before after _ report = ⊥
+
+-- the file was read, and this comes of its bytes
+pub record ComesOfFile
+    (Comes : List ℕ → Option (List ℕ) → Option (List ℕ) → Status → List ℕ → Type 0)
+    (most : ℕ) (name : List ℕ) (before after : FileSide) (answer : Status)
+    (report : List ℕ) : Type 0 where
+  pub bytes : List ℕ
+  pub front : IsFrontOf most before.files after.files name bytes
+  pub comes : Comes bytes before.output after.output answer report
+
+-- the file gave no bytes, and the output was left alone
+abbrev pub RefusesFile : Which → List ℕ → List ℕ → FileSide → FileSide → Status → List ℕ → Type 0
+RefusesFile which reported name before after answer report =
+    LacksBytes which reported name before.files after.files answer report
+    × (after.output ≡ before.output)

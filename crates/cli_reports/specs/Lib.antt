@@ -1,0 +1,3 @@
+pub mod FileCommands
+pub mod OutsideChanges
+pub mod Reporting

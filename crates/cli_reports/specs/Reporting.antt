@@ -1,0 +1,93 @@
+-- The outcome of a command once its report was put.
+use Rattle.std.specs.Prelude.{◌≡◌, ◌≤◌, ℕ, List, Bool, true, false, Option, Result, Ok, Err}
+use Rattle.cf_io.specs.Causes.{Rose, HasCause}
+use Rattle.cf_io.specs.Puts.{Writes}
+use Rattle.cf_io.specs.declared.failed.Failed.{Failed}
+use Rattle.rv_machine.specs.Streams.{Streams}
+use Rattle.cf_report.specs.Putting.{PutsText}
+use Rattle.cli_files.specs.Causes.{files_answered}
+use Rattle.cli_files.specs.Outside.{Outside, Report}
+use Rattle.cli_files.specs.declared.answer.Answer.{Answer}
+use Rattle.cli_files.specs.declared.status.Status.{Status}
+use Rattle.cli_reports.specs.OutsideChanges.{OutsideChange, StreamsChange}
+use Rattle.cli_reports.specs.declared.reporting.Reported.{Reported}
+
+-- the text was put to the report, or the report failed after a prefix of it
+abbrev pub PutsReport : (half full : Report) → (text : List ℕ) → Result (Unit {0}) Failed → Type 0
+PutsReport half full text put = PutsText half.written full.written half.faults full.faults text put
+
+-- what was shown was put, and the closing lines after it, or the report failed after a prefix of these
+pub record PutsAfter (blank full : Report) (shown closing : List ℕ) (put : Result (Unit {0}) Failed) : Type 0 where
+  pub told : Option (List ℕ)
+  pub shows : Writes blank.written told shown
+  pub closes : PutsReport (record blank { written = told }) full closing put
+
+-- the command was carried out with such an answer: what it showed, and the lines that close its report
+abbrev pub Carries : (Status → List ℕ → List ℕ → Type 0) → (blank full : Report) → Reported → Type 0
+Carries answers blank full reported =
+    (shown : List ℕ) × (closing : List ℕ) × answers reported.status shown closing
+    × PutsAfter blank full shown closing reported.put
+
+-- a command that shows nothing: this is its whole report
+abbrev pub ReportsAlone : (Status → List ℕ → Type 0) → (blank full : Report) → Reported → Type 0
+ReportsAlone answers blank full reported =
+    (report : List ℕ) × answers reported.status report × PutsReport blank full report reported.put
+
+-- the same of all that the command was lent
+abbrev pub ReportsAll : (Outside → Outside → Status → List ℕ → Type 0) → OutsideChange → Reported → Type 0
+ReportsAll answers s reported = ReportsAlone (answers s.before s.after) s.blank s.full reported
+
+-- the same of a run, over its streams and its report alone
+abbrev pub ReportsOver : (Streams → Streams → Status → List ℕ → Type 0) → StreamsChange → Reported → Type 0
+ReportsOver answers p reported = ReportsAlone (answers p.before p.after) p.blank p.full reported
+
+-- the command was carried out, or the report failed while it was
+abbrev pub Comes : (Status → List ℕ → List ℕ → Type 0) → Type 0 → (blank full : Report) → Result Reported Failed → Type 0
+Comes answers breaks blank full (Ok reported) = Carries answers blank full reported
+Comes answers breaks blank full (Err failed) = breaks × Rose blank.faults full.faults
+
+-- the same of all that the command was lent
+abbrev pub CarriesOut : (Outside → Outside → Option (List ℕ) → Status → List ℕ → List ℕ → Type 0) →
+    (Outside → Outside → Option (List ℕ) → Option (List ℕ) → Type 0) → OutsideChange → Result Reported Failed → Type 0
+CarriesOut answers breaks s result =
+    Comes (answers s.before s.after s.blank.written) (breaks s.before s.after s.blank.written s.full.written) s.blank s.full result
+
+-- the same of a run, over its streams and its report alone
+abbrev pub ComesOver : (Streams → Streams → Option (List ℕ) → Status → List ℕ → List ℕ → Type 0) →
+    (Streams → Streams → Option (List ℕ) → Option (List ℕ) → Type 0) → StreamsChange → Result Reported Failed → Type 0
+ComesOver answers breaks p result =
+    Comes (answers p.before p.after p.blank.written) (breaks p.before p.after p.blank.written p.full.written) p.blank p.full result
+
+-- an error where a file could not be read
+abbrev pub files_reported : Result Reported Failed → Result (Unit {0}) (Unit {0})
+files_reported (Ok reported) = files_answered reported.status
+files_reported (Err failed) = Ok tt
+
+-- a count of faults: it rose exactly where the answer says so; where the report failed while the command was carried out, it has not fallen
+abbrev pub FaultsReported : (Status → Result (Unit {0}) (Unit {0})) → ℕ → ℕ → Result Reported Failed → Type 0
+FaultsReported answered before now (Ok reported) = HasCause before now (answered reported.status)
+FaultsReported answered before now (Err failed) = before ≤ now
+
+-- the closing lines of what was decided were put; where the report had failed, no lines were
+abbrev pub PutsDecided : Result Answer Failed → (half full : Report) → Result Reported Failed → Type 0
+PutsDecided (Ok answer) half full (Ok reported) =
+    (reported.status ≡ answer.status) × PutsReport half full answer.closing reported.put
+PutsDecided (Ok answer) half full (Err failed) = ⊥
+PutsDecided (Err failed) half full (Ok reported) = ⊥
+PutsDecided (Err failed) half full (Err same) = full ≡ half
+
+-- a text was put after the report so far; where that had failed, nothing was
+abbrev pub Adds : (so_far : Result (Unit {0}) Failed) → (half full : Report) → (text : List ℕ) →
+    Result (Unit {0}) Failed → Type 0
+Adds (Ok u) half full text put = PutsReport half full text put
+Adds (Err failed) half full text put = (full ≡ half) × (put ≡ Err failed)
+
+-- these lines, or a prefix of them, were put after a run of this status
+pub record ClosesWith (said : Status) (lines : List ℕ) (half full : Report) (reported : Reported) : Type 0 where
+  pub status_is : reported.status ≡ said
+  pub puts : PutsReport half full lines reported.put
+
+-- they were put where the report had not failed during the run; where it had, nothing more was put
+abbrev pub PutsClosing : (cut : Bool) → Status → (lines : List ℕ) → (half full : Report) → Result Reported Failed → Type 0
+PutsClosing cut said lines half full (Ok reported) = (cut ≡ false) × ClosesWith said lines half full reported
+PutsClosing cut said lines half full (Err failed) = (cut ≡ true) × (full ≡ half)

@@ -1,0 +1,11 @@
+//! What the commands share: the streams that a command is lent, the text that it puts to the output, and the lines that close
+//! its report.
+#![tactic(auto)]
+
+mod putting;
+mod reporting;
+mod streams;
+
+pub use putting::put_text;
+pub use reporting::{Reported, put_answer, put_decided};
+pub use streams::RunStreams;

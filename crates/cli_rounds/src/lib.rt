@@ -1,0 +1,7 @@
+//! The command `rounds`: a program runs on the processor in rounds, as on a clocked one.
+#![tactic(auto)]
+
+mod closing;
+mod rounds;
+
+pub use rounds::run_in_rounds;

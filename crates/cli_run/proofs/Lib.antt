@@ -1,0 +1,3 @@
+pub mod OpenedRuns
+pub mod ProcessorRuns
+pub mod RunFiles

@@ -1,0 +1,14 @@
+-- What follows the report of a run.
+use Rattle.std.specs.Prelude.{ℕ, List, []}
+use Rattle.report_closing.specs.Moves.{moves_text}
+use Rattle.cf_core.specs.Processors.{Processor}
+use Rattle.cli_files.specs.declared.status.Status.{Status}
+use Rattle.cli_files.specs.declared.status.Status.TheVariants as status
+use Rattle.cli_run.specs.declared.tail.Tail.{Tail}
+use Rattle.cli_run.specs.declared.tail.Tail.TheVariants as tail
+
+-- under `moves`, where the script has no further move, which moves can be made; else nothing
+abbrev pub lines_after : Tail → Status → Processor → List ℕ
+lines_after tail.Moves (status.ScriptEnd moves) last = moves_text last.plan last.state
+lines_after tail.Moves answer last = []
+lines_after tail.Nothing answer last = []

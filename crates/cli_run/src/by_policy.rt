@@ -1,0 +1,57 @@
+//! A run of the processor by a policy.
+
+ghost use Rattle.std.specs.Prelude.{◌≡◌, Ok};
+ghost use Rattle.cf_run.specs.Policies.{CanRun};
+ghost use Rattle.cli_files.specs.Causes.{input_answered, output_answered};
+ghost use Rattle.cli_reports.specs.Reporting.{ComesOver, FaultsReported, files_reported};
+ghost use Rattle.cli_run.specs.Run.{ByPolicy, RunsCore, BreaksCore};
+ghost use Rattle.cli_reports.specs.OutsideChanges.{streams_change, input_left, output_left};
+
+use crate::closing::close;
+use cf_core::Core;
+use cf_index::Candidates;
+use cf_io::{Failed, Sink, Source};
+use cf_run::{Scripted, Show, run_policy};
+use cf_sched::Policy;
+use cli_processor::no_moves;
+use cli_reports::{Reported, RunStreams};
+
+/// Runs the opened processor by the picks of a policy, and puts what is shown and the closing lines.
+// A call of its own, with the policy as a local, so that the compiler makes a loop for each policy and keeps its state in registers.
+#[inline(never)]
+pub fn run_by_policy<P: Policy + Drop, S: Source, K: Sink, R: Sink>(
+    core: &mut Core,
+    candidates: &mut Candidates,
+    policy: P,
+    limit: u64,
+    show: Show,
+    streams: RunStreams<'_, S, K, R>,
+) -> Result<Reported, Failed>
+    requires begins { CanRun limit core.old }
+    ensures runs { ComesOver (RunsCore limit show core.old core.new (ByPolicy P.picked P.onward limit show policy))
+        (BreaksCore limit show core.old (ByPolicy P.picked P.onward limit show policy))
+        (streams_change S.left K.written R.written R.faults streams.entry streams.exit) result }
+    ensures files { files_reported result ≡ Ok tt }
+    ensures input { FaultsReported input_answered (S.faults streams.entry.input.now) (S.faults (input_left streams.exit)) result }
+    ensures output { FaultsReported output_answered (K.faults streams.entry.output.now) (K.faults (output_left streams.exit)) result }
+{
+    let mut policy = policy;
+    let RunStreams {
+        input,
+        output,
+        report,
+    } = streams;
+    let mut tally = no_moves();
+    let ran = run_policy(
+        core,
+        candidates,
+        &mut policy,
+        limit,
+        show,
+        input,
+        output,
+        report,
+        &mut tally,
+    );
+    close(core, limit, Scripted::Ran(ran), &tally, report)
+}

@@ -1,0 +1,51 @@
+//! A run of the processor by a script.
+
+ghost use Rattle.std.specs.Prelude.{◌≡◌, ◌≤◌, false, length, Ok};
+ghost use Rattle.run_options.specs.Limits.{most_limit};
+ghost use Rattle.cli_files.specs.Causes.{input_answered, output_answered};
+ghost use Rattle.run_scripts.specs.Limits.{most_script};
+ghost use Rattle.cli_reports.specs.Reporting.{ComesOver, FaultsReported, files_reported};
+ghost use Rattle.cli_run.specs.Run.{ByScript, RunsCore, BreaksCore};
+ghost use Rattle.cli_reports.specs.OutsideChanges.{streams_change, input_left, output_left};
+
+use crate::closing::close;
+use cf_core::Core;
+use cf_io::{Failed, Sink, Source};
+use cf_run::{Show, run_script};
+use cli_processor::no_moves;
+use cli_reports::{Reported, RunStreams};
+use run_scripts::Script;
+
+/// Runs the processor by the moves of a text, and puts what is shown and the closing lines.
+// A call of its own, so that the compiler makes this loop apart from those of the policies.
+#[inline(never)]
+pub fn run_by_script<S: Source, K: Sink, R: Sink>(
+    core: &mut Core,
+    text: &[u8],
+    limit: u64,
+    show: Show,
+    streams: RunStreams<'_, S, K, R>,
+) -> Result<Reported, Failed>
+    requires limit { limit ≤ most_limit }
+    requires retired { core.old.state.retired ≤ limit }
+    requires works { core.old.state.failed ≡ false }
+    requires fits { length text.now ≤ most_script }
+    ensures runs { ComesOver (RunsCore limit show core.old core.new (ByScript limit show text.now))
+        (BreaksCore limit show core.old (ByScript limit show text.now))
+        (streams_change S.left K.written R.written R.faults streams.entry streams.exit) result }
+    ensures files { files_reported result ≡ Ok tt }
+    ensures input { FaultsReported input_answered (S.faults streams.entry.input.now) (S.faults (input_left streams.exit)) result }
+    ensures output { FaultsReported output_answered (K.faults streams.entry.output.now) (K.faults (output_left streams.exit)) result }
+{
+    let RunStreams {
+        input,
+        output,
+        report,
+    } = streams;
+    let mut moves = Script::view(text);
+    let mut tally = no_moves();
+    let finish = run_script(
+        core, &mut moves, limit, show, input, output, report, &mut tally,
+    );
+    close(core, limit, finish, &tally, report)
+}

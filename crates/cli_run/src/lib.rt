@@ -1,0 +1,11 @@
+//! The commands `run` and `moves`: a program runs on the processor, by a script, a seed or the fixed rule.
+#![tactic(auto)]
+
+mod by_policy;
+mod by_script;
+mod closing;
+mod run;
+mod tail;
+
+pub use run::{run_processor, run_ready};
+pub use tail::Tail;

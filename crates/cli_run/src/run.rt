@@ -1,0 +1,153 @@
+//! The commands `run` and `moves`.
+
+ghost use Rattle.std.specs.Prelude.{◌≡◌, ◌≤◌, Ok};
+ghost use Rattle.run_options.specs.Limits.{most_limit};
+ghost use Rattle.cf_io.specs.Causes.{HasCause};
+ghost use Rattle.cli_arguments.specs.Views.{layout_of, schedule_view as asked_schedule};
+ghost use Rattle.cf_core.specs.Processors.{opened};
+ghost use Rattle.cf_run.specs.Policies.{CanRun};
+ghost use Rattle.cli_files.specs.Causes.{input_answered, output_answered};
+ghost use Rattle.cli_files.specs.RunFiles.{run_asked};
+ghost use Rattle.cli_reports.specs.Reporting.{CarriesOut, ComesOver, FaultsReported, files_reported};
+ghost use Rattle.cli_run.specs.Run.{chosen_by, RunsCore, RunsWithTail, BreaksCore, ComesOf, AnswersRun, BreaksRun};
+ghost use Rattle.cli_reports.specs.OutsideChanges.{streams_change, outside_change, input_left, output_left};
+ghost use Rattle.cli_files.specs.Schedules.{schedule_view, FitsScript};
+
+use crate::by_policy::run_by_policy;
+use crate::by_script::run_by_script;
+use crate::tail::{Tail, add_tail};
+use cf_core::Core;
+use cf_index::Candidates;
+use cf_io::{Failed, Files, Sink, Source};
+use cf_run::Show;
+use cf_sched::{Drawn, Round};
+use cli_arguments::{LayoutWord, RunOptions};
+use cli_files::{ReadyRun, ReadySchedule, no_memory, read_files};
+use cli_processor::{Opened, open};
+use cli_reports::{Reported, RunStreams, put_answer};
+use std::alloc::Global;
+
+/// Runs the opened processor by what was read.
+#[tactic(auto, using(cf_run::proofs::Opened::opened_cores))]
+fn run_scheduled<S: Source, K: Sink, R: Sink>(
+    core: &mut Core,
+    candidates: &mut Candidates,
+    schedule: &ReadySchedule,
+    limit: u64,
+    show: Show,
+    streams: RunStreams<'_, S, K, R>,
+) -> Result<Reported, Failed>
+    requires begins { CanRun limit core.old }
+    requires fits { FitsScript (schedule_view schedule.now) }
+    ensures runs { ComesOver (RunsCore limit show core.old core.new (chosen_by limit show (schedule_view schedule.now)))
+        (BreaksCore limit show core.old (chosen_by limit show (schedule_view schedule.now)))
+        (streams_change S.left K.written R.written R.faults streams.entry streams.exit) result }
+    ensures files { files_reported result ≡ Ok tt }
+    ensures input { FaultsReported input_answered (S.faults streams.entry.input.now) (S.faults (input_left streams.exit)) result }
+    ensures output { FaultsReported output_answered (K.faults streams.entry.output.now) (K.faults (output_left streams.exit)) result }
+{
+    match schedule {
+        ReadySchedule::Script(text) => {
+            run_by_script(core, text.as_slice(), limit, show, streams)
+        }
+        ReadySchedule::Seed(seed) => {
+            let drawn = Drawn::new(*seed);
+            run_by_policy(core, candidates, drawn, limit, show, streams)
+        }
+        ReadySchedule::Rule => {
+            let round = Round::new();
+            run_by_policy(core, candidates, round, limit, show, streams)
+        }
+    }
+}
+
+/// Runs the opened processor by what was read, and puts what is to follow its report.
+fn run_opened<S: Source, K: Sink, R: Sink>(
+    opened: &mut Opened,
+    schedule: &ReadySchedule,
+    options: RunOptions<'_>,
+    tail: Tail,
+    streams: RunStreams<'_, S, K, R>,
+) -> Result<Reported, Failed>
+    requires begins { CanRun options.limit opened.old.core }
+    requires fits { FitsScript (schedule_view schedule.now) }
+    ensures comes { ComesOver
+        (RunsWithTail options.entry.limit options.entry.show tail opened.old.core opened.new.core (chosen_by options.entry.limit options.entry.show (schedule_view schedule.now)))
+        (BreaksCore options.entry.limit options.entry.show opened.old.core (chosen_by options.entry.limit options.entry.show (schedule_view schedule.now)))
+        (streams_change S.left K.written R.written R.faults streams.entry streams.exit) result }
+    ensures files { files_reported result ≡ Ok tt }
+    ensures input { FaultsReported input_answered (S.faults streams.entry.input.now) (S.faults (input_left streams.exit)) result }
+    ensures output { FaultsReported output_answered (K.faults streams.entry.output.now) (K.faults (output_left streams.exit)) result }
+{
+    let RunStreams {
+        input,
+        output,
+        report,
+    } = streams;
+    let reported = run_scheduled(
+        &mut opened.core,
+        &mut opened.candidates,
+        schedule,
+        options.limit,
+        options.show,
+        RunStreams {
+            input,
+            output,
+            report: &mut *report,
+        },
+    )?;
+    Ok(add_tail(tail, &opened.core, reported, report))
+}
+
+/// Opens the processor of the layout on the machine, runs it by what was read, and puts what is to follow its report.
+pub fn run_ready<S: Source, K: Sink, R: Sink>(
+    alloc: Global,
+    ready: ReadyRun,
+    options: RunOptions<'_>,
+    tail: Tail,
+    streams: RunStreams<'_, S, K, R>,
+) -> Result<Reported, Failed>
+    requires limit { options.limit ≤ most_limit }
+    requires count { ready.machine.retired ≡ 0 }
+    requires fits { FitsScript (schedule_view ready.schedule) }
+    ensures comes { ComesOver
+        (ComesOf options.entry.limit options.entry.show tail ready.layout ready.machine (schedule_view ready.schedule))
+        (BreaksCore options.entry.limit options.entry.show (opened ready.layout ready.machine) (chosen_by options.entry.limit options.entry.show (schedule_view ready.schedule)))
+        (streams_change S.left K.written R.written R.faults streams.entry streams.exit) result }
+    ensures files { files_reported result ≡ Ok tt }
+    ensures input { FaultsReported input_answered (S.faults streams.entry.input.now) (S.faults (input_left streams.exit)) result }
+    ensures output { FaultsReported output_answered (K.faults streams.entry.output.now) (K.faults (output_left streams.exit)) result }
+{
+    match open(alloc, ready.layout, ready.machine) {
+        Ok(mut opened) => run_opened(&mut opened, &ready.schedule, options, tail, streams),
+        Err(_) => Ok(put_answer(no_memory(), streams.report)),
+    }
+}
+
+/// Carries out `run` and `moves`. It reads the layout, the program and the script, where the arguments name one, in this order.
+/// It runs the processor by the script, by moves drawn from the seed, or by the fixed rule. It puts what is to be shown, then
+/// how the run finished, how many instructions retired, the tally of its moves, the registers and the picture, and after
+/// that the tail. It fails where the report fails during the run; nothing more is then put to the report.
+pub fn run_processor<F: Files, S: Source, K: Sink, R: Sink>(
+    alloc: Global,
+    layout: LayoutWord<'_>,
+    program: &str,
+    options: RunOptions<'_>,
+    tail: Tail,
+    files: &mut F,
+    streams: RunStreams<'_, S, K, R>,
+) -> Result<Reported, Failed>
+    requires { options.limit ≤ most_limit }
+    ensures answers { CarriesOut
+        (AnswersRun tail (run_asked (layout_of layout.entry) program.now (asked_schedule options.entry.schedule) options.entry.limit options.entry.show))
+        (BreaksRun (run_asked (layout_of layout.entry) program.now (asked_schedule options.entry.schedule) options.entry.limit options.entry.show))
+        (outside_change F.told F.faults S.left S.faults K.written K.faults R.written R.faults files.old files.new streams.entry streams.exit) result }
+    ensures files { HasCause (F.faults files.old) (F.faults files.new) (files_reported result) }
+    ensures input { FaultsReported input_answered (S.faults streams.entry.input.now) (S.faults (input_left streams.exit)) result }
+    ensures output { FaultsReported output_answered (K.faults streams.entry.output.now) (K.faults (output_left streams.exit)) result }
+{
+    match read_files(alloc, layout, program, options, files) {
+        Ok(ready) => run_ready(alloc, ready, options, tail, streams),
+        Err(answer) => Ok(put_answer(answer, streams.report)),
+    }
+}
