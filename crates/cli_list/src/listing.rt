@@ -10,7 +10,9 @@ ghost use Rattle.cli_list.specs.Listings.{listing_of, IsListable, IsNotListed, L
 
 use asm_listing::{ListingErr, put_elf_listing, put_flat_listing};
 use cf_io::{Files, FilesErr, Sink};
-use cli_files::{Answer, MOST_BYTES, ProgramErr, Which, done, is_elf, no_memory, no_program, unread, write_fault};
+use cli_files::{
+    Answer, MOST_BYTES, ProgramErr, Which, done, is_elf, no_memory, no_program, unread, write_fault,
+};
 use elf_view::Elf;
 use std::alloc::Global;
 
