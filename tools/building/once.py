@@ -75,4 +75,5 @@ def main():
     sys.exit(kit.main(words))
 
 
-main()
+if __name__ == "__main__":
+    main()

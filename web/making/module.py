@@ -56,7 +56,7 @@ def toolchain_that_keeps(folder):
 
 def build_program():
     """Proves and builds the program, where that has not been done."""
-    run(page.TOP / "tools" / "build")
+    run(page.TOP / "tools" / "prove")
     # What it left may have been moved away since. Where it is there, this only runs the program, without words.
     words = [sys.executable, str(page.TOP / "tools" / "building" / "once.py"), "run"]
     built = subprocess.run(words, cwd=PROGRAM, stdin=subprocess.DEVNULL, capture_output=True, text=True, check=False)
