@@ -68,9 +68,10 @@ tell_argument() { # tell_argument INDEX ARGUMENT..: names the argument that is n
 
 tell_text() { # tell_text ARGUMENT..: says so where the program is a file of printable text
     local file
+    [ $# -gt 0 ] || return 0
     file=$(named PROGRAM "$@")
     if [ -f "$file" ] && [ -s "$file" ] && ! head -c 4096 "$file" | LC_ALL=C grep -q '[^[:print:][:space:]]'; then
-        echo "cfpp: $file is a text; cfpp asm $file >FILE makes a program of an assembly source"
+        echo "cfpp: $file is text, and no program; cfpp asm SOURCE >FILE makes one of an assembly source"
     fi
 }
 
