@@ -66,6 +66,12 @@ def choose():
     return name
 
 
+def unproved():
+    """The file of the program that was compiled without proofs of the sources as they are; None where none is kept."""
+    file = CACHE / unproved_name(crates_below(PROGRAM))
+    return file if file.exists() else None
+
+
 def keep(name, program, made_from=None):
     """Keeps a program, and the object that it was linked from, in place of the one of its kind that was kept before."""
     kind = name.partition("-")[0]
