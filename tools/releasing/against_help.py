@@ -1,0 +1,89 @@
+#!/usr/bin/env python3
+"""Compares the table of commands with what the program says of itself, and prints what one of them lacks.
+
+    against_help.py PROGRAM
+
+The help has a line for each command, option and status; what it says of an option ends with the commands that take it. Where the
+program tells of single commands, what it tells of each names its options and no others.
+"""
+import pathlib
+import re
+import subprocess
+import sys
+
+sys.dont_write_bytecode = True
+sys.path.insert(0, str(pathlib.Path(__file__).resolve().parent.parent))
+
+from releasing import table as tables
+
+CALL = re.compile(r"^  cfpp (?P<call>\S+(?: \S+)*)(?:  +(?P<does>.*))?$")
+OPTION = re.compile(r"^  (?P<call>--\S+(?: \S+)?)  +(?P<does>.*)$")
+STATUS = re.compile(r"(\d+) +(\S+(?: \S+)*)")
+TAKEN = re.compile(r"^(?P<before>.*?) \((?P<commands>[a-z, ]+)\)(?P<after>.*)$")
+
+
+def said_by(program, *arguments):
+    done = subprocess.run([program, *arguments], capture_output=True, text=True, check=False)
+    return done.stdout if done.returncode == 0 else None
+
+
+def joined(text):
+    """The lines of the help, where what goes on in the next line is part of the line."""
+    return re.sub(r"(?<=\S)\n {16,}(?=\S)", "  ", text).splitlines()
+
+
+def calls_in(line):
+    """The commands of a line, each with its operands and without the option that it has to have."""
+    found = CALL.match(line)
+    return [] if not found else [call.removeprefix("cfpp ").partition(" --")[0] for call in found["call"].split(", ")]
+
+
+def options_in(line):
+    """The options of a line, as the option with each command that takes it."""
+    found = OPTION.match(line)
+    taken = TAKEN.match(re.sub(r" +", " ", found["does"])) if found else None
+    return [] if not taken else [f"{found['call']} of {command}" for command in taken["commands"].split(", ")]
+
+
+def statuses_in(text):
+    """The statuses, which stand in two columns below the line that begins their table."""
+    part = text.partition("or with one of these:")[2].partition("\n\n")[2].partition("\n\n")[0]
+    return [f"{number} {why}" for number, why in STATUS.findall(part)]
+
+
+def of_help(text):
+    lines = joined(text)
+    found = {f"command {call}" for line in lines for call in calls_in(line)}
+    found |= {f"option {option}" for line in lines for option in options_in(line)}
+    return found | {f"status {status}" for status in statuses_in(text)}
+
+
+def of_table(table):
+    found = {f"command {command.call}" for command in table.commands}
+    found |= {f"option {option.call} of {command}" for option in table.options for command in option.commands}
+    return found | {f"status {status.number} {status.why}" for status in table.statuses}
+
+
+def of_single(program, table):
+    """What the help of a command has otherwise than the table, where the program has such help."""
+    for command in table.commands:
+        text = said_by(program, "help", command.name) or ""
+        named = set(re.findall(r"--[a-z]+", text))
+        listed = {option.name for option in table.options_of(command.name)}
+        if text and not command.name.startswith("--") and named != listed:
+            yield f"cfpp help {command.name} and the table differ: {' '.join(sorted(named ^ listed))}"
+
+
+def main():
+    if len(sys.argv) != 2:
+        sys.exit(__doc__)
+    program, table = sys.argv[1], tables.read()
+    helped, listed = of_help(said_by(program, "help")), of_table(table)
+    faults = [f"cfpp help has it, and not the table: {it}" for it in sorted(helped - listed)]
+    faults += [f"the table has it, and not cfpp help: {it}" for it in sorted(listed - helped)]
+    faults += of_single(program, table)
+    print(*faults, sep="\n", end="\n" * bool(faults))
+    sys.exit(bool(faults))
+
+
+main()

@@ -1,0 +1,160 @@
+"""The completions for bash, zsh and fish, made from the table of commands."""
+from releasing.table import NUMBER, REPEATED
+
+BASH = """# Completion for cfpp, made from its table of commands.
+_cfpp() {{
+    local word=${{COMP_WORDS[COMP_CWORD]}} before=${{COMP_WORDS[COMP_CWORD - 1]}} operands= options=
+    COMPREPLY=()
+    if [ "$COMP_CWORD" -eq 1 ]; then
+        mapfile -t COMPREPLY < <(compgen -W "{commands}" -- "$word")
+        return
+    fi
+    case ${{COMP_WORDS[1]}} in
+{cases}
+    esac
+    case "${{COMP_WORDS[1]}} $before" in
+{values}
+    esac
+    if [[ $word == --* ]]; then
+        mapfile -t COMPREPLY < <(compgen -W "$options" -- "$word")
+        return
+    fi
+    read -r -a operands <<<"$operands"
+    local at=$((COMP_CWORD - 2)) last=$((${{#operands[@]}} - 1))
+    [ "$last" -ge 0 ] || return 0
+    if [ "${{operands[last]}}" = .. ] && [ "$at" -ge "$last" ]; then
+        at=$((last - 1))
+    fi
+    case ${{operands[at]-}} in
+        "")
+            mapfile -t COMPREPLY < <(compgen -W "$options" -- "$word")
+            return
+            ;;
+        N) return ;;
+        LAYOUT) mapfile -t COMPREPLY < <(compgen -W plain -- "$word") ;;
+    esac
+    compopt -o filenames
+    mapfile -t -O "${{#COMPREPLY[@]}}" COMPREPLY < <(compgen -f -- "$word")
+}}
+complete -F _cfpp cfpp
+"""
+
+ZSH = """#compdef cfpp
+# Completion for cfpp, made from its table of commands.
+_cfpp_layout() {{
+    _alternative 'builtin:built-in layout:(plain)' 'files:layout file:_files'
+}}
+_cfpp() {{
+    local -a commands
+    commands=(
+{commands}
+    )
+    if (( CURRENT == 2 )); then
+        _describe command commands
+        return
+    fi
+    local command=$words[2]
+    shift words
+    (( CURRENT-- ))
+    case $command in
+{cases}
+    esac
+}}
+_cfpp "$@"
+"""
+
+FISH = """# Completion for cfpp, made from its table of commands.
+complete -c cfpp -n 'not __fish_use_subcommand' -F
+{commands}
+{options}
+"""
+
+
+def names_of(table):
+    return [command.name for command in table.commands]
+
+
+def merged(options):
+    """The values that each option can have, by its name."""
+    values = {}
+    for option in options:
+        values.setdefault(option.name, []).append(option)
+    return values
+
+
+def for_bash(table):
+    """A case for each command, and one for each of its options that takes a value."""
+    cases, values = [], []
+    for command in table.commands:
+        options = merged(table.options_of(command.name))
+        cases.append(f'        {command.name}) operands="{" ".join(command.operands)}" options="{" ".join(options)}" ;;')
+        values += [value_for_bash(command.name, name, taken) for name, taken in options.items() if taken[0].value]
+    return BASH.format(commands=" ".join(names_of(table)), cases="\n".join(cases), values="\n".join(values))
+
+
+def value_for_bash(command, name, taken):
+    """What comes after an option that takes a value: one of some words, a number, or a file."""
+    if taken[0].is_literal():
+        made = f'mapfile -t COMPREPLY < <(compgen -W "{" ".join(option.value for option in taken)}" -- "$word"); return'
+    elif taken[0].value == NUMBER:
+        made = "return"
+    else:
+        made = 'compopt -o filenames; mapfile -t COMPREPLY < <(compgen -f -- "$word"); return'
+    return f'        "{command} {name}") {made} ;;'
+
+
+def quoted(text):
+    """A text within single quotes, for zsh and fish."""
+    return text.replace("'", "’")
+
+
+def operand_for_zsh(operands, at):
+    kind = operands[at]
+    action = {"LAYOUT": "_cfpp_layout", NUMBER: " "}.get(kind, "_files")
+    count = "*" if operands[at + 1 : at + 2] == (REPEATED,) else str(at + 1)
+    return f"'{count}:{kind}:{action}'"
+
+
+def option_for_zsh(name, taken):
+    first = taken[0]
+    text = quoted(first.does if len(taken) == 1 else "shows more").replace("[", "(").replace("]", ")").replace(":", ",")
+    if not first.value:
+        return f"'{name}[{text}]'"
+    if first.is_literal():
+        return f"'{name}[{text}]:what:({' '.join(option.value for option in taken)})'"
+    return f"'{name}[{text}]:{first.value}:{' ' if first.value == NUMBER else '_files'}'"
+
+
+def for_zsh(table):
+    """A description of each command, and the arguments of each."""
+    cases = []
+    for command in table.commands:
+        operands = [operand_for_zsh(command.operands, at) for at, kind in enumerate(command.operands) if kind != REPEATED]
+        options = [option_for_zsh(*pair) for pair in merged(table.options_of(command.name)).items()]
+        arguments = " ".join(operands + options)
+        cases.append(f"        {command.name}) {f'_arguments {arguments}' if arguments else ':'} ;;")
+    commands = [f"        '{command.name}:{quoted(command.does)}'" for command in table.commands]
+    return ZSH.format(commands="\n".join(commands), cases="\n".join(cases))
+
+
+def option_for_fish(option):
+    line = f"complete -c cfpp -n '__fish_seen_subcommand_from {' '.join(option.commands)}' -l {option.name.removeprefix('--')}"
+    if option.is_literal():
+        line += f" -x -a {option.value}"
+    elif option.value:
+        line += " -x" if option.value == NUMBER else " -r"
+    return f"{line} -d '{quoted(option.does)}'"
+
+
+def for_fish(table):
+    """The commands as first words, their options, and `plain` where a layout is named."""
+    first = "complete -c cfpp -n __fish_use_subcommand -f"
+    commands = [
+        f"{first} -l {command.name.removeprefix('--')} -d '{quoted(command.does)}'"
+        if command.name.startswith("--")
+        else f"{first} -a {command.name} -d '{quoted(command.does)}'"
+        for command in table.commands
+    ]
+    with_layout = " ".join(command.name for command in table.commands if "LAYOUT" in command.operands)
+    commands.append(f"complete -c cfpp -n '__fish_seen_subcommand_from {with_layout}' -a plain -d 'the built-in layout'")
+    return FISH.format(commands="\n".join(commands), options="\n".join(map(option_for_fish, table.options)))
