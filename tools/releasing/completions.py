@@ -1,5 +1,5 @@
 """The completions for bash, zsh and fish, made from the table of commands."""
-from releasing.table import NUMBER, REPEATED
+from releasing.table import COMMAND, NUMBER, REPEATED
 
 BASH = """# Completion for cfpp, made from its table of commands.
 _cfpp() {{
@@ -31,6 +31,10 @@ _cfpp() {{
             return
             ;;
         N) return ;;
+        COMMAND)
+            mapfile -t COMPREPLY < <(compgen -W "{commands}" -- "$word")
+            return
+            ;;
         LAYOUT) mapfile -t COMPREPLY < <(compgen -W plain -- "$word") ;;
     esac
     compopt -o filenames
@@ -64,7 +68,6 @@ _cfpp "$@"
 """
 
 FISH = """# Completion for cfpp, made from its table of commands.
-complete -c cfpp -n 'not __fish_use_subcommand' -F
 {commands}
 {options}
 """
@@ -108,9 +111,9 @@ def quoted(text):
     return text.replace("'", "’")
 
 
-def operand_for_zsh(operands, at):
+def operand_for_zsh(table, operands, at):
     kind = operands[at]
-    action = {"LAYOUT": "_cfpp_layout", NUMBER: " "}.get(kind, "_files")
+    action = {"LAYOUT": "_cfpp_layout", COMMAND: f"({' '.join(names_of(table))})", NUMBER: " "}.get(kind, "_files")
     count = "*" if operands[at + 1 : at + 2] == (REPEATED,) else str(at + 1)
     return f"'{count}:{kind}:{action}'"
 
@@ -129,7 +132,7 @@ def for_zsh(table):
     """A description of each command, and the arguments of each."""
     cases = []
     for command in table.commands:
-        operands = [operand_for_zsh(command.operands, at) for at, kind in enumerate(command.operands) if kind != REPEATED]
+        operands = [operand_for_zsh(table, command.operands, at) for at, kind in enumerate(command.operands) if kind != REPEATED]
         options = [option_for_zsh(*pair) for pair in merged(table.options_of(command.name)).items()]
         arguments = " ".join(operands + options)
         cases.append(f"        {command.name}) {f'_arguments {arguments}' if arguments else ':'} ;;")
@@ -157,4 +160,7 @@ def for_fish(table):
     ]
     with_layout = " ".join(command.name for command in table.commands if "LAYOUT" in command.operands)
     commands.append(f"complete -c cfpp -n '__fish_seen_subcommand_from {with_layout}' -a plain -d 'the built-in layout'")
+    with_command = " ".join(command.name for command in table.commands if COMMAND in command.operands)
+    if with_command:
+        commands.append(f"complete -c cfpp -n '__fish_seen_subcommand_from {with_command}' -f -a '{' '.join(names_of(table))}'")
     return FISH.format(commands="\n".join(commands), options="\n".join(map(option_for_fish, table.options)))

@@ -10,7 +10,6 @@ import time
 from releasing import tree
 
 NAME = "cfpp"
-DEBIAN_DOCUMENTS = "share/doc/cfpp"
 MAINTAINER = "Wogbuti maintainers <maintainers@users.noreply.wogbuti.example>"
 CONTROL = """Package: cfpp
 Version: {version}
@@ -34,6 +33,11 @@ Files: *
 Copyright: 2026 Wogbuti maintainers
 License: Expat
 {license}"""
+# Guests of the simulator are RISC-V programs, which are no programs of the package.
+OVERRIDES = "".join(
+    f"cfpp: {tag} *examples/*.elf*\n"
+    for tag in ("arch-dependent-file-in-usr-share", "binary-from-other-architecture", "statically-linked-binary", "unstripped-binary-or-object")
+)
 CHANGELOG = """cfpp ({version}) unstable; urgency=medium
 
   * Release {version}.
@@ -83,15 +87,21 @@ def license_text():
     return "".join(f" {line}\n" if line else " .\n" for line in text.splitlines())
 
 
+def documents_in(top):
+    """The folder of the documents in the package that is made in this folder."""
+    return top / tree.INSTALLED.removeprefix("/")
+
+
 def put_debian_files(top):
     """What each package of Debian has beside its own files."""
-    documents = top / "usr" / DEBIAN_DOCUMENTS
+    documents = documents_in(top)
     version, maintainer = tree.version(), MAINTAINER
     # Debian has the license in the file of the copyright.
     (documents / "LICENSE").unlink()
     tree.put(documents, "copyright", COPYRIGHT.format(license=license_text()))
     date = time.strftime("%a, %d %b %Y %H:%M:%S +0000", time.gmtime(epoch()))
     tree.put(documents, "changelog", CHANGELOG.format(version=version, maintainer=maintainer, date=date))
+    tree.put(top, "usr/share/lintian/overrides/cfpp", OVERRIDES)
     for file in (documents / "changelog", top / "usr" / tree.MANUAL):
         compress(file)
     files = [path for path in top.rglob("*") if path.is_file()]
@@ -113,8 +123,8 @@ def debian(folder, linked, into):
         return None
     top = folder / "debian"
     tree.put_program(top / "usr", linked)
-    tree.put_manual(top / "usr", f"/usr/{DEBIAN_DOCUMENTS}")
-    tree.put_documents(top / "usr" / DEBIAN_DOCUMENTS, linked)
+    tree.put_manual(top / "usr", tree.INSTALLED)
+    tree.put_documents(documents_in(top), linked)
     put_debian_files(top)
     set_modes(top)
     made = into / f"{NAME}_{tree.version()}_amd64.deb"

@@ -3,8 +3,8 @@ import dataclasses
 import pathlib
 
 TABLE = pathlib.Path(__file__).resolve().parent.parent / "terminal" / "commands.txt"
-# What stands for a number in place of a file.
-NUMBER = "N"
+# What stands for a number, and for the name of a command, in place of a file.
+NUMBER, COMMAND = "N", "COMMAND"
 REPEATED = ".."
 
 

@@ -13,14 +13,17 @@ COMPLETIONS = {
     "share/zsh/vendor-completions/_cfpp": completions.for_zsh,
     "share/fish/vendor_completions.d/cfpp.fish": completions.for_fish,
 }
+# Where the documents are once the Debian package is installed.
+INSTALLED = "/usr/share/doc/cfpp"
 DOCUMENTS = ("README.md", "LICENSE", "docs", "examples", "web/cfpp.html")
 PROVED = """cfpp {version}: each function of the program meets its contract.
 
 commit   {commit}
 kit      {kit}
-sources  {count} files, whose SHA-256 sums are below; in a checkout of the commit `sed '1,/^$/d;1,/^$/d' PROVED | sha256sum -c` compares them
 object   {object_sum}, which the program was linked from
 program  {program_sum}, the file {library}/cfpp
+sources  {count} files, whose SHA-256 sums follow; in a checkout of the commit they are compared by
+         grep '^[0-9a-f]*  ' PROVED | sha256sum --quiet -c
 
 """
 
