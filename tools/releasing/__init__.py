@@ -2,5 +2,5 @@
 import pathlib
 
 FOLDER = pathlib.Path(__file__).resolve().parent
-START, WRAPPER = FOLDER / "start.s", FOLDER / "cfpp"
+START, WRAPPER = FOLDER / "start.c", FOLDER / "cfpp"
 TERMINAL = FOLDER.parent / "terminal"

@@ -2,43 +2,45 @@
 from releasing.table import COMMAND, NUMBER, REPEATED
 
 BASH = """# Completion for cfpp, made from its table of commands.
+_cfpp_add() {{
+    local IFS=$'\\n'
+    COMPREPLY+=($(compgen "$@" -- "${{COMP_WORDS[COMP_CWORD]}}"))
+}}
+_cfpp_add_files() {{
+    compopt -o filenames
+    _cfpp_add -f
+}}
 _cfpp() {{
-    local word=${{COMP_WORDS[COMP_CWORD]}} before=${{COMP_WORDS[COMP_CWORD - 1]}} operands= options=
+    local commands="{commands}" operands= options= at=$((COMP_CWORD - 2)) last
     COMPREPLY=()
     if [ "$COMP_CWORD" -eq 1 ]; then
-        mapfile -t COMPREPLY < <(compgen -W "{commands}" -- "$word")
+        _cfpp_add -W "$commands"
         return
     fi
     case ${{COMP_WORDS[1]}} in
 {cases}
     esac
-    case "${{COMP_WORDS[1]}} $before" in
+    case "${{COMP_WORDS[1]}} ${{COMP_WORDS[COMP_CWORD - 1]}}" in
 {values}
     esac
-    if [[ $word == --* ]]; then
-        mapfile -t COMPREPLY < <(compgen -W "$options" -- "$word")
-        return
-    fi
     read -r -a operands <<<"$operands"
-    local at=$((COMP_CWORD - 2)) last=$((${{#operands[@]}} - 1))
-    [ "$last" -ge 0 ] || return 0
-    if [ "${{operands[last]}}" = .. ] && [ "$at" -ge "$last" ]; then
+    last=$((${{#operands[@]}} - 1))
+    if [ "$last" -ge 0 ] && [ "${{operands[last]}}" = .. ] && [ "$at" -ge "$last" ]; then
         at=$((last - 1))
     fi
-    case ${{operands[at]-}} in
-        "")
-            mapfile -t COMPREPLY < <(compgen -W "$options" -- "$word")
-            return
-            ;;
-        N) return ;;
-        COMMAND)
-            mapfile -t COMPREPLY < <(compgen -W "{commands}" -- "$word")
-            return
-            ;;
-        LAYOUT) mapfile -t COMPREPLY < <(compgen -W plain -- "$word") ;;
+    case ${{COMP_WORDS[COMP_CWORD]}} in
+        --*) at=-1 ;;
     esac
-    compopt -o filenames
-    mapfile -t -O "${{#COMPREPLY[@]}}" COMPREPLY < <(compgen -f -- "$word")
+    case ${{operands[at < 0 ? last + 1 : at]-}} in
+        "") _cfpp_add -W "$options" ;;
+        N) ;;
+        COMMAND) _cfpp_add -W "$commands" ;;
+        LAYOUT)
+            _cfpp_add -W plain
+            _cfpp_add_files
+            ;;
+        *) _cfpp_add_files ;;
+    esac
 }}
 complete -F _cfpp cfpp
 """
@@ -98,11 +100,9 @@ def for_bash(table):
 def value_for_bash(command, name, taken):
     """What comes after an option that takes a value: one of some words, a number, or a file."""
     if taken[0].is_literal():
-        made = f'mapfile -t COMPREPLY < <(compgen -W "{" ".join(option.value for option in taken)}" -- "$word"); return'
-    elif taken[0].value == NUMBER:
-        made = "return"
+        made = f'_cfpp_add -W "{" ".join(option.value for option in taken)}"; return'
     else:
-        made = 'compopt -o filenames; mapfile -t COMPREPLY < <(compgen -f -- "$word"); return'
+        made = "return" if taken[0].value == NUMBER else "_cfpp_add_files; return"
     return f'        "{command} {name}") {made} ;;'
 
 

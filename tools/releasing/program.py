@@ -10,7 +10,7 @@ from releasing import START
 
 # The oldest C library that the program has to run with.
 OLDEST = (2, 28)
-TARGET = "--target=x86_64-unknown-linux-gnu"
+FOR_START = ("--target=x86_64-unknown-linux-gnu", "-O2", "-fPIE", "-ffreestanding", "-fno-stack-protector", "--no-default-config", "-c")
 LOGIC = re.compile(r"logic ([0-9a-f]{16})")
 
 
@@ -47,7 +47,7 @@ def link(folder):
     made = proved_object()
     stop_unless_proved_in(LOGIC.search(kit_line())[1], made)
     start, linked = folder / "start.o", folder / PROGRAM
-    tool("clang", TARGET, "-c", START, "-o", start)
+    tool("clang", *FOR_START, START, "-o", start)
     compiling.link(linked, made, start)
     tool("llvm-strip", linked)
     stop_unless_old_enough(linked)
