@@ -6,6 +6,9 @@ _cfpp_add() {{
     local IFS=$'\\n'
     COMPREPLY+=($(compgen "$@" -- "${{COMP_WORDS[COMP_CWORD]}}"))
 }}
+_cfpp_add_words() {{
+    _cfpp_add -W "${{1// /$'\\n'}}"
+}}
 _cfpp_add_files() {{
     compopt -o filenames
     _cfpp_add -f
@@ -14,7 +17,7 @@ _cfpp() {{
     local commands="{commands}" operands= options= at=$((COMP_CWORD - 2)) last
     COMPREPLY=()
     if [ "$COMP_CWORD" -eq 1 ]; then
-        _cfpp_add -W "$commands"
+        _cfpp_add_words "$commands"
         return
     fi
     case ${{COMP_WORDS[1]}} in
@@ -32,11 +35,11 @@ _cfpp() {{
         --*) at=-1 ;;
     esac
     case ${{operands[at < 0 ? last + 1 : at]-}} in
-        "") _cfpp_add -W "$options" ;;
+        "") _cfpp_add_words "$options" ;;
         N) ;;
-        COMMAND) _cfpp_add -W "$commands" ;;
+        COMMAND) _cfpp_add_words "$commands" ;;
         LAYOUT)
-            _cfpp_add -W plain
+            _cfpp_add_words plain
             _cfpp_add_files
             ;;
         *) _cfpp_add_files ;;
@@ -100,7 +103,7 @@ def for_bash(table):
 def value_for_bash(command, name, taken):
     """What comes after an option that takes a value: one of some words, a number, or a file."""
     if taken[0].is_literal():
-        made = f'_cfpp_add -W "{" ".join(option.value for option in taken)}"; return'
+        made = f'_cfpp_add_words "{" ".join(option.value for option in taken)}"; return'
     else:
         made = "return" if taken[0].value == NUMBER else "_cfpp_add_files; return"
     return f'        "{command} {name}") {made} ;;'

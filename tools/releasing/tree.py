@@ -23,7 +23,7 @@ kit      {kit}
 object   {object_sum}, which the program was linked from
 program  {program_sum}, the file {library}/cfpp
 sources  {count} files, whose SHA-256 sums follow; in a checkout of the commit they are compared by
-         grep '^[0-9a-f]*  ' PROVED | sha256sum --quiet -c
+         grep '^[0-9a-f]\\{{64\\}}  ' PROVED | sha256sum --quiet -c
 
 """
 
