@@ -1,4 +1,4 @@
-/* The calls of the environment, as docs/FORMATS.md has them. A negative answer is an error, with Linux's number.
+/* The calls of the environment, as docs/MANUAL.md has them. A negative answer is an error, with Linux's number.
    A program with these alone runs under `cfpp` and under Linux, and so under qemu-riscv32. */
 #ifndef ENVIRONMENT_H
 #define ENVIRONMENT_H
