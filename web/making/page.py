@@ -11,13 +11,22 @@ from making.examples import examples
 WEB = pathlib.Path(__file__).resolve().parent.parent
 TOP = WEB.parent
 SOURCE = WEB / "src"
+LIBRARY = WEB / "library"
 PAGE = WEB / "cfpp.html"
 MAIN = "main"
 # Without the examples the page has at most so many bytes.
-MOST = 410_000
+MOST = 520_000
 
-IMPORT = re.compile(r'^import \{ (.*) \} from "\./(\w+)\.js";$', re.M)
+IMPORT = re.compile(r'^import \{ (.*) \} from "(?:\./|\.\./library/)(\w+)\.js";$', re.M)
 EXPORT = re.compile(r"^export (?:async )?(?:class|function|const) (\w+)", re.M)
+# What a bundled library exports, as `export{a as h}`.
+EXPORT_LIST = re.compile(r"export ?\{([^}]*)\};?\s*$")
+
+
+def text_of(name):
+    """The text of a module, of the page's own or of a library."""
+    file = SOURCE / f"{name}.js"
+    return (file if file.exists() else LIBRARY / f"{name}.js").read_text()
 
 
 def modules_in_order():
@@ -26,7 +35,7 @@ def modules_in_order():
 
     def visit(name):
         if name not in order:
-            for _, used in IMPORT.findall((SOURCE / f"{name}.js").read_text()):
+            for _, used in IMPORT.findall(text_of(name)):
                 visit(used)
             order.append(name)
 
@@ -36,8 +45,11 @@ def modules_in_order():
 
 def code_of(name):
     """A module as a constant that has what it exports, so that the names of two modules cannot clash."""
-    text = (SOURCE / f"{name}.js").read_text()
-    exported = ", ".join(EXPORT.findall(text))
+    text = text_of(name)
+    listed = EXPORT_LIST.search(text)
+    pairs = re.findall(r"(\w+) as (\w+)", listed.group(1)) if listed else [(it, it) for it in EXPORT.findall(text)]
+    exported = ", ".join(f"{shown}: {own}" for own, shown in pairs)
+    text = EXPORT_LIST.sub("", text)
     text = IMPORT.sub(lambda it: f"const {{ {it.group(1)} }} = {it.group(2)}Module;", text)
     text = re.sub(r"^export ", "", text, flags=re.M)
     return f"const {name}Module = (() => {{\n{text}return {{ {exported} }};\n}})();\n"
