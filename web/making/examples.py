@@ -10,6 +10,7 @@ TOP = WEB.parent
 RUN = re.compile(r"\./cfpp run (\S+) (\S+) --script (\S+)")
 CHECK = re.compile(r"\./cfpp check (\S+\.toml)")
 PRINTS = re.compile(r"# prints (\S+\.report)")
+FILE = re.compile(r"(?:\w+/)*(\w+)\.script\b")
 LESSON = re.compile(r"^## (Lesson \d+: .*)$")
 
 
@@ -27,7 +28,7 @@ def name_of(layout):
 def first_sentence(script):
     """What a script shows, by the comment at its head."""
     comment = " ".join(line[1:].strip() for line in (TOP / script).read_text().splitlines() if line.startswith("#"))
-    return comment.split(". ")[0].rstrip(".")
+    return FILE.sub(lambda it: it.group(1).replace("_", " "), comment.split(". ")[0].rstrip("."))
 
 
 def program_of(stem):

@@ -56,15 +56,16 @@ def code_of(name):
 
 
 def explanations():
-    """The tables of docs/ERRORS.md: by section and reason, why and what to do. A bar's own section is `Bars`."""
+    """The tables of docs/ERRORS.md: by section and reason, the placeholders, why and what to do. A bar's own section is `Bars`."""
     tables, section = {}, None
     for line in (TOP / "docs" / "ERRORS.md").read_text().splitlines():
         if line.startswith("## "):
             section = tables.setdefault(line[3:], {})
-        row = re.match(r"\| `(Text )?(\w+)[^|]*\| ([^|]*) \|(?: ([^|]*) \|)?", line)
+        row = re.match(r"\| `(Text )?(\w+)([^`|]*)`[^|]*\| ([^|]*) \|(?: ([^|]*) \|)?", line)
         if row and section is not None:
-            text, name, why, mend = row.groups()
-            section[f"Text_{name}" if text else name] = [why.strip(), (mend or "").strip()]
+            text, name, parts, why, mend = row.groups()
+            about = {"placeholders": parts.split(), "why": why.strip(), "mend": (mend or "").strip()}
+            section[f"Text_{name}" if text else name] = about
     return tables
 
 

@@ -18,15 +18,17 @@ function registerCell(view, x, y, at) {
 }
 
 function registerFile(view, geometry) {
-  const x = geometry.label.x + 4;
+  const { y, height, columns, heading, line } = geometry.file;
+  const x = geometry.isNarrow ? 4 : geometry.label.x + 4;
   const width = geometry.width - x - 6;
-  const column = (width - 16) / 8;
+  const rows = view.picture.registers.length / columns;
+  const column = (width - 10) / columns;
   const cells = view.picture.registers.map((_, at) =>
-    registerCell(view, x + 14 + Math.floor(at / 4) * column, 46 + (at % 4) * 19, at));
+    registerCell(view, x + 10 + Math.floor(at / rows) * column, y + heading + 10 + (at % rows) * line, at));
   return svg("g", { class: "register-file" },
-    svg("rect", { x, y: 4, width, height: 112, rx: 8, class: "frame" }),
-    svg("text", { x: x + 12, y: 24, class: "heading" }, "register file"),
-    svg("text", { x: x + width - 12, y: 24, class: "heading end" }, `${view.picture.retired} retired`),
+    svg("rect", { x, y, width, height, rx: 8, class: "frame" }),
+    svg("text", { x: x + 10, y: y + 19, class: "heading" }, "register file"),
+    svg("text", { x: x + width - 12, y: y + 19, class: "heading end" }, `${view.picture.retired} retired`),
     cells);
 }
 
@@ -35,17 +37,20 @@ function laneWords(shown, more) {
   return more > 0 ? `lane, and ${more} more` : "lane, next on the right";
 }
 
+const shortLaneWords = (shown, more) => (more > 0 ? `lane, ${more} more` : shown === 0 ? "lane: empty" : "lane");
+
 // The registers that were asked for: the rightmost is answered next.
 function lane(view, geometry) {
-  const y = 120;
+  const y = geometry.lane;
   const right = geometry.result.x + geometry.result.width;
   const emit = allowed(view, ["emit"]);
   const end = right - (emit.length > 0 ? chipWidth("emit") + 10 : 0);
-  const most = Math.floor((end - geometry.gap.x + 150) / 40);
+  const most = Math.floor((end - geometry.gap.x + (geometry.isNarrow ? 30 : 150)) / 40);
   const asked = view.picture.lane.slice(0, most);
   const more = view.picture.lane.length - asked.length;
+  const words = geometry.isNarrow ? shortLaneWords : laneWords;
   return svg("g", { class: "lane" },
-    svg("text", { x: geometry.instruction.x + 12, y: y + 22, class: "heading" }, laneWords(asked.length, more)),
+    svg("text", { x: geometry.instruction.x + 12, y: y + 22, class: "heading" }, words(asked.length, more)),
     asked.map((register, at) => [
       svg("rect", { x: end - 40 * (at + 1), y: y + 5, width: 36, height: 26, rx: 5, class: "request" }),
       svg("text", { x: end - 40 * (at + 1) + 18, y: y + 23, class: "code center" }, registerName(register)),
@@ -72,11 +77,13 @@ function sidingCell(view, at, cell, box) {
   const isLow = box.height < 40;
   const kind = operation ? `holds${operation.isAnswered ? " answered" : ""}` : "";
   const words = operation ? `: ${operation.text}${operation.isAnswered ? ", answered" : ""}` : " is empty";
-  const place = { x: box.x + box.width / 2, y: middle + (moves.length > 0 && !isLow ? -4 : 5) };
+  const fitting = moves.filter((move) => chipWidth(move) <= box.width);
+  const place = { x: box.x + box.width / 2, y: middle + (fitting.length > 0 && !isLow ? -4 : 5) };
+  const letters = Math.floor(box.width / 7);
   return svg("g", { class: `cell ${kind}`, role: "img", "aria-label": `siding ${at}, cell ${cell}${words}` },
     svg("rect", { ...box, rx: 5, class: "slot-of-cell" }),
-    operation && svg("text", { ...place, class: "code small center" }, cut(operation.text, 16)),
-    moves.map((move) => chip(move, box.x + box.width - chipWidth(move) - 2, isLow ? middle - 11 : middle + 2)));
+    operation && svg("text", { ...place, class: "code small center" }, cut(operation.text, letters)),
+    fitting.map((move) => chip(move, box.x + box.width - chipWidth(move) - 2, isLow ? middle - 11 : middle + 2)));
 }
 
 // Where a siding's cells stand: from where it launches, below, to where it recovers, above.
@@ -104,41 +111,39 @@ function siding(view, geometry, at) {
   const boxOf = (cell) => ({ x, width, y: from - gap - (cell + 1) * height + 1, height: height - 2 });
   const boxes = Array.from({ length: cells }, (_, cell) => boxOf(cell));
   return svg("g", { class: "siding" },
-    svg("text", { x: x + width / 2, y: to - 6, class: "units center" }, classes.join(" ")),
+    svg("text", { x: x + width / 2, y: to - 6, class: "units center" }, cut(classes.join(" "), Math.floor(width / 5.5))),
     boxes.map((box, cell) => sidingCell(view, at, cell, box)));
 }
 
+// The box below the stages: fetch with what it can issue. Where no cache stands beside it, it has all the width.
 function fetch(view, geometry) {
-  const { x, width } = geometry.instruction;
-  const y = geometry.bottom + 12;
+  const { x } = geometry.instruction;
+  const width = geometry.instruction.width + (geometry.isNarrow && !view.layout.hasCache ? geometry.gap.width + geometry.result.width : 0);
+  const y = geometry.bottom + 10;
   const at = view.picture.fetch;
   const words = at === "wait" ? "fetch waits for a turn" : `fetch ${at}`;
   const issues = allowed(view, ["issue next", "issue taken", "issue wait"]);
-  let right = x + 12;
+  const places = issues.map((_, before) => x + 12 + issues.slice(0, before).reduce((sum, move) => sum + chipWidth(move) + 8, 0));
   return svg("g", { class: "fetch" },
-    svg("rect", { x, y, width, height: 74, rx: 8, class: "frame" }),
-    svg("text", { x: x + 12, y: y + 22, class: "heading" }, words),
-    at !== "wait" && svg("text", { x: x + 150, y: y + 22, class: "code strong" }, view.texts.get(at) ?? ""),
-    issues.map((move) => {
-      const it = chip(move, right, y + 40);
-      right += chipWidth(move) + 8;
-      return it;
-    }));
+    svg("rect", { x, y, width, height: 60, rx: 8, class: "frame" }),
+    svg("text", { x: x + 12, y: y + 21, class: "heading" }, words),
+    at !== "wait" && width > 300 && svg("text", { x: x + 130, y: y + 21, class: "code strong" }, cut(view.texts.get(at) ?? "", (width - 140) / 8.5)),
+    issues.map((move, nth) => chip(move, places[nth], y + 31)));
 }
 
 function cache(view, geometry) {
   if (!view.layout.hasCache) return null;
   const { x, width } = geometry.result;
-  const y = geometry.bottom + 12;
+  const y = geometry.bottom + 10;
   const kept = view.picture.cache ?? [];
+  const columns = geometry.isNarrow ? 1 : 2;
   return svg("g", { class: "cache" },
-    svg("rect", { x, y, width, height: 74, rx: 8, class: "frame" }),
-    svg("text", { x: x + 12, y: y + 22, class: "heading" }, "cache"),
-    kept.slice(0, 6).map((binding, at) => {
-      const place = { x: x + 12 + (at % 2) * (width / 2 - 6), y: y + 40 + Math.floor(at / 2) * 14 };
+    svg("rect", { x, y, width, height: 60, rx: 8, class: "frame" }),
+    svg("text", { x: x + 12, y: y + 20, class: "heading" }, kept.length > 2 * columns ? `cache, and ${kept.length - 2 * columns} more` : "cache"),
+    kept.slice(0, 2 * columns).map((binding, at) => {
+      const place = { x: x + 12 + (at % columns) * (width / 2 - 6), y: y + 36 + Math.floor(at / columns) * 15 };
       return svg("text", { ...place, class: "code small" }, bindingText(binding));
-    }),
-    kept.length > 6 && svg("text", { x: x + width - 10, y: y + 22, class: "units" }, `and ${kept.length - 6} more`));
+    }));
 }
 
 function arrowHead() {
@@ -148,21 +153,21 @@ function arrowHead() {
 }
 
 // The size of the drawing and of its stages. Set anew it would have the browser look at the whole drawing again.
-function setSize(into, { width, height, row }, stages) {
-  const size = `0 0 ${width} ${height}`;
+function setSize(into, geometry) {
+  const size = `0 0 ${geometry.width} ${geometry.height}`;
+  into.classList.toggle("narrow", geometry.isNarrow);
   if (into.getAttribute("viewBox") === size) return;
   into.setAttribute("viewBox", size);
-  into.style.setProperty("--row", `${row}px`);
-  // The whole is to be seen at once, but no stage is to be lower than can be read.
-  into.style.setProperty("--least", `${240 + 28 * stages}px`);
+  into.style.setProperty("--row", `${geometry.row}px`);
+  into.style.height = `${geometry.height * geometry.scale}px`;
 }
 
 // Draws into the element. `view` has the layout, the picture and the one before it, the texts, the last move with the names of its
-// meeting, and the selected stage.
+// meeting, the selected stage, and the room that there is.
 export function draw(into, view) {
-  const geometry = geometryOf(view.layout);
+  const geometry = geometryOf(view.layout, view.room);
   const stages = Array.from({ length: view.layout.stages }, (_, above) => view.layout.stages - above);
-  setSize(into, geometry, view.layout.stages);
+  setSize(into, geometry);
   fill(into,
     arrowHead(),
     registerFile(view, geometry),

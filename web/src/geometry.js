@@ -1,14 +1,25 @@
-// Where everything stands in the drawing: columns from left to right, stages from the bottom up, in units of the drawing.
+// Where everything stands in the drawing: columns from left to right, stages from the bottom up. The drawing fills the room that it has:
+// its units are pixels where room is short, and else larger, so that what is written can be read from afar.
 
-const SIDING = 128;
-const LABEL = 112;
-const INSTRUCTION = 430;
-const GAP = 96;
-const RESULT = 240;
+// Widths of the columns, how the rest is shared between the pipes, and the register file's columns of registers.
+const WIDE = { siding: 128, label: 112, gap: 96, share: 0.62, fileColumns: 8, leastRow: 30 };
+const NARROW = { siding: 46, label: 26, gap: 52, share: 0.55, fileColumns: 4, leastRow: 48 };
+// A room of fewer pixels than these gets the narrow form.
+const NARROW_BELOW = 780;
+// The width of both pipes, and the height of a stage, from which on the drawing grows.
+const PIPES = 560;
+const ROW = 44;
+const MOST_ROW = 84;
+const MOST_SCALE = 2;
+
 const MARGIN = 6;
+const FILE_HEADING = 30;
+const FILE_LINE = 17;
+const LANE = 38;
+const BOTTOM = 76;
+const REGISTERS = 32;
 
-export const TOP = 160;
-const BOTTOM = 92;
+const bounded = (least, value, most) => Math.max(least, Math.min(most, value));
 
 // For each siding its column, from the right: the first one where nothing stands beside the same stages.
 function columnsOf(sidings) {
@@ -22,29 +33,52 @@ function columnsOf(sidings) {
   });
 }
 
-export function geometryOf(layout) {
-  const row = Math.max(31, Math.min(84, Math.floor(500 / layout.stages)));
+// The columns of the pipes in a drawing of so many units.
+function pipesOf(form, beside, width) {
+  const label = MARGIN + beside;
+  const instruction = label + form.label;
+  const rest = width - instruction - form.gap - MARGIN;
+  const first = Math.round(rest * form.share);
+  return {
+    label: { x: label, width: form.label },
+    instruction: { x: instruction, width: first },
+    gap: { x: instruction + first, width: form.gap },
+    result: { x: instruction + first + form.gap, width: rest - first },
+  };
+}
+
+// The least width that the wide form's columns need beside the pipes, and the height of what is above and below the stages.
+function around(form, beside) {
+  const file = FILE_HEADING + FILE_LINE * (REGISTERS / form.fileColumns);
+  return { width: 2 * MARGIN + beside + form.label + form.gap, file, top: MARGIN + file + LANE };
+}
+
+export function geometryOf(layout, room) {
+  const isNarrow = room.width < NARROW_BELOW;
+  const form = isNarrow ? NARROW : WIDE;
   const columns = columnsOf(layout.sidings);
   const count = 1 + Math.max(-1, ...columns);
-  const label = MARGIN + count * SIDING;
-  const instruction = label + LABEL;
-  const gap = instruction + INSTRUCTION;
-  const result = gap + GAP;
-  const bottom = TOP + layout.stages * row;
+  const { width: others, file, top } = around(form, count * form.siding);
+  const wanted = Math.min(room.width / (others + PIPES), room.height / (top + BOTTOM + ROW * layout.stages));
+  const scale = isNarrow ? 1 : bounded(1, wanted, MOST_SCALE);
+  const row = Math.floor(bounded(form.leastRow, (room.height / scale - top - BOTTOM) / layout.stages, MOST_ROW));
+  const bottom = top + layout.stages * row;
   return {
+    ...pipesOf(form, count * form.siding, room.width / scale),
+    isNarrow,
+    scale,
     row,
     // Whether a stage has room for one line or for two.
-    lines: row >= 44 ? 2 : 1,
-    siding: (at) => MARGIN + (count - 1 - columns[at]) * SIDING,
-    sidingWidth: SIDING - 14,
-    label: { x: label, width: LABEL },
-    instruction: { x: instruction, width: INSTRUCTION },
-    gap: { x: gap, width: GAP },
-    result: { x: result, width: RESULT },
+    lines: row >= ROW ? 2 : 1,
+    siding: (at) => MARGIN + (count - 1 - columns[at]) * form.siding,
+    sidingWidth: form.siding - (isNarrow ? 8 : 14),
+    file: { y: MARGIN - 2, height: file, columns: form.fileColumns, heading: FILE_HEADING, line: FILE_LINE },
+    lane: MARGIN + file,
+    top,
     bottom,
-    width: result + RESULT + MARGIN,
+    width: room.width / scale,
     height: bottom + BOTTOM,
     // Where the box of a stage begins.
-    y: (stage) => TOP + (layout.stages - stage) * row,
+    y: (stage) => top + (layout.stages - stage) * row,
   };
 }

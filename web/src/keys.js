@@ -15,6 +15,7 @@ const OTHER_KEYS = [
   ["space", "play, stop"],
   ["Home", "take all moves back"],
   ["End", "all moves again that were taken back"],
+  ["b", "back to the script, where moves of your own left it"],
   ["↑ ↓", "choose a stage"],
   ["Enter", "the move of the chosen stage, where it has just one"],
   ["?", "these keys"],
@@ -26,14 +27,16 @@ export function showKeys() {
   fill(byId("key-list"), rows);
 }
 
-function isTyping(target) {
-  return ["INPUT", "TEXTAREA", "SELECT"].includes(target.tagName) || document.querySelector("dialog[open]") !== null;
+// In a choice the arrows left and right are the page's: those up and down choose.
+function isTyping({ target, key }) {
+  const isChoosing = target.tagName === "SELECT" && key !== "ArrowRight" && key !== "ArrowLeft";
+  return isChoosing || ["INPUT", "TEXTAREA"].includes(target.tagName) || document.querySelector("dialog[open]") !== null;
 }
 
 // Calls the action of each key. An element that takes typing, or a key with control or alt, is left alone.
 export function listenToKeys(actions) {
   document.addEventListener("keydown", (event) => {
-    if (event.ctrlKey || event.altKey || event.metaKey || isTyping(event.target)) return;
+    if (event.ctrlKey || event.altKey || event.metaKey || isTyping(event)) return;
     const isButton = ["BUTTON", "A", "SUMMARY"].includes(event.target.tagName) && (event.key === " " || event.key === "Enter");
     const name = event.shiftKey && event.key === "ArrowRight" ? "again" : event.key;
     const action = actions[name] ?? (MOVE_KEYS[name] && (() => actions.move(MOVE_KEYS[name])));

@@ -30,3 +30,9 @@ export function stageOf(move) {
 export function movesOfStage(stage) {
   return ["meet", "execute", "send", "launch", "recover", "climb", "fall"].map((kind) => `${kind} ${stage}`);
 }
+
+// The stage that is chosen after a move: who goes on from the chosen one takes the choice along.
+export function chosenAfter(chosen, move) {
+  if (stageOf(move) !== chosen) return chosen;
+  return chosen + ({ climb: 1, fall: -1 }[kindOf(move)] ?? 0);
+}

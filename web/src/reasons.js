@@ -1,13 +1,29 @@
-// Explains a bar or a refusal in the words of docs/ERRORS.md.
+// Explains a bar or a refusal in the words of docs/ERRORS.md, whose placeholders get what the program reported.
+
+import { registerName } from "./values.js";
+
+const isRegister = (part) => /^x\d\d$/.test(part);
+
+// A row's words with what stands for each of its placeholders. A remark on a placeholder itself says nothing once that is filled in.
+export function filled(words, placeholders, parts) {
+  const bare = words.replace(/ \([A-Z] is \d+\)/g, "");
+  return placeholders.reduce((text, placeholder, at) => {
+    const part = parts[at];
+    if (part === undefined) return text;
+    return text.replace(new RegExp(`\\b${placeholder}\\b`, "g"), isRegister(part) ? registerName(part) : part);
+  }, bare);
+}
 
 export class Reasons {
   constructor(tables) {
     this.tables = tables;
   }
 
-  // The row of a table by the first word of a reason.
+  // Why, and what to do, of the row of a table for a reason; or null.
   row(table, reason) {
-    return this.tables[table]?.[reason.split(" ")[0]] ?? null;
+    const [name, ...parts] = reason.split(" ");
+    const row = this.tables[table]?.[name];
+    return row ? [filled(row.why, row.placeholders, parts), filled(row.mend, row.placeholders, parts)] : null;
   }
 
   // Why a move cannot be made, as `SourceMissing x01: ..`.

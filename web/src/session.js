@@ -1,6 +1,7 @@
 // What the page works on: a layout, a program with its input, and the script of the moves made so far. The script is all the state
 // that there is: each picture is the program's answer to it.
 
+import { common, isOn, restOf } from "./course.js";
 import { candidates, issuesAfter } from "./schedule.js";
 
 export class Session {
@@ -11,6 +12,8 @@ export class Session {
     this.bytes = new Uint8Array();
     this.input = new Uint8Array();
     this.texts = new Map();
+    // The steps of the script that was loaded, those made, and those taken back, the next one last.
+    this.course = [];
     this.steps = [];
     this.undone = [];
   }
@@ -22,12 +25,6 @@ export class Session {
 
   get script() {
     return this.scriptOf(this.steps);
-  }
-
-  start() {
-    this.steps = [];
-    this.undone = [];
-    return this.see();
   }
 
   // Asks the program where the script leads.
@@ -50,11 +47,34 @@ export class Session {
     return null;
   }
 
-  // Makes a move of its own choice, and forgets the moves that were taken back.
+  // Makes a move of one's own choice. Where it is the next one it goes on with those that are left; else these are forgotten, but for the
+  // course's, where it leads there.
   choose(move) {
+    if (this.undone.at(-1)?.move === move) return this.again();
     const refused = this.make(move);
-    if (!refused) this.undone = [];
+    if (!refused) this.forget();
     return refused;
+  }
+
+  // Forgets the moves that were taken back, but for the course's.
+  forget() {
+    this.undone = restOf(this.steps, this.course);
+  }
+
+  get isOnCourse() {
+    return isOn([...this.steps, ...[...this.undone].reverse()], this.course);
+  }
+
+  // Whether moves were made in place of the course's.
+  get isBranch() {
+    return common(this.steps, this.course) < Math.min(this.steps.length, this.course.length);
+  }
+
+  // Takes back all behind the place where the course was left.
+  rejoin() {
+    this.steps = this.course.slice(0, common(this.steps, this.course));
+    this.undone = restOf(this.steps, this.course);
+    this.see();
   }
 
   // The move that a schedule chooses next, if there is any.
@@ -87,9 +107,10 @@ export class Session {
 
   // Takes a script in place of the moves so far; none of its moves is made yet.
   load(text) {
-    this.steps = readSteps(text);
-    this.undone = [];
-    this.rewind();
+    this.course = readSteps(text);
+    this.steps = [];
+    this.undone = [...this.course].reverse();
+    this.see();
   }
 
   // Makes all moves again that were taken back, up to the first that is barred.

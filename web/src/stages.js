@@ -15,7 +15,9 @@ const LABELS = {
 // Widths of letters, of the moves and of the two sizes of code, and the height of a move.
 const LETTER = 7.6;
 const CODE_STRONG = 8.5;
+const CODE = 7.9;
 const CODE_SMALL = 7;
+const CODE_NARROW = 7.3;
 const CHIP = 22;
 
 export function chipWidth(move) {
@@ -100,23 +102,36 @@ function passengerLines(view, box, passenger, moves) {
   return [
     svg("text", { x: box.x + 16, y: first, class: "code strong" }, text),
     svg("text", { x: box.x + box.width - 10, y: first, class: "flag" }, flag),
-    svg("text", { x: box.x + 16, y: second, class: "code" }, cut(bindingsText(passenger), 51)),
+    svg("text", { x: box.x + 16, y: second, class: "code" }, cut(bindingsText(passenger), Math.floor((box.width - 24) / CODE))),
   ];
+}
+
+// An instruction in a narrow drawing: its text, and below it its moves, or what it takes, gives and owes.
+function passengerNarrow(view, box, passenger, moves) {
+  const letters = Math.floor((box.width - 14) / CODE_NARROW);
+  return [
+    svg("text", { x: box.x + 11, y: box.y + 17, class: "code strong" }, cut(instructionText(view.texts, passenger.address), letters)),
+    moves.length === 0 && svg("text", { x: box.x + 11, y: box.y + 35, class: "code small" }, cut(bindingsText(passenger), letters)),
+    chipsTo(box.x + box.width - 4, box.y + box.height - CHIP - 2, moves),
+  ];
+}
+
+function passengerWide(view, geometry, box, passenger, moves) {
+  const isTwo = geometry.lines === 2;
+  const words = isTwo ? passengerLines(view, box, passenger, moves) : passengerLine(view, box, passenger, moves);
+  const right = box.x + box.width - (isTwo ? flagText(passenger).length * 9 + 22 : 6);
+  const middle = isTwo ? box.y + box.height * 0.31 : box.y + box.height / 2;
+  return [words, chipsTo(right, middle - CHIP / 2, moves)];
 }
 
 function passengerBox(view, geometry, stage, passenger, moves) {
   const { x, width } = geometry.instruction;
   const box = { x, width, y: geometry.y(stage) + 2, height: geometry.row - 4 };
-  const isWide = geometry.lines === 2;
-  const words = isWide ? passengerLines(view, box, passenger, moves) : passengerLine(view, box, passenger, moves);
-  const right = isWide ? x + width - flagText(passenger).length * 9 - 22 : x + width - 6;
-  const middle = isWide ? box.y + box.height * 0.31 : box.y + box.height / 2;
   return [
     svg("title", {}, passenger.address),
     svg("rect", { ...box, rx: 6, class: "box" }),
     svg("rect", { ...box, width: 7, rx: 3, class: "edge" }),
-    words,
-    chipsTo(right, middle - CHIP / 2, moves),
+    geometry.isNarrow ? passengerNarrow(view, box, passenger, moves) : passengerWide(view, geometry, box, passenger, moves),
   ];
 }
 
@@ -125,10 +140,12 @@ function packetBox(geometry, stage, packet, moves) {
   const height = Math.min(geometry.row - 4, 54);
   const y = geometry.y(stage) + (geometry.row - height) / 2;
   const middle = y + height / 2;
+  const left = x + (geometry.isNarrow ? 9 : 18);
+  const line = geometry.isNarrow && moves.length > 0 ? y + 17 : middle + 5;
   return [
-    svg("rect", { x, y, width, height, rx: height / 2, class: "box" }),
-    svg("text", { x: x + 18, y: middle + 5, class: "code strong" }, packetText(packet)),
-    ...chipsTo(x + width - 8, middle - CHIP / 2, moves),
+    svg("rect", { x, y, width, height, rx: geometry.isNarrow ? 10 : height / 2, class: "box" }),
+    svg("text", { x: left, y: line, class: "code strong" }, packetText(packet)),
+    ...chipsTo(x + width - 8, geometry.isNarrow ? y + height - CHIP - 2 : middle - CHIP / 2, moves),
   ];
 }
 
@@ -160,11 +177,12 @@ function wrapped(words, letters) {
 // The stage's number, with what its units execute.
 function labelOf(view, geometry, stage) {
   const { x, width } = geometry.label;
-  const right = x + width - 12;
+  const right = x + width - (geometry.isNarrow ? 6 : 12);
   const y = geometry.y(stage);
   const units = unitsOf(view.layout, stage);
   const touched = view.last !== null && stageOf(view.last) === stage ? " changed" : "";
   const number = (at) => svg("text", { x: right, y: at, class: `stage-number${touched}` }, String(stage));
+  if (geometry.isNarrow) return number(y + geometry.row / 2 + 6);
   if (geometry.lines === 1) {
     const short = units.length === 1 ? units[0] : units.map((unit) => unit.slice(0, 3)).join(" ");
     return [number(y + geometry.row / 2 + 6), svg("text", { x: right - 30, y: y + geometry.row / 2 + 5, class: "units" }, cut(short, 11))];

@@ -58,7 +58,7 @@ const WORDS = {
   launch({ after, stage, was }) {
     const is = after.stages.get(stage).passenger;
     if (is.flag === "trap") return `${was} traps: memory does not permit it. It owes a halt, and ends the program at the top.`;
-    return `${was} leaves its operation in the siding, and climbs on beside it.`;
+    return `${was} leaves its operation in the siding, and may climb on beside it.`;
   },
   slide: ({ move, before, textAt }) => {
     const [, siding, cell] = move.split(" ").map(Number);

@@ -4,78 +4,17 @@
 
 import fs from "node:fs";
 import path from "node:path";
-import { pathToFileURL } from "node:url";
-import { Browser } from "./browser.mjs";
-import { Native, TOP, scriptsOfPage } from "./native.mjs";
+import { ADDRESS, WALL, browser, check, choose, click, counts, evaluate, movesOfRun, native, playScript, press, put, script, textOf, valueOf } from "./drive.mjs";
+import { mended } from "./mended.mjs";
+import { TOP, scriptsOfPage } from "./native.mjs";
 
 const [PICTURES, ...ONLY] = process.argv.slice(2);
-const ADDRESS = pathToFileURL(path.join(TOP, "web/cfpp.html")).href;
-const PROJECTOR = { width: 1920, height: 1080 };
 
 const read = (name) => fs.readFileSync(path.join(TOP, name), "utf8");
 const withoutRetired = (report) => report.replace(/^(retire|allowed|barred(?! at line)) .*\n/gm, "");
-const movesOf = (script) => script.split("\n").filter((line) => line && !line.startsWith("#"));
-
-let passed = 0;
-let failed = 0;
-
-function check(what, isRight, told = "") {
-  if (isRight) passed += 1;
-  else {
-    failed += 1;
-    console.log(`failed: ${what} ${told}`);
-  }
-}
-
-const browser = new Browser("chromium");
-const native = new Native();
-
-// What the page shows, and what is done to it.
-const textOf = (id) => browser.evaluate(`document.getElementById(${JSON.stringify(id)}).textContent`);
-const valueOf = (id) => browser.evaluate(`document.getElementById(${JSON.stringify(id)}).value`);
-const click = (id) => browser.evaluate(`document.getElementById(${JSON.stringify(id)}).click()`);
-const script = async () => movesOf(await valueOf("script"));
-
-function put(id, value, event) {
-  return browser.evaluate(`(() => {
-    const it = document.getElementById(${JSON.stringify(id)});
-    it.value = ${JSON.stringify(value)};
-    it.dispatchEvent(new Event(${JSON.stringify(event)}));
-  })()`);
-}
-
-async function choose(title) {
-  const isIt = `(option) => option.text.startsWith(${JSON.stringify(title)})`;
-  const value = await browser.evaluate(`[...document.getElementById("example").options].find(${isIt}).value`);
-  await put("example", value, "change");
-}
-
-async function press(...keys) {
-  for (const key of keys) await browser.press(key);
-}
 
 async function picture(name) {
   if (PICTURES) await browser.picture(path.join(PICTURES, `${name}.png`));
-}
-
-// The moves that the native program makes.
-function movesOfRun(layout, program, options) {
-  const { report } = native.call(["run", layout, path.join(TOP, program), "--show", "moves", ...options]);
-  return [...report.toString().matchAll(/^move \d+ (.*)$/gm)].map(([, move]) => move);
-}
-
-// Loads a script, as from a file, and makes all its moves.
-async function playScript(moves) {
-  const text = JSON.stringify(moves.map((move) => `${move}\n`).join(""));
-  await browser.evaluate(`(() => {
-    const files = new DataTransfer();
-    files.items.add(new File([${text}], "s"));
-    const it = document.getElementById("script-file");
-    it.files = files.files;
-    it.dispatchEvent(new Event("change"));
-  })()`);
-  await browser.until("document.getElementById('told').textContent.includes('is ready')");
-  await click("forward");
 }
 
 async function lesson() {
@@ -128,15 +67,15 @@ async function byHand() {
   await press("o", "ArrowDown", "c", "v");
   check("keys alone retire an instruction", (await textOf("progress")).includes("1 of 2"), await textOf("progress"));
   check("and the two agree", (await textOf("agreement")).includes("1 of 1 lines are the same"));
-  await browser.evaluate("(() => { const it = document.querySelector('#moves button'); it.focus(); it.click(); })()");
-  check("the keys stay in the list of moves", await browser.evaluate("document.activeElement.closest('#moves') !== null"));
+  await evaluate("(() => { const it = document.querySelector('#moves button'); it.focus(); it.click(); })()");
+  check("the keys stay in the list of moves", await evaluate("document.activeElement.closest('#moves') !== null"));
 }
 
 async function schedules() {
   await choose("seven");
   const played = async (options) => {
     await click("rewind");
-    await browser.evaluate(`(() => {
+    await evaluate(`(() => {
       const step = document.getElementById("step");
       for (let at = 0; at < 2000 && !step.disabled; at += 1) step.click();
     })()`);
@@ -165,7 +104,7 @@ async function anyOrder() {
 async function editors() {
   await click("edit");
   await put("source", "        li a0, 7\n        foo x1\n", "input");
-  const marked = await browser.evaluate("document.querySelector('#source-lines .bad').textContent");
+  const marked = await evaluate("document.querySelector('#source-lines .bad').textContent");
   check("the line of the first fault is marked", marked.trim() === "2");
   const fault = await textOf("source-fault");
   check("the fault is explained", fault.includes("no instruction, directive or label has this form"), fault);
@@ -177,7 +116,7 @@ async function editors() {
   check("a layout's fault is explained", refusal.includes("a pipeline has 2 to 32 stages"), refusal);
   await put("toml", read("examples/layouts/cached.toml"), "input");
   await click("use-toml");
-  check("a layout of one's own is drawn", (await browser.evaluate("document.querySelectorAll('#drawing .stage').length")) === 2);
+  check("a layout of one's own is drawn", (await evaluate("document.querySelectorAll('#drawing .stage').length")) === 2);
   await click("edit");
 }
 
@@ -187,10 +126,10 @@ async function links() {
   const moves = (await script()).join();
   await click("share");
   await browser.until("location.hash.startsWith('#cfpp1.')");
-  const link = await browser.evaluate("location.href");
-  await browser.open(link, PROJECTOR);
+  const link = await evaluate("location.href");
+  await browser.open(link, WALL);
   check("a link brings the moves", (await script()).join() === moves && moves.split(",").length === 3, moves);
-  await browser.open(`${ADDRESS}#cfpp1.AAAA`, PROJECTOR);
+  await browser.open(`${ADDRESS}#cfpp1.AAAA`, WALL);
   check("a bad link is told", (await textOf("loaded")).includes("cannot be read"));
   await put("input", "x".repeat(1 << 20), "input");
   await click("use-input");
@@ -204,8 +143,8 @@ async function hostile() {
   await put("source", `${text}\n`, "input");
   await put("toml", `format = 1\n"${text}" = 1\n`, "input");
   await put("move-line", text, "input");
-  await browser.evaluate("document.getElementById('own-move').requestSubmit()");
-  check("nothing typed becomes HTML", await browser.evaluate("document.images.length === 0 && document.title === 'Counterflow pipeline'"));
+  await evaluate("document.getElementById('own-move').requestSubmit()");
+  check("nothing typed becomes HTML", await evaluate("document.images.length === 0 && document.title === 'Counterflow pipeline'"));
   check("no message takes it as HTML", (await textOf("why")).includes("<img"), await textOf("why"));
   await click("edit");
 }
@@ -237,7 +176,7 @@ async function speed() {
   fs.writeFileSync(path.join(native.folder, "deep.toml"), DEEP);
   const moves = movesOfRun("deep.toml", "examples/sorted.bin", ["--limit", "60"]).slice(0, 2000);
   await playScript(moves);
-  const times = await browser.evaluate(`(() => {
+  const times = await evaluate(`(() => {
     const times = [];
     for (let at = 0; at < 40; at += 1) {
       const begun = performance.now();
@@ -270,7 +209,7 @@ async function opening() {
   const times = [];
   for (let at = 0; at < 3; at += 1) {
     const begun = Date.now();
-    await browser.open(ADDRESS, PROJECTOR);
+    await browser.open(ADDRESS, WALL);
     times.push(Date.now() - begun);
   }
   console.log(`the page opens in ${Math.min(...times)} ms`);
@@ -279,7 +218,7 @@ async function opening() {
 
 async function looks() {
   for (const dark of [false, true]) {
-    await browser.open(ADDRESS, { ...PROJECTOR, dark });
+    await browser.open(ADDRESS, { ...WALL, dark });
     await press("ArrowRight", "ArrowRight", "ArrowRight", "ArrowRight", "ArrowRight");
     await picture(`garnering-${dark ? "dark" : "light"}`);
     await choose("sorted");
@@ -290,10 +229,10 @@ async function looks() {
 }
 
 try {
-  await browser.open(ADDRESS, PROJECTOR);
-  await browser.evaluate("document.getElementById('report-details').open = true");
-  check("the page runs", (await browser.evaluate("document.body.dataset.ready")) === "yes", await textOf("told"));
-  for (const part of [lesson, backAndForth, lessons, byHand, schedules, anyOrder, editors, links, hostile, speed, playing, opening, looks]) {
+  await browser.open(ADDRESS, WALL);
+  await evaluate("document.getElementById('report-details').open = true");
+  check("the page runs", (await evaluate("document.body.dataset.ready")) === "yes", await textOf("told"));
+  for (const part of [lesson, backAndForth, lessons, byHand, schedules, anyOrder, editors, links, hostile, speed, playing, opening, looks, ...mended]) {
     if (ONLY.length === 0 || ONLY.includes(part.name)) await part();
   }
   const faults = browser.faults(ADDRESS);
@@ -302,5 +241,5 @@ try {
   native.end();
   await browser.close();
 }
-console.log(`page: ${passed} passed, ${failed} failed`);
-process.exitCode = failed === 0 ? 0 : 1;
+console.log(`page: ${counts.passed} passed, ${counts.failed} failed`);
+process.exitCode = counts.failed === 0 ? 0 : 1;

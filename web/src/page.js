@@ -1,0 +1,255 @@
+// The page's one state and what can be done with it: the session, the stage that is chosen, and why a move could not be made.
+
+import { captionOf } from "./captions.js";
+import { OWN } from "./choices.js";
+import { examples, explanations, fromBase64 } from "./data.js";
+import { draw } from "./drawing.js";
+import { byId, fill, html, sentence } from "./element.js";
+import { Editors } from "./editors.js";
+import { memorySiding } from "./layout.js";
+import { chosenAfter } from "./moves.js";
+import { AnyOrder } from "./orders.js";
+import { showBarred, showMachine, showMoves, showReport, showScript, showStage, showWritten } from "./panels.js";
+import { Player } from "./player.js";
+import { Program, bytesOf, text } from "./program.js";
+import { Reasons } from "./reasons.js";
+import { roomOfDrawing } from "./room.js";
+import { ByRule, BySeed } from "./schedule.js";
+import { Session } from "./session.js";
+import { Simulator } from "./simulator.js";
+import { allowedAt } from "./stages.js";
+import { namesOfMeeting, told } from "./telling.js";
+
+// The sequential machine and the random orders go no further than this many retired instructions.
+const LIMIT = 10000;
+
+export class Page {
+  constructor(bytes) {
+    this.simulator = new Simulator(new Program(bytes));
+    this.session = new Session(this.simulator);
+    this.reasons = new Reasons(explanations());
+    this.examples = examples();
+    this.editors = new Editors(this.simulator, this.reasons);
+    this.orders = new AnyOrder(this.simulator, LIMIT);
+    this.player = new Player(() => this.advance(), () => this.show());
+    this.selected = 1;
+    // Why the last move that was asked for could not be made.
+    this.why = "";
+    this.room = { width: 900, height: 600 };
+  }
+
+  // What is drawn.
+
+  get view() {
+    const { layout, picture, before, texts, last } = this.session;
+    const names = last && before ? namesOfMeeting(last.move, before, picture) : [];
+    return { layout, picture, before, texts, last: last?.move ?? null, names, selected: this.selected, room: this.room };
+  }
+
+  show() {
+    const view = this.view;
+    const hadFocus = byId("drawing").contains(document.activeElement);
+    byId("drawing").classList.toggle("still", this.player.isFast);
+    draw(byId("drawing"), view);
+    if (hadFocus) byId("drawing").querySelector(".selected").focus();
+    this.tell(view);
+    showMoves(view.picture);
+    showStage(view);
+    showBarred(view.picture, this.reasons);
+    showMachine(view, this.machine);
+    showWritten(view.picture);
+    showScript(this.session);
+    showReport(view.picture);
+    byId("back").disabled = byId("rewind").disabled = this.session.steps.length === 0;
+    byId("again").disabled = byId("forward").disabled = this.session.undone.length === 0;
+    byId("step").disabled = view.picture.allowed.length === 0 && this.session.undone.length === 0;
+  }
+
+  // The drawing's room has changed.
+  resize() {
+    this.room = roomOfDrawing();
+    this.show();
+  }
+
+  tell(view) {
+    const { last, undone, isBranch } = this.session;
+    fill(byId("notes"), captionOf((last ?? undone.at(-1))?.notes ?? []));
+    fill(byId("told"), last ? this.wordsOfLast(view) : this.wordsAtStart());
+    const { first } = view.picture;
+    fill(byId("ending"), first.startsWith("script end") ? "" : `The run has ended: ${first}.`);
+    fill(byId("why"), sentence(this.why));
+    byId("branch").hidden = !isBranch;
+  }
+
+  wordsOfLast({ before, picture, texts, layout, last }) {
+    const words = told(last, before, picture, texts, memorySiding(layout));
+    return [`${this.session.steps.length}. `, html("b", {}, last), " ", sentence(words)];
+  }
+
+  wordsAtStart() {
+    const count = this.session.undone.length;
+    if (count > 0) return `A script of ${count} moves is ready: → makes them one by one.`;
+    return "Nothing has happened yet. Make a move: click on it, or press →.";
+  }
+
+  // What is done.
+
+  // Whether a move was made: keeps why not, where it was refused.
+  took(move, refused) {
+    const reason = refused && (refused.kind === "bar" ? this.reasons.bar(refused.reason) : this.reasons.refusal("Scripts", refused.reason));
+    this.why = refused ? `\`${move}\` cannot be made. ${reason}` : "";
+    return !refused;
+  }
+
+  make(move) {
+    const isMade = this.took(move, this.session.choose(move));
+    if (isMade) this.selected = chosenAfter(this.selected, move);
+    this.show();
+    return isMade;
+  }
+
+  get schedule() {
+    if (byId("schedule").value !== "seed") return new ByRule(this.session.layout);
+    const seed = Math.min(4294967295, Math.max(0, Math.floor(Number(byId("seed").value) || 0)));
+    if (this.seeded?.seed !== BigInt(seed)) this.seeded = new BySeed(seed);
+    return this.seeded;
+  }
+
+  // Takes another schedule, or another seed: what the one before had chosen is forgotten.
+  reschedule() {
+    byId("seed").disabled = byId("schedule").value !== "seed";
+    this.change((session) => session.forget());
+  }
+
+  // Whether the next step makes the move again that was taken back last. The script's moves come where the script is chosen.
+  get replays() {
+    const { undone, isOnCourse } = this.session;
+    return undone.length > 0 && (byId("schedule").value === "script" || !isOnCourse);
+  }
+
+  // Makes one move, of those that were taken back the last, or else what the schedule chooses. Whether it was made.
+  advance() {
+    const step = this.session.undone.at(-1);
+    if (this.replays) return this.took(step.move, this.session.again());
+    const move = this.session.chosenBy(this.schedule);
+    return move !== null && this.took(move, this.session.choose(move));
+  }
+
+  step() {
+    this.advance();
+    this.show();
+  }
+
+  // Makes the move again that was taken back last, whatever the schedule.
+  again() {
+    const step = this.session.undone.at(-1);
+    if (step) this.took(step.move, this.session.again());
+    this.show();
+  }
+
+  // Changes the moves that are made; nothing that was refused before counts any more.
+  change(how) {
+    this.player.stop();
+    this.why = "";
+    how(this.session);
+    this.show();
+  }
+
+  forward() {
+    this.change((session) => {
+      session.forward();
+      // What is left begins with a move that cannot be made.
+      const step = session.undone.at(-1);
+      if (step) this.took(step.move, session.again());
+    });
+  }
+
+  // Back to the script, where it was left.
+  rejoin() {
+    if (this.session.isBranch) this.change((session) => session.rejoin());
+  }
+
+  back() {
+    this.change((session) => session.back());
+  }
+
+  rewind() {
+    this.change((session) => session.rewind());
+  }
+
+  // A click on a part of a stage, or Enter on the stage: its one move, or else the stage is chosen, with all its moves beside.
+  touch(stage, side) {
+    const moves = allowedAt(this.view, stage);
+    const possible = side ? moves[side] : [...moves.meeting, ...moves.passenger, ...moves.packet];
+    this.selected = stage;
+    if (possible.length === 1) this.make(possible[0]);
+    else this.select(stage);
+  }
+
+  select(stage) {
+    this.selected = Math.max(1, Math.min(this.session.layout.stages, stage));
+    this.why = "";
+    this.show();
+  }
+
+  moveByKey(pattern) {
+    const move = pattern.replace("#", this.selected);
+    const found = move === "slide" ? this.session.picture.allowed.find((one) => one.startsWith("slide")) ?? "slide 0 0" : move;
+    this.make(found);
+  }
+
+  // What is worked on.
+
+  // Takes a layout, a program and its input, with a script that is to be played.
+  open({ layout, bytes, input, script, name }) {
+    this.player.stop();
+    this.orders.clear();
+    const listed = this.simulator.list(bytes);
+    Object.assign(this.session, { layout, bytes, input, texts: listed.texts ?? new Map() });
+    this.machine = this.simulator.machine(this.session, LIMIT);
+    this.selected = 1;
+    const [, problem] = /^bad program: (.*)$/.exec(this.machine.first) ?? [];
+    byId("loaded").textContent = problem ? `No program: ${this.reasons.refusal("Programs", problem)}` : name;
+    byId("input").value = text(input);
+    this.load(script);
+  }
+
+  // Takes a script that is to be played.
+  load(script) {
+    this.change((session) => session.load(script));
+    this.offerScript();
+  }
+
+  // The script is one of the schedules, where there is one.
+  offerScript() {
+    const hasScript = this.session.course.length > 0;
+    byId("by-script").hidden = byId("by-script").disabled = !hasScript;
+    if (hasScript) byId("schedule").value = "script";
+    else if (byId("schedule").value === "script" || byId("schedule").value === "") byId("schedule").value = "rule";
+    byId("seed").disabled = byId("schedule").value !== "seed";
+    this.show();
+  }
+
+  openExample(example) {
+    byId("layout").value = this.layoutChoice = example.layout ?? "plain";
+    this.editors.fill(example.source ?? "", this.examples.layouts[this.layoutChoice]);
+    const bytes = example.image ? fromBase64(example.image) : this.editors.checkSource();
+    this.open({ layout: this.editors.checkLayout(), bytes, input: bytesOf(example.input ?? ""), script: example.script ?? "", name: "" });
+  }
+
+  // Takes the layout that the editor has, if it is one. The choice names the processor that is drawn.
+  openLayout(choice, name) {
+    const layout = this.editors.checkLayout();
+    if (layout) {
+      this.reopen({ layout, name });
+      this.layoutChoice = choice;
+    } else byId("loaded").textContent = `${choice} is no processor, and the one before stays. ${byId("toml-fault").textContent}`;
+    byId("layout").value = this.layoutChoice;
+  }
+
+  reopen(changes) {
+    const { layout, bytes, input } = this.session;
+    if (changes.bytes) byId("example").value = OWN;
+    this.open({ layout, bytes, input, script: "", name: "", ...changes });
+  }
+}

@@ -1,0 +1,64 @@
+// Tests of what the page works out from plain values, without a browser or the program: `node --test web/tests`.
+
+import assert from "node:assert/strict";
+import test from "node:test";
+import { captionOf } from "../src/captions.js";
+import { common, isOn, restOf } from "../src/course.js";
+import { geometryOf } from "../src/geometry.js";
+import { chosenAfter } from "../src/moves.js";
+import { Reasons } from "../src/reasons.js";
+
+const stepsOf = (text) => text.split(" ").map((move) => ({ move }));
+const movesOf = (steps) => steps.map(({ move }) => move).join(" ");
+
+test("moves follow a course, leave it, and go beyond its end", () => {
+  const course = stepsOf("a b c");
+  assert.equal(common(stepsOf("a b"), course), 2);
+  assert.equal(common(stepsOf("a x c"), course), 1);
+  assert.equal(common(stepsOf("a b c d"), course), 3);
+  assert.equal(isOn(stepsOf("a b"), course), true);
+  assert.equal(isOn(stepsOf("b"), course), false);
+  assert.equal(isOn([], []), false);
+  assert.equal(movesOf(restOf(stepsOf("a"), course)), "c b");
+  assert.equal(movesOf(restOf(stepsOf("x"), course)), "");
+});
+
+test("the choice goes along with what climbs or falls from it", () => {
+  assert.equal(chosenAfter(2, "climb 2"), 3);
+  assert.equal(chosenAfter(2, "fall 2"), 1);
+  assert.equal(chosenAfter(2, "climb 1"), 2);
+  assert.equal(chosenAfter(2, "launch 2"), 2);
+});
+
+test("placeholders get what was reported", () => {
+  const reasons = new Reasons({
+    Bars: { SourceMissing: { placeholders: ["xRR"], why: "waits for xRR", mend: "" } },
+    Layouts: { ControlAboveMemory: { placeholders: ["C", "S", "L"], why: "stage S above L", mend: "at or below L" } },
+    Programs: { TooShort: { placeholders: ["N"], why: "under 52 bytes (N is 0), or at offset N", mend: "" } },
+  });
+  assert.equal(reasons.bar("SourceMissing x07"), "SourceMissing x07: waits for x7.");
+  assert.equal(reasons.refusal("Layouts", "Refused ControlAboveMemory branch 5 4"), "Refused ControlAboveMemory branch 5 4: stage 5 above 4; at or below 4.");
+  assert.equal(reasons.refusal("Programs", "Elf TooShort 9"), "Elf TooShort 9: under 52 bytes, or at offset 9.");
+});
+
+test("captions say nothing of files", () => {
+  assert.equal(captionOf(["# One thing. Beside it stands other.script.", "# Under `plain`. It goes on."]), "One thing. It goes on.");
+  assert.equal(captionOf(["# To the end: examples/scripts/garnering.script, and more. Under tiny, with", "# examples/a.bin."]), "To the end: garnering, and more.");
+});
+
+const PLAIN = { stages: 8, sidings: [{ launch: 4, recover: 6 }] };
+
+test("both pipes have their place in each room", () => {
+  for (const room of [{ width: 374, height: 600 }, { width: 917, height: 570 }, { width: 1472, height: 850 }, { width: 1240, height: 690 }]) {
+    const geometry = geometryOf(PLAIN, room);
+    assert.ok(geometry.result.x + geometry.result.width <= geometry.width);
+    assert.ok(geometry.instruction.width >= 120 && geometry.result.width >= 90);
+    assert.ok(geometry.y(8) === geometry.top && geometry.y(1) + geometry.row === geometry.bottom);
+  }
+});
+
+test("a room that is large makes all larger, and a small one stages of one line", () => {
+  assert.ok(geometryOf(PLAIN, { width: 1472, height: 850 }).scale > 1.4);
+  assert.equal(geometryOf(PLAIN, { width: 900, height: 400 }).scale, 1);
+  assert.equal(geometryOf(PLAIN, { width: 900, height: 400 }).lines, 1);
+});
