@@ -4,7 +4,8 @@ import { fill, svg } from "./element.js";
 import { geometryOf } from "./geometry.js";
 import { chip, chipWidth, cut, stageGroup } from "./stages.js";
 import { memorySiding } from "./layout.js";
-import { bindingText, instructionText, registerName, valueText } from "./values.js";
+import { motionOf } from "./motion.js";
+import { REGISTER_FILE, bindingText, instructionText, registerName, valueText } from "./values.js";
 
 function allowed(view, moves) {
   return moves.filter((move) => view.picture.allowed.includes(move));
@@ -62,7 +63,8 @@ function lane(view, geometry) {
 function operationIn(view, at, cell) {
   const held = view.picture.sidings.get(at)?.[cell] ?? "-";
   if (held === "-") return null;
-  return { text: instructionText(view.texts, held.replace("*", "")), isAnswered: held.endsWith("*") };
+  const name = `#${view.who.sidings[at][cell]}`;
+  return { name, text: instructionText(view.texts, held.replace("*", "")), isAnswered: held.endsWith("*") };
 }
 
 function movesOfCell(view, at, cell) {
@@ -76,13 +78,14 @@ function sidingCell(view, at, cell, box) {
   const middle = box.y + box.height / 2;
   const isLow = box.height < 40;
   const kind = operation ? `holds${operation.isAnswered ? " answered" : ""}` : "";
-  const words = operation ? `: ${operation.text}${operation.isAnswered ? ", answered" : ""}` : " is empty";
+  const words = operation ? `: ${operation.name} ${operation.text}${operation.isAnswered ? ", answered" : ""}` : " is empty";
   const fitting = moves.filter((move) => chipWidth(move) <= box.width);
   const place = { x: box.x + box.width / 2, y: middle + (fitting.length > 0 && !isLow ? -4 : 5) };
   const letters = Math.floor(box.width / 7);
-  return svg("g", { class: `cell ${kind}`, role: "img", "aria-label": `siding ${at}, cell ${cell}${words}` },
+  const motion = motionOf(view, `cell ${at} ${cell}`);
+  return svg("g", { class: `cell ${kind}${motion}`, role: "img", "aria-label": `siding ${at}, cell ${cell}${words}` },
     svg("rect", { ...box, rx: 5, class: "slot-of-cell" }),
-    operation && svg("text", { ...place, class: "code small center" }, cut(operation.text, letters)),
+    operation && svg("text", { ...place, class: "code small center" }, cut(`${operation.name} ${operation.text}`, letters)),
     fitting.map((move) => chip(move, box.x + box.width - chipWidth(move) - 2, isLow ? middle - 11 : middle + 2)));
 }
 
@@ -103,13 +106,17 @@ function ways(view, geometry, at) {
     svg("path", { d: `M ${center} ${to + gap} V ${to} H ${side}`, class: "way", "marker-end": "url(#arrow)" }));
 }
 
+function cellBox(view, geometry, at, cell) {
+  const { x, width, from, to, gap } = sidingPlace(view, geometry, at);
+  const height = (from - to - 2 * gap) / view.layout.sidings[at].cells;
+  return { x, width, y: from - gap - (cell + 1) * height + 1, height: height - 2 };
+}
+
 // A siding's cells, and above them what it executes.
 function siding(view, geometry, at) {
   const { classes, cells } = view.layout.sidings[at];
-  const { x, width, from, to, gap } = sidingPlace(view, geometry, at);
-  const height = (from - to - 2 * gap) / cells;
-  const boxOf = (cell) => ({ x, width, y: from - gap - (cell + 1) * height + 1, height: height - 2 });
-  const boxes = Array.from({ length: cells }, (_, cell) => boxOf(cell));
+  const { x, width, to } = sidingPlace(view, geometry, at);
+  const boxes = Array.from({ length: cells }, (_, cell) => cellBox(view, geometry, at, cell));
   return svg("g", { class: "siding" },
     svg("text", { x: x + width / 2, y: to - 6, class: "units center" }, cut(classes.join(" "), Math.floor(width / 5.5))),
     boxes.map((box, cell) => sidingCell(view, at, cell, box)));
@@ -146,6 +153,37 @@ function cache(view, geometry) {
     }));
 }
 
+// A thin line from where a result comes from to where it is, while it is on its way.
+function originLine(view, geometry, stage) {
+  const number = view.who.results[stage];
+  const middle = (at) => geometry.y(at) + geometry.row / 2;
+  const side = geometry.result.x - 7;
+  const [from] = Object.entries(view.who.instructions).find(([, one]) => one === number) ?? [];
+  const begin = number === REGISTER_FILE ? geometry.lane + 34 : from ? middle(Number(from)) : null;
+  if (begin === null || Number(from) === stage) return null;
+  const start = number === REGISTER_FILE ? `M ${side} ${begin}` : `M ${geometry.gap.x} ${begin} H ${side}`;
+  return svg("path", { d: `${start} V ${middle(stage)} H ${geometry.result.x}`, class: `origin is-${view.picture.stages.get(stage).packet.kind}` });
+}
+
+// Where a part of the drawing stands, by its name.
+function partBox(view, geometry, part) {
+  const [kind, one, other] = part.split(" ");
+  const inner = { y: geometry.y(Number(one)) + 2, height: geometry.row - 4 };
+  const columns = { passenger: geometry.instruction, packet: geometry.result, meeting: geometry.gap, label: geometry.label };
+  if (columns[kind]) return { ...columns[kind], ...inner };
+  if (kind === "cell") return cellBox(view, geometry, Number(one), Number(other));
+  if (kind === "lane") return { x: geometry.gap.x, width: geometry.width - geometry.gap.x - 4, y: geometry.lane + 1, height: 34 };
+  return { ...geometry.instruction, y: geometry.bottom + 10, height: 60 };
+}
+
+// The place of a move that cannot be made, and what bars it.
+function outlines(view, geometry) {
+  if (!view.blame) return null;
+  const isThere = (part) => part !== null && Object.values(partBox(view, geometry, part)).every(Number.isFinite);
+  const outline = (part, look) => isThere(part) && svg("rect", { ...partBox(view, geometry, part), rx: 6, class: `outline ${look}` });
+  return svg("g", { class: "outlines" }, outline(view.blame.place, "asked"), outline(view.blame.by, "bars"));
+}
+
 function arrowHead() {
   const form = { viewBox: "0 0 8 8", refX: 7, refY: 4, markerWidth: 7, markerHeight: 7, orient: "auto" };
   const head = svg("path", { d: "M 0 0 L 8 4 L 0 8 z", class: "arrow-head" });
@@ -162,8 +200,8 @@ function setSize(into, geometry) {
   into.style.height = `${geometry.height * geometry.scale}px`;
 }
 
-// Draws into the element. `view` has the layout, the picture and the one before it, the texts, the last move with the names of its
-// meeting, the selected stage, and the room that there is.
+// Draws into the element. `view` has the layout, the picture and the one before it, who is who in both, the texts, the last move with the
+// names of its meeting, the selected stage, the place and the bar of a move that could not be made, and the room that there is.
 export function draw(into, view) {
   const geometry = geometryOf(view.layout, view.room);
   const stages = Array.from({ length: view.layout.stages }, (_, above) => view.layout.stages - above);
@@ -176,6 +214,8 @@ export function draw(into, view) {
     view.layout.sidings.map((_, at) => ways(view, geometry, at)),
     view.layout.sidings.map((_, at) => siding(view, geometry, at)),
     stages.map((stage) => stageGroup(view, geometry, stage)),
+    svg("g", { class: "origins" }, Object.keys(view.who.results).map((stage) => originLine(view, geometry, Number(stage)))),
     fetch(view, geometry),
-    cache(view, geometry));
+    cache(view, geometry),
+    outlines(view, geometry));
 }

@@ -1,5 +1,6 @@
 // The page's one state and what can be done with it: the session, the stage that is chosen, and why a move could not be made.
 
+import { blameOf } from "./blame.js";
 import { captionOf } from "./captions.js";
 import { OWN } from "./choices.js";
 import { examples, explanations, fromBase64 } from "./data.js";
@@ -33,17 +34,17 @@ export class Page {
     this.orders = new AnyOrder(this.simulator, LIMIT);
     this.player = new Player(() => this.advance(), () => this.show());
     this.selected = 1;
-    // Why the last move that was asked for could not be made.
-    this.why = "";
+    // Why the last move that was asked for could not be made, and where.
+    this.forgive();
     this.room = { width: 900, height: 600 };
   }
 
   // What is drawn.
 
   get view() {
-    const { layout, picture, before, texts, last } = this.session;
+    const { layout, picture, before, texts, last, who, whoBefore } = this.session;
     const names = last && before ? namesOfMeeting(last.move, before, picture) : [];
-    return { layout, picture, before, texts, last: last?.move ?? null, names, selected: this.selected, room: this.room };
+    return { layout, picture, before, texts, last: last?.move ?? null, names, selected: this.selected, room: this.room, who, whoBefore, blame: this.blame };
   }
 
   show() {
@@ -81,8 +82,8 @@ export class Page {
     byId("branch").hidden = !isBranch;
   }
 
-  wordsOfLast({ before, picture, texts, layout, last }) {
-    const words = told(last, before, picture, texts, memorySiding(layout));
+  wordsOfLast({ before, picture, texts, layout, last, who, whoBefore }) {
+    const words = told(last, before, picture, { texts, who: { before: whoBefore, after: who }, memory: memorySiding(layout) });
     return [`${this.session.steps.length}. `, html("b", {}, last), " ", sentence(words)];
   }
 
@@ -98,7 +99,14 @@ export class Page {
   took(move, refused) {
     const reason = refused && (refused.kind === "bar" ? this.reasons.bar(refused.reason) : this.reasons.refusal("Scripts", refused.reason));
     this.why = refused ? `\`${move}\` cannot be made. ${reason}` : "";
+    this.blame = refused?.kind === "bar" ? blameOf(move, refused.reason, this.session.layout, this.session.picture) : null;
     return !refused;
+  }
+
+  // Nothing that was refused before counts any more.
+  forgive() {
+    this.why = "";
+    this.blame = null;
   }
 
   make(move) {
@@ -147,10 +155,10 @@ export class Page {
     this.show();
   }
 
-  // Changes the moves that are made; nothing that was refused before counts any more.
+  // Changes the moves that are made.
   change(how) {
     this.player.stop();
-    this.why = "";
+    this.forgive();
     how(this.session);
     this.show();
   }
@@ -188,7 +196,7 @@ export class Page {
 
   select(stage) {
     this.selected = Math.max(1, Math.min(this.session.layout.stages, stage));
-    this.why = "";
+    this.forgive();
     this.show();
   }
 

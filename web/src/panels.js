@@ -1,6 +1,7 @@
 // What stands beside the drawing: the moves, one stage's moves with why they are barred, the sequential machine, the script.
 
 import { byId, fill, html, sentence } from "./element.js";
+import { lastRetired } from "./identity.js";
 import { movesOfStage } from "./moves.js";
 import { text } from "./program.js";
 import { firstDifference, readRetired } from "./sequential.js";
@@ -38,11 +39,13 @@ export function showBarred(picture, reasons) {
   fill(byId("barred"), rows);
 }
 
-function machineRow(view, line, at, retired) {
+function machineRow(view, line, at, names) {
+  const retired = view.picture.retired;
   const { number, address, wrote } = readRetired(line);
   const parts = /^(x\d\d)=(.*)$/.exec(wrote);
   return html("li", { class: at < retired ? "retired" : "" },
     html("span", { class: "number" }, String(number)),
+    html("span", { class: "who" }, at < retired ? `#${names[at - retired + names.length]}` : ""),
     html("span", { class: "text" }, instructionText(view.texts, address)),
     html("span", {}, parts ? `${registerName(parts[1])}=${valueText(parts[2])}` : ""));
 }
@@ -51,7 +54,8 @@ function machineRow(view, line, at, retired) {
 export function showMachine(view, machine) {
   const retired = view.picture.retired;
   const from = Math.max(0, Math.min(retired - ROWS_ABOVE, machine.lines.length - ROWS));
-  const rows = machine.lines.slice(from, from + ROWS).map((line, at) => machineRow(view, line, from + at, retired));
+  const names = lastRetired(view.who, retired - from);
+  const rows = machine.lines.slice(from, from + ROWS).map((line, at) => machineRow(view, line, from + at, names));
   const mark = html("li", { class: "here" }, `▲ the processor has retired ${retired}`);
   rows.splice(Math.min(retired - from, rows.length), 0, mark);
   fill(byId("machine"), rows);

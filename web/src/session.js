@@ -2,6 +2,8 @@
 // that there is: each picture is the program's answer to it.
 
 import { common, isOn, restOf } from "./course.js";
+import { NOBODY, identitiesAfter } from "./identity.js";
+import { emptyReport } from "./report.js";
 import { candidates, issuesAfter } from "./schedule.js";
 
 export class Session {
@@ -41,6 +43,7 @@ export class Session {
     const refused = /^(barred at line \d+|bad script line \d+): (.*)$/.exec(after.first);
     if (refused) return { kind: refused[1].startsWith("barred") ? "bar" : "line", reason: refused[2] };
     step.issues = issuesAfter(this.issues, move, this.picture, after);
+    step.who = identitiesAfter(this.who, move, this.picture, after);
     this.before = this.picture;
     this.picture = after;
     this.steps.push(step);
@@ -129,8 +132,30 @@ export class Session {
   // How many issues count for holding issue back, behind the moves so far.
   get issues() {
     if (!this.last) return 0;
-    this.last.issues ??= this.simulator.issues(this, this.script);
+    if (this.last.issues === undefined) this.follow();
     return this.last.issues;
+  }
+
+  // Who is who, behind the moves so far.
+  get who() {
+    if (!this.last) return NOBODY;
+    if (this.last.who === undefined) this.follow();
+    return this.last.who;
+  }
+
+  get whoBefore() {
+    return this.steps.at(-2)?.who ?? NOBODY;
+  }
+
+  // Goes through all moves so far, for what each picture alone does not tell.
+  follow() {
+    let [before, issues, who] = [emptyReport(), 0, NOBODY];
+    this.simulator.moments(this, this.script).forEach(({ move, after }, at) => {
+      issues = issuesAfter(issues, move, before, after);
+      who = identitiesAfter(who, move, before, after);
+      Object.assign(this.steps[at], { issues, who });
+      before = after;
+    });
   }
 }
 

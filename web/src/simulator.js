@@ -3,7 +3,6 @@
 import { bytesOf, text } from "./program.js";
 import { readLayout, multiplies } from "./layout.js";
 import { readReport } from "./report.js";
-import { issuesAfter } from "./schedule.js";
 
 export class Simulator {
   constructor(program) {
@@ -61,18 +60,16 @@ export class Simulator {
     return { ...readReport(answer.report), output: answer.output };
   }
 
-  // How many issues count for holding issue back behind a script: from the picture behind each of its moves.
-  issues(session, script) {
-    const [, ...moments] = this.scripted(session, script, "run", "--show", "moves").report.split(/^move \d+ /m);
-    let before = { retired: 0 };
-    return moments.reduce((issues, moment) => {
-      const move = moment.slice(0, moment.indexOf("\n"));
-      const picture = readReport(moment.slice(move.length));
-      const after = { ...picture, retired: before.retired + picture.lines.length };
-      const count = issuesAfter(issues, move, before, after);
-      before = after;
-      return count;
-    }, 0);
+  // Each move of a script with the picture behind it.
+  moments(session, script) {
+    const [, ...parts] = this.scripted(session, script, "run", "--show", "moves").report.split(/^move \d+ /m);
+    let retired = 0;
+    return parts.map((part) => {
+      const move = part.slice(0, part.indexOf("\n"));
+      const picture = readReport(part.slice(move.length));
+      retired += picture.lines.length;
+      return { move, after: { ...picture, retired } };
+    });
   }
 
   // Where a script leads, with the moves that can be made there and why the others cannot. The lines of what retired are asked for just

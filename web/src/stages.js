@@ -2,8 +2,9 @@
 
 import { svg } from "./element.js";
 import { unitsOf } from "./layout.js";
+import { ghostAt, isUpdated, motionOf, takenAt } from "./motion.js";
 import { isDead } from "./telling.js";
-import { bindingText, instructionText, packetText } from "./values.js";
+import { bindingText, instructionText, originText, packetText } from "./values.js";
 import { kindOf, stageOf } from "./moves.js";
 
 const LABELS = {
@@ -79,73 +80,97 @@ export function cut(text, letters) {
   return text.length <= letters ? text : `${text.slice(0, Math.max(1, letters - 1))}…`;
 }
 
+// A text of code in which the bindings that were just taken are marked.
+function markedCode(place, text, taken) {
+  const [binding] = taken.map(bindingText);
+  const from = binding === undefined ? -1 : text.indexOf(binding);
+  if (from < 0) return svg("text", place, text);
+  const [before, after] = [text.slice(0, from), text.slice(from + binding.length)];
+  return svg("text", place, before, svg("tspan", { class: "taken" }, binding), after);
+}
+
+// An instruction's number and its text, in so many letters.
+function nameOf({ view, passenger, number }, letters) {
+  return cut(`#${number} ${instructionText(view.texts, passenger.address)}`, letters);
+}
+
+const widthOf = (moves) => moves.reduce((sum, move) => sum + chipWidth(move) + 5, 0);
+
 // An instruction in one line: its text, what else has room, and its moves.
-function passengerLine(view, box, passenger, moves) {
-  const used = moves.reduce((sum, move) => sum + chipWidth(move) + 5, 0);
-  const text = cut(instructionText(view.texts, passenger.address), 24);
-  const more = [flagText(passenger), bindingsText(passenger)].filter((part) => part !== "").join("; ");
+function passengerLine(one, box) {
+  const text = nameOf(one, 24);
+  const more = [flagText(one.passenger), bindingsText(one.passenger)].filter((part) => part !== "").join("; ");
   const next = box.x + 26 + text.length * CODE_STRONG;
-  const letters = Math.floor((box.x + box.width - next - used - 8) / CODE_SMALL);
+  const letters = Math.floor((box.x + box.width - next - widthOf(one.moves) - 8) / CODE_SMALL);
   const y = box.y + box.height / 2 + 5;
   return [
     svg("text", { x: box.x + 16, y, class: "code strong" }, text),
-    letters > 3 && svg("text", { x: next, y, class: "code small" }, cut(more, letters)),
+    letters > 3 && markedCode({ x: next, y, class: "code small" }, cut(more, letters), one.taken),
+    chipsTo(box.x + box.width - 6, box.y + box.height / 2 - CHIP / 2, one.moves),
   ];
 }
 
 // An instruction in two lines: text, moves and flag; what it takes, gives and owes.
-function passengerLines(view, box, passenger, moves) {
-  const flag = flagText(passenger);
-  const used = moves.reduce((sum, move) => sum + chipWidth(move) + 5, flag.length * 9 + 34);
-  const text = cut(instructionText(view.texts, passenger.address), Math.floor((box.width - used) / CODE_STRONG));
-  const [first, second] = [box.y + box.height * 0.31 + 5, box.y + box.height * 0.72 + 5];
+function passengerLines(one, box) {
+  const flag = flagText(one.passenger);
+  const used = flag.length * 9 + 34 + widthOf(one.moves);
+  const [first, second] = [box.y + box.height * 0.31, box.y + box.height * 0.72];
+  const letters = Math.floor((box.width - 24) / CODE);
   return [
-    svg("text", { x: box.x + 16, y: first, class: "code strong" }, text),
-    svg("text", { x: box.x + box.width - 10, y: first, class: "flag" }, flag),
-    svg("text", { x: box.x + 16, y: second, class: "code" }, cut(bindingsText(passenger), Math.floor((box.width - 24) / CODE))),
+    svg("text", { x: box.x + 16, y: first + 5, class: "code strong" }, nameOf(one, Math.floor((box.width - used) / CODE_STRONG))),
+    svg("text", { x: box.x + box.width - 10, y: first + 5, class: "flag" }, flag),
+    markedCode({ x: box.x + 16, y: second + 5, class: "code" }, cut(bindingsText(one.passenger), letters), one.taken),
+    chipsTo(box.x + box.width - flag.length * 9 - 22, first - CHIP / 2, one.moves),
   ];
 }
 
 // An instruction in a narrow drawing: its text, and below it its moves, or what it takes, gives and owes.
-function passengerNarrow(view, box, passenger, moves) {
+function passengerNarrow(one, box) {
   const letters = Math.floor((box.width - 14) / CODE_NARROW);
+  const second = { x: box.x + 11, y: box.y + 35, class: "code small" };
   return [
-    svg("text", { x: box.x + 11, y: box.y + 17, class: "code strong" }, cut(instructionText(view.texts, passenger.address), letters)),
-    moves.length === 0 && svg("text", { x: box.x + 11, y: box.y + 35, class: "code small" }, cut(bindingsText(passenger), letters)),
-    chipsTo(box.x + box.width - 4, box.y + box.height - CHIP - 2, moves),
+    svg("text", { x: box.x + 11, y: box.y + 17, class: "code strong" }, nameOf(one, letters)),
+    one.moves.length === 0 && markedCode(second, cut(bindingsText(one.passenger), letters), one.taken),
+    chipsTo(box.x + box.width - 4, box.y + box.height - CHIP - 2, one.moves),
   ];
 }
 
-function passengerWide(view, geometry, box, passenger, moves) {
-  const isTwo = geometry.lines === 2;
-  const words = isTwo ? passengerLines(view, box, passenger, moves) : passengerLine(view, box, passenger, moves);
-  const right = box.x + box.width - (isTwo ? flagText(passenger).length * 9 + 22 : 6);
-  const middle = isTwo ? box.y + box.height * 0.31 : box.y + box.height / 2;
-  return [words, chipsTo(right, middle - CHIP / 2, moves)];
-}
-
-function passengerBox(view, geometry, stage, passenger, moves) {
+// `one` has the instruction with its number, its moves, and the bindings that it has just taken.
+function passengerBox(geometry, stage, one) {
   const { x, width } = geometry.instruction;
   const box = { x, width, y: geometry.y(stage) + 2, height: geometry.row - 4 };
+  const form = geometry.isNarrow ? passengerNarrow : geometry.lines === 2 ? passengerLines : passengerLine;
   return [
-    svg("title", {}, passenger.address),
+    svg("title", {}, one.passenger.address),
     svg("rect", { ...box, rx: 6, class: "box" }),
     svg("rect", { ...box, width: 7, rx: 3, class: "edge" }),
-    geometry.isNarrow ? passengerNarrow(view, box, passenger, moves) : passengerWide(view, geometry, box, passenger, moves),
+    form(one, box),
   ];
 }
 
-function packetBox(geometry, stage, packet, moves) {
+// Where a result comes from, in the words that have room.
+function originWords(geometry, number) {
+  if (geometry.isNarrow) return number === 0 ? "" : `from #${number}`;
+  return `from ${originText(number)}`;
+}
+
+// `one` has the result with the number of the instruction that it comes from, and its moves.
+function packetBox(geometry, stage, { packet, number, moves }) {
   const { x, width } = geometry.result;
   const height = Math.min(geometry.row - 4, 54);
   const y = geometry.y(stage) + (geometry.row - height) / 2;
   const middle = y + height / 2;
   const left = x + (geometry.isNarrow ? 9 : 18);
-  const line = geometry.isNarrow && moves.length > 0 ? y + 17 : middle + 5;
+  const hasTwo = geometry.lines === 2;
+  const origin = hasTwo ? originWords(geometry, number) : "";
+  const text = hasTwo || number === 0 ? packetText(packet) : `${packetText(packet)} #${number}`;
+  const second = !(geometry.isNarrow && moves.length > 0) && origin !== "";
+  const chips = geometry.isNarrow ? y + height - CHIP - 2 : middle - CHIP / 2;
   return [
     svg("rect", { x, y, width, height, rx: geometry.isNarrow ? 10 : height / 2, class: "box" }),
-    svg("text", { x: left, y: line, class: "code strong" }, packetText(packet)),
-    ...chipsTo(x + width - 8, geometry.isNarrow ? y + height - CHIP - 2 : middle - CHIP / 2, moves),
+    svg("text", { x: left, y: second || geometry.isNarrow ? y + 17 : middle + 5, class: "code strong" }, text),
+    second && svg("text", { x: left, y: y + height - 7, class: "heading small" }, origin),
+    chipsTo(x + width - 8, chips, moves),
   ];
 }
 
@@ -155,7 +180,7 @@ function meetingMark(view, geometry, stage, content, moves) {
   const center = geometry.gap.x + geometry.gap.width / 2;
   if (stageOf(view.last ?? "") === stage && kindOf(view.last) === "meet") {
     const names = view.names.length > 0 ? view.names : ["pass by"];
-    return svg("text", { x: center, y: middle + 5 - (names.length - 1) * 8, class: "met strong" },
+    return svg("text", { x: center, y: middle + 5 - (names.length - 1) * 8, class: `met strong${motionOf(view, `meeting ${stage}`)}` },
       names.map((name, at) => svg("tspan", { x: center, dy: at === 0 ? 0 : 16 }, name)));
   }
   if (moves.length > 0) return chip(moves[0], center - chipWidth(moves[0]) / 2, middle - CHIP / 2);
@@ -192,8 +217,9 @@ function labelOf(view, geometry, stage) {
   return [number(first), lines.map((line, at) => svg("text", { x: right, y: first + 13 + at * 12, class: "units" }, line))];
 }
 
-function passengerWords(view, passenger) {
-  return `instruction ${instructionText(view.texts, passenger.address)}, ${passenger.flag}, ${bindingsText(passenger)}`;
+function passengerWords(view, stage, passenger) {
+  const name = `#${view.who.instructions[stage]} ${instructionText(view.texts, passenger.address)}`;
+  return `instruction ${name}, ${passenger.flag}, ${bindingsText(passenger)}`;
 }
 
 // What a stage holds, in words, for who cannot see the drawing.
@@ -201,15 +227,31 @@ export function stageWords(view, stage) {
   const content = view.picture.stages.get(stage);
   if (!content) return `stage ${stage}: empty`;
   const parts = [];
-  if (content.passenger) parts.push(passengerWords(view, content.passenger));
-  if (content.packet) parts.push(`result ${packetText(content.packet)}`);
+  if (content.passenger) parts.push(passengerWords(view, stage, content.passenger));
+  if (content.packet) parts.push(`result ${packetText(content.packet)} from ${originText(view.who.results[stage])}`);
   if (content.passenger && content.packet) parts.push(content.met ? "they have met" : "they have not met");
   return `stage ${stage}: ${parts.join("; ")}`;
 }
 
-function motion(view, stage, kind) {
-  const from = { climb: stage - 1, fall: stage + 1 }[kind];
-  return view.last === `${kind} ${from}` ? ` moved-${kind}` : "";
+function passengerOf(view, geometry, stage, passenger, moves) {
+  const ghost = passenger ? null : ghostAt(view, "passenger", stage);
+  if (!passenger && !ghost) return null;
+  const shown = passenger ?? ghost.content;
+  const number = (ghost ? view.whoBefore : view.who).instructions[stage];
+  const look = ghost ? ` ghost ${ghost.how}` : "";
+  const one = { view, passenger: shown, number, moves: ghost ? [] : moves, taken: takenAt(view, stage) };
+  const classes = `passenger is-${flagClass(shown)}${look}${motionOf(view, `passenger ${stage}`)}`;
+  return svg("g", { key: "passenger", class: classes, "data-side": "passenger" }, passengerBox(geometry, stage, one));
+}
+
+function packetOf(view, geometry, stage, packet, moves) {
+  const ghost = packet ? null : ghostAt(view, "packet", stage);
+  if (!packet && !ghost) return null;
+  const shown = packet ?? ghost.content;
+  const number = (ghost ? view.whoBefore : view.who).results[stage];
+  const marks = [ghost && `ghost ${ghost.how}`, takenAt(view, stage).length > 0 && "given", isUpdated(view, stage) && "updated"];
+  const classes = ["packet", `is-${shown.kind}`, ...marks.filter(Boolean)].join(" ") + motionOf(view, `packet ${stage}`);
+  return svg("g", { key: "packet", class: classes, "data-side": "packet" }, packetBox(geometry, stage, { packet: shown, number, moves: ghost ? [] : moves }));
 }
 
 export function stageGroup(view, geometry, stage) {
@@ -221,15 +263,13 @@ export function stageGroup(view, geometry, stage) {
     svg("rect", { x, y: y + 2, width, height: geometry.row - 4, rx: 6, class: "slot", "data-side": side });
   const whole = { x: geometry.label.x, y: y + 1, width: geometry.width - geometry.label.x - 2, height: geometry.row - 2 };
   const role = { role: "button", tabindex: selected ? 0 : -1, "aria-label": stageWords(view, stage) };
-  return svg("g", { class: `stage${selected ? " selected" : ""}`, "data-stage": stage, ...role },
+  return svg("g", { key: `stage ${stage}`, class: `stage${selected ? " selected" : ""}`, "data-stage": stage, ...role },
     svg("rect", { ...whole, rx: 8, class: "row" }),
     labelOf(view, geometry, stage),
     slot(geometry.instruction, "passenger"),
     slot(geometry.gap, "meeting"),
     slot(geometry.result, "packet"),
-    content.passenger && svg("g", { class: `passenger is-${flagClass(content.passenger)}${motion(view, stage, "climb")}`,
-      "data-side": "passenger" }, passengerBox(view, geometry, stage, content.passenger, moves.passenger)),
-    content.packet && svg("g", { class: `packet is-${content.packet.kind}${motion(view, stage, "fall")}`,
-      "data-side": "packet" }, packetBox(geometry, stage, content.packet, moves.packet)),
+    passengerOf(view, geometry, stage, content.passenger, moves.passenger),
+    packetOf(view, geometry, stage, content.packet, moves.packet),
     meetingMark(view, geometry, stage, content, moves.meeting));
 }

@@ -1,7 +1,7 @@
 // Says in plain words what a move did, from the pictures before and behind it, and names what happened where two pipes met.
 
 import { stageOf, kindOf } from "./moves.js";
-import { bindingText, instructionText, packetText, registerName, valueText } from "./values.js";
+import { bindingText, instructionText, originText, packetText, registerName, valueText } from "./values.js";
 
 const FLAGS_OF_THE_DEAD = ["dead", "dead-out"];
 
@@ -32,24 +32,25 @@ export function namesOfMeeting(move, before, after) {
 
 // The words for one move; each is handed the moment: the pictures before and behind it, its stage, and the texts of the program.
 const WORDS = {
-  issue({ before, after, move, textAt }) {
-    const entered = `${textAt(before.fetch)} enters stage 1`;
+  issue({ before, after, move, textAt, who }) {
+    const entered = `#${who.after.issued} ${textAt(before.fetch)} enters stage 1`;
     const asked = after.lane.slice(before.lane.length).map(registerName);
     const requests = asked.length > 0 ? `; it asks for ${asked.join(" and ")}` : "";
     const guess = move === "issue next" ? "" : `, guessed ${move.slice("issue ".length)}`;
     return `${entered}${guess}${requests}. Fetch ${after.fetch === "wait" ? "waits" : `goes on at ${after.fetch}`}.`;
   },
-  emit({ before, after }) {
+  emit({ before, after, who }) {
     const packet = topStage(after).packet;
-    return `The register file answers the request for ${registerName(before.lane[0])}: ${packetText(packet)} sets out downwards.`;
+    return `The register file answers the request of #${who.before.lane[0]} for ${registerName(before.lane[0])}: ${packetText(packet)} sets out downwards.`;
   },
   climb: ({ stage, was }) => `${was} climbs from stage ${stage} to stage ${stage + 1}.`,
   fall: ({ stage, before }) => `The result ${packetText(before.stages.get(stage).packet)} falls from stage ${stage} to stage ${stage - 1}.`,
   meet(moment) {
     const packet = packetText(moment.before.stages.get(moment.stage).packet);
+    const from = ` from ${originText(moment.who.before.results[moment.stage])}`;
     const parts = namesOfMeeting(moment.move, moment.before, moment.after).map((name) => MEETINGS[name](moment));
-    if (parts.length === 0) return `${moment.was} and ${packet} pass each other: neither changes.`;
-    return `${moment.was} meets ${packet}. ${parts.join(" ")}`;
+    if (parts.length === 0) return `${moment.was} and ${packet}${from} pass each other: neither changes.`;
+    return `${moment.was} meets ${packet}${from}. ${parts.join(" ")}`;
   },
   execute({ stage, was, is }) {
     return `A unit of stage ${stage} executes ${was}${computed(is)}${owing(is)}.`;
@@ -60,21 +61,20 @@ const WORDS = {
     if (is.flag === "trap") return `${was} traps: memory does not permit it. It owes a halt, and ends the program at the top.`;
     return `${was} leaves its operation in the siding, and may climb on beside it.`;
   },
-  slide: ({ move, before, textAt }) => {
+  slide: ({ move, before, textAt, who }) => {
     const [, siding, cell] = move.split(" ").map(Number);
     const address = before.sidings.get(siding)[cell];
-    return `The operation of ${textAt(address.replace("*", ""))} moves on to cell ${cell + 1} of siding ${siding}.`;
+    return `The operation of #${who.before.sidings[siding][cell]} ${textAt(address.replace("*", ""))} moves on to cell ${cell + 1} of siding ${siding}.`;
   },
-  access: ({ textAt, before, memory }) => {
-    const address = before.sidings.get(memory).at(-1);
-    return `Memory is reached: ${textAt(address)} is made.`;
+  access: ({ textAt, before, memory, who }) => {
+    const cells = before.sidings.get(memory);
+    return `Memory is reached: #${who.before.sidings[memory][cells.length - 1]} ${textAt(cells.at(-1))} is made.`;
   },
   recover({ stage, was, is }) {
     return `${was} takes its operation back at stage ${stage}${computed(is)}${owing(is)}.`;
   },
-  leave({ before, after, textAt }) {
-    const passenger = topStage(before).passenger;
-    return leaving(passenger, textAt(passenger.address), before, after);
+  leave({ before, after, atTop }) {
+    return leaving(topStage(before).passenger, atTop, before, after);
   },
   exit({ before, after }) {
     const packet = before.stages.get(1).packet;
@@ -83,10 +83,9 @@ const WORDS = {
     const kept = after.cache ? " It is kept for later instructions." : "";
     return `The result ${packetText(packet)} leaves at the bottom: nobody waits for it any more.${kept}`;
   },
-  serve({ before, after, textAt }) {
-    const passenger = topStage(before).passenger;
+  serve({ before, after, atTop }) {
     const answer = after.registers[10] === before.registers[10] ? "" : `: x10=${valueText(after.registers[10])}`;
-    return `${textAt(passenger.address)} is served by the environment${answer}.`;
+    return `${atTop} is served by the environment${answer}.`;
   },
 };
 
@@ -116,12 +115,18 @@ function leaving(passenger, name, before, after) {
   return `${name} leaves at the top and ends the program: ${after.first}.`;
 }
 
-// What the last move did. `memory` is the siding of loads and stores.
-export function told(move, before, after, texts, memory) {
+// An instruction at a stage by its number and its text.
+function named(picture, who, stage, textAt) {
+  const passenger = picture.stages.get(stage)?.passenger;
+  return passenger ? `#${who.instructions[stage]} ${textAt(passenger.address)}` : "";
+}
+
+// What the last move did. `who` has who is who before and behind it, `memory` is the siding of loads and stores.
+export function told(move, before, after, { texts, who, memory }) {
   const stage = stageOf(move);
   const textAt = (address) => `\`${instructionText(texts, address)}\``;
-  const passenger = before.stages.get(stage)?.passenger;
   const is = (after.stages.get(stage) ?? before.stages.get(stage))?.passenger;
-  const was = passenger ? textAt(passenger.address) : "";
-  return WORDS[kindOf(move)]({ move, before, after, stage, textAt, was, is, memory });
+  const was = named(before, who.before, stage, textAt);
+  const atTop = named(before, who.before, Math.max(...before.stages.keys()), textAt);
+  return WORDS[kindOf(move)]({ move, before, after, stage, textAt, was, is, atTop, memory, who });
 }

@@ -24,3 +24,10 @@ export function packetText(packet) {
 export function instructionText(texts, address) {
   return texts.get(address) ?? `at ${address}`;
 }
+
+// Where a result comes from: an instruction by its number, or the register file.
+export const REGISTER_FILE = 0;
+
+export function originText(number) {
+  return number === REGISTER_FILE ? "the register file" : `#${number}`;
+}

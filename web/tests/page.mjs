@@ -7,6 +7,7 @@ import path from "node:path";
 import { ADDRESS, WALL, browser, check, choose, click, counts, evaluate, movesOfRun, native, playScript, press, put, script, textOf, valueOf } from "./drive.mjs";
 import { mended } from "./mended.mjs";
 import { TOP, scriptsOfPage } from "./native.mjs";
+import { seen } from "./seen.mjs";
 
 const [PICTURES, ...ONLY] = process.argv.slice(2);
 
@@ -122,7 +123,7 @@ async function editors() {
 
 async function links() {
   await choose("seven");
-  await press("i", "c", "ArrowUp", "x");
+  await press("i", "c", "x");
   const moves = (await script()).join();
   await click("share");
   await browser.until("location.hash.startsWith('#cfpp1.')");
@@ -232,7 +233,7 @@ try {
   await browser.open(ADDRESS, WALL);
   await evaluate("document.getElementById('report-details').open = true");
   check("the page runs", (await evaluate("document.body.dataset.ready")) === "yes", await textOf("told"));
-  for (const part of [lesson, backAndForth, lessons, byHand, schedules, anyOrder, editors, links, hostile, speed, playing, opening, looks, ...mended]) {
+  for (const part of [lesson, backAndForth, lessons, byHand, schedules, anyOrder, editors, links, hostile, speed, playing, opening, looks, ...mended, ...seen]) {
     if (ONLY.length === 0 || ONLY.includes(part.name)) await part();
   }
   const faults = browser.faults(ADDRESS);

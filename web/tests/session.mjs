@@ -57,6 +57,15 @@ function sessionOf(files) {
   return session;
 }
 
+// Each instruction and each result of a picture has its number, and nobody else has one.
+function sameStages(name, who, picture) {
+  for (const [places, side] of [[who.instructions, "passenger"], [who.results, "packet"]]) {
+    const wanted = [...picture.stages].filter(([, content]) => content[side]).map(([stage]) => stage).sort((one, other) => one - other);
+    check(`${name}: numbers`, Object.keys(places).map(Number).join() === wanted.join() && Object.values(places).every(Number.isInteger), JSON.stringify(places));
+  }
+  check(`${name}: the lane's numbers`, who.lane.length === picture.lane.length);
+}
+
 // Each script of the lessons is played move by move; each move is told, and each meeting that counts has a name.
 function lessons() {
   const names = new Map();
@@ -65,15 +74,19 @@ function lessons() {
     const machine = simulator.machine(session, 100);
     let dead = 0;
     while (session.undone.length > 0 && session.again() === null) {
-      const { last, before, picture, texts, layout } = session;
-      const sentence = told(last.move, before, picture, texts, memorySiding(layout));
-      check(`${name}: ${last.move} is told`, sentence.length > 10 && !sentence.includes("undefined"), sentence);
+      const { last, before, picture, texts, layout, who, whoBefore } = session;
+      const sentence = told(last.move, before, picture, { texts, who: { before: whoBefore, after: who }, memory: memorySiding(layout) });
+      check(`${name}: ${last.move} is told`, sentence.length > 10 && !/undefined|NaN/.test(sentence), sentence);
+      sameStages(name, who, picture);
       const found = namesOfMeeting(last.move, before, picture);
       found.forEach((part) => names.set(part, (names.get(part) ?? 0) + 1));
       dead += found.includes("die") ? 1 : 0;
       check(`${name}: kills behind ${last.move}`, found.includes("kill") === (picture.kills > before.kills));
       check(`${name}: the retired instructions are the machine's`, firstDifference(machine, picture) < 0);
     }
+    const { who } = session;
+    session.last.who = undefined;
+    check(`${name}: the same who is who, found anew`, JSON.stringify(session.who) === JSON.stringify(who));
     check(`${name}: who died`, dead === session.picture.dead, `${dead}`);
     const barred = /^barred at line \d+: (.*)$/.exec(report.split("\n")[0]);
     if (barred) check(`${name}: ends with its bar`, session.again()?.reason === barred[1]);
