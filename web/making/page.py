@@ -1,4 +1,4 @@
-"""Puts the page together: one HTML file with its style, its code, the module and the examples, which asks for nothing else."""
+"""Puts the page together: one HTML file with its styles, its code, the module and the examples, which asks for nothing else."""
 import base64
 import gzip
 import hashlib
@@ -82,12 +82,12 @@ def hash_of(text):
     return f"'sha256-{base64.b64encode(hashlib.sha256(text.encode()).digest()).decode()}'"
 
 
-def policy(style, code):
-    """What the browser is to allow: this style, this code and the module, and no request at all."""
+def policy(styles, code):
+    """What the browser is to allow: these styles, this code and the module, and no request at all."""
     parts = [
         "default-src 'none'",
         f"script-src {hash_of(code)} 'wasm-unsafe-eval'",
-        f"style-src {hash_of(style)}",
+        f"style-src {' '.join(map(hash_of, styles))}",
         "base-uri 'none'",
         "form-action 'none'",
     ]
@@ -101,13 +101,13 @@ def shown():
 
 def assembled(module, built, shown):
     """The page, of the module as packed text, of what it was built from, and of what it shows."""
-    style = (SOURCE / "page.css").read_text()
+    styles = [(SOURCE / name).read_text() for name in ("drawing.css", "page.css")]
     code = '"use strict";\n' + "".join(code_of(name) for name in modules_in_order())
     head = [
         '<!doctype html>\n<html lang="en">\n<head>\n<meta charset="utf-8">\n',
-        f'<meta http-equiv="Content-Security-Policy" content="{policy(style, code)}">\n',
+        f'<meta http-equiv="Content-Security-Policy" content="{policy(styles, code)}">\n',
         '<meta name="viewport" content="width=device-width, initial-scale=1">\n<meta name="referrer" content="no-referrer">\n',
-        f"<title>Counterflow pipeline</title>\n<style>{style}</style>\n</head>\n<body>\n",
+        f'<title>Counterflow pipeline</title>\n<style id="drawing-style">{styles[0]}</style>\n<style>{styles[1]}</style>\n</head>\n<body>\n',
     ]
     body = [
         (SOURCE / "page.html").read_text(),

@@ -18,6 +18,13 @@ function registerCell(view, x, y, at) {
   return svg("text", { x, y, class: `code register ${state}` }, `x${at}`.padEnd(4, "\u00a0") + valueText(value));
 }
 
+function fileHeading(view, x, y, width) {
+  return [
+    svg("text", { x: x + 10, y: y + 19, class: "heading" }, "register file"),
+    svg("text", { x: x + width - 12, y: y + 19, class: "heading end" }, `${view.picture.retired} retired`),
+  ];
+}
+
 function registerFile(view, geometry) {
   const { y, height, columns, heading, line } = geometry.file;
   const x = geometry.isNarrow ? 4 : geometry.label.x + 4;
@@ -28,8 +35,7 @@ function registerFile(view, geometry) {
     registerCell(view, x + 10 + Math.floor(at / rows) * column, y + heading + 10 + (at % rows) * line, at));
   return svg("g", { class: "register-file" },
     svg("rect", { x, y, width, height, rx: 8, class: "frame" }),
-    svg("text", { x: x + 10, y: y + 19, class: "heading" }, "register file"),
-    svg("text", { x: x + width - 12, y: y + 19, class: "heading end" }, `${view.picture.retired} retired`),
+    geometry.isCompact ? null : fileHeading(view, x, y, width),
     cells);
 }
 
@@ -51,6 +57,7 @@ function lane(view, geometry) {
   const more = view.picture.lane.length - asked.length;
   const words = geometry.isNarrow ? shortLaneWords : laneWords;
   return svg("g", { class: "lane" },
+    geometry.isCompact && svg("text", { x: geometry.instruction.x - 12, y: y + 22, class: "heading end" }, `${view.picture.retired} retired`),
     svg("text", { x: geometry.instruction.x + 12, y: y + 22, class: "heading" }, words(asked.length, more)),
     asked.map((register, at) => [
       svg("rect", { x: end - 40 * (at + 1), y: y + 5, width: 36, height: 26, rx: 5, class: "request" }),
@@ -80,12 +87,13 @@ function sidingCell(view, at, cell, box) {
   const kind = operation ? `holds${operation.isAnswered ? " answered" : ""}` : "";
   const words = operation ? `: ${operation.name} ${operation.text}${operation.isAnswered ? ", answered" : ""}` : " is empty";
   const fitting = moves.filter((move) => chipWidth(move) <= box.width);
-  const place = { x: box.x + box.width / 2, y: middle + (fitting.length > 0 && !isLow ? -4 : 5) };
-  const letters = Math.floor(box.width / 7);
+  const hasBeside = fitting.length > 0 && isLow;
+  const place = { x: hasBeside ? box.x + 5 : box.x + box.width / 2, y: middle + (fitting.length > 0 && !isLow ? -4 : 5) };
+  const letters = Math.floor((box.width - (hasBeside ? chipWidth(fitting[0]) + 6 : 0)) / 7);
   const motion = motionOf(view, `cell ${at} ${cell}`);
   return svg("g", { class: `cell ${kind}${motion}`, role: "img", "aria-label": `siding ${at}, cell ${cell}${words}` },
     svg("rect", { ...box, rx: 5, class: "slot-of-cell" }),
-    operation && svg("text", { ...place, class: "code small center" }, cut(`${operation.name} ${operation.text}`, letters)),
+    operation && svg("text", { ...place, class: `code small${hasBeside ? "" : " center"}` }, cut(`${operation.name} ${operation.text}`, letters)),
     fitting.map((move) => chip(move, box.x + box.width - chipWidth(move) - 2, isLow ? middle - 11 : middle + 2)));
 }
 
@@ -122,33 +130,46 @@ function siding(view, geometry, at) {
     boxes.map((box, cell) => sidingCell(view, at, cell, box)));
 }
 
+// The moves that issue, side by side: below the text of the box, or where that is low at its right.
+function issueChips(view, geometry, x, width) {
+  const { y, height } = geometry.fetch;
+  const moves = allowed(view, ["issue next", "issue taken", "issue wait"]);
+  const before = (nth) => moves.slice(0, nth).reduce((sum, move) => sum + chipWidth(move) + 8, 0);
+  const left = geometry.isCompact ? x + width - before(moves.length) : x + 12;
+  return { chips: moves.map((move, nth) => chip(move, left + before(nth), y + height - 29)), used: geometry.isCompact ? before(moves.length) : 0 };
+}
+
 // The box below the stages: fetch with what it can issue. Where no cache stands beside it, it has all the width.
 function fetch(view, geometry) {
   const { x } = geometry.instruction;
-  const width = geometry.instruction.width + (geometry.isNarrow && !view.layout.hasCache ? geometry.gap.width + geometry.result.width : 0);
-  const y = geometry.bottom + 10;
+  const width = geometry.instruction.width + (view.layout.hasCache ? 0 : geometry.gap.width + geometry.result.width);
+  const { y, height } = geometry.fetch;
   const at = view.picture.fetch;
   const words = at === "wait" ? "fetch waits for a turn" : `fetch ${at}`;
-  const issues = allowed(view, ["issue next", "issue taken", "issue wait"]);
-  const places = issues.map((_, before) => x + 12 + issues.slice(0, before).reduce((sum, move) => sum + chipWidth(move) + 8, 0));
+  const { chips, used } = issueChips(view, geometry, x, width);
+  const letters = Math.floor((width - 140 - used) / 8.5);
   return svg("g", { class: "fetch" },
-    svg("rect", { x, y, width, height: 60, rx: 8, class: "frame" }),
-    svg("text", { x: x + 12, y: y + 21, class: "heading" }, words),
-    at !== "wait" && width > 300 && svg("text", { x: x + 130, y: y + 21, class: "code strong" }, cut(view.texts.get(at) ?? "", (width - 140) / 8.5)),
-    issues.map((move, nth) => chip(move, places[nth], y + 31)));
+    svg("rect", { x, y, width, height, rx: 8, class: "frame" }),
+    svg("text", { x: x + 12, y: y + 22, class: "heading" }, words),
+    at !== "wait" && letters > 8 && svg("text", { x: x + 130, y: y + 22, class: "code strong" }, cut(view.texts.get(at) ?? "", letters)),
+    chips);
 }
 
+// The register cache: as many of its registers as have room.
 function cache(view, geometry) {
   if (!view.layout.hasCache) return null;
   const { x, width } = geometry.result;
-  const y = geometry.bottom + 10;
+  const { y, height } = geometry.fetch;
   const kept = view.picture.cache ?? [];
   const columns = geometry.isNarrow ? 1 : 2;
+  const shown = kept.slice(0, geometry.isCompact ? columns : 2 * columns);
+  const first = geometry.isCompact ? 29 : 36;
+  const more = kept.length - shown.length;
   return svg("g", { class: "cache" },
-    svg("rect", { x, y, width, height: 60, rx: 8, class: "frame" }),
-    svg("text", { x: x + 12, y: y + 20, class: "heading" }, kept.length > 2 * columns ? `cache, and ${kept.length - 2 * columns} more` : "cache"),
-    kept.slice(0, 2 * columns).map((binding, at) => {
-      const place = { x: x + 12 + (at % columns) * (width / 2 - 6), y: y + 36 + Math.floor(at / columns) * 15 };
+    svg("rect", { x, y, width, height, rx: 8, class: "frame" }),
+    svg("text", { x: x + 12, y: y + (geometry.isCompact ? 14 : 20), class: "heading" }, more > 0 ? `cache, and ${more} more` : "cache"),
+    shown.map((binding, at) => {
+      const place = { x: x + 12 + (at % columns) * (width / 2 - 6), y: y + first + Math.floor(at / columns) * 15 };
       return svg("text", { ...place, class: "code small" }, bindingText(binding));
     }));
 }
@@ -173,7 +194,7 @@ function partBox(view, geometry, part) {
   if (columns[kind]) return { ...columns[kind], ...inner };
   if (kind === "cell") return cellBox(view, geometry, Number(one), Number(other));
   if (kind === "lane") return { x: geometry.gap.x, width: geometry.width - geometry.gap.x - 4, y: geometry.lane + 1, height: 34 };
-  return { ...geometry.instruction, y: geometry.bottom + 10, height: 60 };
+  return { ...geometry.instruction, ...geometry.fetch };
 }
 
 // The place of a move that cannot be made, and what bars it.

@@ -12,11 +12,13 @@ const ROW = 44;
 const MOST_ROW = 84;
 const MOST_SCALE = 2;
 
+// A room of less height than this gets a register file without its heading, and fetch in one line.
+const COMPACT_BELOW = 740;
+
 const MARGIN = 6;
-const FILE_HEADING = 30;
 const FILE_LINE = 17;
 const LANE = 38;
-const BOTTOM = 76;
+const SPACE_BELOW = 16;
 const REGISTERS = 32;
 
 const bounded = (least, value, most) => Math.max(least, Math.min(most, value));
@@ -47,10 +49,13 @@ function pipesOf(form, beside, width) {
   };
 }
 
-// The least width that the wide form's columns need beside the pipes, and the height of what is above and below the stages.
-function around(form, beside) {
-  const file = FILE_HEADING + FILE_LINE * (REGISTERS / form.fileColumns);
-  return { width: 2 * MARGIN + beside + form.label + form.gap, file, top: MARGIN + file + LANE };
+// The least width that a form's columns need beside the pipes, and the heights of what is above and below the stages.
+function around(form, beside, isCompact) {
+  const heading = isCompact ? 8 : 30;
+  const file = heading + FILE_LINE * (REGISTERS / form.fileColumns);
+  const fetch = isCompact ? 36 : 60;
+  const width = 2 * MARGIN + beside + form.label + form.gap;
+  return { width, heading, file, top: MARGIN + file + LANE, fetch, below: fetch + SPACE_BELOW };
 }
 
 export function geometryOf(layout, room) {
@@ -58,10 +63,11 @@ export function geometryOf(layout, room) {
   const form = isNarrow ? NARROW : WIDE;
   const columns = columnsOf(layout.sidings);
   const count = 1 + Math.max(-1, ...columns);
-  const { width: others, file, top } = around(form, count * form.siding);
-  const wanted = Math.min(room.width / (others + PIPES), room.height / (top + BOTTOM + ROW * layout.stages));
+  const isCompact = !isNarrow && room.height < COMPACT_BELOW;
+  const { width: others, heading, file, top, fetch, below } = around(form, count * form.siding, isCompact);
+  const wanted = Math.min(room.width / (others + PIPES), room.height / (top + below + ROW * layout.stages));
   const scale = isNarrow ? 1 : bounded(1, wanted, MOST_SCALE);
-  const row = Math.floor(bounded(form.leastRow, (room.height / scale - top - BOTTOM) / layout.stages, MOST_ROW));
+  const row = Math.floor(bounded(form.leastRow, (room.height / scale - top - below) / layout.stages, MOST_ROW));
   const bottom = top + layout.stages * row;
   return {
     ...pipesOf(form, count * form.siding, room.width / scale),
@@ -72,12 +78,14 @@ export function geometryOf(layout, room) {
     lines: row >= ROW ? 2 : 1,
     siding: (at) => MARGIN + (count - 1 - columns[at]) * form.siding,
     sidingWidth: form.siding - (isNarrow ? 8 : 14),
-    file: { y: MARGIN - 2, height: file, columns: form.fileColumns, heading: FILE_HEADING, line: FILE_LINE },
+    isCompact,
+    file: { y: MARGIN - 2, height: file, columns: form.fileColumns, heading, line: FILE_LINE },
+    fetch: { y: bottom + 10, height: fetch },
     lane: MARGIN + file,
     top,
     bottom,
     width: room.width / scale,
-    height: bottom + BOTTOM,
+    height: bottom + below,
     // Where the box of a stage begins.
     y: (stage) => top + (layout.stages - stage) * row,
   };

@@ -1,4 +1,5 @@
-// A link that has the layout, the program, its input and the script in its fragment, which a browser sends nowhere.
+// A link that has the layout, the program with its source, its input, the script, the moves that are to come and the goal in its fragment,
+// which a browser sends nowhere.
 
 import { bytesOfStream, fromBase64, toBase64 } from "./data.js";
 import { bytesOf, text } from "./program.js";
@@ -16,8 +17,8 @@ function unpacked(bytes) {
 }
 
 // The fragment, or null where it would be too long.
-export async function fragmentOf({ layout, program, input, script }) {
-  const state = bytesOf(JSON.stringify({ layout, program: toBase64(program), input: toBase64(input), script }));
+export async function fragmentOf({ layout, program, input, ...texts }) {
+  const state = bytesOf(JSON.stringify({ layout, program: toBase64(program), input: toBase64(input), ...texts }));
   if (state.length > MOST) return null;
   const code = toBase64(await packed(state));
   return `#cfpp1.${code.replaceAll("+", "-").replaceAll("/", "_").replaceAll("=", "")}`;
@@ -30,5 +31,7 @@ export async function readFragment(fragment) {
   const state = JSON.parse(text(await unpacked(fromBase64(code.replaceAll("-", "+").replaceAll("_", "/")))));
   const parts = [state.layout, state.program, state.input, state.script];
   if (!parts.every((part) => typeof part === "string")) throw new Error("a part of the link is missing");
-  return { layout: state.layout, program: fromBase64(state.program), input: fromBase64(state.input), script: state.script };
+  // Links of earlier pages have none of these.
+  const texts = Object.fromEntries(["source", "course", "unplayed", "goal"].map((name) => [name, typeof state[name] === "string" ? state[name] : ""]));
+  return { ...texts, layout: state.layout, program: fromBase64(state.program), input: fromBase64(state.input), script: state.script };
 }

@@ -7,7 +7,9 @@ import { listenToKeys, showKeys } from "./keys.js";
 import { fragmentOf, readFragment } from "./link.js";
 import { Page } from "./page.js";
 import { showLegend } from "./panels.js";
+import { pictureText } from "./picture.js";
 import { bytesOf, text } from "./program.js";
+import { readStop } from "./stop.js";
 
 function save(name, parts) {
   const link = made(html("a", { download: name, href: URL.createObjectURL(new Blob(parts)) }));
@@ -23,7 +25,7 @@ async function openProgramFile(page, file) {
   const bytes = new Uint8Array(await file.arrayBuffer());
   if (isSource(file.name)) {
     byId("source").value = text(bytes);
-    if (page.editors.checkSource()) page.reopen({ bytes: page.editors.checkSource(), name: file.name });
+    if (page.editors.checkSource()) page.reopen({ bytes: page.editors.checkSource(), source: byId("source").value, name: file.name });
   } else page.reopen({ bytes, name: file.name });
 }
 
@@ -37,7 +39,7 @@ function listenToSetup(page) {
     byId("editors").hidden = !byId("editors").hidden;
     byId("edit").setAttribute("aria-expanded", String(!byId("editors").hidden));
   });
-  byId("use-source").addEventListener("click", () => page.reopen({ bytes: page.editors.checkSource(), name: "your program" }));
+  byId("use-source").addEventListener("click", () => page.reopen({ bytes: page.editors.checkSource(), source: byId("source").value, name: "your program" }));
   byId("use-toml").addEventListener("click", () => page.openLayout(OWN, "your processor"));
   byId("use-input").addEventListener("click", () => page.reopen({ input: bytesOf(byId("input").value) }));
   byId("program-file").addEventListener("change", ({ target }) => target.files[0] && openProgramFile(page, target.files[0]));
@@ -48,6 +50,12 @@ function listenToControls(page) {
   byId("play").addEventListener("click", () => page.player.toggle());
   byId("schedule").addEventListener("change", () => page.reschedule());
   byId("seed").addEventListener("input", () => page.reschedule());
+  byId("projector").addEventListener("click", () => page.project());
+  byId("stop").addEventListener("input", () => (page.stop = readStop(byId("stop-address").value, byId("stop-retired").value)));
+  byId("stop").addEventListener("submit", (event) => {
+    event.preventDefault();
+    page.runToStop();
+  });
   window.addEventListener("resize", () => page.resize());
   byId("speed").addEventListener("input", () => (byId("speed-shown").textContent = byId("speed").value));
   byId("keys-button").addEventListener("click", () => byId("keys").showModal());
@@ -63,13 +71,13 @@ function listenToScript(page) {
   byId("save-script").addEventListener("click", () => save("moves.script", [page.session.script]));
   byId("save-program").addEventListener("click", () => save("program", [page.session.bytes]));
   byId("save-layout").addEventListener("click", () => save("layout.toml", [page.session.layout.text]));
+  byId("save-picture").addEventListener("click", () => save("pipeline.svg", [pictureText()]));
   byId("script-file").addEventListener("change", async ({ target }) => {
     if (!target.files[0]) return;
     page.load(await target.files[0].text());
   });
   byId("share").addEventListener("click", async () => {
-    const { layout, bytes, input, script } = page.session;
-    const fragment = await fragmentOf({ layout: layout.text, program: bytes, input, script });
+    const fragment = await fragmentOf(page.shared);
     if (fragment === null) {
       byId("shared").textContent = "This is too long for a link: save script, program and layout.";
       return;
@@ -95,6 +103,7 @@ function listenToDrawing(page) {
     Home: () => page.rewind(),
     End: () => page.forward(),
     b: () => page.rejoin(),
+    p: () => page.project(),
     " ": () => page.player.toggle(),
     ArrowUp: () => page.select(page.selected + 1),
     ArrowDown: () => page.select(page.selected - 1),
@@ -110,10 +119,10 @@ async function openFirst(page) {
     const link = await readFragment(location.hash);
     const layout = link && page.simulator.check(link.layout).layout;
     if (!layout) throw new Error("no link, or no layout in it");
-    page.editors.fill("", link.layout);
+    page.editors.fill(link.source, link.layout);
     byId("example").value = byId("layout").value = page.layoutChoice = OWN;
-    page.open({ layout, bytes: link.program, input: link.input, script: link.script, name: "what the link has" });
-    page.forward();
+    page.open({ layout, bytes: link.program, input: link.input, script: link.course, source: link.source, name: "what the link has" });
+    page.resume(link.script, link.unplayed);
   } catch (fault) {
     page.openExample(page.examples.programs[0]);
     if (location.hash.startsWith("#cfpp")) byId("loaded").textContent = "The link cannot be read.";
@@ -132,6 +141,7 @@ async function begin() {
   listenToDrawing(page);
   const { commit, kit, sources } = built();
   byId("built").textContent = `The program is that of commit ${commit}, built with ${kit}. Its sources have the checksum ${sources}.`;
+  document.body.classList.toggle("bare", new URLSearchParams(location.search).has("bare"));
   await openFirst(page);
   page.resize();
   document.body.dataset.ready = "yes";

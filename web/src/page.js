@@ -19,6 +19,7 @@ import { ByRule, BySeed } from "./schedule.js";
 import { Session } from "./session.js";
 import { Simulator } from "./simulator.js";
 import { allowedAt } from "./stages.js";
+import { NO_STOP, stopReached } from "./stop.js";
 import { namesOfMeeting, told } from "./telling.js";
 
 // The sequential machine and the random orders go no further than this many retired instructions.
@@ -32,11 +33,12 @@ export class Page {
     this.examples = examples();
     this.editors = new Editors(this.simulator, this.reasons);
     this.orders = new AnyOrder(this.simulator, LIMIT);
-    this.player = new Player(() => this.advance(), () => this.show());
+    this.player = new Player(() => this.advance() && !this.stops(), () => this.show());
     this.selected = 1;
     // Why the last move that was asked for could not be made, and where.
     this.forgive();
     this.room = { width: 900, height: 600 };
+    this.stop = NO_STOP;
   }
 
   // What is drawn.
@@ -143,6 +145,21 @@ export class Page {
     return move !== null && this.took(move, this.session.choose(move));
   }
 
+  // Whether the last move led to where play is to stop.
+  stops() {
+    const { last, before, picture } = this.session;
+    const reached = stopReached(this.stop, last.move, before, picture);
+    if (reached !== null) byId("stopped").textContent = `Stopped: ${reached}.`;
+    return reached !== null;
+  }
+
+  // Makes moves as fast as they come, up to where play is to stop.
+  runToStop() {
+    byId("stopped").textContent = "";
+    this.player.stop();
+    this.player.begin(true);
+  }
+
   step() {
     this.advance();
     this.show();
@@ -208,9 +225,17 @@ export class Page {
 
   // What is worked on.
 
-  // Takes a layout, a program and its input, with a script that is to be played.
-  open({ layout, bytes, input, script, name }) {
+  // Folds the panels away, so that the pipes have all the room; or brings them back.
+  project() {
+    const isOn = document.body.classList.toggle("projector");
+    byId("projector").setAttribute("aria-pressed", String(isOn));
+    this.resize();
+  }
+
+  // Takes a layout, a program and its input, with its source where that is known, and with a script that is to be played.
+  open({ layout, bytes, input, script, name, source = "" }) {
     this.player.stop();
+    this.source = source;
     this.orders.clear();
     const listed = this.simulator.list(bytes);
     Object.assign(this.session, { layout, bytes, input, texts: listed.texts ?? new Map() });
@@ -220,6 +245,12 @@ export class Page {
     byId("loaded").textContent = problem ? `No program: ${this.reasons.refusal("Programs", problem)}` : name;
     byId("input").value = text(input);
     this.load(script);
+  }
+
+  // What a link keeps.
+  get shared() {
+    const { layout, bytes, input, script, unplayed, course } = this.session;
+    return { layout: layout.text, program: bytes, input, script, unplayed, course: this.session.scriptOf(course), source: this.source };
   }
 
   // Takes a script that is to be played.
@@ -238,11 +269,17 @@ export class Page {
     this.show();
   }
 
+  // What a link has: moves that were made, and those that are still to come.
+  resume(script, unplayed) {
+    this.change((session) => session.resume(script, unplayed));
+  }
+
   openExample(example) {
     byId("layout").value = this.layoutChoice = example.layout ?? "plain";
     this.editors.fill(example.source ?? "", this.examples.layouts[this.layoutChoice]);
     const bytes = example.image ? fromBase64(example.image) : this.editors.checkSource();
-    this.open({ layout: this.editors.checkLayout(), bytes, input: bytesOf(example.input ?? ""), script: example.script ?? "", name: "" });
+    const { script = "", source = "", input = "" } = example;
+    this.open({ layout: this.editors.checkLayout(), bytes, input: bytesOf(input), script, source, name: "" });
   }
 
   // Takes the layout that the editor has, if it is one. The choice names the processor that is drawn.
@@ -258,6 +295,7 @@ export class Page {
   reopen(changes) {
     const { layout, bytes, input } = this.session;
     if (changes.bytes) byId("example").value = OWN;
-    this.open({ layout, bytes, input, script: "", name: "", ...changes });
+    const source = changes.bytes ? "" : this.source;
+    this.open({ layout, bytes, input, script: "", name: "", source, ...changes });
   }
 }

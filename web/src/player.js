@@ -20,7 +20,7 @@ export class Player {
   }
 
   get speed() {
-    return Number(byId("speed").value);
+    return this.asFastAsCan ? Infinity : Number(byId("speed").value);
   }
 
   get isFast() {
@@ -32,7 +32,9 @@ export class Player {
     else this.begin();
   }
 
-  begin() {
+  // Begins to play, at the speed that is set, or as fast as it can.
+  begin(asFastAsCan = false) {
+    this.asFastAsCan = asFastAsCan;
     byId("play-word").textContent = "Stop";
     // Who listens to the page hears single moves alone.
     byId("telling").setAttribute("aria-live", "off");
@@ -46,7 +48,8 @@ export class Player {
   }
 
   turn(now) {
-    this.due = Math.min(MOST, this.due + (Math.max(0, now - this.last) * this.speed) / 1000);
+    const passed = Math.max(1, now - this.last);
+    this.due = Math.min(MOST, this.due + (passed * this.speed) / 1000);
     this.last = now;
     this.wait();
     if (this.due >= 1) this.play();

@@ -3,11 +3,13 @@
 import { byId } from "./element.js";
 
 const LEAST_HEIGHT = 300;
-// What stands below the drawing.
-const BELOW = 38;
+// What stands below the drawing, with the legend and without.
+const LEGEND = 38;
+const NO_LEGEND = 8;
 
 export function roomOfDrawing() {
   const place = byId("room");
   const top = place.getBoundingClientRect().top + window.scrollY;
-  return { width: Math.max(320, place.clientWidth), height: Math.max(LEAST_HEIGHT, window.innerHeight - top - BELOW) };
+  const below = byId("legend").offsetHeight > 0 ? LEGEND : NO_LEGEND;
+  return { width: Math.max(320, place.clientWidth), height: Math.max(LEAST_HEIGHT, window.innerHeight - top - below) };
 }

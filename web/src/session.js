@@ -116,6 +116,19 @@ export class Session {
     this.see();
   }
 
+  // Takes moves that were made, as far as they can be, and those that are to come behind them.
+  resume(made, unplayed) {
+    this.steps = [];
+    this.undone = readSteps(made).reverse();
+    this.forward();
+    if (this.undone.length === 0) this.undone = readSteps(unplayed).reverse();
+  }
+
+  // The moves that were taken back or are still to come, as a script.
+  get unplayed() {
+    return this.scriptOf([...this.undone].reverse());
+  }
+
   // Makes all moves again that were taken back, up to the first that is barred.
   forward() {
     const all = [...this.steps, ...[...this.undone].reverse()];

@@ -109,7 +109,7 @@ export class Browser {
   faults(address) {
     const isFault = ({ method, params }) => method === "Runtime.exceptionThrown" || (method === "Log.entryAdded" && params.entry.level === "error");
     const said = this.events.filter(isFault);
-    const isForeign = (url) => url.split("#")[0] !== address && url !== "about:blank" && !url.startsWith("blob:");
+    const isForeign = (url) => !url.split(/[?#]/)[0].match(/\.svg$/) && url.split(/[?#]/)[0] !== address && url !== "about:blank" && !url.startsWith("blob:");
     const sent = this.events.filter(({ method }) => method === "Network.requestWillBeSent").map(({ params }) => params.request.url);
     const words = ({ params }) => params.exceptionDetails?.exception?.description ?? params.entry?.text ?? "an exception";
     return [...said.map(words), ...sent.filter(isForeign).map((url) => `request of ${url}`)];

@@ -8,6 +8,7 @@ import { ADDRESS, WALL, browser, check, choose, click, counts, evaluate, movesOf
 import { mended } from "./mended.mjs";
 import { TOP, scriptsOfPage } from "./native.mjs";
 import { seen } from "./seen.mjs";
+import { shown } from "./shown.mjs";
 
 const [PICTURES, ...ONLY] = process.argv.slice(2);
 
@@ -233,7 +234,7 @@ try {
   await browser.open(ADDRESS, WALL);
   await evaluate("document.getElementById('report-details').open = true");
   check("the page runs", (await evaluate("document.body.dataset.ready")) === "yes", await textOf("told"));
-  for (const part of [lesson, backAndForth, lessons, byHand, schedules, anyOrder, editors, links, hostile, speed, playing, opening, looks, ...mended, ...seen]) {
+  for (const part of [lesson, backAndForth, lessons, byHand, schedules, anyOrder, editors, links, hostile, speed, playing, opening, looks, ...mended, ...seen, ...shown]) {
     if (ONLY.length === 0 || ONLY.includes(part.name)) await part();
   }
   const faults = browser.faults(ADDRESS);

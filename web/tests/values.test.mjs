@@ -7,6 +7,7 @@ import { common, isOn, restOf } from "../src/course.js";
 import { geometryOf } from "../src/geometry.js";
 import { chosenAfter } from "../src/moves.js";
 import { Reasons } from "../src/reasons.js";
+import { NO_STOP, readStop, stopReached } from "../src/stop.js";
 
 const stepsOf = (text) => text.split(" ").map((move) => ({ move }));
 const movesOf = (steps) => steps.map(({ move }) => move).join(" ");
@@ -61,4 +62,14 @@ test("a room that is large makes all larger, and a small one stages of one line"
   assert.ok(geometryOf(PLAIN, { width: 1472, height: 850 }).scale > 1.4);
   assert.equal(geometryOf(PLAIN, { width: 900, height: 400 }).scale, 1);
   assert.equal(geometryOf(PLAIN, { width: 900, height: 400 }).lines, 1);
+});
+
+test("play stops at an address or a count", () => {
+  const stop = readStop("1000C", "3");
+  assert.deepEqual(stop, { address: "0001000c", retired: 3 });
+  assert.deepEqual(readStop("", ""), NO_STOP);
+  assert.equal(stopReached(stop, "issue next", { fetch: "0001000c", retired: 0 }, { retired: 0 }), "0001000c was issued");
+  assert.equal(stopReached(stop, "climb 1", { fetch: "0001000c", retired: 0 }, { retired: 0 }), null);
+  assert.equal(stopReached(stop, "leave", { retired: 2 }, { retired: 3 }), "3 have retired");
+  assert.equal(stopReached(stop, "leave", { retired: 3 }, { retired: 4 }), null);
 });
