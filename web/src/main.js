@@ -64,7 +64,7 @@ function listenToControls(page) {
     event.preventDefault();
     if (page.make(byId("move-line").value.trim())) byId("move-line").value = "";
   });
-  for (const id of ["barred-details", "report-details"]) byId(id).addEventListener("toggle", () => page.show());
+  for (const id of ["barred-details", "report-details", "memory-details"]) byId(id).addEventListener("toggle", () => page.show());
 }
 
 function listenToScript(page) {

@@ -8,6 +8,7 @@ import { draw } from "./drawing.js";
 import { byId, fill, html, sentence } from "./element.js";
 import { Editors } from "./editors.js";
 import { memorySiding } from "./layout.js";
+import { MemoryPanel } from "./memory_panel.js";
 import { chosenAfter } from "./moves.js";
 import { AnyOrder } from "./orders.js";
 import { showBarred, showMachine, showMoves, showReport, showScript, showStage, showWritten } from "./panels.js";
@@ -34,6 +35,7 @@ export class Page {
     this.editors = new Editors(this.simulator, this.reasons);
     this.orders = new AnyOrder(this.simulator, LIMIT);
     this.player = new Player(() => this.advance() && !this.stops(), () => this.show());
+    this.memory = new MemoryPanel(this.simulator);
     this.selected = 1;
     // Why the last move that was asked for could not be made, and where.
     this.forgive();
@@ -63,6 +65,7 @@ export class Page {
     showWritten(view.picture);
     showScript(this.session);
     showReport(view.picture);
+    this.memory.show(this.session);
     byId("back").disabled = byId("rewind").disabled = this.session.steps.length === 0;
     byId("again").disabled = byId("forward").disabled = this.session.undone.length === 0;
     byId("step").disabled = view.picture.allowed.length === 0 && this.session.undone.length === 0;

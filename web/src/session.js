@@ -2,9 +2,9 @@
 // that there is: each picture is the program's answer to it.
 
 import { common, isOn, restOf } from "./course.js";
-import { NOBODY, identitiesAfter } from "./identity.js";
 import { emptyReport } from "./report.js";
-import { candidates, issuesAfter } from "./schedule.js";
+import { candidates } from "./schedule.js";
+import { NO_TRACK, trackAfter } from "./track.js";
 
 export class Session {
   constructor(simulator) {
@@ -42,8 +42,7 @@ export class Session {
     const after = this.simulator.standing(this, this.script + this.scriptOf([step]), this.picture);
     const refused = /^(barred at line \d+|bad script line \d+): (.*)$/.exec(after.first);
     if (refused) return { kind: refused[1].startsWith("barred") ? "bar" : "line", reason: refused[2] };
-    step.issues = issuesAfter(this.issues, move, this.picture, after);
-    step.who = identitiesAfter(this.who, move, this.picture, after);
+    step.track = trackAfter(this.track, move, this.picture, after, this.texts);
     this.before = this.picture;
     this.picture = after;
     this.steps.push(step);
@@ -142,31 +141,32 @@ export class Session {
     return this.steps.at(-1) ?? null;
   }
 
-  // How many issues count for holding issue back, behind the moves so far.
-  get issues() {
-    if (!this.last) return 0;
-    if (this.last.issues === undefined) this.follow();
-    return this.last.issues;
+  // What the moves so far tell beside the picture.
+  get track() {
+    if (!this.last) return NO_TRACK;
+    if (this.last.track === undefined) this.follow();
+    return this.last.track;
   }
 
-  // Who is who, behind the moves so far.
+  // How many issues count for holding issue back.
+  get issues() {
+    return this.track.issues;
+  }
+
   get who() {
-    if (!this.last) return NOBODY;
-    if (this.last.who === undefined) this.follow();
-    return this.last.who;
+    return this.track.who;
   }
 
   get whoBefore() {
-    return this.steps.at(-2)?.who ?? NOBODY;
+    return (this.steps.at(-2)?.track ?? NO_TRACK).who;
   }
 
-  // Goes through all moves so far, for what each picture alone does not tell.
+  // Goes through all moves so far.
   follow() {
-    let [before, issues, who] = [emptyReport(), 0, NOBODY];
+    let [before, track] = [emptyReport(), NO_TRACK];
     this.simulator.moments(this, this.script).forEach(({ move, after }, at) => {
-      issues = issuesAfter(issues, move, before, after);
-      who = identitiesAfter(who, move, before, after);
-      Object.assign(this.steps[at], { issues, who });
+      track = trackAfter(track, move, before, after, this.texts);
+      this.steps[at].track = track;
       before = after;
     });
   }

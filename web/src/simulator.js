@@ -72,6 +72,17 @@ export class Simulator {
     });
   }
 
+  // The bytes of memory behind a script, by address, but for those that stand in no region: two digits each.
+  bytesAt(session, script, addresses) {
+    const moves = script.split("\n").filter((line) => line !== "" && !line.startsWith("#"));
+    const asked = addresses.map((address) => `mem ${address.toString(16).padStart(8, "0")} 1\n`);
+    const commands = moves.map((move) => `move ${move}\n`).join("") + asked.join("");
+    const files = { layout: bytesOf(session.layout.text), program: session.bytes };
+    const answers = this.ask(["debug", "layout", "program"], files, bytesOf(commands)).report.trimEnd().split("\n").slice(-addresses.length);
+    const pairs = answers.map((answer) => /^([0-9a-f]{8}) ([0-9a-f]{2})$/.exec(answer)).filter((it) => it !== null);
+    return new Map(pairs.map(([, address, byte]) => [parseInt(address, 16), byte]));
+  }
+
   // Where a script leads, with the moves that can be made there and why the others cannot. The lines of what retired are asked for just
   // where they are not those of the picture before.
   standing(session, script, before = null) {

@@ -42,6 +42,23 @@ async function changes() {
   check("and no longer when a move is made", (await inDrawing(".outline")).length === 0, await textOf("why"));
 }
 
+const markedBytes = (mark) => evaluate(`Array.from(document.querySelectorAll("#memory .${mark}"), (it) => it.textContent).join(" ")`);
+
+async function memory() {
+  await choose("A memory operation");
+  await evaluate("document.getElementById('memory-details').open = true");
+  await step(13);
+  const before = await textOf("memory");
+  check("no byte is marked before the access", (await markedBytes("written")) === "" && before.includes("7f0ffff0"), before);
+  await step(1);
+  check("the access changes memory", (await script()).at(-1) === "access" && (await textOf("memory")) !== before);
+  check("what was written is marked", (await markedBytes("written")) === "f0 ff 0f 7f", await markedBytes("written"));
+  check("and told", (await textOf("memory-words")) === "Last, #1 wrote 4 bytes at 7f0fffe0.", await textOf("memory-words"));
+  await press("ArrowLeft");
+  check("taking it back takes it back", (await textOf("memory")) === before);
+  await evaluate("document.getElementById('memory-details').open = false");
+}
+
 // The names of the animations that run after each kind of move of a lesson; each kind has one, but not where motion is to be reduced.
 async function animationsOf(reduced) {
   await browser.call("Emulation.setEmulatedMedia", { features: [{ name: "prefers-reduced-motion", value: reduced ? "reduce" : "no-preference" }] });
@@ -65,4 +82,4 @@ async function animations() {
   await browser.call("Emulation.setEmulatedMedia", { features: [] });
 }
 
-export const seen = [identities, changes, animations];
+export const seen = [identities, changes, memory, animations];

@@ -85,7 +85,7 @@ function lessons() {
       check(`${name}: the retired instructions are the machine's`, firstDifference(machine, picture) < 0);
     }
     const { who } = session;
-    session.last.who = undefined;
+    session.last.track = undefined;
     check(`${name}: the same who is who, found anew`, JSON.stringify(session.who) === JSON.stringify(who));
     check(`${name}: who died`, dead === session.picture.dead, `${dead}`);
     const barred = /^barred at line \d+: (.*)$/.exec(report.split("\n")[0]);
@@ -116,7 +116,7 @@ function schedules() {
     const made = session.steps.map(({ move }) => move);
     check(`the moves of ${program} on ${layout} ${options.join(" ")}`, made.length > 30 && made.join() === wanted.join());
     const counted = session.issues;
-    session.last.issues = undefined;
+    session.last.track = undefined;
     check(`issues counted anew of ${program} on ${layout}`, session.issues === counted, `${counted}`);
   }
 }

@@ -5,6 +5,7 @@ import test from "node:test";
 import { captionOf } from "../src/captions.js";
 import { common, isOn, restOf } from "../src/course.js";
 import { geometryOf } from "../src/geometry.js";
+import { accessOf, markOf, memoryPlan } from "../src/memory.js";
 import { chosenAfter } from "../src/moves.js";
 import { Reasons } from "../src/reasons.js";
 import { NO_STOP, readStop, stopReached } from "../src/stop.js";
@@ -72,4 +73,26 @@ test("play stops at an address or a count", () => {
   assert.equal(stopReached(stop, "climb 1", { fetch: "0001000c", retired: 0 }, { retired: 0 }), null);
   assert.equal(stopReached(stop, "leave", { retired: 2 }, { retired: 3 }), "3 have retired");
   assert.equal(stopReached(stop, "leave", { retired: 3 }, { retired: 4 }), null);
+});
+
+test("loads and stores tell which bytes they reach", () => {
+  const x2 = { register: "x02", value: "7f0ffff0" };
+  assert.deepEqual(accessOf("sw x5, -16(x2)", [x2, { register: "x05", value: "00000001" }]), { isStore: true, size: 4, address: 0x7f0fffe0 });
+  assert.deepEqual(accessOf("lbu x5, 3(x2)", [x2, null]), { isStore: false, size: 1, address: 0x7f0ffff3 });
+  assert.deepEqual(accessOf("lh x5, 8(x0)", [null, null]), { isStore: false, size: 2, address: 8 });
+  assert.equal(accessOf("addi x5, x2, 1", [x2, null]), null);
+});
+
+test("memory is planned by region, with what was written marked", () => {
+  const store = { isStore: true, size: 4, address: 0x7f0fffe0, number: 1 };
+  const load = { isStore: false, size: 2, address: 0x00011008, number: 2 };
+  const plan = memoryPlan({ access: load, before: { access: store, before: null } }, 0x7f0ffff0);
+  assert.deepEqual(plan.regions, [
+    { name: "Data", rows: [0x10ff0, 0x11000, 0x11010] },
+    { name: "Stack", rows: [0x7f0fffe0, 0x7f0ffff0] },
+  ]);
+  assert.equal(markOf(plan, 0x11009), "read");
+  assert.equal(markOf(plan, 0x1100a), "");
+  assert.equal(markOf(plan, 0x7f0fffe3), "stored");
+  assert.equal(memoryPlan(null, 0x7f0ffff0).last, null);
 });
