@@ -88,7 +88,7 @@ test("memory is planned by region, with what was written marked", () => {
   const load = { isStore: false, size: 2, address: 0x00011008, number: 2 };
   const plan = memoryPlan({ access: load, before: { access: store, before: null } }, 0x7f0ffff0);
   assert.deepEqual(plan.regions, [
-    { name: "Data", rows: [0x10ff0, 0x11000, 0x11010] },
+    { name: "Data", rows: [0x11000, 0x11008, 0x11010] },
     { name: "Stack", rows: [0x7f0fffe0, 0x7f0ffff0] },
   ]);
   assert.equal(markOf(plan, 0x11009), "read");
