@@ -4,6 +4,8 @@ import json
 import pathlib
 import re
 
+from making.questions import goals, questions
+
 WEB = pathlib.Path(__file__).resolve().parent.parent
 TOP = WEB.parent
 
@@ -48,12 +50,15 @@ def program_of(stem):
 def lessons():
     """Each script that a lesson runs, once, under the lesson's heading, with the file of the report that it is to print."""
     found, group, lines = {}, "", lab_lines()
+    asked, wanted = questions(), goals()
     for line, behind in zip(lines, [*lines[1:], ""]):
         heading = LESSON.match(line)
         group = heading.group(1) if heading else group
         for layout, program, script in RUN.findall(line):
             report = PRINTS.search(behind)
             about = {"group": group, "title": first_sentence(script), "layout": name_of(layout), "script": (TOP / script).read_text()}
+            stem = pathlib.Path(script).stem
+            about |= {"questions": asked.get(stem, []), "goal": wanted.get(stem, "")}
             if report and script not in found:
                 found[script] = about | {"name": script, "report": report.group(1)} | program_of(program.rsplit(".", 1)[0])
     return list(found.values())

@@ -50,6 +50,7 @@ function listenToControls(page) {
   byId("play").addEventListener("click", () => page.player.toggle());
   byId("schedule").addEventListener("change", () => page.reschedule());
   byId("seed").addEventListener("input", () => page.reschedule());
+  byId("predict").addEventListener("click", () => page.predict.toggle());
   byId("projector").addEventListener("click", () => page.project());
   byId("stop").addEventListener("input", () => (page.stop = readStop(byId("stop-address").value, byId("stop-retired").value)));
   byId("stop").addEventListener("submit", (event) => {
@@ -104,6 +105,7 @@ function listenToDrawing(page) {
     End: () => page.forward(),
     b: () => page.rejoin(),
     p: () => page.project(),
+    q: () => page.predict.toggle(),
     " ": () => page.player.toggle(),
     ArrowUp: () => page.select(page.selected + 1),
     ArrowDown: () => page.select(page.selected - 1),

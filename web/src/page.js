@@ -13,6 +13,7 @@ import { chosenAfter } from "./moves.js";
 import { AnyOrder } from "./orders.js";
 import { showBarred, showMachine, showMoves, showReport, showScript, showStage, showWritten } from "./panels.js";
 import { Player } from "./player.js";
+import { Predict } from "./predict.js";
 import { Program, bytesOf, text } from "./program.js";
 import { Reasons } from "./reasons.js";
 import { roomOfDrawing } from "./room.js";
@@ -34,8 +35,11 @@ export class Page {
     this.examples = examples();
     this.editors = new Editors(this.simulator, this.reasons);
     this.orders = new AnyOrder(this.simulator, LIMIT);
-    this.player = new Player(() => this.advance() && !this.stops(), () => this.show());
+    this.player = new Player(() => this.play(), () => this.show());
     this.memory = new MemoryPanel(this.simulator);
+    this.predict = new Predict(this);
+    // The questions of the lesson on the script that is played.
+    this.questions = [];
     this.selected = 1;
     // Why the last move that was asked for could not be made, and where.
     this.forgive();
@@ -51,8 +55,14 @@ export class Page {
     return { layout, picture, before, texts, last: last?.move ?? null, names, selected: this.selected, room: this.room, who, whoBefore, blame: this.blame };
   }
 
-  show() {
+  // What is drawn while a question waits: where the moves have led, but neither what the last one did nor what can be done now.
+  get viewOfQuestion() {
     const view = this.view;
+    return { ...view, last: null, names: [], blame: null, before: null, picture: { ...view.picture, allowed: [] } };
+  }
+
+  show() {
+    const view = this.predict.isAsking ? this.viewOfQuestion : this.view;
     const hadFocus = byId("drawing").contains(document.activeElement);
     byId("drawing").classList.toggle("still", this.player.isFast);
     draw(byId("drawing"), view);
@@ -77,13 +87,22 @@ export class Page {
     this.show();
   }
 
+  // The caption, but not the one of a move that is to be predicted.
+  get notes() {
+    const { last, undone } = this.session;
+    if (this.predict.isAsking || (this.predict.isOn && !last)) return [];
+    return (last ?? undone.at(-1))?.notes ?? [];
+  }
+
   tell(view) {
-    const { last, undone, isBranch } = this.session;
-    fill(byId("notes"), captionOf((last ?? undone.at(-1))?.notes ?? []));
-    fill(byId("told"), last ? this.wordsOfLast(view) : this.wordsAtStart());
+    const { last, isBranch } = this.session;
+    const { isAsking } = this.predict;
+    fill(byId("notes"), captionOf(this.notes));
+    fill(byId("told"), isAsking ? "" : last ? this.wordsOfLast(view) : this.wordsAtStart());
     const { first } = view.picture;
     fill(byId("ending"), first.startsWith("script end") ? "" : `The run has ended: ${first}.`);
-    fill(byId("why"), sentence(this.why));
+    fill(byId("why"), isAsking ? "" : sentence(this.why));
+    this.predict.show();
     byId("branch").hidden = !isBranch;
   }
 
@@ -115,6 +134,15 @@ export class Page {
   }
 
   make(move) {
+    if (this.predict.asks(move)) {
+      this.show();
+      return false;
+    }
+    return this.makeAnswered(move);
+  }
+
+  // Makes a move of which there is no question any more.
+  makeAnswered(move) {
     const isMade = this.took(move, this.session.choose(move));
     if (isMade) this.selected = chosenAfter(this.selected, move);
     this.show();
@@ -163,21 +191,35 @@ export class Page {
     this.player.begin(true);
   }
 
+  // The move that the next step makes, or null.
+  get nextMove() {
+    return this.replays ? this.session.undone.at(-1).move : this.session.chosenBy(this.schedule);
+  }
+
+  // Makes the next move, but where Predict asks of it.
+  advanceUnlessAsked() {
+    return !this.predict.asks(this.predict.isOn ? this.nextMove : null, true) && this.advance();
+  }
+
+  play() {
+    return this.advanceUnlessAsked() && !this.stops();
+  }
+
   step() {
-    this.advance();
+    this.advanceUnlessAsked();
     this.show();
   }
 
   // Makes the move again that was taken back last, whatever the schedule.
   again() {
     const step = this.session.undone.at(-1);
-    if (step) this.took(step.move, this.session.again());
-    this.show();
+    if (step) this.make(step.move);
   }
 
   // Changes the moves that are made.
   change(how) {
     this.player.stop();
+    this.predict.clear();
     this.forgive();
     how(this.session);
     this.show();
@@ -236,9 +278,9 @@ export class Page {
   }
 
   // Takes a layout, a program and its input, with its source where that is known, and with a script that is to be played.
-  open({ layout, bytes, input, script, name, source = "" }) {
+  open({ layout, bytes, input, script, name, source = "", questions = [] }) {
     this.player.stop();
-    this.source = source;
+    Object.assign(this, { source, questions });
     this.orders.clear();
     const listed = this.simulator.list(bytes);
     Object.assign(this.session, { layout, bytes, input, texts: listed.texts ?? new Map() });
@@ -281,8 +323,8 @@ export class Page {
     byId("layout").value = this.layoutChoice = example.layout ?? "plain";
     this.editors.fill(example.source ?? "", this.examples.layouts[this.layoutChoice]);
     const bytes = example.image ? fromBase64(example.image) : this.editors.checkSource();
-    const { script = "", source = "", input = "" } = example;
-    this.open({ layout: this.editors.checkLayout(), bytes, input: bytesOf(input), script, source, name: "" });
+    const { script = "", source = "", input = "", questions = [] } = example;
+    this.open({ layout: this.editors.checkLayout(), bytes, input: bytesOf(input), script, source, name: "", questions });
   }
 
   // Takes the layout that the editor has, if it is one. The choice names the processor that is drawn.

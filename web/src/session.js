@@ -36,12 +36,18 @@ export class Session {
     return this.picture;
   }
 
+  // Where one more move would lead, or why it cannot be made.
+  peek(move, notes = []) {
+    const after = this.simulator.standing(this, this.script + this.scriptOf([{ move, notes }]), this.picture);
+    const refused = /^(barred at line \d+|bad script line \d+): (.*)$/.exec(after.first);
+    return { after, refused: refused && { kind: refused[1].startsWith("barred") ? "bar" : "line", reason: refused[2] } };
+  }
+
   // Makes one more move: the answer is the bar where it cannot be made.
   make(move, notes = []) {
     const step = { move, notes };
-    const after = this.simulator.standing(this, this.script + this.scriptOf([step]), this.picture);
-    const refused = /^(barred at line \d+|bad script line \d+): (.*)$/.exec(after.first);
-    if (refused) return { kind: refused[1].startsWith("barred") ? "bar" : "line", reason: refused[2] };
+    const { after, refused } = this.peek(move, notes);
+    if (refused) return refused;
     step.track = trackAfter(this.track, move, this.picture, after, this.texts);
     this.before = this.picture;
     this.picture = after;

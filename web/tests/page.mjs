@@ -7,6 +7,7 @@ import path from "node:path";
 import { ADDRESS, WALL, browser, check, choose, click, counts, evaluate, movesOfRun, native, playScript, press, put, script, textOf, valueOf } from "./drive.mjs";
 import { mended } from "./mended.mjs";
 import { TOP, scriptsOfPage } from "./native.mjs";
+import { predicting } from "./predicting.mjs";
 import { seen } from "./seen.mjs";
 import { shown } from "./shown.mjs";
 
@@ -234,7 +235,7 @@ try {
   await browser.open(ADDRESS, WALL);
   await evaluate("document.getElementById('report-details').open = true");
   check("the page runs", (await evaluate("document.body.dataset.ready")) === "yes", await textOf("told"));
-  for (const part of [lesson, backAndForth, lessons, byHand, schedules, anyOrder, editors, links, hostile, speed, playing, opening, looks, ...mended, ...seen, ...shown]) {
+  for (const part of [lesson, backAndForth, lessons, byHand, schedules, anyOrder, editors, links, hostile, speed, playing, opening, looks, ...mended, ...seen, ...shown, ...predicting]) {
     if (ONLY.length === 0 || ONLY.includes(part.name)) await part();
   }
   const faults = browser.faults(ADDRESS);

@@ -7,6 +7,7 @@ import { common, isOn, restOf } from "../src/course.js";
 import { geometryOf } from "../src/geometry.js";
 import { accessOf, markOf, memoryPlan } from "../src/memory.js";
 import { chosenAfter } from "../src/moves.js";
+import { NO_BAR, answerText, isRight, questionOf } from "../src/questions.js";
 import { Reasons } from "../src/reasons.js";
 import { NO_STOP, readStop, stopReached } from "../src/stop.js";
 
@@ -95,4 +96,25 @@ test("memory is planned by region, with what was written marked", () => {
   assert.equal(markOf(plan, 0x1100a), "");
   assert.equal(markOf(plan, 0x7f0fffe3), "stored");
   assert.equal(memoryPlan(null, 0x7f0ffff0).last, null);
+});
+
+test("what is said is judged", () => {
+  const meeting = { kind: "meeting", answer: ["garner", "kill"] };
+  assert.equal(isRight(meeting, ["kill", "garner"]), true);
+  assert.equal(isRight(meeting, ["garner"]), false);
+  assert.equal(isRight(meeting, ["garner", "kill", "die"]), false);
+  const value = { kind: "value", answer: ["ffffffff"] };
+  assert.equal(isRight(value, ["-1"]), true);
+  assert.equal(isRight(value, ["0xffffffff"]), true);
+  assert.equal(isRight(value, ["x5 = -1"]), true);
+  assert.equal(isRight(value, ["1"]), false);
+  assert.equal(answerText(value), "-1");
+});
+
+test("a bar is asked with bars that are taken for it, and one that nothing bars", () => {
+  const question = questionOf({ move: "climb 1", bar: "SourceMissing x01" });
+  assert.deepEqual(question.answer, ["SourceMissing"]);
+  assert.equal(new Set(question.choices).size, 5);
+  assert.ok(question.choices.includes("SourceMissing") && question.choices.includes(NO_BAR));
+  assert.equal(questionOf({ move: "climb 1", bar: null }), null);
 });
