@@ -88,8 +88,10 @@ export class Browser {
     await this.call("Input.dispatchKeyEvent", { type: "keyUp", ...event });
   }
 
+  // Clicks on the middle of an element, once nothing moves any more.
   async clickAt(selector) {
-    const { x, y } = await this.evaluate(`(() => {
+    const { x, y } = await this.evaluate(`(async () => {
+      await Promise.all(document.getAnimations().map((one) => one.finished.catch(() => null)));
       const it = document.querySelector(${JSON.stringify(selector)});
       it.scrollIntoView({ block: "center" });
       const box = it.getBoundingClientRect();
