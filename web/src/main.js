@@ -65,7 +65,7 @@ function listenToControls(page) {
     event.preventDefault();
     if (page.make(byId("move-line").value.trim())) byId("move-line").value = "";
   });
-  for (const id of ["barred-details", "report-details", "memory-details"]) byId(id).addEventListener("toggle", () => page.show());
+  for (const id of ["barred-details", "report-details", "memory-details", "goal-details"]) byId(id).addEventListener("toggle", () => page.show());
 }
 
 function listenToScript(page) {
@@ -123,7 +123,7 @@ async function openFirst(page) {
     if (!layout) throw new Error("no link, or no layout in it");
     page.editors.fill(link.source, link.layout);
     byId("example").value = byId("layout").value = page.layoutChoice = OWN;
-    page.open({ layout, bytes: link.program, input: link.input, script: link.course, source: link.source, name: "what the link has" });
+    page.open({ layout, bytes: link.program, input: link.input, script: link.course, source: link.source, goal: link.goal, name: "what the link has" });
     page.resume(link.script, link.unplayed);
   } catch (fault) {
     page.openExample(page.examples.programs[0]);

@@ -7,6 +7,7 @@ import { examples, explanations, fromBase64 } from "./data.js";
 import { draw } from "./drawing.js";
 import { byId, fill, html, sentence } from "./element.js";
 import { Editors } from "./editors.js";
+import { GoalPanel } from "./goal_panel.js";
 import { memorySiding } from "./layout.js";
 import { MemoryPanel } from "./memory_panel.js";
 import { chosenAfter } from "./moves.js";
@@ -38,6 +39,7 @@ export class Page {
     this.player = new Player(() => this.play(), () => this.show());
     this.memory = new MemoryPanel(this.simulator);
     this.predict = new Predict(this);
+    this.goal = new GoalPanel(() => this.show());
     // The questions of the lesson on the script that is played.
     this.questions = [];
     this.selected = 1;
@@ -76,6 +78,7 @@ export class Page {
     showScript(this.session);
     showReport(view.picture);
     this.memory.show(this.session);
+    this.goal.show(this.session);
     byId("back").disabled = byId("rewind").disabled = this.session.steps.length === 0;
     byId("again").disabled = byId("forward").disabled = this.session.undone.length === 0;
     byId("step").disabled = view.picture.allowed.length === 0 && this.session.undone.length === 0;
@@ -277,9 +280,10 @@ export class Page {
     this.resize();
   }
 
-  // Takes a layout, a program and its input, with its source where that is known, and with a script that is to be played.
-  open({ layout, bytes, input, script, name, source = "", questions = [] }) {
+  // Takes a layout, a program and its input, with its source where that is known, with a script that is to be played, and a goal.
+  open({ layout, bytes, input, script, name, source = "", questions = [], goal = "" }) {
     this.player.stop();
+    this.goal.set(goal);
     Object.assign(this, { source, questions });
     this.orders.clear();
     const listed = this.simulator.list(bytes);
@@ -295,7 +299,7 @@ export class Page {
   // What a link keeps.
   get shared() {
     const { layout, bytes, input, script, unplayed, course } = this.session;
-    return { layout: layout.text, program: bytes, input, script, unplayed, course: this.session.scriptOf(course), source: this.source };
+    return { layout: layout.text, program: bytes, input, script, unplayed, course: this.session.scriptOf(course), source: this.source, goal: this.goal.text };
   }
 
   // Takes a script that is to be played.
@@ -323,8 +327,8 @@ export class Page {
     byId("layout").value = this.layoutChoice = example.layout ?? "plain";
     this.editors.fill(example.source ?? "", this.examples.layouts[this.layoutChoice]);
     const bytes = example.image ? fromBase64(example.image) : this.editors.checkSource();
-    const { script = "", source = "", input = "", questions = [] } = example;
-    this.open({ layout: this.editors.checkLayout(), bytes, input: bytesOf(input), script, source, name: "", questions });
+    const { script = "", source = "", input = "", questions = [], goal = "" } = example;
+    this.open({ layout: this.editors.checkLayout(), bytes, input: bytesOf(input), script, source, name: "", questions, goal });
   }
 
   // Takes the layout that the editor has, if it is one. The choice names the processor that is drawn.

@@ -5,6 +5,7 @@
 import fs from "node:fs";
 import path from "node:path";
 import { ADDRESS, WALL, browser, check, choose, click, counts, evaluate, movesOfRun, native, playScript, press, put, script, textOf, valueOf } from "./drive.mjs";
+import { goalParts } from "./goals.mjs";
 import { mended } from "./mended.mjs";
 import { TOP, scriptsOfPage } from "./native.mjs";
 import { predicting } from "./predicting.mjs";
@@ -235,7 +236,7 @@ try {
   await browser.open(ADDRESS, WALL);
   await evaluate("document.getElementById('report-details').open = true");
   check("the page runs", (await evaluate("document.body.dataset.ready")) === "yes", await textOf("told"));
-  for (const part of [lesson, backAndForth, lessons, byHand, schedules, anyOrder, editors, links, hostile, speed, playing, opening, looks, ...mended, ...seen, ...shown, ...predicting]) {
+  for (const part of [lesson, backAndForth, lessons, byHand, schedules, anyOrder, editors, links, hostile, speed, playing, opening, looks, ...mended, ...seen, ...shown, ...predicting, ...goalParts]) {
     if (ONLY.length === 0 || ONLY.includes(part.name)) await part();
   }
   const faults = browser.faults(ADDRESS);

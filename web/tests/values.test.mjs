@@ -1,12 +1,15 @@
 // Tests of what the page works out from plain values, without a browser or the program: `node --test web/tests`.
 
 import assert from "node:assert/strict";
+import fs from "node:fs";
 import test from "node:test";
 import { captionOf } from "../src/captions.js";
 import { common, isOn, restOf } from "../src/course.js";
 import { geometryOf } from "../src/geometry.js";
+import { isReached, judged, readGoal } from "../src/goal.js";
 import { accessOf, markOf, memoryPlan } from "../src/memory.js";
 import { chosenAfter } from "../src/moves.js";
+import { ticksOf } from "../src/places.js";
 import { NO_BAR, answerText, isRight, questionOf } from "../src/questions.js";
 import { Reasons } from "../src/reasons.js";
 import { NO_STOP, readStop, stopReached } from "../src/stop.js";
@@ -117,4 +120,42 @@ test("a bar is asked with bars that are taken for it, and one that nothing bars"
   assert.equal(new Set(question.choices).size, 5);
   assert.ok(question.choices.includes("SourceMissing") && question.choices.includes(NO_BAR));
   assert.equal(questionOf({ move: "climb 1", bar: null }), null);
+});
+
+const PICTURE = { registers: Array.from({ length: 32 }, (_, at) => (at === 1 ? "00000002" : "00000000")), stages: new Map(), sidings: new Map(), retired: 2, kills: 1 };
+const STATE = { picture: PICTURE, updates: 0, moves: 18, ticks: 15 };
+const reaches = (text, state = STATE) => isReached(judged(readGoal(text), state));
+
+test("a goal is read from words, and judged", () => {
+  assert.equal(reaches("x1 = 2, pipes empty, at most 18 moves"), true);
+  assert.equal(reaches("x1 = 2, pipes empty, at most 17 moves"), false);
+  assert.equal(reaches("x1=3"), false);
+  assert.equal(reaches("a kill, retired 2,at most 15 ticks"), true);
+  assert.equal(reaches("an update"), false);
+  assert.equal(reaches("x1 = 2, pipes empty", { ...STATE, picture: { ...PICTURE, stages: new Map([[1, {}]]) } }), false);
+  assert.equal(readGoal("x1 = 2, pipes full").fault, "pipes full");
+  assert.equal(readGoal("x32 = 1").fault, "x32 = 1");
+  assert.equal(reaches(""), false);
+});
+
+const TINY = { stages: 2, sidings: [{ launch: 1, recover: 2, cells: 1, classes: ["memory"] }] };
+const lab = (name) => fs.readFileSync(new URL(`../../examples/lab/${name}.script`, import.meta.url), "utf8");
+
+// The rounds that the lab's scripts tell in their comments were written by hand.
+test("moves have the ticks of the rounds that the lab tells", () => {
+  for (const name of ["apart_two_adders", "chain_two_adders", "apart_one_adder"]) {
+    let round = 0;
+    const wanted = [];
+    const moves = [];
+    for (const line of lab(name).split("\n")) {
+      if (/^# round/.test(line)) round += 1;
+      else if (line !== "" && !line.startsWith("#")) {
+        moves.push(line);
+        wanted.push(round);
+      }
+    }
+    const ticks = ticksOf(moves, TINY);
+    assert.equal(Math.max(...ticks), round, name);
+    assert.ok(ticks.every((tick, at) => tick <= wanted[at]), name);
+  }
 });
