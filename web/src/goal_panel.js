@@ -15,7 +15,6 @@ export class GoalPanel {
 
   set(text) {
     byId("goal").value = text;
-    if (text !== "") byId("goal-details").open = true;
   }
 
   stateOf({ picture, track, steps, layout }) {
@@ -24,6 +23,7 @@ export class GoalPanel {
   }
 
   show(session) {
+    byId("goal-short").textContent = this.text;
     if (!byId("goal-details").open) return;
     const goal = readGoal(this.text);
     byId("goal-fault").textContent = goal.fault === null ? "" : `This is no part of a goal: ${goal.fault}.`;

@@ -15,6 +15,7 @@ const OTHER_KEYS = [
   ["space", "play, stop"],
   ["Home", "take all moves back"],
   ["End", "all moves again that were taken back"],
+  ["n", "a round: moves that share no place, made at once"],
   ["q", "Predict: say what a move does before it is shown; or no more"],
   ["p", "the projector: the pipes with all the room, or the panels again"],
   ["b", "back to the script, where moves of your own left it"],

@@ -46,11 +46,17 @@ function listenToSetup(page) {
 }
 
 function listenToControls(page) {
-  for (const action of ["rewind", "back", "again", "forward", "step", "rejoin"]) byId(action).addEventListener("click", () => page[action]());
+  for (const action of ["rewind", "back", "again", "forward", "step", "round", "rejoin"]) byId(action).addEventListener("click", () => page[action]());
   byId("play").addEventListener("click", () => page.player.toggle());
   byId("schedule").addEventListener("change", () => page.reschedule());
   byId("seed").addEventListener("input", () => page.reschedule());
   byId("predict").addEventListener("click", () => page.predict.toggle());
+  byId("two-orders").addEventListener("click", () => page.second.toggle());
+  byId("finish").addEventListener("click", () => page.second.finish());
+  for (const id of ["second-by", "second-seed"]) byId(id).addEventListener("input", () => {
+    page.second.restart();
+    page.show();
+  });
   byId("projector").addEventListener("click", () => page.project());
   byId("stop").addEventListener("input", () => (page.stop = readStop(byId("stop-address").value, byId("stop-retired").value)));
   byId("stop").addEventListener("submit", (event) => {
@@ -65,7 +71,7 @@ function listenToControls(page) {
     event.preventDefault();
     if (page.make(byId("move-line").value.trim())) byId("move-line").value = "";
   });
-  for (const id of ["barred-details", "report-details", "memory-details", "goal-details"]) byId(id).addEventListener("toggle", () => page.show());
+  for (const id of ["barred-details", "report-details", "memory-details", "goal-details", "time-details"]) byId(id).addEventListener("toggle", () => page.show());
 }
 
 function listenToScript(page) {
@@ -106,6 +112,7 @@ function listenToDrawing(page) {
     b: () => page.rejoin(),
     p: () => page.project(),
     q: () => page.predict.toggle(),
+    n: () => page.round(),
     " ": () => page.player.toggle(),
     ArrowUp: () => page.select(page.selected + 1),
     ArrowDown: () => page.select(page.selected - 1),
@@ -125,6 +132,7 @@ async function openFirst(page) {
     byId("example").value = byId("layout").value = page.layoutChoice = OWN;
     page.open({ layout, bytes: link.program, input: link.input, script: link.course, source: link.source, goal: link.goal, name: "what the link has" });
     page.resume(link.script, link.unplayed);
+    byId("goal-details").open = link.goal !== "";
   } catch (fault) {
     page.openExample(page.examples.programs[0]);
     if (location.hash.startsWith("#cfpp")) byId("loaded").textContent = "The link cannot be read.";

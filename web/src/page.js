@@ -13,17 +13,20 @@ import { MemoryPanel } from "./memory_panel.js";
 import { chosenAfter } from "./moves.js";
 import { AnyOrder } from "./orders.js";
 import { showBarred, showMachine, showMoves, showReport, showScript, showStage, showWritten } from "./panels.js";
+import { roundOf } from "./places.js";
 import { Player } from "./player.js";
 import { Predict } from "./predict.js";
 import { Program, bytesOf, text } from "./program.js";
 import { Reasons } from "./reasons.js";
 import { roomOfDrawing } from "./room.js";
-import { ByRule, BySeed } from "./schedule.js";
+import { ByRule, BySeed, candidates } from "./schedule.js";
+import { SecondOrder } from "./second.js";
 import { Session } from "./session.js";
 import { Simulator } from "./simulator.js";
 import { allowedAt } from "./stages.js";
 import { NO_STOP, stopReached } from "./stop.js";
 import { namesOfMeeting, told } from "./telling.js";
+import { showTimeline } from "./timeline_panel.js";
 
 // The sequential machine and the random orders go no further than this many retired instructions.
 const LIMIT = 10000;
@@ -40,6 +43,7 @@ export class Page {
     this.memory = new MemoryPanel(this.simulator);
     this.predict = new Predict(this);
     this.goal = new GoalPanel(() => this.show());
+    this.second = new SecondOrder(this);
     // The questions of the lesson on the script that is played.
     this.questions = [];
     this.selected = 1;
@@ -79,6 +83,8 @@ export class Page {
     showReport(view.picture);
     this.memory.show(this.session);
     this.goal.show(this.session);
+    showTimeline(this.session);
+    this.second.show();
     byId("back").disabled = byId("rewind").disabled = this.session.steps.length === 0;
     byId("again").disabled = byId("forward").disabled = this.session.undone.length === 0;
     byId("step").disabled = view.picture.allowed.length === 0 && this.session.undone.length === 0;
@@ -171,8 +177,22 @@ export class Page {
     return undone.length > 0 && (byId("schedule").value === "script" || !isOnCourse);
   }
 
-  // Makes one move, of those that were taken back the last, or else what the schedule chooses. Whether it was made.
+  // Makes one move, in both orders where there are two. Whether one was made in either.
   advance() {
+    const alone = this.advanceAlone();
+    return this.second.advance() || alone;
+  }
+
+  // Makes all moves of a round of `cfpp rounds`, which share no place.
+  round() {
+    const { layout, picture, issues } = this.session;
+    this.forgive();
+    for (const move of roundOf(candidates(layout, picture, issues), picture, layout)) this.session.choose(move);
+    this.show();
+  }
+
+  // Makes one move, of those that were taken back the last, or else what the schedule chooses. Whether it was made.
+  advanceAlone() {
     const step = this.session.undone.at(-1);
     if (this.replays) return this.took(step.move, this.session.again());
     const move = this.session.chosenBy(this.schedule);
@@ -219,12 +239,13 @@ export class Page {
     if (step) this.make(step.move);
   }
 
-  // Changes the moves that are made.
-  change(how) {
+  // Changes the moves that are made, and those of the second order.
+  change(how, also = () => {}) {
     this.player.stop();
     this.predict.clear();
     this.forgive();
     how(this.session);
+    also();
     this.show();
   }
 
@@ -243,11 +264,11 @@ export class Page {
   }
 
   back() {
-    this.change((session) => session.back());
+    this.change((session) => session.back(), () => this.second.back());
   }
 
   rewind() {
-    this.change((session) => session.rewind());
+    this.change((session) => session.rewind(), () => this.second.rewind());
   }
 
   // A click on a part of a stage, or Enter on the stage: its one move, or else the stage is chosen, with all its moves beside.
@@ -294,6 +315,8 @@ export class Page {
     byId("loaded").textContent = problem ? `No program: ${this.reasons.refusal("Programs", problem)}` : name;
     byId("input").value = text(input);
     this.load(script);
+    this.second.begin();
+    this.show();
   }
 
   // What a link keeps.

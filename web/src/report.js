@@ -52,17 +52,12 @@ const LINES = [
   [/^barred (?!at line)(.*) ([A-Z]\w*(?: x\d\d)?)$/, (into, [, move, bar]) => into.barred.set(move, bar)],
 ];
 
-// A report that has told nothing yet; its picture is that of a processor where nothing stands.
-export function emptyReport(text = "") {
-  return {
+export function readReport(text) {
+  const report = {
     first: "", text, lines: [], registers: [], lane: [], cache: null, fetch: null,
     stages: new Map(), sidings: new Map(), allowed: [], barred: new Map(),
     retired: 0, moves: 0, meets: 0, kills: 0, dead: 0,
   };
-}
-
-export function readReport(text) {
-  const report = emptyReport(text);
   for (const line of text.split("\n")) {
     if (line === "") continue;
     const form = LINES.find(([pattern]) => pattern.test(line));

@@ -2,7 +2,6 @@
 // that there is: each picture is the program's answer to it.
 
 import { common, isOn, restOf } from "./course.js";
-import { emptyReport } from "./report.js";
 import { candidates } from "./schedule.js";
 import { NO_TRACK, trackAfter } from "./track.js";
 
@@ -169,7 +168,7 @@ export class Session {
 
   // Goes through all moves so far.
   follow() {
-    let [before, track] = [emptyReport(), NO_TRACK];
+    let [before, track] = [this.simulator.run(this, ""), NO_TRACK];
     this.simulator.moments(this, this.script).forEach(({ move, after }, at) => {
       track = trackAfter(track, move, before, after, this.texts);
       this.steps[at].track = track;

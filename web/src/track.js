@@ -1,10 +1,11 @@
-// What a picture alone does not tell and the moves before it do: how many issues count, who is who, how many results were updated, and which
-// loads and stores were made.
+// What a picture alone does not tell and the moves before it do: how many issues count, who is who, how many results were updated, which loads
+// and stores were made, and what the last one did to which instruction.
 
 import { NOBODY, identitiesAfter } from "./identity.js";
 import { accessAfter } from "./memory.js";
 import { issuesAfter } from "./schedule.js";
 import { namesOfMeeting } from "./telling.js";
+import { eventOf } from "./timeline.js";
 
 // The accesses are a chain that begins with the last.
 export const NO_TRACK = { issues: 0, who: NOBODY, updates: 0, accesses: null };
@@ -15,6 +16,7 @@ export function trackAfter(track, move, before, after, texts) {
     issues: issuesAfter(track.issues, move, before, after),
     who: identitiesAfter(track.who, move, before, after),
     updates: track.updates + (namesOfMeeting(move, before, after).includes("update") ? 1 : 0),
+    event: eventOf(track.who, move, before, after),
     accesses: access ? { access, before: track.accesses } : track.accesses,
   };
 }

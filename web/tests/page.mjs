@@ -5,6 +5,7 @@
 import fs from "node:fs";
 import path from "node:path";
 import { ADDRESS, WALL, browser, check, choose, click, counts, evaluate, movesOfRun, native, playScript, press, put, script, textOf, valueOf } from "./drive.mjs";
+import { beside } from "./beside.mjs";
 import { goalParts } from "./goals.mjs";
 import { mended } from "./mended.mjs";
 import { TOP, scriptsOfPage } from "./native.mjs";
@@ -208,6 +209,27 @@ async function playing() {
   check("moves are played", rate > 2, `${rate}`);
 }
 
+// The processor time of a move that has a frame for itself, on eight stages, as at 60 a second. On a machine that others use it is twice
+// what it is alone, so that it is told, and only much more than that is a fault.
+async function frames() {
+  const times = async () => (await browser.call("Performance.getMetrics")).metrics.find(({ name }) => name === "TaskDuration").value;
+  await choose("sorted");
+  await browser.call("Performance.enable", { timeDomain: "threadTicks" });
+  await evaluate("for (let at = 0; at < 100; at += 1) document.getElementById('step').click()");
+  const before = await times();
+  await evaluate(`(async () => {
+    for (let at = 0; at < 60; at += 1) {
+      document.getElementById("step").click();
+      document.getElementById("drawing").classList.add("still");
+      await new Promise(requestAnimationFrame);
+    }
+  })()`);
+  const each = ((await times()) - before) / 60 * 1000;
+  await browser.call("Performance.disable");
+  console.log(`a frame on eight stages takes ${each.toFixed(1)} ms of processor time`);
+  check("a frame takes less than 40 ms", each < 40, `${each}`);
+}
+
 // How long the page takes until its first picture, at best of three times.
 async function opening() {
   const times = [];
@@ -236,7 +258,7 @@ try {
   await browser.open(ADDRESS, WALL);
   await evaluate("document.getElementById('report-details').open = true");
   check("the page runs", (await evaluate("document.body.dataset.ready")) === "yes", await textOf("told"));
-  for (const part of [lesson, backAndForth, lessons, byHand, schedules, anyOrder, editors, links, hostile, speed, playing, opening, looks, ...mended, ...seen, ...shown, ...predicting, ...goalParts]) {
+  for (const part of [lesson, backAndForth, lessons, byHand, schedules, anyOrder, editors, links, hostile, speed, frames, playing, opening, looks, ...mended, ...seen, ...shown, ...predicting, ...goalParts, ...beside]) {
     if (ONLY.length === 0 || ONLY.includes(part.name)) await part();
   }
   const faults = browser.faults(ADDRESS);

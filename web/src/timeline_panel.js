@@ -1,0 +1,24 @@
+// Draws the time line as a table below the pipes.
+
+import { byId, fill, html } from "./element.js";
+import { isUnderWay, timelineOf } from "./timeline.js";
+
+function cellOf(row, tick, last) {
+  const event = row.cells.get(tick);
+  const look = event ? `at-${event.kind}` : isUnderWay(row, tick, last) ? "waits" : "";
+  return html("td", { class: look }, event?.label ?? "");
+}
+
+export function showTimeline(session) {
+  if (!byId("time-details").open) return;
+  // The track of each move is known once that of the last one is.
+  if (session.track.event === undefined) return void fill(byId("time"), "No move has been made.");
+  const { first, last, rows, results } = timelineOf(session.steps, session.texts, session.layout);
+  const ticks = Array.from({ length: last - first + 1 }, (_, at) => first + at);
+  const head = html("tr", {}, html("th", { scope: "col" }, "tick"), ticks.map((tick) => html("th", { scope: "col" }, String(tick))));
+  const body = rows.map((row) => html("tr", { key: row.number },
+    html("th", { scope: "row" }, `#${row.number} ${row.text}`), ticks.map((tick) => cellOf(row, tick, last))));
+  const foot = html("tr", {}, html("th", { scope: "row" }, "moves of results"), ticks.map((tick) => html("td", {}, String(results.get(tick) ?? ""))));
+  fill(byId("time"), html("table", {}, html("thead", {}, head), html("tbody", {}, body), html("tfoot", {}, foot)));
+  byId("time").scrollLeft = byId("time").scrollWidth;
+}
