@@ -1,20 +1,28 @@
 """A trace as a table, in CSV: a row for each move."""
 
+from __future__ import annotations
+
 import csv
 import io
+from typing import List
+
+from .following import Step
+from .trace import Trace
 
 COLUMNS = "move,kind,stage,siding,cell,guess,instruction,pc,text,event,retired".split(",")
 
 
-def row(step, trace, retired):
-    move, instruction = step.group.move, step.instruction
-    known = [instruction.number, f"{instruction.pc:08x}", trace.texts.get(instruction.pc, "")] if instruction else [""] * 3
-    guess = instruction.guess if move.kind == "issue" else ""
+def row(step: Step, trace: Trace, retired: int) -> List[object]:
+    move, instruction = step.move, step.instruction
+    known: List[object] = [""] * 3
+    if instruction:
+        known = [instruction.number, f"{instruction.pc:08x}", trace.texts.get(instruction.pc, "")]
+    guess = instruction.guess if instruction and move.kind == "issue" else ""
     places = ["" if place is None else place for place in (move.stage, move.siding, move.cell)]
     return [step.group.number, move.kind, *places, guess, *known, step.event, retired]
 
 
-def write(trace):
+def write(trace: Trace) -> List[str]:
     """The lines of the table, its head first."""
     text = io.StringIO()
     rows = csv.writer(text, lineterminator="\n")

@@ -1,6 +1,10 @@
 """Makes files at random, of each kind that the program reads."""
 
+from __future__ import annotations
+
+import random
 import struct
+from typing import List
 
 OPCODES = [0x37, 0x17, 0x6F, 0x67, 0x63, 0x03, 0x23, 0x13, 0x33, 0x0F, 0x73]
 CLASSES = ["add", "logic", "shift", "compare", "branch", "jump", "memory", "mul", "div"]
@@ -15,7 +19,7 @@ STATEMENTS = [
 ]  # fmt: skip
 
 
-def instruction(draw):
+def instruction(draw: random.Random) -> int:
     """A word: any, or one whose opcode is one, or an environment call."""
     kind = draw.randrange(8)
     if kind == 0:
@@ -30,17 +34,17 @@ def instruction(draw):
     return draw.getrandbits(25) << 7 | draw.choice(OPCODES)
 
 
-def image(draw):
+def image(draw: random.Random) -> bytes:
     words = [instruction(draw) for _ in range(draw.randint(0, 60))]
     return struct.pack(f"<{len(words)}I", *words) + draw.randbytes(draw.choice([0, 0, 1, 3]))
 
 
-def number(draw, usual):
+def number(draw: random.Random, usual: int) -> int:
     """A field of an ELF file: what is usual in most cases."""
     return usual if draw.random() < 0.9 else draw.choice([0, 1, usual + 1, usual * 2 & 0xFFFF, 0xFFFF])
 
 
-def elf(draw):
+def elf(draw: random.Random) -> bytes:
     """A file with up to seventeen segments, whose fields are mostly sound."""
     text = image(draw)
     count = draw.choice([1, 1, 2, 3, 16, 17])
@@ -57,10 +61,11 @@ def elf(draw):
     return header + text
 
 
-def layout(draw):
+def layout(draw: random.Random) -> bytes:
     stages = draw.choice([2, 3, 8, 16, 32, 33])
     lines = [f"format = {draw.choice([1, 1, 2])}", f"stages = {stages}", f"lane = {draw.choice([1, 2, 4, 64, 65])}"]
-    lines += draw.choice([[], ["cache = true"], ["cache = 1"]]) + ["[units]"]
+    cache: List[List[str]] = [[], ["cache = true"], ["cache = 1"]]
+    lines += [*draw.choice(cache), "[units]"]
     low = draw.randint(1, stages)
     for name in CLASSES[:6]:
         if draw.random() < 0.9:
@@ -71,7 +76,7 @@ def layout(draw):
     return "\n".join(lines).encode() + b"\n"
 
 
-def move(draw):
+def move(draw: random.Random) -> str:
     kind = draw.randrange(4)
     if kind == 0:
         return f"issue {draw.choice(['next', 'next', 'taken', 'wait', 'to 00010004', 'to', 'foo'])}"
@@ -82,21 +87,21 @@ def move(draw):
     return f"slide {draw.randrange(2)} {draw.randrange(3)}"
 
 
-def script(draw):
+def script(draw: random.Random) -> bytes:
     return "".join(f"{move(draw)}\n" for _ in range(draw.randint(0, 30))).encode()
 
 
-def source(draw):
+def source(draw: random.Random) -> bytes:
     lines = ["near:"] * draw.randrange(2) + draw.choices(STATEMENTS, k=draw.randint(0, 30))
     return "\n".join(lines).encode()
 
 
-def delays(draw):
+def delays(draw: random.Random) -> bytes:
     kinds = draw.sample(["issue", *KINDS, *STAGE_KINDS, "slide", "frob"], draw.randint(0, 8))
     return "".join(f"{kind} {draw.choice([1, 2, 10, 999, 1000, 1001, 0])}\n" for kind in kinds).encode()
 
 
-def command(draw):
+def command(draw: random.Random) -> str:
     return draw.choice([
         f"move {move(draw)}", f"auto {draw.choice([0, 1, 20, 1000, 1000001])}", "show", "regs", "bound", "back", "end",
         f"mem {draw.choice([0x10000, 0x7F000000, 0x7F0FFFF8, draw.getrandbits(32)]):08x} {draw.choice([0, 1, 4, 16, 17])}",
@@ -104,11 +109,11 @@ def command(draw):
     ])  # fmt: skip
 
 
-def commands(draw):
+def commands(draw: random.Random) -> bytes:
     return "".join(f"{command(draw)}\n" for _ in range(draw.randint(0, 40))).encode()
 
 
-def words(draw):
+def words(draw: random.Random) -> List[str]:
     """Words of the command line, which mostly are not those of a command."""
     known = ["run", "machine", "check", "asm", "list", "debug", "gen", "moves", "time", "rounds", "audit", "help", "--help"]
     known += ["--version", "plain", "program", "missing", "--limit", "--seed", "--script", "--show", "--mul", "--run", "moves"]

@@ -1,0 +1,36 @@
+"""What all programs of this package do on their command line."""
+
+from __future__ import annotations
+
+import argparse
+import signal
+import sys
+from typing import Callable, NoReturn, Optional, Sequence
+
+from .commands import Refused
+from .program import NoProgram
+from .readers.lines import ReadFault
+
+Main = Callable[[Sequence[str]], Optional[int]]
+
+
+class Stop(Exception):
+    """What a program cannot go on with, as one line."""
+
+
+def parser(name: str, text: Optional[str]) -> argparse.ArgumentParser:
+    """A parser of arguments whose help is the text of the program."""
+    first, _, rest = (text or "").partition("\n")
+    return argparse.ArgumentParser(
+        prog=name, description=first, epilog=rest, formatter_class=argparse.RawDescriptionHelpFormatter
+    )
+
+
+def start(name: str, main: Main) -> NoReturn:
+    """Runs a program: what it refuses is one line on standard error. What reads its lines may stop before the last, as `head`
+    does."""
+    signal.signal(signal.SIGPIPE, signal.SIG_DFL)
+    try:
+        sys.exit(main(sys.argv[1:]))
+    except (OSError, Stop, ReadFault, Refused, NoProgram) as refusal:
+        sys.exit(f"{name}: {refusal}")

@@ -1,0 +1,164 @@
+"""A function for each command of the program, with a typed answer.
+
+A new command is one function here, and one reader of its report in `readers/`. Options without a function parameter of their own are handed on
+as `more`, a list of arguments.
+"""
+
+from __future__ import annotations
+
+import dataclasses
+import os
+import tempfile
+from typing import Callable, Dict, Generic, Iterable, List, Optional, Sequence, Tuple, TypeVar
+
+from .program import Called, Input, Name, call
+from .readers.audits import AuditReport, read_audit
+from .readers.endings import Ending, read_ending
+from .readers.layouts import Layout, read_layout
+from .readers.lines import Lines
+from .readers.listings import Listed, read_listing
+from .readers.runs import RunReport, read_run
+from .readers.sessions import SessionReport, read_session
+from .readers.times import TimesReport, read_times
+
+Report = TypeVar("Report")
+
+
+@dataclasses.dataclass(frozen=True)
+class Answer(Generic[Report]):
+    """A call that ended: its status, what was put to the output, and what the report says. The report is None where the
+    program wrote none."""
+
+    status: int
+    output: bytes
+    report: Optional[Report]
+
+
+class Refused(Exception):
+    """A call that was to write a text, and was refused."""
+
+    def __init__(self, command: str, called: Called) -> None:
+        super().__init__(f"cfpp {command}: {called.report.strip() or f'status {called.status}'}")
+        self.ending: Optional[Ending] = read_ending(called.report.rstrip("\n"))
+        self.status = called.status
+
+
+def answered(called: Called, read: Callable[[Lines], Report]) -> Answer[Report]:
+    """The answer of a call, its report read so."""
+    return Answer(called.status, called.output, read(Lines(called.report)) if called.report else None)
+
+
+def written(arguments: Sequence[Name]) -> bytes:
+    """The output of a call that is carried out."""
+    called = call(arguments)
+    if called.status != 0:
+        raise Refused(str(arguments[0]), called)
+    return called.output
+
+
+def options(**values: object) -> List[str]:
+    """The options that have a value."""
+    given = ((f"--{name}", value) for name, value in values.items() if value is not None)
+    return [part for name, value in given for part in (name, str(value))]
+
+
+def machine(
+    program: Name, *, limit: Optional[int] = None, show: Optional[str] = None, mul: bool = False, given: Input = None
+) -> Answer[RunReport]:
+    """Runs a program on the sequential machine."""
+    called = call(["machine", program, *options(limit=limit, show=show), *["--mul"] * mul], given)
+    return answered(called, read_run)
+
+
+def run(
+    layout: Name,
+    program: Name,
+    *,
+    script: Optional[Name] = None,
+    seed: Optional[int] = None,
+    limit: Optional[int] = None,
+    show: Optional[str] = None,
+    given: Input = None,
+    more: Sequence[str] = (),
+) -> Answer[RunReport]:
+    """Runs a program on a layout: by a script, from a seed, or by the rule."""
+    called = call(["run", layout, program, *options(script=script, seed=seed, limit=limit, show=show), *more], given)
+    return answered(called, read_run)
+
+
+def moves(layout: Name, program: Name, script: Iterable[str], *, limit: Optional[int] = None) -> Answer[RunReport]:
+    """Makes the moves of a script, given as its lines, and tells which moves can be made then."""
+    with tempfile.NamedTemporaryFile("w", suffix=".script") as file:
+        file.writelines(f"{move}\n" for move in script)
+        file.flush()
+        return answered(call(["moves", layout, program, "--script", file.name, *options(limit=limit)]), read_run)
+
+
+def rounds(
+    layout: Name, program: Name, *, limit: Optional[int] = None, given: Input = None, more: Sequence[str] = ()
+) -> Answer[RunReport]:
+    """Runs a program as a clocked processor would, in rounds."""
+    return answered(call(["rounds", layout, program, *options(limit=limit), *more], given), read_run)
+
+
+def time(
+    delays: Name,
+    program: Name,
+    layouts: Sequence[Name],
+    *,
+    limit: Optional[int] = None,
+    show: Optional[str] = None,
+    more: Sequence[str] = (),
+) -> Answer[TimesReport]:
+    """How long a program takes on each of one to eight layouts."""
+    return answered(call(["time", delays, program, *layouts, *options(limit=limit, show=show), *more]), read_times)
+
+
+def audit(layout: Name, program: Name, trace: Name, *, given: Input = None) -> Answer[AuditReport]:
+    """Checks that a trace is that of a run."""
+    return answered(call(["audit", layout, program, trace], given), read_audit)
+
+
+def debug(layout: Name, program: Name, commands: Iterable[str]) -> Answer[SessionReport]:
+    """Has the debugger carry out these commands."""
+    text = "".join(f"{command}\n" for command in commands)
+    return answered(call(["debug", layout, program], text.encode()), read_session)
+
+
+def check(layout: Name) -> Layout:
+    """The layout of a file, or of a name that is built in."""
+    return read_layout(Lines(written(["check", layout]).decode()))
+
+
+def check_all(layouts: Sequence[Name]) -> Dict[str, Tuple[Optional[Layout], str]]:
+    """Of each of many files the layout, or why it is none; several are read at once."""
+    from concurrent.futures import ThreadPoolExecutor
+
+    def one(layout: Name) -> Tuple[Optional[Layout], str]:
+        try:
+            return check(layout), ""
+        except Refused as refusal:
+            return None, str(refusal)
+
+    with ThreadPoolExecutor(os.cpu_count() or 1) as pool:
+        return dict(zip(map(str, layouts), pool.map(one, layouts)))
+
+
+def assemble(source: Name) -> bytes:
+    """The ELF file of an assembly text."""
+    return written(["asm", source])
+
+
+def listing(program: Name) -> Dict[int, Listed]:
+    """The instructions of a program, by their addresses."""
+    return read_listing(Lines(written(["list", program]).decode(errors="replace")))
+
+
+def generate(number: int) -> str:
+    """The text of the assembly program that is drawn from this number."""
+    return written(["gen", str(number)]).decode()
+
+
+def version() -> str:
+    """The version of the program, and the logic that the proofs were made with."""
+    return written(["--version"]).decode().strip()

@@ -1,0 +1,93 @@
+"""Runs many layouts, programs and schedules, and writes a table with a row for each run.
+
+TABLE is a CSV file; its columns are
+
+    layout,program,schedule,ending,retired,moves,meets,kills,dead,time,rounds
+
+and with --kinds one more, the number of moves of each kind, which only `delays` tells. A schedule is `rule`, `seed N`, `rounds`
+(the command `rounds`) or `delays FILE` (the command `time`); with --guess it is followed by `guess RULE`. A program with the
+file PROGRAM.input beside it (its last suffix exchanged) reads that, but under `time`; the others read nothing. What a command
+does not count stays empty. The rows come as the runs end, and are put in the order of the lists after the last.
+
+The rows that TABLE has already are not made again, so that a sweep which was interrupted or killed goes on where it stopped,
+and one with more layouts adds their rows. Several sweeps may add to one table at the same time. TABLE.log tells when, where and
+for how many seconds each run was made.
+
+--slice K/M makes the K-th of M slices of the runs, as a task of an array of jobs does, into a table of its own. --join puts the
+rows of tables into TABLE; with the lists of a sweep those that are still missing are made. Options after `--` go to GNU
+parallel, which then makes the runs, as `-- --sshlogin one,two,:` on two other machines beside this one: they need this
+repository in the same folder, with the program built, and the files under the same names.
+"""
+
+from __future__ import annotations
+
+import argparse
+import sys
+from typing import List, Sequence, Tuple
+
+from .. import command_line
+from ..program import call
+from ..sweeping.runs import COLUMNS, KINDS, Run, make_row, row_text
+from ..sweeping.sweep import Manner, join, runs_of, slice_of, sweep
+
+
+def seeds_of(text: str) -> List[int]:
+    """The seeds of a list such as 1-20,77."""
+    bounds = (part.partition("-") for part in text.split(","))
+    return [seed for first, _, last in bounds for seed in range(int(first), int(last or first) + 1)]
+
+
+def slice_named(text: str) -> Tuple[int, int]:
+    """The numbers of a slice such as 2/4."""
+    number, _, count = text.partition("/")
+    if not 1 <= int(number) <= int(count):
+        raise ValueError(text)
+    return int(number), int(count)
+
+
+def parser() -> argparse.ArgumentParser:
+    found = command_line.parser("tools/sweep", __doc__)
+    found.add_argument("table", metavar="TABLE")
+    found.add_argument("--layouts", nargs="+", default=[], metavar="LAYOUT")
+    found.add_argument("--programs", nargs="+", default=[], metavar="PROGRAM")
+    found.add_argument("--rule", action="store_true", help="the fixed rule")
+    found.add_argument("--seeds", type=seeds_of, default=[], help="seeds such as 1-20,77")
+    found.add_argument("--rounds", action="store_true", help="clocked rounds")
+    found.add_argument("--delays", nargs="+", default=[], metavar="FILE", help="files of delays")
+    found.add_argument("--guess", nargs="+", default=[], metavar="RULE", help="guess rules, each with each schedule")
+    found.add_argument("--limit", type=int, default=10_000_000, help="instructions of a run (10,000,000)")
+    found.add_argument("--kinds", action="store_true", help="count the moves of each kind")
+    found.add_argument("--jobs", type=int, default=Manner.jobs, help="runs at once (one a processor)")
+    found.add_argument("--slice", type=slice_named, default=(1, 1), metavar="K/M")
+    found.add_argument("--join", nargs="+", default=[], metavar="TABLE")
+    return found
+
+
+def schedules_of(arguments: argparse.Namespace) -> Sequence[str]:
+    """The schedules that the arguments name."""
+    schedules = ["rule"] * arguments.rule + [f"seed {seed}" for seed in arguments.seeds] + ["rounds"] * arguments.rounds
+    schedules += [f"delays {file}" for file in arguments.delays]
+    if arguments.guess and b"--guess" not in call(["help"]).output:
+        raise command_line.Stop("this cfpp knows no option --guess")
+    return [f"{schedule} guess {rule}" for schedule in schedules for rule in arguments.guess] or schedules
+
+
+def print_rows(limit: int, kinds: bool, runs: Sequence[str]) -> None:
+    """What a job of parallel does: makes some runs, and prints their rows."""
+    rows = (make_row(Run(*run.split("\t")), limit, kinds) for run in runs)
+    columns = [*COLUMNS, KINDS] if kinds else COLUMNS
+    sys.stdout.writelines(row_text(row, columns) for row in rows)
+
+
+def main(given: Sequence[str]) -> None:
+    if given[:1] == ["--rows"]:
+        print_rows(int(given[1]), given[2] == "1", given[3:])
+        return
+    cut = list(given).index("--") if "--" in given else len(given)
+    arguments = parser().parse_args(given[:cut])
+    if arguments.join:
+        join(arguments.table, arguments.join, arguments.kinds)
+    elif not arguments.layouts or not arguments.programs:
+        parser().error("--layouts and --programs, or --join, are needed")
+    runs = slice_of(runs_of(arguments.layouts, arguments.programs, schedules_of(arguments)), *arguments.slice)
+    sweep(arguments.table, runs, Manner(arguments.limit, arguments.kinds, arguments.jobs, given[cut + 1 :]))

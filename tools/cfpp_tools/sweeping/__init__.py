@@ -1,0 +1,1 @@
+"""Many runs, and the table that has a row for each."""

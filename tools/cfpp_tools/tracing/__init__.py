@@ -1,0 +1,1 @@
+"""What `cfpp run --show moves` wrote, followed from move to move and written again for other tools."""

@@ -1,1 +1,0 @@
-"""What `cfpp run --show moves` wrote, read and written again for other tools."""
