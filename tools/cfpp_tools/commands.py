@@ -86,12 +86,17 @@ def run(
     return answered(called, read_run)
 
 
-def moves(layout: Name, program: Name, script: Iterable[str], *, limit: Optional[int] = None) -> Answer[RunReport]:
-    """Makes the moves of a script, given as its lines, and tells which moves can be made then."""
+def moves(layout: Name, program: Name, script: Name, *, limit: Optional[int] = None) -> Answer[RunReport]:
+    """Makes the moves of a script, and tells which moves can be made then."""
+    return answered(call(["moves", layout, program, "--script", script, *options(limit=limit)]), read_run)
+
+
+def after(layout: Name, program: Name, made: Iterable[str]) -> Answer[RunReport]:
+    """Makes these moves, and tells which moves can be made then."""
     with tempfile.NamedTemporaryFile("w", suffix=".script") as file:
-        file.writelines(f"{move}\n" for move in script)
+        file.writelines(f"{move}\n" for move in made)
         file.flush()
-        return answered(call(["moves", layout, program, "--script", file.name, *options(limit=limit)]), read_run)
+        return moves(layout, program, file.name)
 
 
 def rounds(

@@ -72,7 +72,7 @@ class Walk:
 
     def look(self, path: List[str]) -> Tuple[State, List[str]]:
         """The state after a list of moves, and the moves that can be made there."""
-        answer = commands.moves(self.layout, self.program, path)
+        answer = commands.after(self.layout, self.program, path)
         if answer.report is None:
             raise Stop(f"cfpp moves: status {answer.status}")
         state = state_of(answer.report, answer.output, path)

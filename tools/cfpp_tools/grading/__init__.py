@@ -1,0 +1,1 @@
+"""Goals of exercises, and whether a student's file meets them."""
