@@ -11,14 +11,12 @@ from .command_line import Stop
 FRONT = """set terminal svg size 900,560 font "sans,12" background "white"
 set xlabel "{across}"
 set ylabel "{up}"
-set offsets graph 0.02, graph 0.16, graph 0.06, graph 0.02
-set xrange [0:*]
-set yrange [0:*]
+set offsets graph 0.12, graph 0.04, graph 0.04, graph 0.08
 set grid
-set key outside bottom center horizontal
+set key outside top center horizontal
 plot $points using 1:2 with points pt 7 ps {size} lc rgb "#9ab0c8" title "{count} layouts", \\
-    $front using 1:2 with linespoints pt 7 ps 0.7 lw 2 lc rgb "#c03020" title "no other is smaller in one and not greater in the other", \\
-    $front using 1:2:3 with labels left offset 0.6,0.4 font "sans,9" notitle
+    $front using 1:2 with linespoints pt 7 ps 0.7 lw 2 lc rgb "#c03020" title "those that no other beats", \\
+    $front using 1:2:3 with labels right offset -0.5,-0.7 font "sans,9" notitle
 """
 
 

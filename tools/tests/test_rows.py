@@ -21,13 +21,15 @@ PARTS = ("row", "again", "keep", "file", "words", "status", "report", "output", 
 
 @dataclasses.dataclass
 class Row:
-    """What a row says of its report; the text is None where it is given in another way than line by line."""
+    """What a row says of its report; the text is None where it is given in another way than line by line. It is cut where the
+    report could not be written whole."""
 
     where: str
     arguments: str = ""
     status: int = 0
     report: Optional[str] = None
     output: Optional[str] = None
+    is_cut: bool = False
 
 
 def registers(text: str) -> str:
@@ -80,6 +82,8 @@ def rows_of(name: str) -> List[Row]:
             rows[-1].arguments = rest
         elif word == "status":
             rows[-1].status = int(rest)
+        elif first.startswith("fails report"):
+            rows[-1].is_cut = True
         elif first in ("report", "output"):
             setattr(rows[-1], first, text)
     return rows
@@ -92,7 +96,7 @@ def test_there_are_rows():
     assert len([row for row in ROWS if row.report]) > 250
 
 
-@pytest.mark.parametrize("row", [row for row in ROWS if row.report], ids=lambda row: row.where)
+@pytest.mark.parametrize("row", [row for row in ROWS if row.report and not row.is_cut], ids=lambda row: row.where)
 def test_a_report(row):
     report = read_report(row.report)
     if report.ending:

@@ -1,0 +1,151 @@
+"""Sweeps lose nothing: not where two add to one table, and not where they are killed."""
+
+from __future__ import annotations
+
+import os
+import random
+import signal
+import subprocess
+import sys
+import time
+
+import pytest
+
+from cfpp_tools.command_line import Stop
+from cfpp_tools.sweeping.runs import COLUMNS, Run, row_text, run_of
+from cfpp_tools.sweeping.sweep import Manner, join, runs_of, slice_of, sweep
+from cfpp_tools.sweeping.table import Table, rows_of
+
+HEAD = ",".join(COLUMNS) + "\n"
+
+
+def row(number: int):
+    return dict.fromkeys(COLUMNS, "") | {"layout": "plain", "program": "p", "schedule": f"seed {number}", "moves": str(number)}
+
+
+def runs(count: int):
+    return [run_of(row(number)) for number in range(count)]
+
+
+def test_slices_are_all_runs():
+    all_runs = runs(10)
+    assert [run for number in (1, 2, 3, 4) for run in slice_of(all_runs, number, 4)] == all_runs
+
+
+def test_names_stay_on_their_line():
+    with pytest.raises(Stop):
+        runs_of(["a\nb"], ["p"], ["rule"])
+
+
+def test_a_row_that_was_cut_off_is_taken_out(tmp_path):
+    name = tmp_path / "table.csv"
+    name.write_text(HEAD + row_text(row(1), COLUMNS) + row_text(row(2), COLUMNS)[:-5])
+    with Table(name) as table:
+        assert list(table.rows) == [run_of(row(1))]
+        table.add(row(2))
+    assert name.read_text() == HEAD + row_text(row(1), COLUMNS) + row_text(row(2), COLUMNS)
+
+
+def test_another_table_is_refused(tmp_path):
+    name = tmp_path / "table.csv"
+    name.write_text("a,b\n1,2\n")
+    with pytest.raises(Stop, match="is no table of runs"):
+        Table(name)
+    assert name.read_text() == "a,b\n1,2\n"
+
+
+def test_rows_are_put_in_order_by_the_last_alone(tmp_path):
+    """The other process that has the table open is a real one: a process does not lock itself out."""
+    name = tmp_path / "table.csv"
+    with Table(name) as table:
+        for number in (2, 1, 0):
+            table.add(row(number))
+        code = f"from cfpp_tools.sweeping.table import Table\nTable({str(name)!r}).arrange([])\nprint('done')"
+        done = subprocess.run([sys.executable, "-c", code], cwd=TOOLS, capture_output=True, text=True, check=True)
+        assert done.stdout == "done\n"
+        assert [found["moves"] for found in rows_of(name)] == ["2", "1", "0"]
+        table.arrange(runs(3))
+        assert [found["moves"] for found in rows_of(name)] == ["0", "1", "2"]
+        table.add(row(3))
+    assert [found["moves"] for found in rows_of(name)] == ["0", "1", "2", "3"]
+
+
+def test_tables_are_joined(tmp_path):
+    for number, at in enumerate((1, 2, 3), 1):
+        with Table(tmp_path / f"{number}.csv") as table:
+            table.add(row(at))
+    join(tmp_path / "all.csv", [tmp_path / f"{number}.csv" for number in (1, 2, 3, 2)])
+    assert (tmp_path / "all.csv").read_text() == HEAD + "".join(row_text(row(at), COLUMNS) for at in (1, 2, 3))
+    other = tmp_path / "other.csv"
+    other.write_text(HEAD + row_text(row(2) | {"moves": "7"}, COLUMNS))
+    with pytest.raises(Stop, match="another row of the run plain p seed 2"):
+        join(tmp_path / "all.csv", [other])
+
+
+# With the program from here on.
+TOOLS = os.path.dirname(os.path.dirname(os.path.abspath(__file__)))
+SEEDS = 40
+
+
+def call_of(table, examples):
+    layouts = ["--layouts", "plain", str(examples / "layouts" / "tiny.toml")]
+    programs = ["--programs", str(examples / "seven.bin")]
+    return [os.path.join(TOOLS, "sweep"), str(table), *layouts, *programs, "--seeds", f"1-{SEEDS}"]
+
+
+@pytest.fixture(scope="module")
+def whole(tmp_path_factory, built):
+    """The table of a sweep that nothing disturbed."""
+    from cfpp_tools.program import TOP
+
+    name = tmp_path_factory.mktemp("whole") / "table.csv"
+    layouts = ["plain", str(TOP / "examples" / "layouts" / "tiny.toml")]
+    schedules = [f"seed {seed}" for seed in range(1, SEEDS + 1)]
+    sweep(name, runs_of(layouts, [str(TOP / "examples" / "seven.bin")], schedules), Manner())
+    assert len(rows_of(name)) == 2 * SEEDS
+    return name.read_text()
+
+
+@pytest.mark.parametrize("number", range(10))
+def test_two_sweeps_at_once(tmp_path, examples, whole, number):
+    table = tmp_path / "table.csv"
+    both = [subprocess.Popen(call_of(table, examples)) for _ in range(2)]
+    assert [process.wait() for process in both] == [0, 0]
+    assert table.read_text() == whole
+
+
+def test_killed_at_twenty_moments(tmp_path, examples, whole):
+    table = tmp_path / "table.csv"
+    draw = random.Random(1)
+    for _ in range(20):
+        process = subprocess.Popen(call_of(table, examples), start_new_session=True, stderr=subprocess.DEVNULL)
+        time.sleep(draw.uniform(0.05, 0.4))
+        os.killpg(process.pid, signal.SIGKILL)
+        process.wait()
+    subprocess.run(call_of(table, examples), check=True)
+    assert table.read_text() == whole
+
+
+def test_an_array_of_four(tmp_path, examples, whole):
+    tables = [tmp_path / f"{number}.csv" for number in (1, 2, 3, 4)]
+    for number, table in enumerate(tables, 1):
+        subprocess.run([*call_of(table, examples), "--slice", f"{number}/4"], check=True)
+    subprocess.run([os.path.join(TOOLS, "sweep"), str(tmp_path / "all.csv"), "--join", *map(str, tables)], check=True)
+    assert (tmp_path / "all.csv").read_text() == whole
+
+
+def test_a_run_of_each_schedule(tmp_path, examples, built):
+    """By hand: `seven` retires two instructions and ends with 7, whatever the order of the moves."""
+    delays = f"delays {examples / 'delays' / 'equal.delays'}"
+    name = tmp_path / "table.csv"
+    sweep(name, runs_of(["plain"], [str(examples / "seven.bin")], ["rule", "seed 7", "rounds", delays]), Manner(kinds=True))
+    rows = rows_of(name)
+    assert [(found["ending"], found["retired"]) for found in rows] == [("exit 7", "2")] * 4
+    assert [bool(found["rounds"]) for found in rows] == [False, False, True, False]
+    assert "issue=" in rows[3]["kinds"] and rows[3]["time"] and not rows[0]["kinds"]
+
+
+def test_what_is_refused_has_a_row(tmp_path, built):
+    name = tmp_path / "table.csv"
+    sweep(name, [Run("plain", str(tmp_path / "missing.bin"), "rule")], Manner())
+    assert rows_of(name)[0]["ending"] == "read fault program"
