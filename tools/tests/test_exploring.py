@@ -3,9 +3,10 @@
 from __future__ import annotations
 
 import csv
+import os
 import random
+import shutil
 import subprocess
-import time
 
 import pytest
 
@@ -50,14 +51,14 @@ def test_the_front():
 
 
 def test_two_thousand_points_are_drawn_at_once():
-    gnuplot = pytest.importorskip("shutil").which("gnuplot")
-    if not gnuplot:
+    """In five seconds of the processors, whatever else the machine does."""
+    if not shutil.which("gnuplot"):
         pytest.skip("gnuplot is not installed")
     draw = random.Random(1)
     points = [Point(draw.randrange(10, 99), draw.random(), f"layout_{number}") for number in range(2000)]
-    began = time.monotonic()
+    began = sum(os.times()[:4])
     text = drawing(points, "cost", "time")
-    assert time.monotonic() - began < 5
+    assert sum(os.times()[:4]) - began < 5
     named = [point for point in points if f">{point.name}<" in text.replace(" and", "<")]
     assert {point.name for point in named} == {point.name for point in front_of(points)}
 

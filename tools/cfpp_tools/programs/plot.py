@@ -24,6 +24,7 @@ from .. import command_line, commands
 from ..command_line import Stop
 from ..front import Point, block, drawing, escaped, gnuplot
 from ..sweeping.runs import Row, run_of
+from ..toml import read_toml
 
 COUNTS = ("retired", "moves", "meets", "kills", "dead")
 
@@ -94,15 +95,21 @@ def means(rows: Sequence[Row], column: str) -> Dict[str, float]:
     return {layout: math.exp(sum(parts) / len(parts)) for layout, parts in logs.items()}
 
 
+def size_of(layout: str) -> int:
+    """The stages and the cells of a layout. A file was accepted when it was run: it is read without the program, which would take
+    most of the time."""
+    if not layout.endswith(".toml"):
+        shape = commands.check(layout)
+        return shape.stages + shape.cells
+    try:
+        table = read_toml(layout)
+    except FileNotFoundError as missing:
+        raise Stop(f"{layout} is missing: the table names it from the folder of its sweep") from missing
+    return int(table["stages"]) + sum(int(siding["cells"]) for siding in table["siding"])
+
+
 def front(rows: Sequence[Row], column: str) -> str:
-    found = means(rows, column)
-    shapes = commands.check_all(list(found))
-    refused = next(((layout, why) for layout, (shape, why) in shapes.items() if shape is None), None)
-    if refused:
-        raise Stop(f"{refused[0]}: {refused[1]} (the table names it from the folder of its sweep)")
-    points = [
-        Point(shape.stages + shape.cells, found[layout], name_of(layout)) for layout, (shape, _) in shapes.items() if shape
-    ]
+    points = [Point(size_of(layout), mean, name_of(layout)) for layout, mean in means(rows, column).items()]
     return drawing(points, "stages and cells", f"{column} beside that of {name_of(rows[0]['layout'])}")
 
 
