@@ -1,6 +1,7 @@
 """Runs the commands of the README and of docs/, and compares what they print and how they end.
 
     tools/commands
+    tools/commands --also PROGRAM    has ./cfpp run this program too, which has to print the same and to end in the same way
 
 Commands stand in indented blocks whose first line begins with one of the words below; a command goes on up to the next line that
 does. After it may stand
@@ -19,6 +20,7 @@ from __future__ import annotations
 
 import collections
 import dataclasses
+import os
 import pathlib
 import re
 import shutil
@@ -79,10 +81,27 @@ def commands_of(page: pathlib.Path) -> Iterator[Command]:
             yield from commands_in(begin, block)
 
 
-def fault_of(command: Command, folder: pathlib.Path) -> Optional[str]:
-    """What is wrong with how a command prints and ends; nothing where all is right."""
-    words = ["bash", "-c", command.text]
-    done = subprocess.run(words, cwd=folder, stdin=subprocess.DEVNULL, capture_output=True, check=False)
+Done = subprocess.CompletedProcess[bytes]
+
+
+@dataclasses.dataclass
+class Place:
+    """A folder in which commands run, and the program that ./cfpp runs there, if it is not the one that it finds."""
+
+    folder: pathlib.Path
+    program: Optional[pathlib.Path] = None
+
+    def run(self, text: str) -> Done:
+        """Runs a command."""
+        environment = {**os.environ, "CFPP_PROGRAM": str(self.program)} if self.program else None
+        words = ["bash", "-c", text]
+        return subprocess.run(
+            words, cwd=self.folder, stdin=subprocess.DEVNULL, capture_output=True, env=environment, check=False
+        )
+
+
+def fault_of(command: Command, done: Done) -> Optional[str]:
+    """What is wrong with how a command printed and ended; nothing if all is right."""
     expected = command.expected
     status = int(expected["status"] or 0) if expected else 0
     if done.returncode != status:
@@ -103,25 +122,35 @@ def prepare(folder: pathlib.Path) -> None:
         (folder / name).symlink_to(TOP / name)
 
 
-def tried(page: pathlib.Path, command: Command, folder: pathlib.Path) -> str:
-    """Runs a command, and says what is wrong with it: whether it was passed over, failed or passed."""
+def differs(done: Done, other: Done) -> Optional[str]:
+    """What differs in how two programs carried out a command; nothing if all is the same."""
+    same = (done.returncode, done.stdout, done.stderr) == (other.returncode, other.stdout, other.stderr)
+    return None if same else "is answered otherwise by the other program"
+
+
+def tried(page: pathlib.Path, command: Command, places: List[Place]) -> str:
+    """Runs a command in each place, and says what is wrong with it: whether it was passed over, failed or passed."""
     where = f"{page.relative_to(TOP)}, line {command.number}"
     lacking = [tool for word, tool in NEEDED.items() if word in command.text.split() and not shutil.which(tool)]
     if lacking:
         print(f"passed over, for lack of {lacking[0]}: {where}")
         return "passed over"
-    if fault := fault_of(command, folder):
+    first, *others = [place.run(command.text) for place in places]
+    if fault := fault_of(command, first) or next(filter(None, (differs(first, other) for other in others)), None):
         print(f"failed: {where}: {fault}\n{command.text}")
         return "failed"
     return "passed"
 
 
 def main(given: Sequence[str]) -> int:
-    command_line.parser("tools/commands", __doc__).parse_args(given)
+    parser = command_line.parser("tools/commands", __doc__)
+    parser.add_argument("--also", metavar="PROGRAM", type=pathlib.Path)
+    also = parser.parse_args(given).also
     pages = [TOP / "README.md", *sorted((TOP / "docs").glob("*.md"))]
-    with tempfile.TemporaryDirectory() as name:
-        folder = pathlib.Path(name)
-        prepare(folder)
-        count: Counter[str] = collections.Counter(tried(page, it, folder) for page in pages for it in commands_of(page))
+    with tempfile.TemporaryDirectory() as name, tempfile.TemporaryDirectory() as other:
+        places = [Place(pathlib.Path(name)), *([Place(pathlib.Path(other), also.resolve())] if also else [])]
+        for place in places:
+            prepare(place.folder)
+        count: Counter[str] = collections.Counter(tried(page, it, places) for page in pages for it in commands_of(page))
     print(f"{count['passed']} commands passed, {count['failed']} failed")
     return int(count["failed"] > 0)
