@@ -35,7 +35,7 @@ The process ends with the program's own status, or with one of these:
 programs, layouts, scripts, traces and delays
 .TP
 .I {documents}/docs
-.I FORMATS.md
+.I MANUAL.md
 describes all files and reports,
 .I ERRORS.md
 each refusal and how to mend it,

@@ -1,4 +1,4 @@
-"""Each reader takes the texts of docs/FORMATS.md and docs/TIMES.md, and refuses what has not their form."""
+"""Each reader takes the texts of docs/MANUAL.md and docs/TIMES.md, and refuses what has not their form."""
 
 from __future__ import annotations
 
@@ -22,7 +22,7 @@ from cfpp_tools.readers.traces import read_groups, read_trace
 
 
 def test_moves_that_can_be_made(quoted):
-    found = read_choices(Lines(quoted("FORMATS.md", "barred issue next Occupied")))
+    found = read_choices(Lines(quoted("MANUAL.md", "barred issue next Occupied")))
     assert found == (
         Choice(Move("issue next", "issue"), "Occupied"),
         Choice(Move("execute 2", "execute", stage=2), "SourceMissing x10"),
@@ -31,7 +31,7 @@ def test_moves_that_can_be_made(quoted):
 
 
 def test_a_picture(quoted):
-    picture = read_picture(Lines(quoted("FORMATS.md", "fetch 00010008")))
+    picture = read_picture(Lines(quoted("MANUAL.md", "fetch 00010008")))
     assert (picture.fetch, picture.lane, picture.cache) == (0x10008, (), None)
     assert picture.stages == {
         4: Stage(Instruction(0x10000, "next", "done", (None, None), None, None)),
@@ -56,23 +56,23 @@ def test_a_picture_with_a_fault(line):
 
 
 def test_retired_instructions(quoted):
-    text = quoted("FORMATS.md", "retire 1 00010000 00700513")
+    text = quoted("MANUAL.md", "retire 1 00010000 00700513")
     assert read_retirements(Lines(text)) == (Retirement(1, 0x10000, 0x00700513, 10, 7),)
     assert read_retirements(Lines("retire 2 00010004 00000073 -\n")) == (Retirement(2, 0x10004, 0x73),)
 
 
 def test_a_move_of_a_trace(quoted):
-    text = quoted("FORMATS.md", "move 6 leave").replace("move 6", "move 1")
+    text = quoted("MANUAL.md", "move 6 leave").replace("move 6", "move 1")
     (group,) = read_groups(Lines(text))
     assert (group.number, group.line, group.move) == (1, 1, Move("leave", "leave"))
     assert group.retirement == Retirement(1, 0x10000, 0x00700513, 10, 7)
     assert (group.picture.fetch, group.picture.is_empty) == (0x10004, True)
     with pytest.raises(ReadFault, match="^line 1: move 1 is missing"):
-        read_groups(Lines(quoted("FORMATS.md", "move 6 leave")))
+        read_groups(Lines(quoted("MANUAL.md", "move 6 leave")))
 
 
 def test_a_trace_before_its_report(quoted):
-    trace = quoted("FORMATS.md", "move 6 leave").replace("move 6", "move 1")
+    trace = quoted("MANUAL.md", "move 6 leave").replace("move 6", "move 1")
     assert read_trace(trace + "limit 1\nretired 1\n")[0] == trace
 
 
@@ -106,7 +106,7 @@ def test_rounds(quoted):
 
 
 def test_times(quoted):
-    text = quoted("FORMATS.md", "plain: exit 0 time T moves M retired R")
+    text = quoted("MANUAL.md", "plain: exit 0 time T moves M retired R")
     text = text.replace(" T ", " 45042 ").replace(" M ", " 142407 ").replace(" R\n", " 2213\n")
     report = read_times(Lines(text))
     assert [(run.layout, run.time, run.moves, run.retired) for run in report.runs] == [
@@ -132,7 +132,7 @@ def test_the_answers_of_audit():
 
 
 def test_the_layout_plain(quoted):
-    lines = quoted("FORMATS.md", "format = 1") + "\n" + quoted("FORMATS.md", "[units]") + "\n" + quoted("FORMATS.md", "[[siding]]")
+    lines = quoted("MANUAL.md", "format = 1") + "\n" + quoted("MANUAL.md", "[units]") + "\n" + quoted("MANUAL.md", "[[siding]]")
     layout = read_layout(Lines(lines))
     assert (layout.stages, layout.lane, layout.cache, layout.units["add"]) == (8, 16, False, (2, 4, 6))
     assert layout.sidings == (Siding(("memory",), 4, 6, 2),) and layout.memory == 0 and layout.cells == 2

@@ -6,15 +6,15 @@ pub const HELP: &[u8] =
 
   cfpp run LAYOUT PROGRAM      runs the processor, by a fixed rule
   cfpp moves LAYOUT PROGRAM --script FILE
-                               runs a script, and tells which moves can follow
+                               runs a script, and lists which moves can follow
   cfpp debug LAYOUT PROGRAM    makes moves by command, and takes them back
   cfpp rounds LAYOUT PROGRAM   runs the processor in clocked rounds
   cfpp audit LAYOUT PROGRAM TRACE
-                               tells whether a recorded trace is that of a run
+                               checks whether a recorded trace is that of a run
   cfpp machine PROGRAM         runs the sequential machine
   cfpp time DELAYS PROGRAM LAYOUT ..
                                compares the times of up to eight layouts
-  cfpp check LAYOUT            writes the layout's one text, or why it is none
+  cfpp check LAYOUT            writes the layout's canonical form, or its fault
   cfpp asm SOURCE              writes the ELF file of an assembly source
   cfpp list PROGRAM            writes a listing of a program
   cfpp gen N                   writes an assembly program of N drawn statements
@@ -29,10 +29,10 @@ goes to standard error.
 Options come after the names, in any order, each once:
 
   --limit N       stops at N retired instructions, at most 1000000000 (run,
-                  moves, rounds, machine, time); without it at 10000000
+                  moves, rounds, machine, time); 10000000 by default
   --script FILE   makes the moves of a script (run, moves)
   --seed N        draws the moves from a seed, at most 4294967295 (run)
-  --show report   shows the closing report alone, as without it (run, machine)
+  --show report   shows the closing report alone, the default (run, machine)
   --show retired  shows each instruction as it retires (run, machine)
   --show moves    shows each move and the picture after it (run)
   --show sites    shows what each time is made of (time)
@@ -44,13 +44,13 @@ The process ends with the program's own status, or with one of these:
   0    a command was carried out, or a script ended before the program did
   120  the program trapped           126  the move of a line is barred
   121  the limit was reached         127  the source is refused
-  122  the words are no command      128  a file or the input cannot be read
+  122  unrecognised arguments        128  a file or the input cannot be read
   123  the layout is refused         129  output or report cannot be written
   124  the program is refused        130  memory is refused
   125  the script is refused         131  the delays are refused
-  132  the trace is refused          133  the words cannot be had
+  132  the trace is refused          133  arguments cannot be read
 
-README.md has a first tour, docs/FORMATS.md all words, files and reports,
+README.md has a first tour, docs/MANUAL.md all commands, files and reports,
 docs/ERRORS.md each refusal and how to mend it, docs/SEMANTICS.md the moves,
 docs/ASSEMBLY.md the assembler's language.
 ";
