@@ -17,6 +17,7 @@ from cfpp_tools.sweeping.sweep import Manner, join, runs_of, slice_of, sweep
 from cfpp_tools.sweeping.table import Table, rows_of
 
 HEAD = ",".join(COLUMNS) + "\n"
+TOOLS = os.path.dirname(os.path.dirname(os.path.abspath(__file__)))
 
 
 def row(number: int):
@@ -54,20 +55,37 @@ def test_another_table_is_refused(tmp_path):
     assert name.read_text() == "a,b\n1,2\n"
 
 
+def elsewhere(name, code):
+    """Does something with the table in another process: a process does not lock itself out."""
+    head = f"from tests.test_sweeping import row, runs\nfrom cfpp_tools.sweeping.table import Table\ntable = Table({str(name)!r})\n"
+    subprocess.run([sys.executable, "-c", head + code], cwd=TOOLS, check=True)
+
+
+def numbers(name):
+    return [int(found["moves"]) for found in rows_of(name)]
+
+
 def test_rows_are_put_in_order_by_the_last_alone(tmp_path):
-    """The other process that has the table open is a real one: a process does not lock itself out."""
     name = tmp_path / "table.csv"
     with Table(name) as table:
         for number in (2, 1, 0):
             table.add(row(number))
-        code = f"from cfpp_tools.sweeping.table import Table\nTable({str(name)!r}).arrange([])\nprint('done')"
-        done = subprocess.run([sys.executable, "-c", code], cwd=TOOLS, capture_output=True, text=True, check=True)
-        assert done.stdout == "done\n"
-        assert [found["moves"] for found in rows_of(name)] == ["2", "1", "0"]
-        table.arrange(runs(3))
-        assert [found["moves"] for found in rows_of(name)] == ["0", "1", "2"]
+        elsewhere(name, "table.arrange(runs(3))")
         table.add(row(3))
-    assert [found["moves"] for found in rows_of(name)] == ["0", "1", "2", "3"]
+        assert numbers(name) == [2, 1, 0, 3]
+        table.arrange(runs(3))
+        assert numbers(name) == [0, 1, 2, 3]
+        elsewhere(name, "table.add(row(4))")
+    assert numbers(name) == [0, 1, 2, 3, 4]
+
+
+def test_the_row_of_another_process_is_not_added_again(tmp_path):
+    name = tmp_path / "table.csv"
+    with Table(name) as table:
+        elsewhere(name, "table.add(row(1))")
+        table.add(row(1))
+        table.add(row(2))
+    assert numbers(name) == [1, 2]
 
 
 def test_tables_are_joined(tmp_path):
@@ -83,7 +101,6 @@ def test_tables_are_joined(tmp_path):
 
 
 # With the program from here on.
-TOOLS = os.path.dirname(os.path.dirname(os.path.abspath(__file__)))
 SEEDS = 40
 
 
