@@ -57,7 +57,16 @@ def test_bars_and_kills(tmp_path, examples, built):
     assert first_fault(tmp_path / "s", barred) == "`issue next` is allowed, and Occupied is wanted"
 
 
-@pytest.mark.parametrize("line, reason", [("frob = 1", "unknown key `frob`"), ("points = 2", "a script needs `layout` and `program`")])
+@pytest.mark.parametrize(
+    "line, reason",
+    [
+        ("frob = 1", "unknown key `frob`"),
+        ("points = 2", "a script needs `layout` and `program`"),
+        ('retired = "2"', "`retired` has a value of a wrong type"),
+        ("registers = { a0 = 2 }", "`a0` is no register"),
+        ("units_at_most = 3", "`units_at_most` has a value of a wrong type"),
+    ],
+)
 def test_goals_with_a_fault(tmp_path, line, reason):
     (tmp_path / "goals.toml").write_text(f'[[goal]]\nname = "a"\nfile = "s"\n{line}\n')
     with pytest.raises(Stop, match=reason):

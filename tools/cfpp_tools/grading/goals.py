@@ -4,6 +4,7 @@ from __future__ import annotations
 
 import dataclasses
 import pathlib
+import re
 from typing import Any, Dict, List, Optional
 
 from ..command_line import Stop
@@ -43,6 +44,9 @@ class Goal:
 
 
 KEYS = [field.name for field in dataclasses.fields(Goal)]
+NUMBERS = {"points", "retired", "fetch", "stages"} | {key for key in KEYS if key.endswith(("_most", "_least"))} - {"units_at_most"}
+TABLES = {"registers": int, "units_at_most": int, "barred": str}
+REGISTER = re.compile("x[0-2]?[0-9]|x3[01]")
 FILES = ("layout", "program")
 
 
@@ -52,9 +56,29 @@ def placed(table: Dict[str, Any], folder: pathlib.Path) -> Dict[str, Any]:
     return {**table, **named}
 
 
+def has_type(key: str, value: Any) -> bool:
+    """Whether a key's value is of the type that it should have."""
+    if key in TABLES:
+        return isinstance(value, dict) and all(isinstance(part, TABLES[key]) for part in value.values())
+    if key in NUMBERS:
+        return isinstance(value, int) and not isinstance(value, bool)
+    return isinstance(value, bool if key == "empty" else str)
+
+
+def check_types(where: str, table: Dict[str, Any]) -> None:
+    """All values have their types, and registers their names."""
+    wrong = next((key for key, value in table.items() if not has_type(key, value)), None)
+    if wrong:
+        raise Stop(f"{where}: `{wrong}` has a value of a wrong type")
+    unnamed = next((name for name in table.get("registers", {}) if not REGISTER.fullmatch(name)), None)
+    if unnamed:
+        raise Stop(f"{where}: `{unnamed}` is no register: they are x0 to x31")
+
+
 def read_goal(where: str, table: Dict[str, Any], folder: pathlib.Path) -> Goal:
     """The goal of a table."""
     only(where, table, KEYS)
+    check_types(where, table)
     if "name" not in table or "file" not in table:
         raise Stop(f"{where}: it needs `name` and `file`")
     goal = Goal(**placed(table, folder))
