@@ -151,6 +151,12 @@ def test_an_array_of_four(tmp_path, examples, whole):
     assert (tmp_path / "all.csv").read_text() == whole
 
 
+@pytest.mark.parametrize("arguments", [[], ["--layouts", "plain", "--programs", "p"], ["--join", "t", "--rule"]])
+def test_lists_that_are_not_whole(tmp_path, arguments):
+    made = subprocess.run([os.path.join(TOOLS, "sweep"), "new.csv", *arguments], cwd=tmp_path, capture_output=True, text=True)
+    assert made.returncode == 2 and "are needed" in made.stderr and list(tmp_path.iterdir()) == []
+
+
 def test_a_run_of_each_schedule(tmp_path, examples, built):
     """By hand: `seven` retires two instructions and ends with 7, whatever the order of the moves."""
     delays = f"delays {examples / 'delays' / 'equal.delays'}"

@@ -85,9 +85,12 @@ def main(given: Sequence[str]) -> None:
         return
     cut = list(given).index("--") if "--" in given else len(given)
     arguments = parser().parse_args(given[:cut])
+    schedules = schedules_of(arguments)
+    has_lists = bool(arguments.layouts and arguments.programs and schedules)
+    if not has_lists and (not arguments.join or arguments.layouts or arguments.programs or schedules):
+        parser().error("--layouts, --programs and schedules, as --rule or --seeds, are needed; --join needs none of them")
     if arguments.join:
         join(arguments.table, arguments.join, arguments.kinds)
-    elif not arguments.layouts or not arguments.programs:
-        parser().error("--layouts and --programs, or --join, are needed")
-    runs = slice_of(runs_of(arguments.layouts, arguments.programs, schedules_of(arguments)), *arguments.slice)
-    sweep(arguments.table, runs, Manner(arguments.limit, arguments.kinds, arguments.jobs, given[cut + 1 :]))
+    if has_lists:
+        runs = slice_of(runs_of(arguments.layouts, arguments.programs, schedules), *arguments.slice)
+        sweep(arguments.table, runs, Manner(arguments.limit, arguments.kinds, arguments.jobs, given[cut + 1 :]))
