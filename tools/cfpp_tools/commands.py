@@ -1,7 +1,7 @@
 """A function for each command of the program, with a typed answer.
 
-A new command is one function here, and one reader of its report in `readers/`. Options without a function parameter of their own are handed on
-as `more`, a list of arguments.
+A new command is one function here, and one reader of its report in `readers/`. Options for which a function has no parameter are
+handed on as `more`, a list of arguments.
 """
 
 from __future__ import annotations

@@ -26,6 +26,7 @@ def test_what_is_wrong_with_a_call():
     assert list(faults(Call(["check", "plain"], 0))) == []
     assert list(faults(Call(["check", "plain"], 0, report="exit 0\n"))) == ["it has a report"]
     assert list(faults(Call(["machine", "p"], 7, report="exit 8\n"))) == ["its report has not the form of status 7"]
-    assert list(faults(Call(["machine", "p"], 128, report="read fault program\n", output_size=1))) == ["it was refused and wrote to the output"]
+    refused = Call(["machine", "p"], 128, report="read fault program\n", output_size=1)
+    assert list(faults(refused)) == ["it was refused and wrote to the output"]
     assert list(faults(Call(["machine", "p"], -11)))[0] == "signal 11 ended it"
     assert "it did not end" in next(faults(Call(["machine", "p"])))

@@ -57,9 +57,14 @@ class Exploration:
 
     def write_all(self) -> None:
         """Writes the layouts of all points, and runs none."""
-        texts = {self.task.space.text(point): point for point in self.task.space.points()}
-        for text, point in texts.items():
-            self.file(point).write_text(text)
+        for point in self.task.space.points():
+            self.first.setdefault(self.task.space.text(point), point)
+        self.write(self.first.values())
+
+    def write(self, points: Iterable[Point]) -> None:
+        """Writes the layouts of these points."""
+        for point in points:
+            self.file(point).write_text(self.task.space.text(point))
 
     def look(self, points: Iterable[Point]) -> None:
         """Runs those of the points that were not run yet."""
@@ -70,15 +75,12 @@ class Exploration:
 
     def measure(self, new: Sequence[Point]) -> None:
         """Runs these points, whose layouts are new."""
-        for point in new:
-            self.file(point).write_text(self.task.space.text(point))
+        self.write(new)
         layouts = commands.check_all([self.file(point) for point in new])
         taken = [name for name, (layout, _) in layouts.items() if layout]
         rows = self.rows([Run(name, program, self.task.schedule) for name in taken for program in self.task.programs])
-        for point in new:
-            name = str(self.file(point))
-            layout = layouts[name][0]
-            self.found[point] = self.measured(name, layout, rows) if layout else None
+        measured = {name: self.measured(name, layout, rows) for name, (layout, _) in layouts.items() if layout}
+        self.found.update({point: measured.get(str(self.file(point))) for point in new})
 
     def rows(self, runs: Sequence[Run]) -> Dict[Run, Row]:
         """The rows of these runs, which are made where the table lacks them."""

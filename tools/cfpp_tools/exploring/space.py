@@ -38,15 +38,19 @@ def choices_of(where: str, value: Any) -> List[Any]:
     raise Stop(f"{where}: a list, `from` and `to`, or `any` and `most` are wanted")
 
 
+def part_of(value: Any, *key: Any) -> Part:
+    """The part of this key, with the choices that the value gives."""
+    return Part(key, choices_of(f"space, {' '.join(map(str, key))}", value))
+
+
 def parts_of(table: Dict[str, Any]) -> Iterator[Part]:
     """The parts of a space, in the order in which they stand in a layout."""
-    for key in ("stages", "lane", "cache"):
-        yield Part((key,), choices_of(f"space.{key}", table.get(key, [False] if key == "cache" else None)))
-    for name in (name for name in CLASSES if name in table.get("units", {})):
-        yield Part(("units", name), choices_of(f"space.units.{name}", table["units"][name]))
+    whole = {"cache": [False], **table}
+    units = table.get("units", {})
     sidings = itertools.product(enumerate(table.get("siding", [])), ("launch", "recover", "cells"))
-    for (number, siding), key in sidings:
-        yield Part(("siding", number, key), choices_of(f"space.siding {number}, {key}", siding.get(key)))
+    yield from (part_of(whole.get(key), key) for key in ("stages", "lane", "cache"))
+    yield from (part_of(units[name], "units", name) for name in CLASSES if name in units)
+    yield from (part_of(siding.get(key), "siding", number, key) for (number, siding), key in sidings)
 
 
 def stage_of(value: Any, stages: int) -> int:

@@ -108,7 +108,8 @@ def of_trace(draw: random.Random, put: Put) -> Case:
 
 
 def of_commands(draw: random.Random, put: Put) -> Case:
-    sessions = [b"move issue next\nauto 30\nback\nshow\nregs\nmem 7f0ffff0 16\nend\n", *files("*.commands"), *files("debug/*.commands")]
+    session = b"move issue next\nauto 30\nback\nshow\nregs\nmem 7f0ffff0 16\nend\n"
+    sessions = [session, *files("*.commands"), *files("debug/*.commands")]
     put("input", one_of(draw, making.commands, sessions))
     put("program", one_of(draw, making.image, files("*.bin")))
     yield ["debug", draw.choice(LAYOUTS), "program"]
@@ -119,7 +120,8 @@ def of_words(draw: random.Random, put: Put) -> Case:
     yield making.words(draw)
 
 
-KINDS: List[Callable[[random.Random, Put], Case]] = [of_elf, of_image, of_layout, of_script, of_source, of_delays, of_trace, of_commands, of_words]
+KINDS: List[Callable[[random.Random, Put], Case]] = [of_elf, of_image, of_layout, of_script, of_source, of_delays, of_trace]
+KINDS += [of_commands, of_words]
 
 
 def try_case(caller: Caller, draw: random.Random) -> Iterator[Tuple[Call, List[str]]]:

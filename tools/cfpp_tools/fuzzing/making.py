@@ -67,9 +67,8 @@ def layout(draw: random.Random) -> bytes:
     cache: List[List[str]] = [[], ["cache = true"], ["cache = 1"]]
     lines += [*draw.choice(cache), "[units]"]
     low = draw.randint(1, stages)
-    for name in CLASSES[:6]:
-        if draw.random() < 0.9:
-            lines.append(f"{name} = {[draw.randint(1, low) for _ in range(draw.randint(1, 3))]}")
+    names = [name for name in CLASSES[:6] if draw.random() < 0.9]
+    lines += [f"{name} = {[draw.randint(1, low) for _ in range(draw.randint(1, 3))]}" for name in names]
     for name in draw.choice([["memory"], ["memory"], ["memory", "shift"], ["memory", "mul", "div"]]):
         up = draw.randint(low, stages)
         lines += ["[[siding]]", f'classes = ["{name}"]', f"launch = {low}", f"recover = {up}", f"cells = {draw.randint(0, 9)}"]

@@ -74,13 +74,8 @@ def main(given: Sequence[str]) -> int:
         parser.add_argument(name, metavar=name.upper())
     arguments = parser.parse_args(given)
     trace = pathlib.Path(arguments.trace).read_bytes()
-    right = wrong = 0
-    for case in [*changed(trace), *cut(trace)]:
-        said = answer(arguments.layout, arguments.program, case[1])
-        if is_right(case, said):
-            right += 1
-        else:
-            wrong += 1
-            print(f"{case[0]}: {said}")
-    print(f"{right} right, {wrong} wrong")
-    return int(wrong > 0)
+    cases = [*changed(trace), *cut(trace)]
+    said = [(case, answer(arguments.layout, arguments.program, case[1])) for case in cases]
+    wrong = [f"{case[0]}: {given}" for case, given in said if not is_right(case, given)]
+    print("\n".join([*wrong, f"{len(cases) - len(wrong)} right, {len(wrong)} wrong"]))
+    return int(bool(wrong))
