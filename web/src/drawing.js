@@ -178,7 +178,8 @@ function cache(view, geometry) {
 function originLine(view, geometry, stage) {
   const number = view.who.results[stage];
   const middle = (at) => geometry.y(at) + geometry.row / 2;
-  const side = geometry.result.x - 7;
+  // Lines from different origins stand side by side.
+  const side = geometry.result.x - 6 - 6 * (number % 4);
   const [from] = Object.entries(view.who.instructions).find(([, one]) => one === number) ?? [];
   const begin = number === REGISTER_FILE ? geometry.lane + 34 : from ? middle(Number(from)) : null;
   if (begin === null || Number(from) === stage) return null;

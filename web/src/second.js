@@ -5,6 +5,7 @@ import { byId, fill, html } from "./element.js";
 import { ByRule, BySeed } from "./schedule.js";
 import { firstDifference } from "./sequential.js";
 import { Session } from "./session.js";
+import { namesOfMeeting } from "./telling.js";
 
 // At most so many moves are made at once.
 const MOST = 600;
@@ -101,7 +102,8 @@ export class SecondOrder {
     if (!this.isOn) return;
     const { layout, picture, before, texts, last, who, whoBefore } = this.session;
     const still = { ...picture, allowed: [] };
-    const view = { layout, picture: still, before, texts, last: last?.move ?? null, names: [], selected: 0, who, whoBefore, blame: null };
+    const names = last && before ? namesOfMeeting(last.move, before, picture) : [];
+    const view = { layout, picture: still, before, texts, last: last?.move ?? null, names, selected: 0, who, whoBefore, blame: null };
     byId("second-drawing").classList.toggle("still", this.page.player.isFast);
     draw(byId("second-drawing"), { ...view, room: this.page.room });
     byId("second-told").textContent = last ? `${this.session.steps.length}. ${last.move}` : "";

@@ -179,12 +179,12 @@ function meetingMark(view, geometry, stage, content, moves) {
   const middle = geometry.y(stage) + geometry.row / 2;
   const center = geometry.gap.x + geometry.gap.width / 2;
   if (stageOf(view.last ?? "") === stage && kindOf(view.last) === "meet") {
-    const names = view.names.length > 0 ? view.names : ["pass by"];
+    const names = view.names.length > 0 ? view.names : ["pass", "by"];
     return svg("text", { x: center, y: middle + 5 - (names.length - 1) * 8, class: `met strong${motionOf(view, `meeting ${stage}`)}` },
       names.map((name, at) => svg("tspan", { x: center, dy: at === 0 ? 0 : 16 }, name)));
   }
   if (moves.length > 0) return chip(moves[0], center - chipWidth(moves[0]) / 2, middle - CHIP / 2);
-  if (content.passenger && content.packet && content.met) return svg("text", { x: center, y: middle + 5, class: "met faint" }, "have met");
+  if (content.passenger && content.packet && content.met) return svg("text", { x: center, y: middle + 5, class: "met faint" }, geometry.isNarrow ? "met" : "have met");
   return null;
 }
 

@@ -3,15 +3,18 @@
 import assert from "node:assert/strict";
 import fs from "node:fs";
 import test from "node:test";
+import { blameOf } from "../src/blame.js";
 import { captionOf } from "../src/captions.js";
 import { common, isOn, restOf } from "../src/course.js";
 import { geometryOf } from "../src/geometry.js";
 import { isReached, judged, readGoal } from "../src/goal.js";
 import { accessOf, markOf, memoryPlan } from "../src/memory.js";
+import { ghostAt, motionOf, takenAt } from "../src/motion.js";
 import { chosenAfter } from "../src/moves.js";
 import { ticksOf } from "../src/places.js";
 import { NO_BAR, answerText, isRight, questionOf } from "../src/questions.js";
 import { Reasons } from "../src/reasons.js";
+import { comparison } from "../src/second.js";
 import { NO_STOP, readStop, stopReached } from "../src/stop.js";
 
 const stepsOf = (text) => text.split(" ").map((move) => ({ move }));
@@ -158,4 +161,39 @@ test("moves have the ticks of the rounds that the lab tells", () => {
     assert.equal(Math.max(...ticks), round, name);
     assert.ok(ticks.every((tick, at) => tick <= wanted[at]), name);
   }
+});
+
+const standsAt = (stage, content) => new Map([[stage, { passenger: null, packet: null, ...content }]]);
+
+test("a bar has its place and what bars it", () => {
+  const layout = { stages: 8, sidings: [{ launch: 4, recover: 6, cells: 2, classes: ["memory"] }] };
+  const picture = { stages: standsAt(5, { packet: { kind: "value", register: "x07" } }) };
+  assert.deepEqual(blameOf("climb 3", "Occupied", layout, picture), { place: "passenger 3", by: "passenger 4" });
+  assert.deepEqual(blameOf("fall 3", "NotMet", layout, picture), { place: "packet 3", by: "meeting 3" });
+  assert.deepEqual(blameOf("execute 3", "SourceMissing x07", layout, picture), { place: "passenger 3", by: "packet 5" });
+  assert.deepEqual(blameOf("execute 3", "SourceMissing x08", layout, picture), { place: "passenger 3", by: "lane" });
+  assert.deepEqual(blameOf("launch 4", "Occupied", layout, picture), { place: "passenger 4", by: "cell 0 0" });
+  assert.deepEqual(blameOf("issue next", "FetchWaiting", layout, picture), { place: "fetch", by: "fetch" });
+});
+
+test("what stays of a move: a ghost of who was killed, and the value that was taken", () => {
+  const source = (value) => [{ register: "x01", value }, null];
+  const packet = { kind: "value", register: "x01", value: "00000000" };
+  const destination = { register: "x01", value: null };
+  const before = { stages: standsAt(2, { passenger: { flag: "new", sources: source(null), destination }, packet }) };
+  const picture = { stages: standsAt(2, { passenger: { flag: "new", sources: source("00000000"), destination } }) };
+  const view = { last: "meet 2", layout: { stages: 2, sidings: [] }, before, picture };
+  assert.deepEqual(ghostAt(view, "packet", 2), { content: packet, how: "killed" });
+  assert.equal(ghostAt(view, "packet", 1), null);
+  assert.deepEqual(takenAt(view, 2), [source("00000000")[0]]);
+  assert.equal(motionOf(view, "meeting 2"), " moved-meet");
+  assert.equal(motionOf(view, "meeting 1"), "");
+});
+
+test("two orders are compared by what they retired", () => {
+  const at = (retired, lines, registers = ["0"]) => ({ retired, lines, registers, moves: 5, kills: 1, stages: new Map() });
+  assert.match(comparison(at(1, ["a"]), at(2, ["a", "b"])), /1 and 2 have retired, the first one alike/);
+  assert.match(comparison(at(1, ["a"]), at(1, ["b"])), /must not be/);
+  assert.match(comparison(at(1, ["a"]), at(1, ["a"])), /registers are the same\. The pipes of both are empty/);
+  assert.match(comparison(at(1, ["a"]), at(1, ["a"], ["1"])), /differ/);
 });
