@@ -30,6 +30,7 @@ import { showTimeline } from "./timeline_panel.js";
 
 // The sequential machine and the random orders go no further than this many retired instructions.
 const LIMIT = 10000;
+const SCRIPT_EVERY = 15;
 
 export class Page {
   constructor(bytes) {
@@ -79,7 +80,8 @@ export class Page {
     showBarred(view.picture, this.reasons);
     showMachine(view, this.machine);
     showWritten(view.picture);
-    showScript(this.session);
+    // The script's text is laid out anew at each change: while moves come fast it is every few moves.
+    if (!this.player.isFast || this.session.steps.length % SCRIPT_EVERY === 0) showScript(this.session);
     showReport(view.picture);
     this.memory.show(this.session);
     this.goal.show(this.session);

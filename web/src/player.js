@@ -28,8 +28,11 @@ export class Player {
   }
 
   toggle() {
-    if (this.isPlaying) this.stop();
-    else this.begin();
+    if (!this.isPlaying) this.begin();
+    else {
+      this.stop();
+      this.show();
+    }
   }
 
   // Begins to play, at the speed that is set, or as fast as it can.

@@ -130,7 +130,7 @@ function passengerNarrow(one, box) {
   const second = { x: box.x + 11, y: box.y + 35, class: "code small" };
   return [
     svg("text", { x: box.x + 11, y: box.y + 17, class: "code strong" }, nameOf(one, letters)),
-    one.moves.length === 0 && markedCode(second, cut(bindingsText(one.passenger), letters), one.taken),
+    (one.moves.length === 0 || box.height >= 62) && markedCode(second, cut(bindingsText(one.passenger), letters), one.taken),
     chipsTo(box.x + box.width - 4, box.y + box.height - CHIP - 2, one.moves),
   ];
 }
