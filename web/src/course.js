@@ -10,7 +10,7 @@ export function isOn(steps, course) {
   return course.length > 0 && common(steps, course) === steps.length;
 }
 
-// What is left of the course behind the steps, the last move first; nothing where they left it.
+// What is left of the course after the steps, the last move first; nothing where they left it.
 export function restOf(steps, course) {
   return isOn(steps, course) ? course.slice(steps.length).reverse() : [];
 }

@@ -70,7 +70,7 @@ function retiredBy(who, before, after) {
   return { number: who.instructions[Math.max(...Object.keys(who.instructions).map(Number))], before: who.retired };
 }
 
-// Who is who behind a move, of who was who before it.
+// Who is who after a move, of who was who before it.
 export function identitiesAfter(who, move, before, after) {
   const change = CHANGES[kindOf(move)]?.({ who, move, before, after, stage: stageOf(move) }) ?? {};
   const now = { ...who, ...change };

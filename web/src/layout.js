@@ -1,4 +1,4 @@
-// Reads the one text that `check` writes of a layout: how many stages there are, and what is beside them.
+// Reads the canonical form of a layout, which `check` writes: how many stages there are, and what is beside them.
 
 export function readLayout(text) {
   const layout = { text, stages: 0, lane: 0, hasCache: false, units: new Map(), sidings: [] };

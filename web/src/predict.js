@@ -109,7 +109,8 @@ export class Predict {
     const { kind } = this.pending;
     if (kind === "lesson") return this.lessonForm();
     const parts = { meeting: () => this.choices("checkbox"), bar: () => this.choices("radio"), value: () => this.field() };
-    return [html("p", {}, sentence(this.pending.text)), html("form", { key: this.pending.text, onSubmit: (event) => this.submit(event) }, parts[kind](), html("button", {}, "Say it"))];
+    const form = { key: this.pending.text, onSubmit: (event) => this.submit(event) };
+    return [html("p", {}, sentence(this.pending.text)), html("form", form, parts[kind](), html("button", {}, "Say it"))];
   }
 
   choices(type) {

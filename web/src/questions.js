@@ -46,7 +46,7 @@ function ofValue(moment) {
   return { kind: "value", text, choices: [], isMany: false, answer: [destination.value] };
 }
 
-// The question on a move, or null where there is none. A moment has the move, the pictures before and behind it or its bar, who is who, and
+// The question on a move, or null where there is none. A moment has the move, the pictures before and after it or its bar, who is who, and
 // the texts of the program.
 export function questionOf(moment) {
   const kind = kindOf(moment.move);

@@ -14,13 +14,13 @@ export function isDrained(report) {
   return report.stages.size === 0 && report.sidings.size === 0 && report.lane.length === 0;
 }
 
-// How many issues there were since then, behind one more move.
+// How many issues there were since then, after one more move.
 export function issuesAfter(issues, move, before, after) {
   if (after.retired > before.retired || isDrained(after)) return 0;
   return kindOf(move) === "issue" ? issues + 1 : issues;
 }
 
-// The rule: the first candidate behind the last move in the order of all moves, or else the first.
+// The rule: the first candidate after the last move in the order of all moves, or else the first.
 export class ByRule {
   constructor(layout) {
     this.place = new Map(allMoves(layout).map((move, at) => [move, at]));

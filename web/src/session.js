@@ -77,7 +77,7 @@ export class Session {
     return common(this.steps, this.course) < Math.min(this.steps.length, this.course.length);
   }
 
-  // Takes back all behind the place where the course was left.
+  // Takes back all moves after the place where the course was left.
   rejoin() {
     this.steps = this.course.slice(0, common(this.steps, this.course));
     this.undone = restOf(this.steps, this.course);
@@ -120,7 +120,7 @@ export class Session {
     this.see();
   }
 
-  // Takes moves that were made, as far as they can be, and those that are to come behind them.
+  // Takes moves that were made, as far as they can be, and those that are to come after them.
   resume(made, unplayed) {
     this.steps = [];
     this.undone = readSteps(made).reverse();

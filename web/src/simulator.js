@@ -60,7 +60,7 @@ export class Simulator {
     return { ...readReport(answer.report), output: answer.output };
   }
 
-  // Each move of a script with the picture behind it.
+  // Each move of a script with the picture after it.
   moments(session, script) {
     const [, ...parts] = this.scripted(session, script, "run", "--show", "moves").report.split(/^move \d+ /m);
     let retired = 0;
@@ -72,7 +72,7 @@ export class Simulator {
     });
   }
 
-  // The bytes of memory behind a script, by address, but for those that stand in no region: two digits each.
+  // The bytes of memory after a script, by address, but for those that stand in no region: two digits each.
   bytesAt(session, script, addresses) {
     const moves = script.split("\n").filter((line) => line !== "" && !line.startsWith("#"));
     const asked = addresses.map((address) => `mem ${address.toString(16).padStart(8, "0")} 1\n`);

@@ -180,7 +180,8 @@ function meetingMark(view, geometry, stage, content, moves) {
   const center = geometry.gap.x + geometry.gap.width / 2;
   if (stageOf(view.last ?? "") === stage && kindOf(view.last) === "meet") {
     const names = view.names.length > 0 ? view.names : ["pass", "by"];
-    return svg("text", { x: center, y: middle + 5 - (names.length - 1) * 8, class: `met strong${motionOf(view, `meeting ${stage}`)}` },
+    const look = `met strong${motionOf(view, `meeting ${stage}`)}`;
+    return svg("text", { x: center, y: middle + 5 - (names.length - 1) * 8, class: look },
       names.map((name, at) => svg("tspan", { x: center, dy: at === 0 ? 0 : 16 }, name)));
   }
   if (moves.length > 0) return chip(moves[0], center - chipWidth(moves[0]) / 2, middle - CHIP / 2);
@@ -251,7 +252,8 @@ function packetOf(view, geometry, stage, packet, moves) {
   const number = (ghost ? view.whoBefore : view.who).results[stage];
   const marks = [ghost && `ghost ${ghost.how}`, takenAt(view, stage).length > 0 && "given", isUpdated(view, stage) && "updated"];
   const classes = ["packet", `is-${shown.kind}`, ...marks.filter(Boolean)].join(" ") + motionOf(view, `packet ${stage}`);
-  return svg("g", { key: "packet", class: classes, "data-side": "packet" }, packetBox(geometry, stage, { packet: shown, number, moves: ghost ? [] : moves }));
+  const one = { packet: shown, number, moves: ghost ? [] : moves };
+  return svg("g", { key: "packet", class: classes, "data-side": "packet" }, packetBox(geometry, stage, one));
 }
 
 export function stageGroup(view, geometry, stage) {

@@ -1,4 +1,4 @@
-// Says in plain words what a move did, from the pictures before and behind it, and names what happened where two pipes met.
+// Says in plain words what a move did, from the pictures before and after it, and names what happened where two pipes met.
 
 import { stageOf, kindOf } from "./moves.js";
 import { bindingText, instructionText, originText, packetText, registerName, valueText } from "./values.js";
@@ -30,7 +30,7 @@ export function namesOfMeeting(move, before, after) {
   return meetingParts(before.stages.get(stageOf(move)), after.stages.get(stageOf(move)));
 }
 
-// The words for one move; each is handed the moment: the pictures before and behind it, its stage, and the texts of the program.
+// The words for one move; each is handed the moment: the pictures before and after it, its stage, and the texts of the program.
 const WORDS = {
   issue({ before, after, move, textAt, who }) {
     const entered = `#${who.after.issued} ${textAt(before.fetch)} enters stage 1`;
@@ -94,7 +94,7 @@ const MEETINGS = {
   garner: () => "Garner: it takes the value that it waited for.",
   update: ({ after, stage }) => `Update: the result gets its newer value, ${packetText(after.stages.get(stage).packet)}.`,
   kill: () => "Kill: the result ends here, since the instruction is going to write that register.",
-  die: () => "Die: the instruction was fetched on a wrong guess or behind the end, and is dead from now on.",
+  die: () => "Die: the instruction was fetched on a wrong guess or after the end, and is dead from now on.",
 };
 
 function computed(passenger) {
@@ -121,7 +121,7 @@ function named(picture, who, stage, textAt) {
   return passenger ? `#${who.instructions[stage]} ${textAt(passenger.address)}` : "";
 }
 
-// What the last move did. `who` has who is who before and behind it, `memory` is the siding of loads and stores.
+// What the last move did. `who` has who is who before and after it, `memory` is the siding of loads and stores.
 export function told(move, before, after, { texts, who, memory }) {
   const stage = stageOf(move);
   const textAt = (address) => `\`${instructionText(texts, address)}\``;

@@ -173,7 +173,7 @@ recover = 12
 cells = 4
 `;
 
-// Times of single moves at 32 stages behind some 2,000 moves, layout of the drawing included.
+// Times of single moves at 32 stages after some 2,000 moves, layout of the drawing included.
 async function speed() {
   await choose("sorted");
   await put("toml", DEEP, "input");
@@ -192,8 +192,8 @@ async function speed() {
     return times;
   })()`);
   const sorted = times.sort((one, other) => one - other);
-  console.log(`a move at 32 stages behind ${moves.length} moves: ${sorted[20].toFixed(1)} ms, at worst ${sorted[39].toFixed(1)} ms`);
-  check("a move is drawn within 50 ms at 32 stages behind 2,000 moves, at best", sorted[0] < 50, `${sorted[0]}`);
+  console.log(`a move at 32 stages after ${moves.length} moves: ${sorted[20].toFixed(1)} ms, at worst ${sorted[39].toFixed(1)} ms`);
+  check("a move is drawn within 50 ms at 32 stages after 2,000 moves, at best", sorted[0] < 50, `${sorted[0]}`);
   await picture("deep");
 }
 

@@ -81,7 +81,7 @@ function lessons() {
       const found = namesOfMeeting(last.move, before, picture);
       found.forEach((part) => names.set(part, (names.get(part) ?? 0) + 1));
       dead += found.includes("die") ? 1 : 0;
-      check(`${name}: kills behind ${last.move}`, found.includes("kill") === (picture.kills > before.kills));
+      check(`${name}: kills after ${last.move}`, found.includes("kill") === (picture.kills > before.kills));
       check(`${name}: the retired instructions are the machine's`, firstDifference(machine, picture) < 0);
     }
     const { who } = session;
@@ -95,7 +95,7 @@ function lessons() {
   check("garner, update, kill and die were seen", ["garner", "update", "kill", "die"].every((part) => names.has(part)), [...names].join());
 }
 
-// The rule's and a seed's moves are those of the native program, also behind moves that were taken back.
+// The rule's and a seed's moves are those of the native program, also after moves that were taken back.
 function schedules() {
   for (const [layout, program, options] of RUNS) {
     const files = { layout: textOf(`examples/layouts/${layout}.toml`), program: bytesOf(`examples/${program}.bin`) };
