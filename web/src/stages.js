@@ -4,7 +4,7 @@ import { svg } from "./element.js";
 import { unitsOf } from "./layout.js";
 import { ghostAt, isUpdated, motionOf, takenAt } from "./motion.js";
 import { isDead } from "./telling.js";
-import { bindingText, instructionText, originText, packetText } from "./values.js";
+import { REGISTER_FILE, bindingText, instructionText, originText, packetText } from "./values.js";
 import { kindOf, stageOf } from "./moves.js";
 
 const LABELS = {
@@ -148,10 +148,11 @@ function passengerBox(geometry, stage, one) {
   ];
 }
 
-// Where a result comes from, in the words that have room.
-function originWords(geometry, number) {
-  if (geometry.isNarrow) return number === 0 ? "" : `from #${number}`;
-  return `from ${originText(number)}`;
+// Where a result comes from, in the words that have room beside its moves.
+function originWords(geometry, number, moves) {
+  if (geometry.isNarrow) return number === REGISTER_FILE ? "" : `from #${number}`;
+  const hasRoom = moves.length === 0 || geometry.result.width > 250;
+  return number === REGISTER_FILE && !hasRoom ? "register file" : `from ${originText(number)}`;
 }
 
 // `one` has the result with the number of the instruction that it comes from, and its moves.
@@ -162,8 +163,8 @@ function packetBox(geometry, stage, { packet, number, moves }) {
   const middle = y + height / 2;
   const left = x + (geometry.isNarrow ? 9 : 18);
   const hasTwo = geometry.lines === 2;
-  const origin = hasTwo ? originWords(geometry, number) : "";
-  const text = hasTwo || number === 0 ? packetText(packet) : `${packetText(packet)} #${number}`;
+  const origin = hasTwo ? originWords(geometry, number, moves) : "";
+  const text = hasTwo || number === REGISTER_FILE ? packetText(packet) : `${packetText(packet)} #${number}`;
   const second = !(geometry.isNarrow && moves.length > 0) && origin !== "";
   const chips = geometry.isNarrow ? y + height - CHIP - 2 : middle - CHIP / 2;
   return [
