@@ -7,7 +7,7 @@ mod line_err;
 mod matching;
 mod sheet;
 
-pub use call::{Call, Fails, Named, Outcome};
+pub use call::{Call, CallOutcome, FailingCallNumbers, NamedBytes};
 pub use line_err::LineErr;
 pub use matching::Matching;
 pub use sheet::{Sheet, Wanted};
