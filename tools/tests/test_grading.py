@@ -17,15 +17,21 @@ from cfpp_tools.readers.layouts import Layout, Siding
 TINY = Layout(2, 4, False, {"add": (1, 2)}, (Siding(("memory",), 1, 2, 1),))
 
 
-def graded(tools, goals, folder):
-    made = subprocess.run([tools / "grade", goals, folder], capture_output=True, text=True, check=True)
+def graded(tools, *arguments):
+    made = subprocess.run([tools / "grade", *arguments], capture_output=True, text=True, check=True)
     return list(csv.reader(io.StringIO(made.stdout)))
 
 
 @pytest.mark.parametrize("lesson, points", [(1, 4), (2, 5), (6, 7)])
 def test_the_answers_meet_the_goals(tools, examples, built, lesson, points):
-    found = graded(tools, examples / "goals" / f"lesson_{lesson}.toml", examples / "answers" / f"lesson_{lesson}")
+    found = graded(tools, examples / "goals" / f"lesson_{lesson}.toml")
     assert found == [["student", "points", "of", "first wrong"], ["answer", str(points), str(points), ""]]
+
+
+def test_a_goal_without_an_answer(tools, tmp_path):
+    (tmp_path / "goals.toml").write_text('[[goal]]\nname = "a"\nfile = "layout.toml"\nstages = 4\n')
+    made = subprocess.run([tools / "grade", tmp_path / "goals.toml"], capture_output=True, text=True, check=False)
+    assert (made.returncode, made.stdout) == (1, "") and made.stderr.endswith("goals.toml: the goal `a` names no answer\n")
 
 
 def test_a_class(tools, examples, tmp_path, built):

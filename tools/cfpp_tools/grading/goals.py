@@ -15,11 +15,13 @@ from ..toml import only, read_toml
 @dataclasses.dataclass(frozen=True)
 class Goal:
     """One goal: the student's file, what it is worth, and what must hold. Of a script: the layout and the program that it is run on, and
-    what must hold at its end. Of a layout, a file that ends in .toml: its parts. What is None is not asked."""
+    what must hold at its end. Of a layout, a file that ends in .toml: its parts. What is None is not asked. `answer` is a file that
+    meets the goal."""
 
     name: str
     file: str
     points: int = 1
+    answer: Optional[str] = None
     # Of a script.
     layout: Optional[str] = None
     program: Optional[str] = None
@@ -47,12 +49,12 @@ KEYS = [field.name for field in dataclasses.fields(Goal)]
 NUMBERS = {"points", "retired", "fetch", "stages"} | {key for key in KEYS if key.endswith(("_most", "_least"))} - {"units_at_most"}
 TABLES = {"registers": int, "units_at_most": int, "barred": str}
 REGISTER = re.compile("x[0-2]?[0-9]|x3[01]")
-FILES = ("layout", "program")
+FILES = ("answer", "layout", "program")
 
 
-def placed(table: Dict[str, Any], folder: pathlib.Path) -> Dict[str, Any]:
-    """The table with the names of files as seen from the folder of the goals; `plain` is a layout that is built in."""
-    named = {key: str(folder / table[key]) for key in FILES if key in table and table[key] != "plain"}
+def placed(table: Dict[str, Any], directory: pathlib.Path) -> Dict[str, Any]:
+    """The table with the names of files as seen from the directory of the goals; `plain` is a layout that is built in."""
+    named = {key: str(directory / table[key]) for key in FILES if key in table and table[key] != "plain"}
     return {**table, **named}
 
 
@@ -75,13 +77,13 @@ def check_types(where: str, table: Dict[str, Any]) -> None:
         raise Stop(f"{where}: `{unnamed}` is no register: they are x0 to x31")
 
 
-def read_goal(where: str, table: Dict[str, Any], folder: pathlib.Path) -> Goal:
+def read_goal(where: str, table: Dict[str, Any], directory: pathlib.Path) -> Goal:
     """The goal of a table."""
     only(where, table, KEYS)
     check_types(where, table)
     if "name" not in table or "file" not in table:
         raise Stop(f"{where}: it needs `name` and `file`")
-    goal = Goal(**placed(table, folder))
+    goal = Goal(**placed(table, directory))
     if not goal.is_of_layout and (goal.layout is None or goal.program is None):
         raise Stop(f"{where}: a script needs `layout` and `program`")
     return goal
@@ -91,8 +93,8 @@ def read_goals(name: Name) -> List[Goal]:
     """The goals of a file."""
     table = read_toml(name)
     only(str(name), table, ("goal",))
-    folder = pathlib.Path(name).parent
-    goals = [read_goal(f"{name}, goal {at}", goal, folder) for at, goal in enumerate(table.get("goal", []), 1)]
+    directory = pathlib.Path(name).parent
+    goals = [read_goal(f"{name}, goal {at}", goal, directory) for at, goal in enumerate(table.get("goal", []), 1)]
     if not goals:
         raise Stop(f"{name}: it has no [[goal]]")
     return goals

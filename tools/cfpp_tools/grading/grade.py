@@ -3,7 +3,7 @@
 from __future__ import annotations
 
 import pathlib
-from typing import Callable, Dict, Iterator, List, Optional, Tuple
+from typing import Callable, Dict, Iterator, Optional, Sequence, Tuple
 
 from .. import commands
 from ..commands import Refused
@@ -104,9 +104,9 @@ def first_fault(file: pathlib.Path, goal: Goal) -> Optional[str]:
     return next(faults, None)
 
 
-def grade(folder: pathlib.Path, goals: List[Goal]) -> Tuple[int, str]:
-    """The points of a student, whose files stand in this folder, and the first thing that is wrong."""
-    faults = [(goal, first_fault(folder / goal.file, goal)) for goal in goals]
+def grade(files: Sequence[pathlib.Path], goals: Sequence[Goal]) -> Tuple[int, str]:
+    """The points of these files, one for each goal, and the first thing that is wrong."""
+    faults = [(goal, first_fault(file, goal)) for file, goal in zip(files, goals)]
     points = sum(goal.points for goal, fault in faults if fault is None)
     wrong = next((f"{goal.name}: {fault}" for goal, fault in faults if fault), "")
     return points, wrong

@@ -1,12 +1,14 @@
 """Grades the scripts and layouts of a class by goals.
 
-    tools/grade GOALS FOLDER >TABLE
+    tools/grade GOALS DIRECTORY >TABLE    grades a class
+    tools/grade GOALS                     grades the answers that the goals name
 
-FOLDER has a folder for each student, with the files that the goals name. TABLE is a CSV file with a row for each student: the
-name of the folder, the points, how many there are in all, and the first thing that is wrong.
+DIRECTORY has a directory for each student, with the files that the goals name. TABLE is a CSV file with a row for each student:
+the name of the directory, the points, how many there are in all, and the first thing that is wrong.
 
-GOALS is a TOML file with a table [[goal]] for each goal, which has `name`, `file` (that of the student), `points` (1), and what
-must hold. Of a script, which is run on `layout` and `program` (names as seen from the folder of GOALS):
+GOALS is a TOML file with a table [[goal]] for each goal, which has `name`, `file` (that of the student), `points` (1), perhaps
+`answer` (a file that meets the goal), and what must hold. The names of other files are as seen from the directory of GOALS. Of a
+script, which is run on `layout` and `program`:
 
     ending = "script end"           how the run ends: its kind, as `barred`, with a reason, as `barred SourceMissing x10`, or
                                     the whole line, as `exit 7`; without this key the script ends
@@ -33,26 +35,42 @@ from __future__ import annotations
 import csv
 import pathlib
 import sys
-from typing import Sequence
+from typing import Dict, List, Optional, Sequence
 
 from .. import command_line
 from ..command_line import Stop
-from ..grading.goals import read_goals
+from ..grading.goals import Goal, read_goals
 from ..grading.grade import grade
+
+
+def answers(where: str, goals: Sequence[Goal]) -> List[pathlib.Path]:
+    """The answers that the goals name."""
+    missing = next((goal.name for goal in goals if goal.answer is None), None)
+    if missing is not None:
+        raise Stop(f"{where}: the goal `{missing}` names no answer")
+    return [pathlib.Path(goal.answer or "") for goal in goals]
+
+
+def graded(where: str, goals: Sequence[Goal], directory: Optional[pathlib.Path]) -> Dict[str, List[pathlib.Path]]:
+    """Each student's files, one for each goal; without a directory of students, the answers."""
+    if directory is None:
+        return {"answer": answers(where, goals)}
+    students = sorted(path for path in directory.iterdir() if path.is_dir())
+    if not students:
+        raise Stop(f"{directory}: it has no directory of a student")
+    return {student.name: [student / goal.file for goal in goals] for student in students}
 
 
 def main(given: Sequence[str]) -> None:
     parser = command_line.parser("tools/grade", __doc__)
     parser.add_argument("goals", metavar="GOALS")
-    parser.add_argument("folder", metavar="FOLDER", type=pathlib.Path)
+    parser.add_argument("directory", metavar="DIRECTORY", type=pathlib.Path, nargs="?")
     arguments = parser.parse_args(given)
     goals = read_goals(arguments.goals)
-    students = sorted(path for path in arguments.folder.iterdir() if path.is_dir())
-    if not students:
-        raise Stop(f"{arguments.folder}: it has no folder of a student")
+    students = graded(arguments.goals, goals, arguments.directory)
     of = sum(goal.points for goal in goals)
     table = csv.writer(sys.stdout, lineterminator="\n")
     table.writerow(["student", "points", "of", "first wrong"])
-    for student in students:
-        points, wrong = grade(student, goals)
-        table.writerow([student.name, points, of, wrong])
+    for student, files in students.items():
+        points, wrong = grade(files, goals)
+        table.writerow([student, points, of, wrong])
