@@ -1,5 +1,5 @@
 #!/usr/bin/env python3
-"""Makes each call of crates/worked/data that real files and streams can have by two programs, and prints those in which status, output or
+"""Makes each call of crates/test_calls/data that real files and streams can have by two programs, and prints those in which status, output or
 report differ, or the status is not the row's.
 
     agreement.py PROGRAM PROGRAM

@@ -1,7 +1,7 @@
-"""The rows of crates/worked/data as calls over real files; CONTRIBUTING.md tells what their lines mean."""
+"""The rows of crates/test_calls/data as calls over real files; CONTRIBUTING.md tells what their lines mean."""
 from building.sources import TOP
 
-DATA = TOP / "crates" / "worked" / "data"
+DATA = TOP / "crates" / "test_calls" / "data"
 CALL_PARTS, WANTED_PARTS = ("file", "keep", "input"), ("output", "report")
 # What a part's lines add to its bytes.
 ADDED = {

@@ -1,4 +1,4 @@
-"""The readers take each report that a row of crates/worked/data gives in full, with the ending of the row's status. The rows were
+"""The readers take each report that a row of crates/test_calls/data gives in full, with the ending of the row's status. The rows were
 worked out apart from the program."""
 
 from __future__ import annotations
@@ -13,7 +13,7 @@ from cfpp_tools.readers.lines import Lines
 from cfpp_tools.readers.layouts import read_layout
 from cfpp_tools.readers.reports import read_report
 
-DATA = TOP / "crates" / "worked" / "data"
+DATA = TOP / "crates" / "test_calls" / "data"
 START = {register: 0x7F0FFFF0 if register == 2 else 0 for register in range(32)}
 # The words that begin a part of a row.
 PARTS = ("row", "again", "keep", "file", "words", "status", "report", "output", "input", "fails", "piece", "room")
