@@ -18,7 +18,7 @@ from building.rows import DATA, rows_of
 
 
 def answer(program, row):
-    """The status, the output and the report of the call, in a folder that has its files alone."""
+    """The status, the output and the report of the call, in a directory that has its files alone."""
     with tempfile.TemporaryDirectory() as folder:
         for name, content in row.files.items():
             (pathlib.Path(folder) / name).write_bytes(content)

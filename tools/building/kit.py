@@ -10,7 +10,7 @@ MISSING = (
 
 
 def folder():
-    """The kit's folder; without a kit the call ends, with one line that says what works."""
+    """The kit's directory; without a kit the call ends, with one line that says what works."""
     command = shutil.which("rt") or sys.exit(MISSING)
     return pathlib.Path(command).resolve().parent.parent
 

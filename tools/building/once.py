@@ -2,11 +2,11 @@
 """Runs rt with the words that it is given, has it compute the checksum of each crate once, keep no work of a library that has none,
 and build a library without what no other crate can cite.
 
-Some kits' rt computes a crate's checksum, and the list of the crates below it, anew for each path that leads down to it. Where many
-crates stand on one another that takes longer than the proofs. The sources do not change while a crate is proved here, so once is enough.
+Some kits' rt computes a crate's checksum, and the list of the crates below it, again for each path that leads down to it. Where many
+crates are above one another that takes longer than the proofs. The sources do not change while a crate is proved here, so once is enough.
 
 What a check keeps, a few functions at a time, helps the next check of the crate, and makes a first one longer by a fifth to a half. So a
-library is proved over what earlier checks kept where there is such, and else in one go.
+library is proved over what earlier checks kept where there is such, and otherwise at once.
 
 A crate loads what the libraries below it hold. Of a function other crates can cite that it meets its contract, and not how that was
 proved. So a library holds its statements alone, as under `rt ci`, but where it is proved over kept work: the compiler does not do both.
@@ -22,7 +22,7 @@ import sys
 
 
 def once(method):
-    """The method of a crate, which answers by the crate's folder what it answered first."""
+    """The method of a crate, which answers by the crate's directory what it answered first."""
     known = {}
 
     @functools.wraps(method)
@@ -36,7 +36,7 @@ def once(method):
 
 
 def over_kept(keeps):
-    """The answer to whether the build of the library in this folder takes and keeps work, where `keeps` says whether the kit's can."""
+    """The answer to whether the build of the library in this directory takes and keeps work, where `keeps` says whether the kit's can."""
     return lambda: os.path.isdir("out/incremental") and keeps()
 
 

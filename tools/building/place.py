@@ -13,7 +13,7 @@ RT = str(TOP / "tools" / "building" / "once.py")
 
 
 def link_tree(old, new):
-    """The same files under another folder."""
+    """The same files under another directory."""
     shutil.rmtree(new, ignore_errors=True)
     if old.exists():
         shutil.copytree(old, new, copy_function=os.link)
@@ -25,7 +25,7 @@ def format_of(name):
 
 
 def fits(name, below):
-    """Whether the library that is kept of a crate stands over those that are kept of the crates below it.
+    """Whether the library that is kept of a crate was built over those that are kept of the crates below it.
 
     One that holds its statements alone fits no other build of these, even where the sources are the same.
     """
@@ -55,7 +55,7 @@ class Place:
         return self.top / "crates" / name
 
     def start(self, name, below, jobs, niceness):
-        """Begins to prove a crate over all below it; the last, the program, is also run once, without words."""
+        """Begins to prove a crate over all below it; the last, the program, is also run once, without arguments."""
         if not fits(name, below):
             shutil.rmtree(CRATES / name / "out" / "rlib")
         link_tree(CRATES / name / "out", self.crate(name) / "out")

@@ -73,7 +73,7 @@ def unproved():
 
 
 def keep(name, program, made_from=None):
-    """Keeps a program, and the object that it was linked from, in place of the one of its kind that was kept before."""
+    """Keeps a program, and the object that it was linked from, instead of the one of its kind that was kept before."""
     kind = name.partition("-")[0]
     for file, kept in ((made_from, f"{name}{OBJECT}"), (program, name)):
         if file and file.exists():

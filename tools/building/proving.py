@@ -16,7 +16,7 @@ from building.programs import CACHE
 from building.sources import CRATES, PROGRAM, TOP, all_below, crates_below, files_of
 
 MADE = CRATES / PROGRAM / "out" / PROGRAM
-# The program's status where it is called without words.
+# The program's status where it is called without arguments.
 WITHOUT_WORDS = 122
 # How nice a proof is that nothing else waits for.
 NICEST = 19

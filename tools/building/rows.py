@@ -1,4 +1,4 @@
-"""The rows of crates/test_calls/data as calls over real files; CONTRIBUTING.md tells what their lines mean."""
+"""The rows of crates/test_calls/data as calls over real files; CONTRIBUTING.md says what their lines mean."""
 from building.sources import TOP
 
 DATA = TOP / "crates" / "test_calls" / "data"
@@ -36,7 +36,7 @@ CHANGED = {"cut": cut, "put": put, "swap": swap, "drop": drop}
 
 
 class Row:
-    """A call, as far as the lines read so far tell it."""
+    """A call, as far as the lines read so far give it."""
 
     def __init__(self):
         self.name = None

@@ -4,7 +4,7 @@
     answer = cfpp_tools.run("plain", "examples/sorted.bin", seed=1)
     answer.report.tally.moves
 
-The program is found by `program.py`, the functions stand in `commands.py`, and the readers in `readers/`.
+The program is found by `program.py`, the functions are in `commands.py`, and the readers in `readers/`.
 """
 
 from .commands import assemble, audit, check, debug, generate, listing, machine, moves, rounds, run, time, version

@@ -1,7 +1,7 @@
 """A function for each command of the program, with a typed answer.
 
 A new command is one function here, and one reader of its report in `readers/`. Options for which a function has no parameter are
-handed on as `more`, a list of arguments.
+passed on as `more`, a list of arguments.
 """
 
 from __future__ import annotations
@@ -26,7 +26,7 @@ Report = TypeVar("Report")
 
 @dataclasses.dataclass(frozen=True)
 class Answer(Generic[Report]):
-    """A call that ended: its status, what was put to the output, and what the report says. The report is None where the
+    """A call that ended: its status, what was written to the output, and what the report says. The report is None where the
     program wrote none."""
 
     status: int
@@ -87,12 +87,12 @@ def run(
 
 
 def moves(layout: Name, program: Name, script: Name, *, limit: Optional[int] = None) -> Answer[RunReport]:
-    """Makes the moves of a script, and tells which moves can be made then."""
+    """Makes the moves of a script, and lists which moves can be made then."""
     return answered(call(["moves", layout, program, "--script", script, *options(limit=limit)]), read_run)
 
 
 def after(layout: Name, program: Name, made: Iterable[str]) -> Answer[RunReport]:
-    """Makes these moves, and tells which moves can be made then."""
+    """Makes these moves, and lists which moves can be made then."""
     with tempfile.NamedTemporaryFile("w", suffix=".script") as file:
         file.writelines(f"{move}\n" for move in made)
         file.flush()

@@ -1,10 +1,10 @@
 #!/usr/bin/env python3
-"""Compares the table of commands with what the program says of itself, and prints what one of them lacks.
+"""Compares the table of commands with what the program says of itself, and prints what is missing in one of them.
 
     against_help.py PROGRAM
 
 The help has a line for each command, option and status; what it says of an option ends with the commands that take it. Where the
-program tells of single commands, what it tells of each names its options and no others.
+program has a text on a single command, that names its options and no others.
 """
 import pathlib
 import re
@@ -46,7 +46,7 @@ def options_in(line):
 
 
 def statuses_in(text):
-    """The statuses, which stand in two columns below the line that begins their table."""
+    """The statuses, which are in two columns below the line that begins their table."""
     part = text.partition("or with one of these:")[2].partition("\n\n")[2].partition("\n\n")[0]
     return [f"{number} {why}" for number, why in STATUS.findall(part)]
 

@@ -38,7 +38,7 @@ programs, layouts, scripts, traces and delays
 .I MANUAL.md
 describes all files and reports,
 .I ERRORS.md
-each refusal and how to mend it,
+each refusal and what to do about it,
 .I SEMANTICS.md
 the moves
 .TP
@@ -64,7 +64,7 @@ def plain(text):
 
 
 def bold_and_italic(call):
-    """A call as manual pages have it: what is given as it stands in bold, and what stands for something else in italics."""
+    """A call as manual pages have it: what is given literally in bold, and what is to be replaced in italics."""
     return " ".join(f"\\f{'I' if word.isupper() else 'B'}{plain(word)}\\fR" for word in call.split())
 
 
@@ -83,7 +83,7 @@ def synopsis(table):
 
 
 def page(table, version, date, documents):
-    """The page of this version and date, where the documents stand in this folder."""
+    """The page of this version and date, where the documents are in this directory."""
     return PAGE.format(
         version=version,
         date=date,

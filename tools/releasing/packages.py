@@ -61,7 +61,7 @@ def owned_by_nobody(entry):
 
 
 def archive(folder, linked, into):
-    """The archive, all of whose files stand in one folder."""
+    """The archive, all of whose files are in one directory."""
     name = f"{NAME}-{tree.version()}-x86_64-linux"
     top = folder / name
     tree.put_program(top, linked)
@@ -88,7 +88,7 @@ def license_text():
 
 
 def documents_in(top):
-    """The folder of the documents in the package that is made in this folder."""
+    """The directory of the documents in the package that is made in this directory."""
     return top / tree.INSTALLED.removeprefix("/")
 
 
@@ -112,7 +112,7 @@ def put_debian_files(top):
 
 
 def set_modes(top):
-    """The modes that files and folders of a package have."""
+    """The modes that files and directories of a package have."""
     for path in [top, *top.rglob("*")]:
         path.chmod(0o755 if path.is_dir() or path.stat().st_mode & 0o100 else 0o644)
 

@@ -3,14 +3,14 @@ import dataclasses
 import pathlib
 
 TABLE = pathlib.Path(__file__).resolve().parent.parent / "terminal" / "commands.txt"
-# What stands for a number, and for the name of a command, in place of a file.
+# What means a number, or the name of a command, instead of a file.
 NUMBER, COMMAND = "N", "COMMAND"
 REPEATED = ".."
 
 
 @dataclasses.dataclass(frozen=True)
 class Command:
-    """A command, or an option that stands in place of one."""
+    """A command, or an option that is given instead of one."""
 
     name: str
     operands: tuple
@@ -35,7 +35,7 @@ class Option:
         return f"{self.name} {self.value}".rstrip()
 
     def is_literal(self):
-        """Whether the value is given as it stands."""
+        """Whether the value is given literally."""
         return self.value.islower()
 
 

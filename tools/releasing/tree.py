@@ -82,7 +82,7 @@ def put_program(folder, linked):
 
 
 def put_manual(folder, documents):
-    """The manual page, which names the folder of the documents, and the completions."""
+    """The manual page, which names the directory of the documents, and the completions."""
     listed = table.read()
     put(folder, MANUAL, manual.page(listed, version(), date(), documents))
     for name, made in COMPLETIONS.items():

@@ -10,7 +10,7 @@ named() { # named OPERAND COMMAND ARGUMENT..: the files that a call names for th
     done <"$commands"
     for each in "$@"; do
         [[ $each != --* ]] || return 0
-        # What stands before the dots may be named several times.
+        # What is before the dots may be named several times.
         [ "${names[at]-}" != .. ] || at=$((at - 1))
         [ "${names[at]-}" != "$wanted" ] || printf '%s\n' "$each"
         at=$((at + 1))
@@ -30,7 +30,7 @@ unread() { # unread FILE: why it is not read; fails where nothing is seen to be 
     if [ ! -e "$1" ]; then
         echo "there is no such file"
     elif [ -d "$1" ]; then
-        echo "it is a folder"
+        echo "it is a directory"
     elif [ ! -r "$1" ]; then
         echo "you may not read it"
     else
@@ -57,7 +57,7 @@ tell_fault() { # tell_fault WHAT ARGUMENT..: names the file that could not be re
 tell_argument() { # tell_argument INDEX ARGUMENT..: names the argument that is none
     local at=$(($1 + 1)) all=" $* "
     if [[ $all == *" --help "* || $all == *" -h "* || $all == *" help "* ]]; then
-        echo "cfpp: all commands and options are told by: cfpp help"
+        echo "cfpp: cfpp help prints all commands and options"
     elif [ "$at" -lt $# ]; then
         shift "$at"
         echo "cfpp: unrecognised argument '$1'; see cfpp help"
@@ -87,7 +87,7 @@ explained() { # explained ARGUMENT..: hands the report on, with the hints
     tell_text "$@"
 }
 
-run_program() { # run_program PROGRAM COMMANDS EXAMPLES ARGUMENT..: the program's file, the table of commands, the folder of the examples
+run_program() { # run_program PROGRAM COMMANDS EXAMPLES ARGUMENT..: the program's file, the table of commands, the directory of the examples
     local program=$1 commands=$2 examples=$3 status
     shift 3
     # At a terminal the debugger's lines are edited by rlwrap, which keeps their history, where it is installed.

@@ -1,4 +1,4 @@
-"""What the tests share: the folders of the repository, quotations of its documents, and the built program."""
+"""What the tests share: the directories of the repository, quotations of its documents, and the built program."""
 
 from __future__ import annotations
 
@@ -22,7 +22,7 @@ def tools() -> pathlib.Path:
 
 @pytest.fixture(scope="session")
 def built() -> str:
-    """The program; tests that need it are passed over where it cannot be built."""
+    """The program; tests that need it are skipped where it cannot be built."""
     try:
         return program()
     except NoProgram as missing:

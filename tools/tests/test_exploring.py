@@ -76,7 +76,7 @@ def task_file(tmp_path, examples, search):
 
 
 def test_all_points(tools, tmp_path, examples, built):
-    """Branches at stage 3 stand above the memory at stage 1, or nowhere: half of the 24 points are refused."""
+    """Branches at stage 3 are above the memory at stage 1, or nowhere: half of the 24 points are refused."""
     folder = tmp_path / "found"
     made = subprocess.run([tools / "explore", task_file(tmp_path, examples, "seed = 1"), folder], capture_output=True, text=True)
     assert made.returncode == 0 and made.stdout.startswith("24 points, 12 layouts run, 12 refused, ")

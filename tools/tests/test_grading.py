@@ -69,7 +69,7 @@ def test_bars_and_kills(tmp_path, examples, built):
         ("frob = 1", "unknown key `frob`"),
         ("points = 2", "a script needs `layout` and `program`"),
         ('retired = "2"', "`retired` has a value of a wrong type"),
-        ("registers = { a0 = 2 }", "`a0` is no register"),
+        ("registers = { a0 = 2 }", "`a0` is not a register"),
         ("units_at_most = 3", "`units_at_most` has a value of a wrong type"),
     ],
 )
@@ -93,4 +93,4 @@ def test_moves_of_a_round_share_no_place(tmp_path):
     script.write_text("# round 1\nissue next\n# round 2\nleave\nexit\n# round 3\nclimb 1\nemit\n")
     assert round_fault(script, TINY, 9) == "line 8: `emit` and `climb 1` of one round share stage 2"
     script.write_text("issue next\n# round 1\n")
-    assert round_fault(script, TINY, 9) == "line 1: `issue next` stands before the first round"
+    assert round_fault(script, TINY, 9) == "line 1: `issue next` is before the first round"

@@ -1,4 +1,4 @@
-// Where a move was asked for that cannot be made, and what stands in its way.
+// Where a move was asked for that cannot be made, and what bars it.
 
 import { memorySiding } from "./layout.js";
 import { kindOf, stageOf } from "./moves.js";

@@ -1,8 +1,8 @@
-// The choices of example and processor. An example is begun anew where it is chosen again, which a browser's choice alone does not tell.
+// The choices of example and processor. An example that is chosen again begins again, which a browser's choice alone does not show.
 
 import { byId, fill, html } from "./element.js";
 
-// The choice that is shown where program or processor is none of the page's, and the one that stands for the example that is shown.
+// The choice that is shown where program or processor is none of the page's, and the one of the example that is shown.
 export const OWN = "own";
 const SHOWN = "shown";
 

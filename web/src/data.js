@@ -12,7 +12,7 @@ export function toBase64(bytes) {
   return btoa(Array.from(bytes, (byte) => String.fromCharCode(byte)).join(""));
 }
 
-// All bytes of a stream, at most so many.
+// All bytes of a stream, up to a limit.
 export async function bytesOfStream(stream, most) {
   const parts = [];
   let size = 0;

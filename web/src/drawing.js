@@ -97,7 +97,7 @@ function sidingCell(view, at, cell, box) {
     fitting.map((move) => chip(move, box.x + box.width - chipWidth(move) - 2, isLow ? middle - 11 : middle + 2)));
 }
 
-// Where a siding's cells stand: from where it launches, below, to where it recovers, above.
+// Where a siding's cells are: from where it launches, below, to where it recovers, above.
 function sidingPlace(view, geometry, at) {
   const { launch, recover } = view.layout.sidings[at];
   const middle = (stage) => geometry.y(stage) + geometry.row / 2;
@@ -139,7 +139,7 @@ function issueChips(view, geometry, x, width) {
   return { chips: moves.map((move, nth) => chip(move, left + before(nth), y + height - 29)), used: geometry.isCompact ? before(moves.length) : 0 };
 }
 
-// The box below the stages: fetch with what it can issue. Where no cache stands beside it, it has all the width.
+// The box below the stages: fetch with what it can issue. Where no cache is beside it, it has all the width.
 function fetch(view, geometry) {
   const { x } = geometry.instruction;
   const width = geometry.instruction.width + (view.layout.hasCache ? 0 : geometry.gap.width + geometry.result.width);
@@ -178,7 +178,7 @@ function cache(view, geometry) {
 function originLine(view, geometry, stage) {
   const number = view.who.results[stage];
   const middle = (at) => geometry.y(at) + geometry.row / 2;
-  // Lines from different origins stand side by side.
+  // Lines from different origins run side by side.
   const side = geometry.result.x - 6 - 6 * (number % 4);
   const [from] = Object.entries(view.who.instructions).find(([, one]) => one === number) ?? [];
   const begin = number === REGISTER_FILE ? geometry.lane + 34 : from ? middle(Number(from)) : null;
@@ -187,7 +187,7 @@ function originLine(view, geometry, stage) {
   return svg("path", { d: `${start} V ${middle(stage)} H ${geometry.result.x}`, class: `origin is-${view.picture.stages.get(stage).packet.kind}` });
 }
 
-// Where a part of the drawing stands, by its name.
+// Where a part of the drawing is, by its name.
 function partBox(view, geometry, part) {
   const [kind, one, other] = part.split(" ");
   const inner = { y: geometry.y(Number(one)) + 2, height: geometry.row - 4 };
@@ -212,7 +212,7 @@ function arrowHead() {
   return svg("defs", {}, svg("marker", { id: "arrow", ...form }, head));
 }
 
-// The size of the drawing and of its stages. Set anew it would have the browser look at the whole drawing again.
+// The size of the drawing and of its stages. Set again it would have the browser look at the whole drawing again.
 function setSize(into, geometry) {
   const size = `0 0 ${geometry.width} ${geometry.height}`;
   into.classList.toggle("narrow", geometry.isNarrow);
@@ -232,7 +232,7 @@ export function draw(into, view) {
     arrowHead(),
     registerFile(view, geometry),
     lane(view, geometry),
-    // A way passes behind the cells of the sidings that stand nearer to the pipe.
+    // A way passes behind the cells of the sidings that are nearer to the pipe.
     view.layout.sidings.map((_, at) => ways(view, geometry, at)),
     view.layout.sidings.map((_, at) => siding(view, geometry, at)),
     stages.map((stage) => stageGroup(view, geometry, stage)),

@@ -1,4 +1,4 @@
-// Describes elements, and makes the page like a description: what is there already is changed and not made anew. What a file, a link or
+// Describes elements, and makes the page like a description: what is there already is changed and not made again. What a file, a link or
 // the program says becomes the text of a node, never HTML.
 
 import { h, render } from "../library/preact.js";

@@ -1,5 +1,5 @@
-// Where everything stands in the drawing: columns from left to right, stages from the bottom up. The drawing fills the room that it has:
-// its units are pixels where room is short, and else larger, so that what is written can be read from afar.
+// Where everything is in the drawing: columns from left to right, stages from the bottom up. The drawing fills the room that it has:
+// its units are pixels where room is short, and otherwise larger, so that what is written can be read from afar.
 
 // Widths of the columns, how the rest is shared between the pipes, and the register file's columns of registers.
 const WIDE = { siding: 128, label: 112, gap: 96, share: 0.62, fileColumns: 8, leastRow: 30 };
@@ -23,7 +23,7 @@ const REGISTERS = 32;
 
 const bounded = (least, value, most) => Math.max(least, Math.min(most, value));
 
-// For each siding its column, from the right: the first one where nothing stands beside the same stages.
+// For each siding its column, from the right: the first one with nothing beside the same stages.
 function columnsOf(sidings) {
   const columns = [];
   return sidings.map(({ launch, recover }) => {
@@ -35,7 +35,7 @@ function columnsOf(sidings) {
   });
 }
 
-// The columns of the pipes in a drawing of so many units.
+// The columns of the pipes in a drawing of this many units.
 function pipesOf(form, beside, width) {
   const label = MARGIN + beside;
   const instruction = label + form.label;

@@ -1,5 +1,5 @@
 // Who is who: each instruction has the number of its issue, and each result the number of the instruction that it comes from, or none
-// where the register file sent it. Worked out move by move from the pictures, which tell addresses alone.
+// where the register file sent it. Worked out move by move from the pictures, which give addresses alone.
 
 import { kindOf, stageOf } from "./moves.js";
 import { namesOfMeeting } from "./telling.js";
@@ -82,7 +82,7 @@ export function identitiesAfter(who, move, before, after) {
   };
 }
 
-// The numbers of those that retired last, at most so many, the last one last.
+// The numbers of those that retired last, at most this many, the last one last.
 export function lastRetired(who, most) {
   const numbers = [];
   for (let at = who.retired; at !== null && numbers.length < most; at = at.before) numbers.unshift(at.number);

@@ -4,7 +4,7 @@
 import { bytesOfStream, fromBase64, toBase64 } from "./data.js";
 import { bytesOf, text } from "./program.js";
 
-// What a link holds has at most so many bytes, before it is packed.
+// What a link holds has at most this many bytes, before it is packed.
 const MOST = 1 << 20;
 const FORM = /^#cfpp1\.([A-Za-z0-9_-]+)$/;
 

@@ -5,7 +5,7 @@ import { kindOf } from "./moves.js";
 const SIZES = { b: 1, h: 2, w: 4 };
 const STACK = [0x7f000000, 0x7f100000];
 const ROW = 8;
-// At most so many rows of a region are shown.
+// At most this many rows of a region are shown.
 const MOST_ROWS = 6;
 
 const isStack = (address) => address >= STACK[0] && address < STACK[1];

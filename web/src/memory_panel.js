@@ -1,4 +1,4 @@
-// Memory beside the drawing: the bytes around the last load or store, by region, as the program's debugger tells them.
+// Memory beside the drawing: the bytes around the last load or store, by region, as the program's debugger reports them.
 
 import { byId, fill, html } from "./element.js";
 import { addressText, addressesOf, markOf, memoryPlan } from "./memory.js";

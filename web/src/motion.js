@@ -34,7 +34,7 @@ export function motionOf({ last, layout }, part) {
 
 const GONE = { leave: "passenger", exit: "packet", serve: "passenger" };
 
-// Who stood in a part that is empty now: what a meeting killed, or who left at an end.
+// Who was in a part that is empty now: what a meeting killed, or who left at an end.
 export function ghostAt({ last, layout, before, picture }, side, stage) {
   if (last === null || !before) return null;
   const kind = kindOf(last);

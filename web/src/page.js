@@ -80,7 +80,7 @@ export class Page {
     showBarred(view.picture, this.reasons);
     showMachine(view, this.machine);
     showWritten(view.picture);
-    // The script's text is laid out anew at each change: while moves come fast it is every few moves.
+    // The script's text is laid out again at each change: while moves come fast it is every few moves.
     if (!this.player.isFast || this.session.steps.length % SCRIPT_EVERY === 0) showScript(this.session);
     showReport(view.picture);
     this.memory.show(this.session);

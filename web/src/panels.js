@@ -1,4 +1,4 @@
-// What stands beside the drawing: the moves, one stage's moves with why they are barred, the sequential machine, the script.
+// What is beside the drawing: the moves, one stage's moves with why they are barred, the sequential machine, the script.
 
 import { byId, fill, html, sentence } from "./element.js";
 import { lastRetired } from "./identity.js";
@@ -9,7 +9,7 @@ import { instructionText, registerName, valueText } from "./values.js";
 
 const ROWS_ABOVE = 5;
 const ROWS = 14;
-// A browser lays out a long text anew at each change. The whole script is what Save saves.
+// A browser lays out a long text again at each change. The whole script is what Save saves.
 const STEPS_SHOWN = 300;
 
 export function showMoves(picture) {
@@ -89,7 +89,7 @@ export function showScript(session) {
   const shown = session.steps.slice(-STEPS_SHOWN);
   const before = session.steps.length - shown.length;
   it.value = `${before > 0 ? `# ${before} moves before these\n` : ""}${session.scriptOf(shown)}`;
-  // Where its end stands is known once the page is laid out.
+  // Where its end is, is known once the page is laid out.
   requestAnimationFrame(() => (it.scrollTop = it.scrollHeight));
 }
 

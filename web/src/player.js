@@ -1,10 +1,10 @@
-// Plays moves by themselves, so many a second: at each frame of the browser those that are due, drawn once.
+// Plays moves by themselves, at a rate: at each frame of the browser those that are due, drawn once.
 
 import { byId } from "./element.js";
 
 // Where a frame comes late, no more moves than these are made up for at once.
 const MOST = 12;
-// From so many moves a second on, what moves is not shown on its way.
+// From this many moves a second on, what moves is not shown on its way.
 const FAST = 8;
 
 export class Player {

@@ -33,7 +33,7 @@ export class Predict {
     this.page.show();
   }
 
-  // The lesson's questions that stand where the script has come to, and were not asked yet.
+  // The lesson's questions at the point that the script has come to, and were not asked yet.
   lessonQuestion() {
     const { session, questions } = this.page;
     if (!session.isOnCourse) return null;
@@ -59,13 +59,13 @@ export class Predict {
     return this.isAsking;
   }
 
-  // The lesson asks after what has happened, and so after a bar was told.
+  // The lesson asks after what has happened, and so after a bar was shown.
   nextQuestion(move, isScripts) {
     const ofMove = this.moveQuestion(move);
     return (isScripts && ofMove?.kind !== "bar" ? this.lessonQuestion() : null) ?? ofMove;
   }
 
-  // Takes what was said: the move is made, and whether it was right is told with it.
+  // Takes what was said: the move is made, and whether it was right is shown with it.
   answer(said) {
     const { pending } = this;
     const isTrue = isRight(pending, said);

@@ -9,7 +9,7 @@ export class Program {
     this.calls = null;
   }
 
-  // Makes a call of the program. `files` has the bytes of each file by its name; every call begins anew, as a process does.
+  // Makes a call of the program. `files` has the bytes of each file by its name; every call begins from nothing, as a process does.
   call(words, files = {}, input = new Uint8Array()) {
     if (!this.calls) this.calls = new WebAssembly.Instance(this.module, {}).exports;
     try {

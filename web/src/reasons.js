@@ -4,7 +4,7 @@ import { registerName } from "./values.js";
 
 const isRegister = (part) => /^x\d\d$/.test(part);
 
-// A row's words with what stands for each of its placeholders. A remark on a placeholder itself says nothing once that is filled in.
+// A row's words with the value of each of its placeholders. A remark on a placeholder itself says nothing once that is filled in.
 export function filled(words, placeholders, parts) {
   const bare = words.replace(/ \([A-Z] is \d+\)/g, "");
   return placeholders.reduce((text, placeholder, at) => {

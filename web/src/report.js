@@ -6,7 +6,7 @@ function binding(word) {
   return parts && { register: parts[1], value: parts[2] === "?" ? null : parts[2] };
 }
 
-// An instruction under way, from `00010000 next done x01=00000000 - x01=00000001 -`.
+// An instruction in flight, from `00010000 next done x01=00000000 - x01=00000001 -`.
 function passenger(words) {
   const [address, guess, flag, first, second, destination, ...owes] = words.split(" ");
   return {

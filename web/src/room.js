@@ -3,7 +3,7 @@
 import { byId } from "./element.js";
 
 const LEAST_HEIGHT = 300;
-// What stands below the drawing, with the legend and without.
+// What is below the drawing, with the legend and without.
 const LEGEND = 38;
 const NO_LEGEND = 8;
 

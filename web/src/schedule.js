@@ -4,7 +4,7 @@
 import { allMoves, kindOf } from "./moves.js";
 
 // Issue is held back where twice as many instructions as there are stages were issued since the last one retired, or since nothing
-// stood anywhere; but not where nothing else can be done.
+// was anywhere; but not where nothing else can be done.
 export function candidates(layout, standing, issues) {
   const others = standing.allowed.filter((move) => kindOf(move) !== "issue");
   return issues < 2 * layout.stages || others.length === 0 ? standing.allowed : others;

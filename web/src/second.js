@@ -1,4 +1,4 @@
-// A second order of the same program beside the first: its own script, rule or seed, drawn by itself, and where the two stand compared.
+// A second order of the same program beside the first: its own script, rule or seed, drawn by itself, and the states of the two compared.
 
 import { draw } from "./drawing.js";
 import { byId, fill, html } from "./element.js";
@@ -7,10 +7,10 @@ import { firstDifference } from "./sequential.js";
 import { Session } from "./session.js";
 import { namesOfMeeting } from "./telling.js";
 
-// At most so many moves are made at once.
+// At most this many moves are made at once.
 const MOST = 600;
 
-// Where two orders of one program stand, in words: what is the same must be.
+// How the states of two orders of one program compare, in words: what is the same must be.
 export function comparison(one, other) {
   const common = Math.min(one.retired, other.retired);
   const differs = firstDifference({ lines: other.lines.slice(0, common) }, { lines: one.lines.slice(0, common) }) >= 0;
@@ -89,7 +89,7 @@ export class SecondOrder {
     if (this.isOn) this.session.rewind();
   }
 
-  // Both orders to their end, or so many moves on.
+  // Both orders to their end, or this many moves on.
   finish() {
     const { page } = this;
     for (let at = 0; at < MOST && this.advance(); at += 1);

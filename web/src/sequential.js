@@ -21,7 +21,7 @@ export function differences(machine, run) {
   return found;
 }
 
-// A retired line, taken apart: its number, address and what it wrote.
+// The parts of a retired line: its number, address and what it wrote.
 export function readRetired(line) {
   const [, number, address, , wrote] = line.split(" ");
   return { number: Number(number), address, wrote };

@@ -19,7 +19,7 @@ export class Session {
     this.undone = [];
   }
 
-  // A step is a move with the comment lines that stand above it in the script.
+  // A step is a move with the comment lines that are above it in the script.
   scriptOf(steps) {
     return steps.map(({ move, notes }) => `${notes.map((note) => `${note}\n`).join("")}${move}\n`).join("");
   }
@@ -72,7 +72,7 @@ export class Session {
     return isOn([...this.steps, ...[...this.undone].reverse()], this.course);
   }
 
-  // Whether moves were made in place of the course's.
+  // Whether moves were made instead of the course's.
   get isBranch() {
     return common(this.steps, this.course) < Math.min(this.steps.length, this.course.length);
   }
@@ -112,7 +112,7 @@ export class Session {
     this.see();
   }
 
-  // Takes a script in place of the moves so far; none of its moves is made yet.
+  // Takes a script instead of the moves so far; none of its moves is made yet.
   load(text) {
     this.course = readSteps(text);
     this.steps = [];
@@ -146,7 +146,7 @@ export class Session {
     return this.steps.at(-1) ?? null;
   }
 
-  // What the moves so far tell beside the picture.
+  // What the moves so far give beside the picture.
   get track() {
     if (!this.last) return NO_TRACK;
     if (this.last.track === undefined) this.follow();

@@ -72,7 +72,7 @@ export class Simulator {
     });
   }
 
-  // The bytes of memory after a script, by address, but for those that stand in no region: two digits each.
+  // The bytes of memory after a script, by address, but for those that are in no region: two digits each.
   bytesAt(session, script, addresses) {
     const moves = script.split("\n").filter((line) => line !== "" && !line.startsWith("#"));
     const asked = addresses.map((address) => `mem ${address.toString(16).padStart(8, "0")} 1\n`);
@@ -83,8 +83,8 @@ export class Simulator {
     return new Map(pairs.map(([, address, byte]) => [parseInt(address, 16), byte]));
   }
 
-  // Where a script leads, with the moves that can be made there and why the others cannot. The lines of what retired are asked for just
-  // where they are not those of the picture before.
+  // Where a script leads, with the moves that can be made there and why the others cannot. The lines of what retired are asked for
+  // only where they are not those of the picture before.
   standing(session, script, before = null) {
     const answer = this.scripted(session, script, "moves");
     const report = readReport(answer.report);

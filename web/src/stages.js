@@ -89,7 +89,7 @@ function markedCode(place, text, taken) {
   return svg("text", place, before, svg("tspan", { class: "taken" }, binding), after);
 }
 
-// An instruction's number and its text, in so many letters.
+// An instruction's number and its text, in this many letters.
 function nameOf({ view, passenger, number }, letters) {
   return cut(`#${number} ${instructionText(view.texts, passenger.address)}`, letters);
 }
@@ -175,7 +175,7 @@ function packetBox(geometry, stage, { packet, number, moves }) {
   ];
 }
 
-// What stands between the two: that they can meet, that they have met, or what the meeting was that was just made.
+// What is between the two: that they can meet, that they have met, or what the meeting was that was just made.
 function meetingMark(view, geometry, stage, content, moves) {
   const middle = geometry.y(stage) + geometry.row / 2;
   const center = geometry.gap.x + geometry.gap.width / 2;
@@ -190,7 +190,7 @@ function meetingMark(view, geometry, stage, content, moves) {
   return null;
 }
 
-// Words in lines of at most so many letters.
+// Words in lines of at most this many letters.
 function wrapped(words, letters) {
   const lines = [];
   for (const word of words) {

@@ -1,4 +1,4 @@
-// Where play is to stop: when an instruction at an address is issued, or when so many have retired.
+// Where play is to stop: when an instruction at an address is issued, or when a number of them has retired.
 
 import { kindOf } from "./moves.js";
 

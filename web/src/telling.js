@@ -9,7 +9,7 @@ export function isDead(passenger) {
   return FLAGS_OF_THE_DEAD.includes(passenger.flag);
 }
 
-// The highest stage where somebody or something stands.
+// The highest stage where an instruction or a result is.
 function topStage(picture) {
   return picture.stages.get(Math.max(...picture.stages.keys()));
 }
@@ -41,7 +41,7 @@ const WORDS = {
   },
   emit({ before, after, who }) {
     const packet = topStage(after).packet;
-    return `The register file answers the request of #${who.before.lane[0]} for ${registerName(before.lane[0])}: ${packetText(packet)} sets out downwards.`;
+    return `The register file answers the request of #${who.before.lane[0]} for ${registerName(before.lane[0])}: ${packetText(packet)} begins to fall.`;
   },
   climb: ({ stage, was }) => `${was} climbs from stage ${stage} to stage ${stage + 1}.`,
   fall: ({ stage, before }) => `The result ${packetText(before.stages.get(stage).packet)} falls from stage ${stage} to stage ${stage - 1}.`,

@@ -1,4 +1,4 @@
-// What a picture alone does not tell and the moves before it do: how many issues count, who is who, how many results were updated, which loads
+// What a picture alone does not give and the moves before it do: how many issues count, who is who, how many results were updated, which loads
 // and stores were made, and what the last one did to which instruction.
 
 import { NOBODY, identitiesAfter } from "./identity.js";

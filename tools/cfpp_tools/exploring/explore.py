@@ -39,7 +39,7 @@ def mean(values: Sequence[float]) -> float:
 
 
 class Exploration:
-    """The points that were run so far, and where their files stand. A point whose layout is refused has no measures."""
+    """The points that were run so far, and where their files are. A point whose layout is refused has no measures."""
 
     def __init__(self, task: Task, folder: pathlib.Path, options: Sequence[str]) -> None:
         self.task = task
@@ -83,7 +83,7 @@ class Exploration:
         self.found.update({point: measured.get(str(self.file(point))) for point in new})
 
     def rows(self, runs: Sequence[Run]) -> Dict[Run, Row]:
-        """The rows of these runs, which are made where the table lacks them."""
+        """The rows of these runs, which are made where the table has none."""
         table = self.folder / "runs.csv"
         sweep(table, runs, self.manner)
         wanted = set(runs)
@@ -131,7 +131,7 @@ class Exploration:
         raise Stop("of 10,000 points drawn from the space none is a layout")
 
     def climb(self, point: Point, weight: float) -> None:
-        """Goes from a point to the best of its neighbours for as long as that is better. The weight, from 0 to 1, tells how much the
+        """Goes from a point to the best of its neighbours for as long as that is better. The weight, from 0 to 1, says how much the
         second measure counts beside the first; so the climbs end along the front."""
         while len(self.found) < self.task.most:
             near = list(self.task.space.neighbours(point))

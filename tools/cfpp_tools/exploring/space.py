@@ -23,7 +23,7 @@ class Part:
 
 
 def subsets(stages: Sequence[Any], most: int) -> List[List[Any]]:
-    """All lists of one to so many of these stages."""
+    """All lists of one to this many of these stages."""
     return [list(found) for size in range(1, most + 1) for found in itertools.combinations(stages, size)]
 
 
@@ -44,7 +44,7 @@ def part_of(value: Any, *key: Any) -> Part:
 
 
 def parts_of(table: Dict[str, Any]) -> Iterator[Part]:
-    """The parts of a space, in the order in which they stand in a layout."""
+    """The parts of a space, in the order in which a layout has them."""
     whole = {"cache": [False], **table}
     units = table.get("units", {})
     sidings = itertools.product(enumerate(table.get("siding", [])), ("launch", "recover", "cells"))

@@ -50,7 +50,7 @@ class Task:
 
 
 def seen_from(folder: pathlib.Path, name: str) -> str:
-    """A file that is named as seen from this folder, as seen from here."""
+    """A file that is named as seen from this directory, as seen from here."""
     return os.path.relpath(folder / name)
 
 
@@ -68,7 +68,7 @@ def check_weights(name: Name, table: Dict[str, Any]) -> None:
 
 
 def read_task(name: Name) -> Task:
-    """The task of a file. Its files are named as seen from its folder."""
+    """The task of a file. Its files are named as seen from its directory."""
     table = read_toml(name)
     only(str(name), table, ("space", "runs", "cost", "energy", "search"))
     check_weights(name, table)

@@ -1,4 +1,4 @@
-"""Calls the program in a folder of its own, and sees how long it takes and how much memory."""
+"""Calls the program in a directory of its own, and sees how long it takes and how much memory."""
 
 from __future__ import annotations
 
@@ -14,7 +14,7 @@ from .judging import SECONDS, Call
 
 
 class Caller:
-    """Calls one program in one folder."""
+    """Calls one program in one directory."""
 
     def __init__(self, program: str, folder: Name) -> None:
         self.program = program

@@ -20,7 +20,7 @@ SECONDS = 20
 # The name of the file with a trace as it was recorded.
 RECORDED = "recorded"
 
-# The endings whose line stands alone in the report of any command.
+# The endings whose line is alone in the report of any command.
 ALONE = {"bad words", "bad layout", "bad program", "bad source", "bad delays", "bad trace", "no memory", "write fault"}
 
 
@@ -63,7 +63,7 @@ def is_closed(report: Report, call: Call) -> bool:
 
 
 def is_timed(report: Report, call: Call) -> bool:
-    """Whether all layouts were timed, and told of as the call wants it."""
+    """Whether all layouts were timed, and reported as the call wants it."""
     if not isinstance(report, TimesReport) or report.least is None or call.status != 0:
         return False
     return all((run.sites is not None) == ("sites" in call.arguments) for run in report.runs)

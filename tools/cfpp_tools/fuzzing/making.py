@@ -113,7 +113,7 @@ def commands(draw: random.Random) -> bytes:
 
 
 def words(draw: random.Random) -> List[str]:
-    """Words of the command line, which mostly are not those of a command."""
+    """Arguments that mostly are not those of a command."""
     known = ["run", "machine", "check", "asm", "list", "debug", "gen", "moves", "time", "rounds", "audit", "help", "--help"]
     known += ["--version", "plain", "program", "missing", "--limit", "--seed", "--script", "--show", "--mul", "--run", "moves"]
     known += ["report", "retired", "sites", "0", "1", "1000000000", "1000000001", "4294967296", "", "-", "a/b", "\u00e9"]

@@ -74,7 +74,7 @@ def check_types(where: str, table: Dict[str, Any]) -> None:
         raise Stop(f"{where}: `{wrong}` has a value of a wrong type")
     unnamed = next((name for name in table.get("registers", {}) if not REGISTER.fullmatch(name)), None)
     if unnamed:
-        raise Stop(f"{where}: `{unnamed}` is no register: they are x0 to x31")
+        raise Stop(f"{where}: `{unnamed}` is not a register: they are x0 to x31")
 
 
 def read_goal(where: str, table: Dict[str, Any], directory: pathlib.Path) -> Goal:

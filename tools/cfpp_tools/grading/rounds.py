@@ -12,7 +12,7 @@ from ..readers.lines import ReadFault
 from ..readers.moves import Move, read_move
 from ..sites import Site, name_of, sites
 
-# No other comment begins a round, whatever it tells of rounds.
+# No other comment begins a round, whatever it says of rounds.
 ROUND = re.compile(r"#\s*round(?:\s+[0-9]+)?\s*")
 
 Numbered = Tuple[int, Move]
@@ -50,7 +50,7 @@ def round_fault(script: Name, layout: Layout, most: int) -> Optional[str]:
     except ReadFault as fault:
         return str(fault)
     if before:
-        return f"line {before[0][0]}: `{before[0][1].text}` stands before the first round"
+        return f"line {before[0][0]}: `{before[0][1].text}` is before the first round"
     faults = [found for moves in rounds if (found := shared(moves, layout))]
     if len(rounds) > most:
         faults.append(f"{len(rounds)} rounds, and at most {most} are wanted")

@@ -3,17 +3,17 @@
     tools/commands
     tools/commands --also PROGRAM    has ./cfpp run this program too, which has to print the same and to end in the same way
 
-Commands stand in indented blocks whose first line begins with one of the words below; a command goes on up to the next line that
-does. After it may stand
+Commands are in indented blocks whose first line begins with one of the words below; a command goes on up to the next line that
+does. After it may be
 
     # prints FILE
     # prints "LINE"
     # prints FILE and ends with N
     # ends with N
 
-Then what it puts to standard output, and after that to standard error, is the file's content or that line, and it ends with this status,
-0 by default. The commands run one after another in a folder that has what the repository has, and where they may leave files. A command
-that needs a tool which this machine lacks is passed over, with a line that says so.
+Then what it writes to standard output, and after that to standard error, is the file's content or that line, and it ends with this status,
+0 by default. The commands run one after another in a directory that has what the repository has, and where they may leave files. A command
+that needs a tool which is not installed is skipped, with a line that says so.
 """
 
 from __future__ import annotations
@@ -86,7 +86,7 @@ Done = subprocess.CompletedProcess[bytes]
 
 @dataclasses.dataclass
 class Place:
-    """A folder in which commands run, and the program that ./cfpp runs there, if it is not the one that it finds."""
+    """A directory in which commands run, and the program that ./cfpp runs there, if it is not the one that it finds."""
 
     folder: pathlib.Path
     program: Optional[pathlib.Path] = None
@@ -116,7 +116,7 @@ def fault_of(command: Command, done: Done) -> Optional[str]:
 
 
 def prepare(folder: pathlib.Path) -> None:
-    """Fills a folder with what the repository has."""
+    """Fills a directory with what the repository has."""
     shutil.copytree(TOP / "examples", folder / "examples")
     for name in ("cfpp", "tools", "docs"):
         (folder / name).symlink_to(TOP / name)
@@ -129,12 +129,12 @@ def differs(done: Done, other: Done) -> Optional[str]:
 
 
 def tried(page: pathlib.Path, command: Command, places: List[Place]) -> str:
-    """Runs a command in each place, and says what is wrong with it: whether it was passed over, failed or passed."""
+    """Runs a command in each place, and says what is wrong with it: whether it was skipped, failed or passed."""
     where = f"{page.relative_to(TOP)}, line {command.number}"
     lacking = [tool for word, tool in NEEDED.items() if word in command.text.split() and not shutil.which(tool)]
     if lacking:
-        print(f"passed over, for lack of {lacking[0]}: {where}")
-        return "passed over"
+        print(f"skipped, for lack of {lacking[0]}: {where}")
+        return "skipped"
     first, *others = [place.run(command.text) for place in places]
     if fault := fault_of(command, first) or next(filter(None, (differs(first, other) for other in others)), None):
         print(f"failed: {where}: {fault}\n{command.text}")

@@ -1,8 +1,8 @@
-"""Explores a space of layouts: runs them, and tells which no other beats.
+"""Explores a space of layouts: runs them, and reports which no other beats.
 
-    tools/explore SPACE FOLDER [-- OPTION OF GNU PARALLEL..]
+    tools/explore SPACE DIRECTORY [-- OPTION OF GNU PARALLEL..]
 
-SPACE is a TOML file, whose files are named as seen from its folder:
+SPACE is a TOML file, whose files are named as seen from its directory:
 
     [space]                         for each part of a layout its choices
     stages = { from = 2, to = 8 }           a range, with `step` where that is not 1
@@ -34,12 +34,12 @@ SPACE is a TOML file, whose files are named as seen from its folder:
     access = 10
 
     [search]
-    most = 2000                             so many points at most
-    climbs = 8                              where the space has more: so many hill climbs
+    most = 2000                             this many points at most
+    climbs = 8                              where the space has more: this many hill climbs
     seed = 1                                from points that are drawn from this seed
     front = ["cost", "time"]                the two measures of the front: cost, time or energy
 
-A point of the space whose layout is refused is left out. Time and energy are geometric means of the programs. FOLDER gets
+A point of the space whose layout is refused is left out. Time and energy are geometric means of the programs. DIRECTORY gets
 `layouts/`, the layouts; `runs.csv`, the table of tools/sweep, from which a call that was interrupted goes on; `table.csv`, a row a
 layout with its measures; `front.csv`, those that no other beats; `front.svg`, a plot that names these alone (by gnuplot, where it
 is installed); and `best/`, their layouts. With --layouts-only it just writes the layouts of all points; tools/sweep --kinds may
@@ -87,7 +87,7 @@ def points_of(task: Task, layouts: Sequence[Measured]) -> List[Point]:
 
 
 def keep_best(folder: pathlib.Path, best: Sequence[Measured]) -> None:
-    """Puts the files of the best layouts into a folder of their own."""
+    """Puts the files of the best layouts into a directory of their own."""
     shutil.rmtree(folder / "best", ignore_errors=True)
     (folder / "best").mkdir()
     for measured in best:
@@ -112,10 +112,10 @@ def write(task: Task, folder: pathlib.Path, exploration: Exploration) -> None:
 
 
 def same_space(space: pathlib.Path, folder: pathlib.Path) -> None:
-    """A folder holds what was found of one space alone."""
+    """A directory holds what was found of one space alone."""
     kept = folder / "space.toml"
     if kept.exists() and kept.read_bytes() != space.read_bytes():
-        raise Stop(f"{folder} holds what was found of another space: give another folder")
+        raise Stop(f"{folder} holds what was found of another space: give another directory")
     folder.mkdir(parents=True, exist_ok=True)
     kept.write_bytes(space.read_bytes())
 

@@ -12,15 +12,15 @@ script, which is run on `layout` and `program`:
 
     ending = "script end"           how the run ends: its kind, as `barred`, with a reason, as `barred SourceMissing x10`, or
                                     the whole line, as `exit 7`; without this key the script ends
-    retired = 2                     so many instructions have retired
+    retired = 2                     this many instructions have retired
     registers = { x01 = 2 }         registers have these values
-    empty = true                    nothing stands in the pipes and the sidings
+    empty = true                    nothing is in the pipes and the sidings
     fetch = 0x10008                 fetch is there
     moves_at_most = 18
     kills_at_least = 1
     dead_at_least = 1
     barred = { "execute 2" = "SourceMissing x10" }    these moves are then barred so
-    rounds_at_most = 15             the script has so many comments `# round` or `# round N`; the moves after each, up to the
+    rounds_at_most = 15             the script has at most this many comments `# round` or `# round N`; the moves after each, up to the
                                     next one, share no stage, cell, lane, fetch, memory or code
 
 Of a layout, whose file ends in .toml: it is accepted, and

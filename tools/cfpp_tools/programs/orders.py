@@ -4,7 +4,7 @@
     tools/orders examples/layouts/tiny.toml examples/scripts/two_orders.bin --issues 2 | dot -Tsvg >orders.svg
 
 From the opened processor it walks to every state that moves can reach with at most N issues (2), each once, by asking the
-program which moves can be made (`cfpp moves`). States are told apart by the registers, the retired count, the picture, the
+program which moves can be made (`cfpp moves`). States are distinguished by the registers, the retired count, the picture, the
 output, the issues that were made, and, since no report shows memory, the accesses and the calls. A state is an end where
 the program has ended, or where nothing can be made but a further issue. What was found goes to standard error: states,
 moves and ends, and how many orders there are, lists of moves from the start to an end. Above N states (--states, 2,000) it

@@ -7,7 +7,7 @@
                                         programs. A line joins those that no other beats in both, and they alone are named
     tools/plot table TABLE >TEXT        for each program a table of its runs by the rule
 
-Layouts and programs are named by their files, without folder and suffix.
+Layouts and programs are named by their files, without directory and suffix.
 """
 
 from __future__ import annotations
@@ -50,7 +50,7 @@ def rows_of(table: str) -> List[Row]:
 
 
 def ordered(rows: Sequence[Row], column: str) -> List[str]:
-    """The names in a column, in the order in which they first stand."""
+    """The names in a column, in the order of their first rows."""
     return list(dict.fromkeys(row[column] for row in rows))
 
 
@@ -104,7 +104,7 @@ def size_of(layout: str) -> int:
     try:
         table = read_toml(layout)
     except FileNotFoundError as missing:
-        raise Stop(f"{layout} is missing: the table names it from the folder of its sweep") from missing
+        raise Stop(f"{layout} is missing: the table names it from the directory of its sweep") from missing
     return int(table["stages"]) + sum(int(siding["cells"]) for siding in table["siding"])
 
 

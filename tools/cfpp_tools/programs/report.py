@@ -5,7 +5,7 @@
 
 REPORT is any report of `cfpp`, standard input by default: that of a run with what was shown of it, of times, of an audit or of the
 debugger. Each part is an object whose `type` names it as `cfpp_tools` does; addresses, words and values are numbers. A text that is
-no report is refused with the number of the line.
+no report is refused with the line number.
 """
 
 from __future__ import annotations

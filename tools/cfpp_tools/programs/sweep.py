@@ -4,19 +4,19 @@ TABLE is a CSV file; its columns are
 
     layout,program,schedule,ending,retired,moves,meets,kills,dead,time,rounds
 
-and with --kinds one more, the number of moves of each kind, which only `delays` tells. A schedule is `rule`, `seed N`, `rounds`
+and with --kinds one more, the number of moves of each kind, which only `delays` gives. A schedule is `rule`, `seed N`, `rounds`
 (the command `rounds`) or `delays FILE` (the command `time`); with --guess it is followed by `guess RULE`. A program with the
 file PROGRAM.input beside it (its last suffix exchanged) reads that, but under `time`; the others read nothing. What a command
-does not count stays empty. The rows come as the runs end, and are put in the order of the lists after the last.
+does not count stays empty. The rows come as the runs end, and are sorted by the lists after the last.
 
 The rows that TABLE has already are not made again, so that a sweep which was interrupted or killed goes on where it stopped,
-and one with more layouts adds their rows. Several sweeps may add to one table at the same time. TABLE.log tells when, where and
+and one with more layouts adds their rows. Several sweeps may add to one table at the same time. TABLE.log says when, where and
 for how many seconds each run was made.
 
 --slice K/M makes the K-th of M slices of the runs, as a task of an array of jobs does, into a table of its own. --join puts the
 rows of tables into TABLE; with the lists of a sweep those that are still missing are made. Options after `--` go to GNU
 parallel, which then makes the runs, as `-- --sshlogin one,two,:` on two other machines beside this one: they need this
-repository in the same folder, with the program built, and the files under the same names.
+repository in the same directory, with the program built, and the files under the same names.
 """
 
 from __future__ import annotations

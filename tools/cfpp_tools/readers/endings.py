@@ -33,7 +33,7 @@ FORMS = [
 ]
 COMPILED = [(kind, status, re.compile(form, re.DOTALL)) for kind, status, form in FORMS]
 
-# The kinds after which the report tells nothing of a guest: its run has not begun.
+# The kinds after which the report says nothing of a guest: its run has not begun.
 REFUSALS = {"bad words", "bad layout", "bad program", "bad source", "bad delays", "bad trace", "no memory"}
 
 

@@ -28,7 +28,7 @@ class Siding:
 
 @dataclasses.dataclass(frozen=True)
 class Layout:
-    """A layout: its stages, the places of the lane, whether registers are kept at the bottom, the stages of each class's
+    """A layout: its stages, the places of the lane, whether registers are cached, the stages of each class's
     units, and the sidings."""
 
     stages: int

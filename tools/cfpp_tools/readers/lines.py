@@ -9,7 +9,7 @@ ADDRESS = "[0-9a-f]{8}"
 
 
 class ReadFault(Exception):
-    """A text that has not the form that it should have: the number of the line, from 1, and the reason."""
+    """A text that has not the form that it should have: the line number, from 1, and the reason."""
 
     def __init__(self, line: int, reason: str) -> None:
         super().__init__(f"line {line}: {reason}")

@@ -40,7 +40,7 @@ class Choice:
 
 
 def read_move(text: str, line: int = 1) -> Move:
-    """The move of a text, which stands in this line."""
+    """The move of a text, which is in this line."""
     if text in BARE_MOVES:
         return Move(text, text)
     if ISSUE.fullmatch(text):
@@ -49,7 +49,7 @@ def read_move(text: str, line: int = 1) -> Move:
         return Move(text, found[1], stage=int(found[2]))
     if found := SLIDE.fullmatch(text):
         return Move(text, "slide", siding=int(found[1]), cell=int(found[2]))
-    raise ReadFault(line, f"`{text}` is no move")
+    raise ReadFault(line, f"`{text}` is not a move")
 
 
 def read_choices(lines: Lines) -> Tuple[Choice, ...]:

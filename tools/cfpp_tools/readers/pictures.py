@@ -88,7 +88,7 @@ class Picture:
 
     @property
     def is_empty(self) -> bool:
-        """Whether no instruction, no result and no operation is under way."""
+        """Whether no instruction, no result and no operation is in flight."""
         return not self.stages and not self.sidings
 
 
@@ -115,7 +115,7 @@ def read_instruction(text: str, line: int) -> Instruction:
     """The instruction of a stage's line."""
     found = INSTRUCTION.fullmatch(text)
     if not found:
-        raise ReadFault(line, f"`{text}` is no instruction of a stage")
+        raise ReadFault(line, f"`{text}` is not an instruction of a stage")
     pc, guess, flag, first, second, destination, owes = found.groups()
     sources = (read_binding(first), read_binding(second))
     owed = None if owes == "-" else read_result(owes, line)
@@ -143,7 +143,7 @@ def read_stages(lines: Lines) -> Dict[int, Stage]:
     while (found := lines.take(STAGE)) is not None:
         number = int(found[1])
         if number >= min(stages, default=33):
-            raise ReadFault(lines.at, f"stage {number} stands too low")
+            raise ReadFault(lines.at, f"stage {number} comes too late")
         stages[number] = read_stage(found[2], found[3], lines.at)
     return stages
 
@@ -154,7 +154,7 @@ def read_sidings(lines: Lines) -> Dict[int, Cells]:
     while (found := lines.take(SIDING)) is not None:
         number = int(found[1])
         if number <= max(sidings, default=-1):
-            raise ReadFault(lines.at, f"siding {number} stands too low")
+            raise ReadFault(lines.at, f"siding {number} comes too late")
         sidings[number] = read_cells(found[2])
     return sidings
 

@@ -13,7 +13,7 @@ from .times import TimesReport, read_times
 
 Report = Union[RunReport, TimesReport, AuditReport, SessionReport]
 
-# In this order: what refuses a call, or is a retired instruction's line, may stand in reports of several commands.
+# In this order: what refuses a call, or is a retired instruction's line, may be in reports of several commands.
 READERS: Dict[str, Callable[[Lines], Report]] = {
     "run": read_run,
     "time": read_times,
@@ -23,7 +23,7 @@ READERS: Dict[str, Callable[[Lines], Report]] = {
 
 
 def read_report(text: str) -> Report:
-    """The report of this text. Where no reader takes it, the one that came farthest tells what is wrong."""
+    """The report of this text. Where no reader takes it, the one that came farthest says what is wrong."""
     faults = []
     for read in READERS.values():
         try:

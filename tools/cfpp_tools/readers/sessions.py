@@ -28,7 +28,7 @@ class Retired:
 
 @dataclasses.dataclass(frozen=True)
 class Automatic:
-    """So many moves were made by the fixed rule."""
+    """This many moves were made by the fixed rule."""
 
     moves: int
 

@@ -20,7 +20,7 @@ Row = Dict[str, str]
 
 
 class Run(NamedTuple):
-    """What tells a run from others: the names of the layout and the program, and the schedule."""
+    """What distinguishes a run from others: the names of the layout and the program, and the schedule."""
 
     layout: str
     program: str
@@ -65,7 +65,7 @@ def of_run(report: RunReport) -> Row:
 
 
 def guest_of(program: str) -> Optional[pathlib.Path]:
-    """The file that the program reads, where one stands beside it."""
+    """The file that the program reads, where there is one beside it."""
     guest = pathlib.Path(program).with_suffix(".input")
     return guest if guest.exists() else None
 

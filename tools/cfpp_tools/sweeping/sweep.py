@@ -35,7 +35,7 @@ def runs_of(layouts: Sequence[str], programs: Sequence[str], schedules: Sequence
 
 
 def slice_of(runs: Sequence[Run], number: int, count: int) -> Sequence[Run]:
-    """One of so many slices of the runs, counted from 1: the slices one after another are all runs."""
+    """One of this many slices of the runs, counted from 1: the slices one after another are all runs."""
     return runs[len(runs) * (number - 1) // count : len(runs) * number // count]
 
 

@@ -1,7 +1,7 @@
 """A table of runs, to which several processes may add rows at once.
 
 Rows are only ever appended, each by one process at a time, so that one which is killed leaves at most a prefix of its last row;
-the next process takes that out. The rows are put in order when the last process ends, in a new file that takes the place of the old
+the next process takes that out. The rows are sorted when the last process ends, in a new file that takes the place of the old
 one. Two bytes of the file TABLE.lock are locked: one by each process for as long as it runs, the other for as long as a row is
 added.
 """

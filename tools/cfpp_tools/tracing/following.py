@@ -49,14 +49,14 @@ def fault(step: Step) -> ReadFault:
 
 
 class Follower:
-    """Where each instruction stands, and whose each result is."""
+    """Where each instruction is, and whose each result is."""
 
     def __init__(self, layout: Layout) -> None:
         self.layout = layout
         self.issued: List[Followed] = []
         self.in_stage: Dict[int, Followed] = {}
         self.in_cell: Dict[Tuple[int, int], Followed] = {}
-        # The instruction that a stage's result, or a register kept at the bottom, comes from.
+        # The instruction that a stage's result, or a cached register, comes from.
         self.sender: Dict[int, Optional[Followed]] = {}
         self.keeper: Dict[int, Optional[Followed]] = {}
 

@@ -1,6 +1,6 @@
 """A trace in Kanata 0004, the text that Konata shows: a row for each instruction, a cycle for each move.
 
-The first lane of a row has the stages in which the instruction stood, the second the cells of sidings in which its
+The first lane of a row has the stages in which the instruction was, the second the cells of sidings in which its
 operation did. An instruction that died is flushed where it leaves. An arrow goes to each instruction from those whose
 values it took out of results, and none from the register file."""
 

@@ -1,6 +1,6 @@
 """Which move had to wait for which, as a graph for Graphviz.
 
-A move waits for the last one before it that used a place which it uses. A move's time is one more than the greatest of
+A move waits for the last one before it that used a place which it uses. A move's time is one more than the largest of
 those that it waits for, so that moves of one row could be made at once. The edges of one longest chain are bold."""
 
 from __future__ import annotations
@@ -51,7 +51,7 @@ def node(step: Step) -> str:
 
 
 def ranks(time: Dict[int, int]) -> List[str]:
-    """The moves of each time stand in one row."""
+    """The moves of each time are in one row."""
     rows: Dict[int, List[str]] = {}
     for number, row in time.items():
         rows.setdefault(row, []).append(f"m{number}")

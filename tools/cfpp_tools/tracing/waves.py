@@ -1,6 +1,6 @@
 """A trace as waves, in VCD, and what GTKWave is to show of them. A move takes a nanosecond.
 
-Where nothing stands in a stage or a cell its addresses and values are unknown (z), and its texts are `-`."""
+Where nothing is in a stage or a cell its addresses and values are unknown (z), and its texts are `-`."""
 
 from __future__ import annotations
 
@@ -13,7 +13,7 @@ from .trace import Trace
 
 
 def escaped(text: Optional[str]) -> str:
-    """A text as one word: what stands for blanks is read back by GTKWave and vcd2fst."""
+    """A text as one word: what replaces blanks is read back by GTKWave and vcd2fst."""
     return (text or "-").replace("\\", "\\\\").replace(" ", "\\040")
 
 
@@ -94,7 +94,7 @@ def of_whole(move: str, retired: int, picture: Picture) -> List[object]:
 
 
 def scopes(layout: Layout) -> Scopes:
-    """The scopes in the order in which they stand, each with its variables."""
+    """The scopes in their order, each with its variables."""
     found = [("processor", WHOLE + (CACHE if layout.cache else []))]
     found += [(f"stage{stage}", STAGE) for stage in range(layout.stages, 0, -1)]
     for k, siding in enumerate(layout.sidings):
