@@ -3,6 +3,7 @@
 from __future__ import annotations
 
 import itertools
+import os
 import random
 
 from cfpp_tools.fuzzing.calling import Caller
@@ -10,10 +11,11 @@ from cfpp_tools.fuzzing.cases import try_case
 from cfpp_tools.fuzzing.judging import Call, faults
 from cfpp_tools.readers.reports import plain, read_report
 
-REPORTS = 1000
+# tools/checks --all asks for more.
+REPORTS = int(os.environ.get("CFPP_REPORTS", "60"))
 
 
-def test_a_thousand_random_reports(tmp_path, built):
+def test_random_reports(tmp_path, built):
     caller = Caller(built, tmp_path)
     cases = (try_case(caller, random.Random(f"readers {number}")) for number in itertools.count())
     calls = ((call, wrong) for case in cases for call, wrong in case if call.report)

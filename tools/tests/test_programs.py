@@ -63,7 +63,9 @@ def test_orders_of_one_instruction(tools, examples, built):
     """By hand: 13 states and 16 moves, and three orders each with it executed below and above."""
     tiny, program = examples / "layouts" / "tiny.toml", examples / "scripts" / "two_orders.bin"
     made = call(tools, "orders", tiny, program, "--issues", "1")
-    assert made.stderr == "13 states, 16 moves, 1 end, 6 orders of 6 to 7 moves\n" and made.stdout.count("->") == 16
+    # Before it may be what ./cfpp says of a program that is not proved.
+    assert made.stderr.splitlines()[-1] == "13 states, 16 moves, 1 end, 6 orders of 6 to 7 moves"
+    assert made.stdout.count("->") == 16
 
 
 def test_the_program_that_the_environment_names(tools, examples, tmp_path):

@@ -116,13 +116,21 @@ def test_times(quoted):
     assert report.least == "examples/layouts/tiny.toml"
 
 
-def test_what_a_time_is_made_of(quoted):
-    report = read_times(Lines(quoted("TIMES.md", "plain: exit 0 time 45042")))
-    plain_run, tiny_run = report.runs
-    assert plain_run.sites is not None and tiny_run.sites is not None
-    assert plain_run.sites.stages[3] == 31508 and plain_run.sites.sidings == {0: 6854}
-    assert tiny_run.sites.moves["meet"] == 11881 and tiny_run.sites.chain["emit"] == 2207
-    assert sum(tiny_run.sites.moves.values()) == tiny_run.moves
+TWO_STAGES = """tiny.toml: exit 7 time 35 moves 19 retired 2
+stage 2 busy 31
+stage 1 busy 15
+siding 0 busy 0
+moves issue=3 climb=3 fall=1 meet=2 execute=2 send=2 leave=3 exit=2 serve=1
+chain issue=2 climb=3 fall=1 meet=2 execute=1 send=2 leave=1 exit=1 serve=1
+least tiny.toml
+"""
+
+
+def test_what_a_time_is_made_of():
+    (run,) = read_times(Lines(TWO_STAGES)).runs
+    assert run.sites is not None and run.sites.stages == {2: 31, 1: 15} and run.sites.sidings == {0: 0}
+    assert run.sites.moves["leave"] == 3 and run.sites.chain["leave"] == 1
+    assert sum(run.sites.moves.values()) == run.moves == 19
 
 
 def test_the_answers_of_audit():
