@@ -1,7 +1,8 @@
 //! Results on their way down, and the fetch unit at which they arrive.
 
-/// A result that descends the result pipe. `Packet` is the type of results: the value of a register, or a message to
-/// the fetch unit that turns or halts the program. In prose they are called results, as the paper of 1994 has it.
+/// A result in the result pipe: the value of a register, or a turn or a halt of the program, which makes the
+/// instructions that it meets dead and ends at the fetch unit. Comments call it a result, as the paper of 1994 does,
+/// and say `Packet` only where they mean a value of this type.
 #[derive(Clone, Copy, PartialEq, Eq)]
 pub enum Packet {
     /// A register's value.

@@ -31,9 +31,9 @@ pub enum End {
     Exit(u8),
 }
 
-/// An instruction that climbs the instruction pipe. `Passenger` is the type of an instruction under way: the decoded
-/// [`Instr`] and what happens to it on its way up, as its sources, its result, the guess made at its issue and its
-/// progress. In prose it is called an instruction, as in the paper of 1994.
+/// An instruction in the instruction pipe: the decoded [`Instr`] with all that it carries on its way up, which is its
+/// address, the values of its sources and its destination, the guess made at its issue, and its progress. Comments call
+/// it an instruction, as the paper of 1994 does, and say `Passenger` only where they mean a value of this type.
 #[derive(Clone, Copy, PartialEq, Eq)]
 pub struct Passenger {
     /// Its address.

@@ -111,7 +111,7 @@ abbrev pub turns_in : List ℕ → Option Siding → List ℕ
 turns_in stages None = stages
 turns_in stages (Some siding) = natural siding.recover ∷ []
 
--- the stage, where it is above the one from which loads and stores are launched
+-- the refusal of a stage, which is above the one from which loads and stores are launched
 abbrev pub above : Class → ℕ → Option ℕ → Option LayoutErr
 above c launch None = None
 above c launch (Some stage) = Some (ControlAboveMemory c stage launch)

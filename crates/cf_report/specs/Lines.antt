@@ -1,4 +1,4 @@
--- The lines of a report besides the picture (a format of this project).
+-- The lines of a report other than the picture (a format of this project).
 use Rattle.std.specs.Prelude.{ℕ, List, ◌++◌, codes, decimal}
 use Rattle.rv_machine.specs.declared.outcome.Retired.{Retired}
 use Rattle.cf_bind.specs.declared.moves.Move.{Move}

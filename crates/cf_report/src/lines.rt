@@ -1,4 +1,4 @@
-//! The lines of a report besides the picture.
+//! The lines of a report other than the picture.
 #![tactic(auto, unfolding(crate::specs::Lines::tally_text, crate::specs::Lines::numbered_move))]
 
 ghost use Rattle.std.specs.Prelude.{◌≡◌, ◌++◌, codes, decimal};

@@ -5,7 +5,7 @@ use Rattle.cf_bind.specs.declared.moves.Move.{Move}
 use Rattle.cf_index.specs.Sites.{shares}
 use Rattle.cf_timed.specs.Delays.{delay}
 
--- the first list is a sublist of the second, in the same order
+-- the first list is a subsequence of the second
 abbrev pub ArePart : List Move → List Move → Type 0
 ArePart [] moves = Unit {0}
 ArePart (mv ∷ part) [] = ⊥

@@ -9,7 +9,7 @@ use Rattle.elf_make.specs.Fields.{halves, words}
 abbrev pub closed : List ℕ → List ℕ
 closed name = name ++ 0 ∷ []
 
--- whether the label is exported equals `global`
+-- the label is exported exactly if `global` is set
 abbrev pub is_bound : (global : Bool) → LabelView → Bool
 is_bound true label = label.global
 is_bound false label = not label.global

@@ -47,8 +47,8 @@ fn push_entry(file: &mut Vec<u8>, name: u32, label: &Label) -> Result<(), AllocE
     push_halves(file, &[section])
 }
 
-/// Appends the entry of a label whose name begins at an index, if whether it is exported equals `global`. Returns the
-/// index of the next name.
+/// Appends the entry of a label, provided that it is exported exactly if `global` is set. Its name begins at an index;
+/// returns the index of the next name.
 #[tactic(auto, using(crate::proofs::Entries::address))]
 fn push_bound_entry(
     file: &mut Vec<u8>,
@@ -90,7 +90,7 @@ fn push_entries(
     Ok(name)
 }
 
-/// Appends the name of a label with a NUL, if whether it is exported equals `global`.
+/// Appends the name of a label with a NUL, provided that the label is exported exactly if `global` is set.
 fn push_bound_name(file: &mut Vec<u8>, label: &Label, global: bool) -> Result<(), AllocError>
     ensures { OnOk result (file.new.items ≡ file.old.items ++ closed_names (bound global (named label.now ∷ []))) }
 {

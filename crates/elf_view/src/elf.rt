@@ -71,7 +71,7 @@ impl<'a> Elf<'a> {
         self.header.entry
     }
 
-    /// The segments that are to be loaded, in the order of the program headers.
+    /// The loadable segments, in the order of the program headers.
     #[tactic(auto, using(crate::proofs::Accepted::programs_fit, crate::proofs::Accepted::segments_sound), unfolding(crate::specs::Segments::segments_of))]
     pub fn segments(&self) -> Segments<'a>
         ensures list { segments_left result ≡ segments_of self.now }

@@ -2,7 +2,7 @@
 
 ghost use Rattle.std.specs.Prelude.{◌≤◌, length};
 
-/// A segment that is to be loaded.
+/// A loadable segment.
 #[derive(Drop)]
 pub struct Segment<'a> {
     /// The address of its first byte in memory.

@@ -56,7 +56,7 @@ impl<'a> Entries<'a, ProgramHeader> {
     }
 }
 
-/// The segments of a file that are to be loaded, in the order of its program headers.
+/// The loadable segments of a file, in the order of its program headers.
 #[derive(Drop)]
 pub struct Segments<'a> {
     file: &'a [u8],

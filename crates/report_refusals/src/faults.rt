@@ -44,6 +44,6 @@ pub enum TraceFault {
     /// It is longer than a trace may be.
     TooLong,
 
-    /// The first line that differs, counted from 1, and why.
+    /// The line where the trace goes wrong, counted from 1, and the reason.
     Line { line: u32, kind: TraceKind },
 }

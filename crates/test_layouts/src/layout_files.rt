@@ -90,7 +90,7 @@ fn tells(error: &FileErr, refusal: Refusal) -> bool {
     }
 }
 
-/// Whether the file is refused so.
+/// Whether the file gets this refusal.
 fn is_refused(alloc: Global, file: &[u8], refusal: Refusal) -> bool {
     match read_layout(alloc, file) {
         Ok(_) => false,

@@ -122,7 +122,7 @@ fn zeros(base: u32, size: u32) -> Part
     }
 }
 
-/// Whether parts with no bytes in a file are refused so.
+/// Whether parts with no bytes in a file get this refusal.
 fn are_refused(alloc: Global, parts: &[Part], refusal: Option<LoadErr>) -> bool
     requires { All (LiesIn []) parts.now }
 {

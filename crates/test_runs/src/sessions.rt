@@ -181,7 +181,7 @@ fn long_lines(rt: HostRuntime) {
 }
 
 /// The program runs to its end in 19 moves, worked out by hand from the table of moves and the order of Round: Serve is
-/// the 17th, so two are taken back after it, and no more. Nothing is made after the end.
+/// the 17th, so two are taken back after it, and no more. No move is made after the end.
 #[test]
 fn to_the_end(rt: HostRuntime) {
     let commands = b"auto 1000000\nauto 5\nmove emit\nmove serve\nback\nback\nback\nmove emit\n";

@@ -124,8 +124,8 @@ uses plan s Leave x = among x (Stage plan.stages ∷ Registers ∷ Count ∷ [])
 uses plan s Exit x = among x (Stage 1 ∷ Fetching ∷ Cache ∷ [])
 uses plan s Serve x = among x (Stage plan.stages ∷ Memory ∷ Code ∷ Input ∷ Output ∷ [])
 
--- the sites that a move only reads: every move reads whether the program has ended, and whether the input or the output
--- has failed
+-- the further sites that a move reads: every move reads whether the program has ended, and whether the input or the
+-- output has failed; Issue also reads the code, Emit and Serve the registers
 abbrev pub only_reads : Move → Site → Bool
 only_reads (Issue g) x = among x (Code ∷ Ended ∷ Failure ∷ [])
 only_reads Emit x = among x (Registers ∷ Ended ∷ Failure ∷ [])
@@ -139,7 +139,7 @@ reads plan s mv x = uses plan s mv x || only_reads mv x
 abbrev pub ends_there : Plan → State → Bool
 ends_there plan s = on (cell_at s.cells plan.stages) false (λ c. on c.passenger false (λ p. not p.dead && is_some p.ending))
 
--- the sites that a move only writes: Leave ends the program where the instruction does; a Serve may fail
+-- the further sites that a move writes: Leave ends the program where the instruction does; a Serve may fail
 abbrev pub only_writes : Plan → State → Move → Site → Bool
 only_writes plan s Leave x = ends_there plan s && among x (Ended ∷ [])
 only_writes plan s Serve x = among x (Failure ∷ [])

@@ -102,7 +102,7 @@ abbrev pub forgets : Option ℕ → List (Option ℕ) → List (Option ℕ)
 forgets None cache = cache
 forgets (Some r) cache = slice_set cache r None
 
--- nothing is kept
+-- the empty cache
 abbrev pub cleared : List (Option ℕ) → List (Option ℕ)
 cleared [] = []
 cleared (o ∷ cache) = None ∷ cleared cache
