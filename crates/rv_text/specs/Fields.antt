@@ -21,7 +21,7 @@ abbrev pub within : ℤ → ℤ → ℤ → Result ℤ TextErr
 within least greatest z =
     if int_le least z && int_le z greatest then Ok z else Err (OutOfRange z)
 
--- an operand that must be the number, where it is from the least to the greatest
+-- an operand that must be a number from the least to the greatest
 unfoldable pub number_in : ℤ → ℤ → List ℕ → Result ℤ TextErr
 number_in least greatest text = and_then (needed BadNumber (number_of text)) (within least greatest)
 
