@@ -130,8 +130,8 @@ fn advance<S: Source>(
 /// that were made lead: those of the groups before, and for `Differs`, and for `Cut` within a group, also the move of
 /// this group.
 ///
-/// So the lines of retired instructions in a trace that agrees are those of the sequential machine, in its order,
-/// whatever made the trace and in whatever order its moves were made.
+/// So over an input whose remaining bytes are known, the lines of retired instructions in a trace that agrees are those
+/// of the sequential machine, in its order, whatever made the trace and in whatever order its moves were made.
 ///
 /// `ReadFault` comes only where the input failed a call of the environment, and its count of faults rose. The program's
 /// output is discarded.
