@@ -128,7 +128,9 @@ def test_two_sweeps_at_once(tmp_path, examples, whole, number):
     table = tmp_path / "table.csv"
     both = [subprocess.Popen(call_of(table, examples)) for _ in range(2)]
     assert [process.wait() for process in both] == [0, 0]
-    assert table.read_text() == whole
+    # Each row once, the header first; which sweep is ahead with the next row is not fixed.
+    lines = table.read_text().splitlines()
+    assert lines[0] == whole.splitlines()[0] and sorted(lines) == sorted(whole.splitlines())
 
 
 def test_killed_at_twenty_moments(tmp_path, examples, whole):
