@@ -1,6 +1,7 @@
 """Where the Rattle kit is, whose command is rt."""
 import pathlib
 import shutil
+import subprocess
 import sys
 
 MISSING = (
@@ -23,3 +24,9 @@ def library():
     import rtlib  # pylint: disable=import-error,import-outside-toplevel
 
     return rtlib
+
+
+def llvm(name, *words):
+    """Runs a tool of the kit's LLVM, which are one file, and answers what it prints."""
+    clang = folder() / "toolchain" / "bin" / "clang"
+    return subprocess.run([name, *map(str, words)], executable=clang, capture_output=True, text=True, check=True).stdout

@@ -7,7 +7,24 @@
 The program is found by `program.py`, the functions are in `commands.py`, and the readers in `readers/`.
 """
 
-from .commands import assemble, audit, check, debug, generate, listing, machine, moves, rounds, run, time, version
+from .commands import (
+    assemble,
+    audit,
+    check,
+    conform,
+    debug,
+    generate,
+    help_text,
+    listing,
+    machine,
+    moves,
+    orders,
+    rounds,
+    run,
+    run_generated,
+    time,
+    version,
+)
 from .program import Called, NoProgram, call
 from .readers.lines import Lines, ReadFault
 from .readers.reports import read_report
@@ -23,14 +40,18 @@ __all__ = [
     "audit",
     "call",
     "check",
+    "conform",
     "debug",
     "generate",
+    "help_text",
     "listing",
     "machine",
     "moves",
+    "orders",
     "read_report",
     "rounds",
     "run",
+    "run_generated",
     "time",
     "version",
 ]

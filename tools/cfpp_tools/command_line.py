@@ -3,6 +3,7 @@
 from __future__ import annotations
 
 import argparse
+import pathlib
 import signal
 import sys
 from typing import Callable, NoReturn, Optional, Sequence
@@ -19,10 +20,11 @@ class Stop(Exception):
 
 
 def parser(name: str, text: Optional[str]) -> argparse.ArgumentParser:
-    """A parser of arguments whose help is the text of the program."""
+    """A parser of arguments whose help is the text of the program. What pip installed has a name of its own."""
     first, _, rest = (text or "").partition("\n")
+    started = pathlib.Path(sys.argv[0]).name
     return argparse.ArgumentParser(
-        prog=name, description=first, epilog=rest, formatter_class=argparse.RawDescriptionHelpFormatter
+        prog=started if started.startswith("cfpp-") else name, description=first, epilog=rest, formatter_class=argparse.RawDescriptionHelpFormatter
     )
 
 

@@ -13,10 +13,12 @@ from typing import Callable, Dict, Generic, Iterable, List, Optional, Sequence, 
 
 from .program import Called, Input, Name, call
 from .readers.audits import AuditReport, read_audit
+from .readers.conforms import ConformReport, read_conform
 from .readers.endings import Ending, read_ending
 from .readers.layouts import Layout, read_layout
 from .readers.lines import Lines
 from .readers.listings import Listed, read_listing
+from .readers.orders import OrdersReport, read_orders
 from .readers.runs import RunReport, read_run
 from .readers.sessions import SessionReport, read_session
 from .readers.times import TimesReport, read_times
@@ -78,11 +80,13 @@ def run(
     seed: Optional[int] = None,
     limit: Optional[int] = None,
     show: Optional[str] = None,
+    guess: Optional[str] = None,
     given: Input = None,
     more: Sequence[str] = (),
 ) -> Answer[RunReport]:
-    """Runs a program on a layout: by a script, from a seed, or by the rule."""
-    called = call(["run", layout, program, *options(script=script, seed=seed, limit=limit, show=show), *more], given)
+    """Runs a program on a layout: by a script, from a seed, or by the rule; the latter two under a guess rule."""
+    asked = options(script=script, seed=seed, limit=limit, show=show, guess=guess)
+    called = call(["run", layout, program, *asked, *more], given)
     return answered(called, read_run)
 
 
@@ -100,10 +104,16 @@ def after(layout: Name, program: Name, made: Iterable[str]) -> Answer[RunReport]
 
 
 def rounds(
-    layout: Name, program: Name, *, limit: Optional[int] = None, given: Input = None, more: Sequence[str] = ()
+    layout: Name,
+    program: Name,
+    *,
+    limit: Optional[int] = None,
+    guess: Optional[str] = None,
+    given: Input = None,
+    more: Sequence[str] = (),
 ) -> Answer[RunReport]:
     """Runs a program as a clocked processor would, in rounds."""
-    return answered(call(["rounds", layout, program, *options(limit=limit), *more], given), read_run)
+    return answered(call(["rounds", layout, program, *options(limit=limit, guess=guess), *more], given), read_run)
 
 
 def time(
@@ -113,15 +123,47 @@ def time(
     *,
     limit: Optional[int] = None,
     show: Optional[str] = None,
+    seed: Optional[int] = None,
+    guess: Optional[str] = None,
     more: Sequence[str] = (),
 ) -> Answer[TimesReport]:
-    """How long a program takes on each of one to eight layouts."""
-    return answered(call(["time", delays, program, *layouts, *options(limit=limit, show=show), *more]), read_times)
+    """How long a program takes on each of one to eight layouts; the delays of ranges are drawn from the seed."""
+    asked = options(limit=limit, show=show, seed=seed, guess=guess)
+    return answered(call(["time", delays, program, *layouts, *asked, *more]), read_times)
 
 
 def audit(layout: Name, program: Name, trace: Name, *, given: Input = None) -> Answer[AuditReport]:
     """Checks that a trace is that of a run."""
     return answered(call(["audit", layout, program, trace], given), read_audit)
+
+
+def help_text(command: Optional[str] = None) -> str:
+    """What the program says of all its commands, or of one."""
+    return written(["help", *([command] if command else [])]).decode()
+
+
+def has(command: str) -> bool:
+    """Whether the program has a command of this name."""
+    return f"cfpp {command} " in help_text()
+
+
+def conform(layout: Name, program: Name, log: Input, *, limit: Optional[int] = None) -> Answer[ConformReport]:
+    """Says where the log of a circuit is not that of a run; the log is bytes, or the name of a file."""
+    return answered(call(["conform", layout, program, *options(limit=limit)], log), read_conform)
+
+
+def orders(
+    layout: Name,
+    program: Name,
+    *,
+    issues: Optional[int] = None,
+    states: Optional[int] = None,
+    without: Optional[str] = None,
+    show: Optional[str] = None,
+) -> Answer[OrdersReport]:
+    """Searches all orders of the first moves of a program for one that is wrong, a rule of the table taken away or none."""
+    asked = options(issues=issues, states=states, without=without, show=show)
+    return answered(call(["orders", layout, program, *asked]), read_orders)
 
 
 def debug(layout: Name, program: Name, commands: Iterable[str]) -> Answer[SessionReport]:
@@ -162,6 +204,11 @@ def listing(program: Name) -> Dict[int, Listed]:
 def generate(number: int) -> str:
     """The text of the assembly program that is drawn from this number."""
     return written(["gen", str(number)]).decode()
+
+
+def run_generated(number: int) -> Answer[RunReport]:
+    """Runs the program that is drawn from this number, by moves that are drawn from it too."""
+    return answered(call(["gen", str(number), "--run"]), read_run)
 
 
 def version() -> str:

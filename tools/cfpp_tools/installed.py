@@ -10,6 +10,7 @@ from .programs import explore as of_explore
 from .programs import grade as of_grade
 from .programs import orders as of_orders
 from .programs import plot as of_plot
+from .programs import profile as of_profile
 from .programs import report as of_report
 from .programs import sweep as of_sweep
 from .programs import trace as of_trace
@@ -33,6 +34,10 @@ def orders() -> NoReturn:
 
 def plot() -> NoReturn:
     start("cfpp-plot", of_plot.main)
+
+
+def profile() -> NoReturn:
+    start("cfpp-profile", of_profile.main)
 
 
 def report() -> NoReturn:

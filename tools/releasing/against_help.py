@@ -3,7 +3,7 @@
 
     against_help.py PROGRAM
 
-The help has a line for each command, option and status; what it says of an option ends with the commands that take it. Where the
+The help has a line for each command, option and status; what it says of an option names, in brackets, the commands that take it. Where the
 program has a text on a single command, that names its options and no others.
 """
 import pathlib
@@ -18,8 +18,10 @@ from releasing import table as tables
 
 CALL = re.compile(r"^  cfpp (?P<call>\S+(?: \S+)*)(?:  +(?P<does>.*))?$")
 OPTION = re.compile(r"^  (?P<call>--\S+(?: \S+)?)  +(?P<does>.*)$")
+# The values of an option whose value is in capitals: its text begins with them.
+VALUES = re.compile(r"^([a-z]+(?:(?:, | or )[a-z]+)+):")
 STATUS = re.compile(r"(\d+) +(\S+(?: \S+)*)")
-TAKEN = re.compile(r"^(?P<before>.*?) \((?P<commands>[a-z, ]+)\)(?P<after>.*)$")
+TAKEN = re.compile(r" \(([a-z, ]+)\)")
 
 
 def said_by(program, *arguments):
@@ -41,8 +43,15 @@ def calls_in(line):
 def options_in(line):
     """The options of a line, as the option with each command that takes it."""
     found = OPTION.match(line)
-    taken = TAKEN.match(re.sub(r" +", " ", found["does"])) if found else None
-    return [] if not taken else [f"{found['call']} of {command}" for command in taken["commands"].split(", ")]
+    does = re.sub(r" +", " ", found["does"]) if found else ""
+    commands = [command for taken in TAKEN.findall(does) for command in taken.split(", ")]
+    return [f"{call} of {command}" for command in commands for call in with_values(found["call"], does)]
+
+
+def with_values(call, does):
+    """The option with each value that its text begins with, as in `any, next or wait: how ..`; else the option as it is written."""
+    values = VALUES.match(does)
+    return [call] if not values else [f"{call.partition(' ')[0]} {value}" for value in re.split(", | or ", values[1])]
 
 
 def statuses_in(text):
@@ -70,7 +79,7 @@ def of_single(program, table):
         text = said_by(program, "help", command.name) or ""
         named = set(re.findall(r"--[a-z]+", text))
         listed = {option.name for option in table.options_of(command.name)}
-        if text and not command.name.startswith("--") and named != listed:
+        if text and not command.name.startswith("-") and named != listed:
             yield f"cfpp help {command.name} and the table differ: {' '.join(sorted(named ^ listed))}"
 
 

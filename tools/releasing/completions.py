@@ -37,7 +37,7 @@ _cfpp() {{
     case ${{operands[at < 0 ? last + 1 : at]-}} in
         "") _cfpp_add_words "$options" ;;
         N) ;;
-        COMMAND) _cfpp_add_words "$commands" ;;
+        COMMAND) _cfpp_add_words "{helped}" ;;
         LAYOUT)
             _cfpp_add_words plain
             _cfpp_add_files
@@ -78,8 +78,18 @@ FISH = """# Completion for cfpp, made from its table of commands.
 """
 
 
+def commands_of(table):
+    """The commands by their names: of two lines with one name the later one, which has more operands."""
+    return {command.name: command for command in table.commands}
+
+
 def names_of(table):
-    return [command.name for command in table.commands]
+    return list(commands_of(table))
+
+
+def helped(table):
+    """The commands on which there is help: those that are not written as options."""
+    return " ".join(name for name in names_of(table) if not name.startswith("-"))
 
 
 def merged(options):
@@ -93,11 +103,11 @@ def merged(options):
 def for_bash(table):
     """A case for each command, and one for each of its options that takes a value."""
     cases, values = [], []
-    for command in table.commands:
+    for command in commands_of(table).values():
         options = merged(table.options_of(command.name))
         cases.append(f'        {command.name}) operands="{" ".join(command.operands)}" options="{" ".join(options)}" ;;')
         values += [value_for_bash(command.name, name, taken) for name, taken in options.items() if taken[0].value]
-    return BASH.format(commands=" ".join(names_of(table)), cases="\n".join(cases), values="\n".join(values))
+    return BASH.format(commands=" ".join(names_of(table)), helped=helped(table), cases="\n".join(cases), values="\n".join(values))
 
 
 def value_for_bash(command, name, taken):
@@ -105,7 +115,7 @@ def value_for_bash(command, name, taken):
     if taken[0].is_literal():
         made = f'_cfpp_add_words "{" ".join(option.value for option in taken)}"; return'
     else:
-        made = "return" if taken[0].value == NUMBER else "_cfpp_add_files; return"
+        made = "_cfpp_add_files; return" if taken[0].is_file() else "return"
     return f'        "{command} {name}") {made} ;;'
 
 
@@ -116,30 +126,30 @@ def quoted(text):
 
 def operand_for_zsh(table, operands, at):
     kind = operands[at]
-    action = {"LAYOUT": "_cfpp_layout", COMMAND: f"({' '.join(names_of(table))})", NUMBER: " "}.get(kind, "_files")
+    action = {"LAYOUT": "_cfpp_layout", COMMAND: f"({helped(table)})", NUMBER: " "}.get(kind, "_files")
     count = "*" if operands[at + 1 : at + 2] == (REPEATED,) else str(at + 1)
     return f"'{count}:{kind}:{action}'"
 
 
 def option_for_zsh(name, taken):
-    first = taken[0]
-    text = quoted(first.does if len(taken) == 1 else "shows more").replace("[", "(").replace("]", ")").replace(":", ",")
+    first, values = taken[0], [option.value for option in taken]
+    text = quoted(first.does if len(taken) == 1 else " or ".join(values)).replace("[", "(").replace("]", ")").replace(":", ",")
     if not first.value:
         return f"'{name}[{text}]'"
     if first.is_literal():
-        return f"'{name}[{text}]:what:({' '.join(option.value for option in taken)})'"
-    return f"'{name}[{text}]:{first.value}:{' ' if first.value == NUMBER else '_files'}'"
+        return f"'{name}[{text}]:what:({' '.join(values)})'"
+    return f"'{name}[{text}]:{first.value}:{'_files' if first.is_file() else ' '}'"
 
 
 def for_zsh(table):
     """A description of each command, and the arguments of each."""
     cases = []
-    for command in table.commands:
+    for command in commands_of(table).values():
         operands = [operand_for_zsh(table, command.operands, at) for at, kind in enumerate(command.operands) if kind != REPEATED]
         options = [option_for_zsh(*pair) for pair in merged(table.options_of(command.name)).items()]
         arguments = " ".join(operands + options)
         cases.append(f"        {command.name}) {f'_arguments {arguments}' if arguments else ':'} ;;")
-    commands = [f"        '{command.name}:{quoted(command.does)}'" for command in table.commands]
+    commands = [f"        '{command.name}:{quoted(command.does)}'" for command in commands_of(table).values()]
     return ZSH.format(commands="\n".join(commands), cases="\n".join(cases))
 
 
@@ -148,22 +158,24 @@ def option_for_fish(option):
     if option.is_literal():
         line += f" -x -a {option.value}"
     elif option.value:
-        line += " -x" if option.value == NUMBER else " -r"
+        line += " -r" if option.is_file() else " -x"
     return f"{line} -d '{quoted(option.does)}'"
+
+
+def word_for_fish(name):
+    """The first word of a call, which may be written as a long option or as a letter."""
+    if name.startswith("--"):
+        return f"-l {name.removeprefix('--')}"
+    return f"-s {name.removeprefix('-')}" if name.startswith("-") else f"-a {name}"
 
 
 def for_fish(table):
     """The commands as first words, their options, and `plain` where a layout is named."""
     first = "complete -c cfpp -n __fish_use_subcommand -f"
-    commands = [
-        f"{first} -l {command.name.removeprefix('--')} -d '{quoted(command.does)}'"
-        if command.name.startswith("--")
-        else f"{first} -a {command.name} -d '{quoted(command.does)}'"
-        for command in table.commands
-    ]
+    commands = [f"{first} {word_for_fish(command.name)} -d '{quoted(command.does)}'" for command in commands_of(table).values()]
     with_layout = " ".join(command.name for command in table.commands if "LAYOUT" in command.operands)
     commands.append(f"complete -c cfpp -n '__fish_seen_subcommand_from {with_layout}' -a plain -d 'the built-in layout'")
     with_command = " ".join(command.name for command in table.commands if COMMAND in command.operands)
     if with_command:
-        commands.append(f"complete -c cfpp -n '__fish_seen_subcommand_from {with_command}' -f -a '{' '.join(names_of(table))}'")
+        commands.append(f"complete -c cfpp -n '__fish_seen_subcommand_from {with_command}' -f -a '{helped(table)}'")
     return FISH.format(commands="\n".join(commands), options="\n".join(map(option_for_fish, table.options)))

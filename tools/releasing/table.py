@@ -3,8 +3,8 @@ import dataclasses
 import pathlib
 
 TABLE = pathlib.Path(__file__).resolve().parent.parent / "terminal" / "commands.txt"
-# What means a number, or the name of a command, instead of a file.
-NUMBER, COMMAND = "N", "COMMAND"
+# What means a number, the name of a command, or that of a rule, instead of a file.
+NUMBER, COMMAND, RULE = "N", "COMMAND", "RULE"
 REPEATED = ".."
 
 
@@ -37,6 +37,10 @@ class Option:
     def is_literal(self):
         """Whether the value is given literally."""
         return self.value.islower()
+
+    def is_file(self):
+        """Whether the value is the name of a file."""
+        return self.value.isupper() and self.value not in (NUMBER, RULE)
 
 
 @dataclasses.dataclass(frozen=True)

@@ -56,8 +56,8 @@ tell_fault() { # tell_fault WHAT ARGUMENT..: names the file that could not be re
 
 tell_argument() { # tell_argument INDEX ARGUMENT..: names the argument that is none
     local at=$(($1 + 1)) all=" $* "
-    if [[ $all == *" --help "* || $all == *" -h "* || $all == *" help "* ]]; then
-        echo "cfpp: cfpp help prints all commands and options"
+    if [[ ${2--} != -* && ( $all == *" --help "* || $all == *" -h "* ) ]]; then
+        echo "cfpp: cfpp help $2 prints its arguments and options"
     elif [ "$at" -lt $# ]; then
         shift "$at"
         echo "cfpp: unrecognised argument '$1'; see cfpp help"
@@ -75,6 +75,71 @@ tell_text() { # tell_text ARGUMENT..: says so where the program is a file of pri
     fi
 }
 
+filled() { # filled FORM REASON TEXT: the text with what the reason keeps, for the words that stand for it in the form
+    local form given word at made=
+    read -r -a form <<<"$1"
+    read -r -a given <<<"$2"
+    [ "${#form[@]}" -eq "${#given[@]}" ] && [ "${form[0]}" = "${given[0]}" ] || return 1
+    set -f
+    for word in $3; do
+        for at in "${!form[@]}"; do
+            if [ "$at" -gt 0 ] && [[ $word =~ ^${form[at]}([^A-Za-z]*)$ ]]; then
+                word=${given[at]}${BASH_REMATCH[1]}
+                break
+            fi
+        done
+        made+=" $word"
+    done
+    set +f
+    printf 'cfpp:%s\n' "${made//\`/}"
+}
+
+tell_reason() { # tell_reason SECTION REASON: why, as this section of ERRORS.md says it
+    local section=$1 reason=$2 line form why here=
+    [ -r "$errors" ] || return 0
+    while IFS= read -r line; do
+        case $line in
+            "## "*) here=${line#"## "} ;;
+            "| \`"*)
+                IFS='|' read -r _ form why _ <<<"$line"
+                if [ "$here" = "$section" ] && filled "${form//\`/}" "$reason" "$why"; then return 0; fi
+                ;;
+        esac
+    done <"$errors"
+}
+
+tell_label() { # tell_label LINE SOURCE: names the label of a line of the source that no line defines
+    local text word register='^(x[0-9]+|zero|ra|sp|gp|tp|fp|t[0-6]|s[0-9]|s1[01]|a[0-7])$'
+    [ -r "$2" ] || return 0
+    text=$(sed -n "$1{s/#.*//;s/^[[:space:]]*[A-Za-z_.\$][A-Za-z0-9_.\$]*://;p}" "$2")
+    read -r _ text <<<"$text"
+    while IFS= read -r word; do
+        read -r word <<<"$word"
+        if [[ $word =~ ^[A-Za-z_.$] && ! $word =~ $register ]] &&
+            ! awk -v label="$word:" '{ sub(/^[ \t]+/, "") } index($0, label) == 1 { found = 1 } END { exit !found }' "$2"; then
+            echo "cfpp: $2, line $1: no line defines the label $word"
+            return
+        fi
+    done <<<"${text//,/$'\n'}"
+}
+
+tell_refusal() { # tell_refusal LINE ARGUMENT..: explains the first line of a report
+    local reason=${1#*: } line=${1%%: *}
+    reason=${reason#Refused }
+    reason=${reason#Elf }
+    case $1 in
+        "bad source line "*": NoLabel") tell_label "${line##* }" "${3-}" ;;
+        "bad source line "*) tell_reason Assembly "$reason" ;;
+        "barred at line "*) tell_reason Bars "$reason" ;;
+        "bad layout: "*) tell_reason Layouts "$reason" ;;
+        "bad program: "*) tell_reason Programs "${reason#Load }" ;;
+        "bad script line "*) tell_reason Scripts "$reason" ;;
+        "bad delays line "*) tell_reason Delays "$reason" ;;
+        "bad trace line "*": Barred "*) tell_reason Bars "${reason#Barred }" ;;
+        "bad trace line "*) tell_reason Traces "$reason" ;;
+    esac
+}
+
 explained() { # explained ARGUMENT..: hands the report on, with the hints
     local first
     IFS= read -r first || { printf '%s' "$first"; return; }
@@ -82,18 +147,33 @@ explained() { # explained ARGUMENT..: hands the report on, with the hints
     case $first in
         "bad words at "*) tell_argument "${first##* }" "$@" ;;
         "read fault "*) tell_fault "${first##* }" "$@" ;;
+        *) tell_refusal "$first" "$@" ;;
     esac
     cat
     tell_text "$@"
 }
 
-run_program() { # run_program PROGRAM COMMANDS EXAMPLES ARGUMENT..: the program's file, the table of commands, the directory of the examples
-    local program=$1 commands=$2 examples=$3 status
-    shift 3
-    # At a terminal the debugger's lines are edited by rlwrap, which keeps their history, where it is installed.
-    if [ "${1-}" = debug ] && [ -t 0 ] && command -v rlwrap >/dev/null; then
-        exec rlwrap -C cfpp "$program" "$@"
+debug_by_hand() { # debug_by_hand PROGRAM COMMANDS debug LAYOUT GUEST: a session at a terminal; returns where nobody types
+    local program=$1 words=${2%/*}/debugger.txt session=${2%/*}/../session editor=()
+    shift 2
+    [ -t 0 ] || return 0
+    # rlwrap edits lines, keeps their history and completes the words of the commands, where it is installed.
+    if command -v rlwrap >/dev/null; then
+        editor=(rlwrap -C cfpp)
+        [ ! -e "$words" ] || editor+=(-f "$words")
     fi
+    if [ -t 1 ] && [ -t 2 ] && [ -x "$session" ] && command -v python3 >/dev/null; then
+        exec "${editor[@]}" "$session" "$program" "$2" "$3"
+    elif [ "${#editor[@]}" -gt 0 ]; then
+        exec "${editor[@]}" "$program" "$@"
+    fi
+}
+
+run_program() { # run_program PROGRAM COMMANDS EXAMPLES ARGUMENT..: the program's file, the table of commands, the directory of the examples
+    local program=$1 commands=$2 examples=$3 errors=${3%/*}/docs/ERRORS.md status
+    [ -e "$errors" ] || errors=${3%/*}/ERRORS.md
+    shift 3
+    [ "${1-}" != debug ] || [ $# -ne 3 ] || debug_by_hand "$program" "$commands" "$@"
     [ -t 2 ] || exec "$program" "$@"
     {
         "$program" "$@" 2>&1 >&3 3>&- | explained "$@" >&2

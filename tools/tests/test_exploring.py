@@ -4,12 +4,14 @@ from __future__ import annotations
 
 import csv
 import os
+import pathlib
 import random
 import shutil
 import subprocess
 
 import pytest
 
+from cfpp_tools.exploring.explore import Exploration
 from cfpp_tools.exploring.space import Space
 from cfpp_tools.exploring.task import read_task
 from cfpp_tools.front import Point, drawing, front_of, labels_of
@@ -41,6 +43,26 @@ def test_costs_and_energy(examples):
     # Three stages of 4, a lane of 4, two cells of 2, a cache of 6, two adders of 4 and a shifter of 4.
     assert task.cost_of(layout) == 12 + 4 + 4 + 6 + 8 + 4
     assert task.energy_of({"issue": 3, "access": 2, "leave": 9}) == 6 + 20
+
+
+def test_the_runs_of_a_layout(examples):
+    """A run of each program from each seed, under the guess rule."""
+    task = read_task(examples / "spaces" / "few_stages.toml")
+    delays = os.path.relpath(examples / "delays" / "ranges.delays")
+    assert task.schedules == [f"delays {delays} seed {seed} guess backward" for seed in (1, 2, 3)]
+
+
+def test_the_mean_of_the_seeds(examples, tmp_path):
+    """By hand: the means of the seeds are 20 and 80, of which the geometric mean is 40; 24 is 4 away from 20, and 88 is 8 from 80."""
+    exploration = Exploration(read_task(examples / "spaces" / "few_stages.toml"), tmp_path, [])
+    times = {"sorted": (16, 20, 24), "fibonacci": (72, 80, 88)}
+    runs = [run for program in exploration.task.programs for run in exploration.runs("a.toml", program)]
+    rows = {
+        run: {"program": run.program, "time": str(times[pathlib.Path(run.program).stem][at % 3]), "kinds": "issue=5 leave=7"}
+        for at, run in enumerate(runs)
+    }
+    found = exploration.measured("a.toml", Layout(2, 2, False, {"add": (1,)}, ()), rows)
+    assert (found.time, found.energy, found.spread) == (pytest.approx(40), pytest.approx(10), pytest.approx(0.2))
 
 
 def test_the_front():
@@ -84,6 +106,15 @@ def test_all_points(tools, tmp_path, examples, built):
     assert len(rows) == 12 and {row["cost"] for row in rows} == {"3", "4", "5"}
     front = [row["layout"] for row in csv.DictReader(open(folder / "front.csv"))]
     assert sorted(path.stem for path in (folder / "best").iterdir()) == sorted(front)
+
+
+def test_runs_by_gnu_parallel(tools, tmp_path, examples, built):
+    if not shutil.which("parallel"):
+        pytest.skip("GNU parallel is not installed")
+    name = task_file(tmp_path, examples, "seed = 1")
+    for folder, options in (("here", []), ("by_parallel", ["--", "--jobs", "2"])):
+        subprocess.run([tools / "explore", name, tmp_path / folder, *options], check=True)
+    assert (tmp_path / "here" / "table.csv").read_text() == (tmp_path / "by_parallel" / "table.csv").read_text()
 
 
 def test_a_climb(tools, tmp_path, examples, built):

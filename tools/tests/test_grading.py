@@ -35,7 +35,7 @@ def test_a_goal_without_an_answer(tools, tmp_path):
 
 
 def test_a_class(tools, examples, tmp_path, built):
-    right = (examples / "lab" / "counted.script").read_text()
+    right = (examples / "answers" / "counted.script").read_text()
     scripts = {"ann": right, "ben": (examples / "scripts" / "garnering.script").read_text(), "cal": "issue next\nfrob\n"}
     for name, text in scripts.items():
         (tmp_path / name).mkdir()

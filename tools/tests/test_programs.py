@@ -8,7 +8,9 @@ import subprocess
 
 import pytest
 
-NAMES = "annotate audits commands explore fuzz grade memory_answers orders plot report sweep trace".split()
+NAMES = "annotate audits commands explore fuzz grade memory_answers orders plot profile report session sweep trace".split()
+OF_THE_REPOSITORY = "against_qemu checks compile edits expensive language names numbers program prove refusals release rests_on".split()
+NOT_INSTALLED = ("audits", "commands", "fuzz", "memory_answers", "session")
 
 
 def call(tools, name, *arguments, given=None, **more):
@@ -21,10 +23,21 @@ def test_help(tools, name):
     assert made.returncode == 0 and made.stdout.startswith(f"usage: tools/{name} ") and made.stderr == ""
 
 
+@pytest.mark.parametrize("name", OF_THE_REPOSITORY)
+def test_help_of_the_repository(tools, name):
+    """It says how the tool is called, and does nothing else: a proof or a release would take minutes."""
+    made = call(tools, name, "--help", timeout=20)
+    assert made.returncode == 0 and f"    tools/{name}" in made.stdout and made.stderr == ""
+
+
+def test_each_tool_has_help(tools):
+    assert sorted(path.name for path in tools.iterdir() if os.access(path, os.X_OK) and path.is_file()) == sorted(NAMES + OF_THE_REPOSITORY)
+
+
 @pytest.mark.parametrize("name", NAMES)
 def test_help_of_what_pip_installs(tools, name):
     made = subprocess.run(["grep", "-c", f'"cfpp_tools.installed:{name}"', tools / "pyproject.toml"], capture_output=True, text=True)
-    assert made.stdout.strip() == ("0" if name in ("audits", "commands", "fuzz", "memory_answers") else "1")
+    assert made.stdout.strip() == ("0" if name in NOT_INSTALLED else "1")
 
 
 @pytest.mark.parametrize("name", NAMES)

@@ -17,7 +17,7 @@ from cfpp_tools.readers.retirements import Retirement, read_retirements
 from cfpp_tools.readers.runs import RunReport, read_run
 from cfpp_tools.readers.sessions import Automatic, Bound, Bytes, Moved, RefusedCommand, SessionReport, read_session
 from cfpp_tools.readers.tallies import Tally, read_tally
-from cfpp_tools.readers.times import read_times
+from cfpp_tools.readers.times import Latency, TimedMove, Use, read_times
 from cfpp_tools.readers.traces import read_groups, read_trace
 
 
@@ -116,6 +116,35 @@ def test_times(quoted):
     assert report.least == "examples/layouts/tiny.toml"
 
 
+def test_the_moves_of_a_timed_run(quoted):
+    text = quoted("MANUAL.md", "move 1 from 0 to 1 issue next")
+    (run,) = read_times(Lines(text)).runs
+    assert run.made == (
+        TimedMove(1, 0, 1, Move("issue next", "issue")),
+        TimedMove(2, 1, 2, Move("climb 1", "climb", stage=1)),
+        TimedMove(3, 2, 3, Move("leave", "leave")),
+    )
+    assert (run.layout, run.ending.cause, run.time, run.moves, run.retired) == ("tiny.toml", 1, 3, 3, 0)
+    assert read_report(text) == read_times(Lines(text))
+    # Each layout counts its moves from 1.
+    both = text.replace("least tiny.toml\n", "") * 2 + "least tiny.toml\n"
+    assert [run.made for run in read_times(Lines(both)).runs] == [run.made] * 2
+
+
+@pytest.mark.parametrize(
+    "old, new, reason",
+    [
+        ("move 2 from 1 to 2 climb 1\n", "", "line 2: move 2 is missing"),
+        ("from 1 to 2", "from 2 to 2", "line 2: the move takes no time"),
+        ("climb 1", "climb", "line 2: `climb` is not a move"),
+        ("tiny.toml: trap", "tiny.toml trap", "line 4: no line of a layout"),
+    ],
+)
+def test_moves_of_a_timed_run_with_a_fault(quoted, old, new, reason):
+    with pytest.raises(ReadFault, match=f"^{reason}"):
+        read_times(Lines(quoted("MANUAL.md", "move 1 from 0 to 1 issue next").replace(old, new, 1)))
+
+
 TWO_STAGES = """tiny.toml: exit 7 time 35 moves 19 retired 2
 stage 2 busy 31
 stage 1 busy 15
@@ -128,9 +157,17 @@ least tiny.toml
 
 def test_what_a_time_is_made_of():
     (run,) = read_times(Lines(TWO_STAGES)).runs
-    assert run.sites is not None and run.sites.stages == {2: 31, 1: 15} and run.sites.sidings == {0: 0}
+    assert run.sites is not None and run.sites.stages == {2: Use(31), 1: Use(15)} and run.sites.sidings == {0: 0}
     assert run.sites.moves["leave"] == 3 and run.sites.chain["leave"] == 1
     assert sum(run.sites.moves.values()) == run.moves == 19
+
+
+def test_what_waits_and_how_long_instructions_took():
+    """The use of a stage makes up the time."""
+    text = TWO_STAGES.replace("busy 31", "busy 31 waiting 3 empty 1").replace("busy 15", "busy 15 waiting 0 empty 20")
+    (run,) = read_times(Lines(text.replace("chain ", "add retired 1 ticks 9\nserial retired 1 ticks 24\nchain "))).runs
+    assert run.sites is not None and run.sites.stages == {2: Use(31, 3, 1), 1: Use(15, 0, 20)}
+    assert run.sites.latencies == {"add": Latency(1, 9), "serial": Latency(1, 24)}
 
 
 def test_the_answers_of_audit():
@@ -178,6 +215,9 @@ def test_the_debugger():
         ("no memory", 130),
         ("bad delays line 1: KindTwice", 131),
         ("bad trace: TooLong", 132),
+        ("bad input: TooLong", 137),
+        ("bad log line 7: Barred NotMet", 134),
+        ("log end after 2 moves", 135),
     ],
 )
 def test_endings(line, status):

@@ -4,6 +4,7 @@ from __future__ import annotations
 
 import os
 import random
+import shutil
 import signal
 import subprocess
 import sys
@@ -55,10 +56,14 @@ def test_another_table_is_refused(tmp_path):
     assert name.read_text() == "a,b\n1,2\n"
 
 
-def elsewhere(name, code):
-    """Does something with the table in another process: a process does not lock itself out."""
+def doing(name, code):
+    """The call that does something with the table in another process: a process does not lock itself out."""
     head = f"from tests.test_sweeping import row, runs\nfrom cfpp_tools.sweeping.table import Table\ntable = Table({str(name)!r})\n"
-    subprocess.run([sys.executable, "-c", head + code], cwd=TOOLS, check=True)
+    return [sys.executable, "-c", head + code]
+
+
+def elsewhere(name, code):
+    subprocess.run(doing(name, code), cwd=TOOLS, check=True)
 
 
 def numbers(name):
@@ -70,13 +75,25 @@ def test_rows_are_put_in_order_by_the_last_alone(tmp_path):
     with Table(name) as table:
         for number in (2, 1, 0):
             table.add(row(number))
-        elsewhere(name, "table.arrange(runs(3))")
+        elsewhere(name, "table.add(row(4)); table.finish(runs(3))")
         table.add(row(3))
-        assert numbers(name) == [2, 1, 0, 3]
-        table.arrange(runs(3))
-        assert numbers(name) == [0, 1, 2, 3]
-        elsewhere(name, "table.add(row(4))")
+        assert numbers(name) == [2, 1, 0, 4, 3]
+        table.finish(runs(4))
     assert numbers(name) == [0, 1, 2, 3, 4]
+
+
+def test_of_two_that_end_at_the_same_time_the_second_is_the_last(tmp_path):
+    name = tmp_path / "table.csv"
+    with Table(name) as table:
+        table.add(row(1))
+        table.add(row(0))
+        waits = doing(name, "table.finish(runs(2)); print('finished', flush=True); input()")
+        with subprocess.Popen(waits, cwd=TOOLS, stdin=subprocess.PIPE, stdout=subprocess.PIPE, text=True) as other:
+            assert other.stdout.readline() == "finished\n" and numbers(name) == [1, 0]
+            table.finish(runs(2))
+            assert numbers(name) == [0, 1]
+            other.communicate("\n")
+    assert other.returncode == 0
 
 
 def test_the_row_of_another_process_is_not_added_again(tmp_path):
@@ -128,21 +145,53 @@ def test_two_sweeps_at_once(tmp_path, examples, whole, number):
     table = tmp_path / "table.csv"
     both = [subprocess.Popen(call_of(table, examples)) for _ in range(2)]
     assert [process.wait() for process in both] == [0, 0]
-    # Each row once, the header first; which sweep is ahead with the next row is not fixed.
-    lines = table.read_text().splitlines()
-    assert lines[0] == whole.splitlines()[0] and sorted(lines) == sorted(whole.splitlines())
+    assert table.read_text() == whole
+
+
+def rows_in(table):
+    """The rows of a table that is being made, without one that was cut off."""
+    return table.read_text().split("\n")[1:-1] if table.exists() else []
+
+
+def killed(table, examples, reached):
+    """Starts a sweep, and kills it when it has reached something; False where it has ended before."""
+    process = subprocess.Popen(call_of(table, examples), start_new_session=True, stderr=subprocess.DEVNULL)
+    while process.poll() is None and not reached():
+        time.sleep(0.0001)
+    if process.returncode is None:
+        os.killpg(process.pid, signal.SIGKILL)
+    return process.wait() == -signal.SIGKILL
 
 
 def test_killed_at_twenty_moments(tmp_path, examples, whole):
+    """Each a moment after the sweep has added some rows. Where it is whole before, another is begun."""
     table = tmp_path / "table.csv"
     draw = random.Random(1)
-    for _ in range(20):
-        process = subprocess.Popen(call_of(table, examples), start_new_session=True, stderr=subprocess.DEVNULL)
-        time.sleep(draw.uniform(0.05, 0.4))
-        os.killpg(process.pid, signal.SIGKILL)
-        process.wait()
+    kills = 0
+    while kills < 20:
+        before = set(rows_in(table))
+        wanted, moment = len(before) + draw.randint(1, 4), draw.uniform(0, 0.01)
+        if killed(table, examples, lambda: len(rows_in(table)) >= wanted and time.sleep(moment) is None):
+            kills += 1
+            after = rows_in(table)
+            assert before <= set(after) <= set(whole.splitlines()) and len(set(after)) == len(after)
+        else:
+            assert table.read_text() == whole
+            table.unlink()
     subprocess.run(call_of(table, examples), check=True)
     assert table.read_text() == whole
+
+
+def test_killed_while_the_rows_are_put_in_order(tmp_path, examples, whole):
+    head, *rows = whole.splitlines(keepends=True)
+    backwards = head + "".join(rows[::-1])
+    table = tmp_path / "table.csv"
+    for _ in range(5):
+        table.write_text(backwards)
+        killed(table, examples, table.with_name("table.csv.new").exists)
+        assert table.read_text() in (backwards, whole)
+        subprocess.run(call_of(table, examples), check=True)
+        assert table.read_text() == whole
 
 
 def test_an_array_of_four(tmp_path, examples, whole):
@@ -151,6 +200,14 @@ def test_an_array_of_four(tmp_path, examples, whole):
         subprocess.run([*call_of(table, examples), "--slice", f"{number}/4"], check=True)
     subprocess.run([os.path.join(TOOLS, "sweep"), str(tmp_path / "all.csv"), "--join", *map(str, tables)], check=True)
     assert (tmp_path / "all.csv").read_text() == whole
+
+
+def test_runs_by_gnu_parallel(tmp_path, examples, whole):
+    if not shutil.which("parallel"):
+        pytest.skip("GNU parallel is not installed")
+    table = tmp_path / "table.csv"
+    subprocess.run([*call_of(table, examples), "--", "--jobs", "2"], check=True)
+    assert table.read_text() == whole
 
 
 @pytest.mark.parametrize("arguments", [[], ["--layouts", "plain", "--programs", "p"], ["--join", "t", "--rule"]])

@@ -1,4 +1,4 @@
-"""What the page offers to begin with: the runs of docs/LAB.md by lesson, some programs, and the layouts of both."""
+"""What the page offers to begin with: the runs of docs/LAB.md by lesson, some programs, the layouts of both, and files of delays."""
 import base64
 import json
 import pathlib
@@ -76,6 +76,12 @@ def layouts():
         named = [layout for layout, _, _ in RUN.findall(line)] + CHECK.findall(line)
         files += [TOP / name for name in named if name.endswith(".toml")]
     return {name_of(file): file.read_text() for file in files}
+
+
+def delays():
+    """The files of delays by name, those that are all equal first."""
+    files = sorted((TOP / "examples" / "delays").glob("*.delays"), key=lambda it: (it.stem != "equal", it.stem))
+    return {file.stem: file.read_text() for file in files}
 
 
 def examples():

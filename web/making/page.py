@@ -6,7 +6,8 @@ import json
 import pathlib
 import re
 
-from making.examples import examples
+from making.examples import delays, examples
+from making.rules import rules
 
 WEB = pathlib.Path(__file__).resolve().parent.parent
 TOP = WEB.parent
@@ -14,11 +15,15 @@ SOURCE = WEB / "src"
 LIBRARY = WEB / "library"
 PAGE = WEB / "cfpp.html"
 MAIN = "main"
+# What the page shows of the repository's documents and examples, each an element with its data.
+SHOWN = ("explanations", "rules", "delays", "examples")
 # Without the examples the page has at most so many bytes.
 MOST = 520_000
 
 IMPORT = re.compile(r'^import \{ (.*) \} from "(?:\./|\.\./library/)(\w+)\.js";$', re.M)
 EXPORT = re.compile(r"^export (?:async )?(?:class|function|const) (\w+)", re.M)
+# A comment of lines of its own, which the page can do without.
+COMMENT = re.compile(r"^ *//.*\n", re.M)
 # What a bundled library exports, as `export{a as h}`.
 EXPORT_LIST = re.compile(r"export ?\{([^}]*)\};?\s*$")
 
@@ -44,8 +49,8 @@ def modules_in_order():
 
 
 def code_of(name):
-    """A module as a constant that has what it exports, so that the names of two modules cannot clash."""
-    text = text_of(name)
+    """A module as a constant that has what it exports, so that the names of two modules cannot clash; without its comments."""
+    text = COMMENT.sub("", text_of(name))
     listed = EXPORT_LIST.search(text)
     pairs = re.findall(r"(\w+) as (\w+)", listed.group(1)) if listed else [(it, it) for it in EXPORT.findall(text)]
     exported = ", ".join(f"{shown}: {own}" for own, shown in pairs)
@@ -96,7 +101,7 @@ def policy(styles, code):
 
 def shown():
     """What the page shows of the repository's documents and examples."""
-    return {"explanations": explanations(), "examples": examples()}
+    return {"explanations": explanations(), "rules": rules(), "delays": delays(), "examples": examples()}
 
 
 def assembled(module, built, shown):
@@ -114,6 +119,8 @@ def assembled(module, built, shown):
         as_data("application/octet-stream", "module", module),
         as_json("built", built),
         as_json("explanations", shown["explanations"]),
+        as_json("rules", shown["rules"]),
+        as_json("delays", shown["delays"]),
     ]
     # The code comes last: it runs when all that it reads stands there.
     end = [f"<script>{code}</script>\n</body>\n</html>\n"]
@@ -156,11 +163,17 @@ def packed(module):
     return base64.b64encode(gzip.compress(module, 9, mtime=0)).decode()
 
 
-def kept():
-    """The module of the page that is kept, as packed text, what that page was built from, and what it shows."""
-    text = PAGE.read_text()
-    module, built, *parts = (
-        re.search(f'id="data-{name}">([^<]*)</script>', text).group(1)
-        for name in ("module", "built", "explanations", "examples")
-    )
-    return module, json.loads(built), dict(zip(("explanations", "examples"), map(json.loads, parts)))
+def part_of_page(name):
+    """What an element of the kept page has; nothing of value where an older page has no such element."""
+    found = re.search(f'id="data-{name}">([^<]*)</script>', PAGE.read_text())
+    return found.group(1) if found else "null"
+
+
+def kept_module():
+    """The module of the page that is kept, as packed text, and what that was built from."""
+    return part_of_page("module"), json.loads(part_of_page("built"))
+
+
+def kept_shown():
+    """What the page that is kept shows."""
+    return {name: json.loads(part_of_page(name)) for name in SHOWN}

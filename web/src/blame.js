@@ -42,9 +42,14 @@ function comesFrom(register, stage, layout, picture) {
   return "lane";
 }
 
+// The stage at which a move is made, that of an end of the pipes included.
+function stageAt(stage, move, layout) {
+  return stage || (kindOf(move) === "exit" ? 1 : layout.stages);
+}
+
 const BARS = {
   Occupied: ({ move, layout }) => targetOf(move, layout),
-  NotMet: ({ stage }) => `meeting ${stage}`,
+  NotMet: ({ stage, move, layout }) => `meeting ${stageAt(stage, move, layout)}`,
   AlreadyMet: ({ stage }) => `meeting ${stage}`,
   NoPassenger: ({ stage, layout }) => `passenger ${stage || layout.stages}`,
   NoPacket: ({ stage }) => `packet ${stage || 1}`,

@@ -40,6 +40,16 @@ export function explanations() {
   return JSON.parse(part("explanations"));
 }
 
+// The rules that can be taken away, with their programs and the layouts of these.
+export function rulesOfPage() {
+  return JSON.parse(part("rules"));
+}
+
+// The files of delays by name.
+export function delaysOfPage() {
+  return JSON.parse(part("delays"));
+}
+
 export function built() {
   return JSON.parse(part("built"));
 }

@@ -5,7 +5,7 @@ import { geometryOf } from "./geometry.js";
 import { chip, chipWidth, cut, stageGroup } from "./stages.js";
 import { memorySiding } from "./layout.js";
 import { motionOf } from "./motion.js";
-import { REGISTER_FILE, bindingText, instructionText, registerName, valueText } from "./values.js";
+import { REGISTER_FILE, bindingText, instructionText, numberText, registerName, valueText } from "./values.js";
 
 function allowed(view, moves) {
   return moves.filter((move) => view.picture.allowed.includes(move));
@@ -70,8 +70,8 @@ function lane(view, geometry) {
 function operationIn(view, at, cell) {
   const held = view.picture.sidings.get(at)?.[cell] ?? "-";
   if (held === "-") return null;
-  const name = `#${view.who.sidings[at][cell]}`;
-  return { name, text: instructionText(view.texts, held.replace("*", "")), isAnswered: held.endsWith("*") };
+  const text = `${numberText(view.who.sidings[at]?.[cell])}${instructionText(view.texts, held.replace("*", ""))}`;
+  return { text, isAnswered: held.endsWith("*") };
 }
 
 function movesOfCell(view, at, cell) {
@@ -85,7 +85,7 @@ function sidingCell(view, at, cell, box) {
   const middle = box.y + box.height / 2;
   const isLow = box.height < 40;
   const kind = operation ? `holds${operation.isAnswered ? " answered" : ""}` : "";
-  const words = operation ? `: ${operation.name} ${operation.text}${operation.isAnswered ? ", answered" : ""}` : " is empty";
+  const words = operation ? `: ${operation.text}${operation.isAnswered ? ", answered" : ""}` : " is empty";
   const fitting = moves.filter((move) => chipWidth(move) <= box.width);
   const hasBeside = fitting.length > 0 && isLow;
   const place = { x: hasBeside ? box.x + 5 : box.x + box.width / 2, y: middle + (fitting.length > 0 && !isLow ? -4 : 5) };
@@ -93,7 +93,7 @@ function sidingCell(view, at, cell, box) {
   const motion = motionOf(view, `cell ${at} ${cell}`);
   return svg("g", { class: `cell ${kind}${motion}`, role: "img", "aria-label": `siding ${at}, cell ${cell}${words}` },
     svg("rect", { ...box, rx: 5, class: "slot-of-cell" }),
-    operation && svg("text", { ...place, class: `code small${hasBeside ? "" : " center"}` }, cut(`${operation.name} ${operation.text}`, letters)),
+    operation && svg("text", { ...place, class: `code small${hasBeside ? "" : " center"}` }, cut(operation.text, letters)),
     fitting.map((move) => chip(move, box.x + box.width - chipWidth(move) - 2, isLow ? middle - 11 : middle + 2)));
 }
 

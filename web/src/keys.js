@@ -16,6 +16,7 @@ const OTHER_KEYS = [
   ["Home", "take all moves back"],
   ["End", "all moves again that were taken back"],
   ["n", "a round: moves that share no place, made at once"],
+  ["y", "a tick: the moves of a timed run that finish at one time"],
   ["q", "Predict: say what a move does before it is shown; or no more"],
   ["p", "the projector: the pipes with all the room, or the panels again"],
   ["b", "back to the script, where moves of your own left it"],

@@ -11,6 +11,9 @@ import { pictureText } from "./picture.js";
 import { bytesOf, text } from "./program.js";
 import { readStop } from "./stop.js";
 
+// What is filled in once it is opened.
+const DETAILS = ["barred", "report", "memory", "goal", "time", "graph", "ticks"];
+
 function save(name, parts) {
   const link = made(html("a", { download: name, href: URL.createObjectURL(new Blob(parts)) }));
   link.click();
@@ -46,12 +49,12 @@ function listenToSetup(page) {
 }
 
 function listenToControls(page) {
-  for (const action of ["rewind", "back", "again", "forward", "step", "round", "rejoin"]) byId(action).addEventListener("click", () => page[action]());
+  for (const action of ["rewind", "back", "again", "forward", "step", "round", "tick", "rejoin"]) byId(action).addEventListener("click", () => page[action]());
   byId("play").addEventListener("click", () => page.player.toggle());
   byId("schedule").addEventListener("change", () => page.reschedule());
   byId("seed").addEventListener("input", () => page.reschedule());
   byId("predict").addEventListener("click", () => page.predict.toggle());
-  byId("two-orders").addEventListener("click", () => page.second.toggle());
+  byId("two-orders").addEventListener("click", () => page.beside(page.second));
   byId("finish").addEventListener("click", () => page.second.finish());
   for (const id of ["second-by", "second-seed"]) byId(id).addEventListener("input", () => {
     page.second.restart();
@@ -71,7 +74,50 @@ function listenToControls(page) {
     event.preventDefault();
     if (page.make(byId("move-line").value.trim())) byId("move-line").value = "";
   });
-  for (const id of ["barred-details", "report-details", "memory-details", "goal-details", "time-details"]) byId(id).addEventListener("toggle", () => page.show());
+  for (const part of DETAILS) byId(`${part}-details`).addEventListener("toggle", () => page.show());
+}
+
+// The rules that can be taken away.
+function listenToHunt(page) {
+  byId("hunt-button").addEventListener("click", () => page.beside(page.hunt));
+  byId("hunt").addEventListener("click", () => page.hunt.begin());
+  byId("put-back").addEventListener("click", () => page.hunt.putBack());
+  byId("hunt-rule").addEventListener("change", () => {
+    page.hunt.chooseRule();
+    page.resize();
+  });
+  byId("hunt-moves").addEventListener("click", ({ target }) => {
+    const chosen = target.closest("[data-at]");
+    if (chosen) page.hunt.go(Number(chosen.dataset.at));
+  });
+}
+
+// The picture of all orders, and the delays of ticks.
+function listenToOrders(page) {
+  byId("graph-issues").addEventListener("change", () => {
+    page.graph.clear();
+    page.show();
+  });
+  byId("graph-nodes").addEventListener("click", ({ target }) => {
+    const node = target.closest("[data-node]");
+    if (node) page.graph.go(Number(node.dataset.node));
+  });
+  byId("delays-choice").addEventListener("change", () => {
+    page.ticks.choose();
+    page.show();
+  });
+  byId("delays").addEventListener("input", () => {
+    page.ticks.clear();
+    page.show();
+  });
+}
+
+// What the program in this page has no command for is not shown.
+function offerWhatThereIs(page) {
+  const { searches, showsTimedMoves } = page.simulator;
+  for (const id of ["hunt-button", "graph-details"]) byId(id).hidden = !searches;
+  for (const id of ["tick", "ticks-details"]) byId(id).hidden = !showsTimedMoves;
+  page.ticks.isThere = showsTimedMoves;
 }
 
 function listenToScript(page) {
@@ -113,6 +159,7 @@ function listenToDrawing(page) {
     p: () => page.project(),
     q: () => page.predict.toggle(),
     n: () => page.round(),
+    y: () => page.ticks.isThere && page.tick(),
     " ": () => page.player.toggle(),
     ArrowUp: () => page.select(page.selected + 1),
     ArrowDown: () => page.select(page.selected - 1),
@@ -149,6 +196,9 @@ async function begin() {
   listenToControls(page);
   listenToScript(page);
   listenToDrawing(page);
+  listenToHunt(page);
+  listenToOrders(page);
+  offerWhatThereIs(page);
   const { commit, kit, sources } = built();
   byId("built").textContent = `The program is that of commit ${commit}, built with ${kit}. Its sources have the checksum ${sources}.`;
   document.body.classList.toggle("bare", new URLSearchParams(location.search).has("bare"));

@@ -3,11 +3,13 @@
 import { blameOf } from "./blame.js";
 import { captionOf } from "./captions.js";
 import { OWN } from "./choices.js";
-import { examples, explanations, fromBase64 } from "./data.js";
+import { delaysOfPage, examples, explanations, fromBase64, rulesOfPage } from "./data.js";
 import { draw } from "./drawing.js";
 import { byId, fill, html, sentence } from "./element.js";
 import { Editors } from "./editors.js";
 import { GoalPanel } from "./goal_panel.js";
+import { GraphPanel } from "./graph_panel.js";
+import { HuntPanel } from "./hunt_panel.js";
 import { memorySiding } from "./layout.js";
 import { MemoryPanel } from "./memory_panel.js";
 import { chosenAfter } from "./moves.js";
@@ -26,6 +28,7 @@ import { Simulator } from "./simulator.js";
 import { allowedAt } from "./stages.js";
 import { NO_STOP, stopReached } from "./stop.js";
 import { namesOfMeeting, told } from "./telling.js";
+import { TicksPanel } from "./ticks_panel.js";
 import { showTimeline } from "./timeline_panel.js";
 
 // The sequential machine and the random orders go no further than this many retired instructions.
@@ -45,6 +48,9 @@ export class Page {
     this.predict = new Predict(this);
     this.goal = new GoalPanel(() => this.show());
     this.second = new SecondOrder(this);
+    this.hunt = new HuntPanel(this, rulesOfPage());
+    this.graph = new GraphPanel(this);
+    this.ticks = new TicksPanel(this, delaysOfPage());
     // The questions of the lesson on the script that is played.
     this.questions = [];
     this.selected = 1;
@@ -85,8 +91,11 @@ export class Page {
     showReport(view.picture);
     this.memory.show(this.session);
     this.goal.show(this.session);
-    showTimeline(this.session);
+    showTimeline(this.session, this.ticks.finishes);
     this.second.show();
+    this.hunt.show();
+    this.graph.show();
+    this.ticks.show();
     byId("back").disabled = byId("rewind").disabled = this.session.steps.length === 0;
     byId("again").disabled = byId("forward").disabled = this.session.undone.length === 0;
     byId("step").disabled = view.picture.allowed.length === 0 && this.session.undone.length === 0;
@@ -193,6 +202,13 @@ export class Page {
     this.show();
   }
 
+  // Makes all moves of a timed run which finish at the next time.
+  tick() {
+    this.forgive();
+    this.ticks.step();
+    this.show();
+  }
+
   // Makes one move, of those that were taken back the last, or else what the schedule chooses. Whether it was made.
   advanceAlone() {
     const step = this.session.undone.at(-1);
@@ -296,6 +312,13 @@ export class Page {
 
   // What is worked on.
 
+  // Shows a second drawing beside the pipes, or none: the two that there are exclude each other.
+  beside(one) {
+    const other = one === this.second ? this.hunt : this.second;
+    if (other.isOn && !one.isOn) other.toggle();
+    one.toggle();
+  }
+
   // Folds the panels away, so that the pipes have all the room; or brings them back.
   project() {
     const isOn = document.body.classList.toggle("projector");
@@ -313,12 +336,14 @@ export class Page {
     Object.assign(this.session, { layout, bytes, input, texts: listed.texts ?? new Map() });
     this.machine = this.simulator.machine(this.session, LIMIT);
     this.selected = 1;
+    for (const part of [this.hunt, this.graph, this.ticks]) part.clear();
     const [, problem] = /^bad program: (.*)$/.exec(this.machine.first) ?? [];
     byId("loaded").textContent = problem ? `No program: ${this.reasons.refusal("Programs", problem)}` : name;
     byId("input").value = text(input);
     this.load(script);
     this.second.begin();
-    this.show();
+    // The frame of a run that was found before makes room.
+    this.resize();
   }
 
   // What a link keeps.

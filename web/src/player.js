@@ -10,7 +10,7 @@ const FAST = 8;
 export class Player {
   // `make` makes one move and says whether there may be more; `show` draws where the moves led.
   constructor(make, show) {
-    this.make = make;
+    this.make = this.making = make;
     this.show = show;
     this.frame = null;
   }
@@ -35,9 +35,9 @@ export class Player {
     }
   }
 
-  // Begins to play, at the speed that is set, or as fast as it can.
-  begin(asFastAsCan = false) {
-    this.asFastAsCan = asFastAsCan;
+  // Begins to play, at the speed that is set, or as fast as it can; or to make other moves than the page's.
+  begin(asFastAsCan = false, making = this.make) {
+    Object.assign(this, { asFastAsCan, making });
     byId("play-word").textContent = "Stop";
     // Who listens to the page hears single moves alone.
     byId("telling").setAttribute("aria-live", "off");
@@ -60,7 +60,7 @@ export class Player {
 
   play() {
     let goesOn = true;
-    for (; goesOn && this.due >= 1; this.due -= 1) goesOn = this.make();
+    for (; goesOn && this.due >= 1; this.due -= 1) goesOn = this.making();
     if (!goesOn) this.stop();
     this.show();
   }

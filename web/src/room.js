@@ -13,3 +13,11 @@ export function roomOfDrawing() {
   const below = byId("legend").offsetHeight > 0 ? LEGEND : NO_LEGEND;
   return { width: Math.max(320, place.clientWidth), height: Math.max(LEAST_HEIGHT, window.innerHeight - top - below) };
 }
+
+// The height of what the red frame has beside its drawing.
+const IN_FRAME = 190;
+
+// The room of the drawing in the red frame, which has its moves below it. Beside it is a drawing of this room.
+export function roomOfFrame({ height }) {
+  return { width: Math.max(320, byId("hunt-room").clientWidth - 16), height: Math.max(LEAST_HEIGHT, height - IN_FRAME) };
+}

@@ -4,7 +4,7 @@ import { svg } from "./element.js";
 import { unitsOf } from "./layout.js";
 import { ghostAt, isUpdated, motionOf, takenAt } from "./motion.js";
 import { isDead } from "./telling.js";
-import { REGISTER_FILE, bindingText, instructionText, originText, packetText } from "./values.js";
+import { REGISTER_FILE, bindingText, instructionText, numberText, originText, packetText } from "./values.js";
 import { kindOf, stageOf } from "./moves.js";
 
 const LABELS = {
@@ -91,7 +91,7 @@ function markedCode(place, text, taken) {
 
 // An instruction's number and its text, in this many letters.
 function nameOf({ view, passenger, number }, letters) {
-  return cut(`#${number} ${instructionText(view.texts, passenger.address)}`, letters);
+  return cut(`${numberText(number)}${instructionText(view.texts, passenger.address)}`, letters);
 }
 
 const widthOf = (moves) => moves.reduce((sum, move) => sum + chipWidth(move) + 5, 0);
@@ -150,6 +150,7 @@ function passengerBox(geometry, stage, one) {
 
 // Where a result comes from, in the words that have room beside its moves.
 function originWords(geometry, number, moves) {
+  if (number === undefined) return "";
   if (geometry.isNarrow) return number === REGISTER_FILE ? "" : `from #${number}`;
   const hasRoom = moves.length === 0 || geometry.result.width > 250;
   return number === REGISTER_FILE && !hasRoom ? "register file" : `from ${originText(number)}`;
@@ -164,7 +165,7 @@ function packetBox(geometry, stage, { packet, number, moves }) {
   const left = x + (geometry.isNarrow ? 9 : 18);
   const hasTwo = geometry.lines === 2;
   const origin = hasTwo ? originWords(geometry, number, moves) : "";
-  const text = hasTwo || number === REGISTER_FILE ? packetText(packet) : `${packetText(packet)} #${number}`;
+  const text = hasTwo || number === REGISTER_FILE ? packetText(packet) : `${packetText(packet)} ${numberText(number)}`.trimEnd();
   const second = !(geometry.isNarrow && moves.length > 0) && origin !== "";
   const chips = geometry.isNarrow ? y + height - CHIP - 2 : middle - CHIP / 2;
   return [
@@ -220,7 +221,7 @@ function labelOf(view, geometry, stage) {
 }
 
 function passengerWords(view, stage, passenger) {
-  const name = `#${view.who.instructions[stage]} ${instructionText(view.texts, passenger.address)}`;
+  const name = `${numberText(view.who.instructions[stage])}${instructionText(view.texts, passenger.address)}`;
   return `instruction ${name}, ${passenger.flag}, ${bindingsText(passenger)}`;
 }
 

@@ -1,7 +1,6 @@
 // The time line: instructions down, ticks across. What each move did to an instruction, and at which tick it could be made at the earliest.
 
 import { kindOf, stageOf } from "./moves.js";
-import { ticksOf } from "./places.js";
 import { isDead, namesOfMeeting } from "./telling.js";
 import { instructionText } from "./values.js";
 
@@ -39,9 +38,9 @@ export function eventOf(who, move, before, after) {
   return { number, kind: kindOf(move), label: labelOf(move, before, after), address };
 }
 
-// The rows of the time line: each instruction with what was done to it at which ticks, and how many moves results made.
-export function timelineOf(steps, texts, layout) {
-  const ticks = ticksOf(steps.map(({ move }) => move), layout);
+// The rows of the time line: each instruction with what was done to it at which ticks, and how many moves results made. `ticks` has the tick
+// of each step.
+export function timelineOf(steps, texts, ticks) {
   const last = Math.max(0, ...ticks);
   const rows = new Map();
   const results = new Map();

@@ -25,9 +25,15 @@ export function instructionText(texts, address) {
   return texts.get(address) ?? `at ${address}`;
 }
 
+// The number of an instruction, before its text; nothing where it is not known.
+export function numberText(number) {
+  return number === undefined ? "" : `#${number} `;
+}
+
 // Where a result comes from: an instruction by its number, or the register file.
 export const REGISTER_FILE = 0;
 
 export function originText(number) {
+  if (number === undefined) return "somewhere";
   return number === REGISTER_FILE ? "the register file" : `#${number}`;
 }

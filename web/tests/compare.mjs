@@ -120,6 +120,7 @@ function storedCalls() {
     delays: "examples/delays/slow_memory.delays", program: "examples/sorted.bin",
     tiny: "examples/layouts/tiny.toml", deep: "examples/layouts/deep.toml", cached: "examples/layouts/cached.toml",
   });
+  const rule = files({ layout: "examples/layouts/tiny.toml", program: "examples/rules/one_and_one.bin", delays: "examples/delays/slow_memory.delays" });
   const guess = files({ program: "examples/debug/wrong_guess.bin" });
   const { report } = native.call(["run", "layout", "program", "--show", "moves"], seven);
   const trace = report.subarray(0, report.indexOf("exit 7\n"));
@@ -133,6 +134,10 @@ function storedCalls() {
     ...[trace, changed, trace.subarray(0, 200), none].map((bytes) => [["audit", "layout", "program", "trace"], { ...seven, trace: bytes }, none]),
     [["time", "delays", "program", "plain", "tiny", "deep", "cached", "--limit", "300"], sorted, none],
     [["time", "tiny", "program", "plain"], sorted, none],
+    [["time", "delays", "program", "layout", "--show", "moves"], rule, none],
+    ...[["help", "orders"], ["help", "time"]].map((words) => [words, {}, none]),
+    ...[["--issues", "2", "--show", "edges"], ["--without", "meet:update"], ["--without", "meet:none"], ["--states", "20"]]
+      .map((options) => [["orders", "layout", "program", ...options], rule, none]),
     [["debug", "plain", "program"], guess, read("examples/debug/wrong_guess.commands")],
     [["debug", "plain", "program"], guess, Buffer.from("auto 40\nshow\nregs\nmem 00010000 16\nbound\nback\nback\nmove serve\nleap\n")],
   ];

@@ -10,6 +10,7 @@ import { goalParts } from "./goals.mjs";
 import { mended } from "./mended.mjs";
 import { TOP, scriptsOfPage } from "./native.mjs";
 import { predicting } from "./predicting.mjs";
+import { searching } from "./searching.mjs";
 import { seen } from "./seen.mjs";
 import { shown } from "./shown.mjs";
 
@@ -33,7 +34,7 @@ async function lesson() {
   check("its report is the stored one", withoutRetired(await textOf("report")) === read("examples/scripts/garnering.report"), await textOf("report"));
 }
 
-// Every script of the six lessons, played to its end, prints the report that docs/LAB.md names. Where its last move is barred the page
+// Every script of the seven lessons, played to its end, prints the report that docs/LAB.md names. Where its last move is barred the page
 // stands before that move, and says which bar it is.
 async function lessons() {
   for (const { name, title, report } of scriptsOfPage()) {
@@ -60,7 +61,7 @@ async function backAndForth() {
 async function byHand() {
   await choose("Two orders of moves with one end, the first");
   await press("Home", "m");
-  check("a barred move says why", (await textOf("why")).includes("no instruction stands there"), await textOf("why"));
+  check("a barred move says why", (await textOf("why")).includes("there is no instruction"), await textOf("why"));
   await press("i");
   check("a key issues", (await script()).join() === "issue next");
   await browser.clickAt('#drawing [data-stage="1"] [data-side="passenger"] [data-move="execute 1"]');
@@ -68,7 +69,7 @@ async function byHand() {
   await browser.clickAt('#drawing [data-stage="1"] .packet, #drawing [data-stage="1"] .passenger .code');
   check("a click on a stage makes its one move", (await script()).at(-1) === "send 1", String(await script()));
   await press("ArrowUp", "x");
-  check("a barred move at the chosen stage says why", (await textOf("why")).includes("no instruction stands there"), await textOf("why"));
+  check("a barred move at the chosen stage says why", (await textOf("why")).includes("there is no instruction"), await textOf("why"));
   await press("o", "ArrowDown", "c", "v");
   check("keys alone retire an instruction", (await textOf("progress")).includes("1 of 2"), await textOf("progress"));
   check("and the two agree", (await textOf("agreement")).includes("1 of 1 lines are the same"));
@@ -256,7 +257,7 @@ try {
   await browser.open(ADDRESS, WALL);
   await evaluate("document.getElementById('report-details').open = true");
   check("the page runs", (await evaluate("document.body.dataset.ready")) === "yes", await textOf("told"));
-  for (const part of [lesson, backAndForth, lessons, byHand, schedules, anyOrder, editors, links, hostile, speed, frames, playing, opening, looks, ...mended, ...seen, ...shown, ...predicting, ...goalParts, ...beside]) {
+  for (const part of [lesson, backAndForth, lessons, byHand, schedules, anyOrder, editors, links, hostile, speed, frames, playing, opening, looks, ...mended, ...seen, ...shown, ...predicting, ...goalParts, ...beside, ...searching]) {
     if (ONLY.length === 0 || ONLY.includes(part.name)) await part();
   }
   const faults = browser.faults(ADDRESS);

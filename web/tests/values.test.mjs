@@ -142,7 +142,7 @@ test("a goal is read from words, and judged", () => {
 });
 
 const TINY = { stages: 2, sidings: [{ launch: 1, recover: 2, cells: 1, classes: ["memory"] }] };
-const lab = (name) => fs.readFileSync(new URL(`../../examples/lab/${name}.script`, import.meta.url), "utf8");
+const answer = (name) => fs.readFileSync(new URL(`../../examples/answers/${name}.script`, import.meta.url), "utf8");
 
 // The rounds that the lab's scripts tell in their comments were written by hand.
 test("moves have the ticks of the rounds that the lab tells", () => {
@@ -150,7 +150,7 @@ test("moves have the ticks of the rounds that the lab tells", () => {
     let round = 0;
     const wanted = [];
     const moves = [];
-    for (const line of lab(name).split("\n")) {
+    for (const line of answer(name).split("\n")) {
       if (/^# round/.test(line)) round += 1;
       else if (line !== "" && !line.startsWith("#")) {
         moves.push(line);
@@ -170,6 +170,8 @@ test("a bar has its place and what bars it", () => {
   const picture = { stages: standsAt(5, { packet: { kind: "value", register: "x07" } }) };
   assert.deepEqual(blameOf("climb 3", "Occupied", layout, picture), { place: "passenger 3", by: "passenger 4" });
   assert.deepEqual(blameOf("fall 3", "NotMet", layout, picture), { place: "packet 3", by: "meeting 3" });
+  assert.deepEqual(blameOf("leave", "NotMet", layout, picture), { place: "passenger 8", by: "meeting 8" });
+  assert.deepEqual(blameOf("exit", "NotMet", layout, picture), { place: "packet 1", by: "meeting 1" });
   assert.deepEqual(blameOf("execute 3", "SourceMissing x07", layout, picture), { place: "passenger 3", by: "packet 5" });
   assert.deepEqual(blameOf("execute 3", "SourceMissing x08", layout, picture), { place: "passenger 3", by: "lane" });
   assert.deepEqual(blameOf("launch 4", "Occupied", layout, picture), { place: "passenger 4", by: "cell 0 0" });

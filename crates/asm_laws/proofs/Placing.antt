@@ -10,9 +10,9 @@ use Rattle.rv_asm.specs.Places.{address_of, length_at, place_after, item_at}
 use Rattle.rv_asm.specs.Pieces.{Piece, pieces_of}
 use Rattle.rv_asm.specs.Scanning.{said, statement_in}
 use Rattle.rv_asm.specs.Spelling.{Spells, Begins}
-use Rattle.rv_asm.specs.Sized.{piece_size, pieces_size}
+use Rattle.rv_asm.specs.Sized.{piece_length, pieces_size}
 use Rattle.rv_asm.proofs.Sized.{size-append, spelt-length, item-sized, text-after, data-after}
-use Rattle.asm_laws.specs.Programs.{Placed, LineStandsFor, AllStand, section_at, IsThere, AreThere}
+use Rattle.asm_laws.specs.Programs.{Placed, LineStandsFor, AllStand, placed_section, IsThere, AreThere}
 
 -- the pieces of those items that are in the text, or in the data
 abbrev pub text_pieces : List Placed → List Piece

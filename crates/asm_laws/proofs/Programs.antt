@@ -12,11 +12,11 @@ use Rattle.texts.specs.Answers.{and_then}
 use Rattle.rv_text.specs.Lines.{text_lines}
 use Rattle.rv_asm.specs.Scanning.{said, label_in, statement_in}
 use Rattle.rv_asm.specs.Items.{SourceItem}
-use Rattle.rv_asm.specs.Labels.{LabelView, value_of}
-use Rattle.rv_asm.specs.Places.{start, address_of, length_at, place_after, item_at}
+use Rattle.rv_asm.specs.Labels.{LabelView, value_of_label}
+use Rattle.rv_asm.specs.Places.{start_of_text, address_of, length_at, place_after, item_at}
 use Rattle.rv_asm.specs.Pieces.{Piece, pieces_of}
 use Rattle.rv_asm.specs.Spelling.{Spells}
-use Rattle.rv_asm.specs.Assembling.{Sections, at_line, with_label, drafted, draft_from, marked, placed as placed_at, filled, sections_from, empty, sections_of, assembled}
+use Rattle.rv_asm.specs.Assembling.{Sections, at_line, with_label, drafted, draft_from, with_export, sections_after_item as placed_at, sections_after_line, sections_from, empty, sections_of, assembled}
 use Rattle.rv_asm.specs.Objects.{IsObject, Objects}
 use Rattle.rv_asm.proofs.Passing.{Passes, passes, passes_line}
 use Rattle.rv_asm.proofs.Sized.{Looks, looks, spelt-length, sections-sized}
@@ -41,7 +41,7 @@ data-by true ts ps rest = refl
 data-by false ts ps rest = append_assoc ts ps rest
 
 items-of : (above : ℕ) (s t : Sections) (lines : List (List ℕ)) → sections_from above s lines ≡ Ok t → ItemsOf s t lines
-unfolding filled
+unfolding sections_after_line
 items-of above s t [] e =
     let same : s ≡ t = cc in
     subst (λ (u : Sections). ItemsOf s u []) same (record {
@@ -53,14 +53,14 @@ items-of above s t [] e =
     })
 items-of above s t (line ∷ lines) e =
     let text = said line in
-    let r = passes (at_line (above + 1) (filled s text)) (λ (next : Sections). sections_from (above + 1) next lines) t e in
-    let f = passes_line (above + 1) (filled s text) r.first r.is in
+    let r = passes (at_line (above + 1) (sections_after_line s text)) (λ (next : Sections). sections_from (above + 1) next lines) t e in
+    let f = passes_line (above + 1) (sections_after_line s text) r.first r.is in
     let i = passes (item_at s.place (statement_in text)) (λ (item : SourceItem). and_then (pieces_of s.labels (address_of s.place) item)
     (λ ps. Ok (placed_at s item ps))) r.first f in
     let p = passes (pieces_of s.labels (address_of s.place) i.first) (λ (ps : List Piece). Ok (placed_at s i.first ps)) r.first i.goes in
     let next : placed_at s i.first p.first ≡ r.first = cc p.goes in
     let rest = subst (λ (u : Sections). ItemsOf u t lines) (sym next) (items-of (above + 1) r.first t lines r.goes) in
-    let labels = then-same t.labels (marked s.labels i.first) s.labels rest.labels (marked-same s.labels i.first) in
+    let labels = then-same t.labels (with_export s.labels i.first) s.labels rest.labels (marked-same s.labels i.first) in
     record {
       items = record { place = s.place; item = i.first; pieces = p.first } ∷ rest.items;
       stand = (record { place = refl; item = i.is; pieces = pieces-same t.labels s.labels (address_of s.place) i.first labels ∙ p.is }, rest.stand);
@@ -79,7 +79,7 @@ labelled : (labels next : List LabelView) (place : SectionPlace) (label : Option
     next ≡ labels ++ label_of label place
 labelled labels next place None e = let same : labels ≡ next = cc in sym same ∙ sym (append-nil labels)
 labelled labels next place (Some name) e =
-    labelled-by (is_some (value_of labels name)) (labels ++ label_of (Some name) place) next (with_label labels place (Some name)) refl e
+    labelled-by (is_some (value_of_label labels name)) (labels ++ label_of (Some name) place) next (with_label labels place (Some name)) refl e
 
 same-item : (answer : Result SourceItem AsmKind) (i j : SourceItem) → answer ≡ Ok i → answer ≡ Ok j → i ≡ j
 same-item answer i j e h = cc
@@ -132,15 +132,16 @@ program-of lines sections object e is =
     let l = looks lines sections e in
     let o = items-of 0 (empty l.labels) sections lines l.filled in
     let sized = sections-sized lines sections e in
-    let stand = subst (λ (labels : List LabelView). AllStand labels start lines o.items sections.place) (sym is.labels) o.stand in
+    let stand = subst (λ (labels : List LabelView). AllStand labels start_of_text lines o.items sections.place) (sym is.labels) o.stand in
     let text = subst (λ (ps : List Piece). Spells ps object.text_bytes) o.text is.text_bytes in
     let others = subst (λ (ps : List Piece). Spells ps object.data_bytes) o.data_section is.data_bytes in
-    let labels = labels-are 0 [] sections.labels start sections.place (record { place = l.drafted.0; labels = l.labels }) lines o.items l.drafted.1 o.stand in
+    let labels = labels-are 0 [] sections.labels start_of_text sections.place
+    (record { place = l.drafted.0; labels = l.labels }) lines o.items l.drafted.1 o.stand in
     record {
       items = o.items;
       end = sections.place;
       stand = stand;
-      there = all-there object object.labels start sections.place lines o.items [] [] stand (record { text = refl; data_section = refl }) text others;
+      there = all-there object object.labels start_of_text sections.place lines o.items [] [] stand (record { text = refl; data_section = refl }) text others;
       text = spelt-length sections.text object.text_bytes is.text_bytes ∙ sized.text;
       data_section = spelt-length sections.data_pieces object.data_bytes is.data_bytes ∙ sized.data_section;
       labels = ap (λ (ls : List LabelView). map unexported ls) is.labels ∙ o.labels.bare ∙ ap (λ (ls : List LabelView). map unexported ls) labels

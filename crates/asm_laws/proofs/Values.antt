@@ -15,14 +15,14 @@ use Rattle.rv_asm.specs.Answers.{as_text}
 use Rattle.rv_asm.specs.Operands.{names_label, number_of_width, bytes_of_width}
 use Rattle.rv_asm.specs.Items.{SourceItem, Nothing, Section, Export, Single, Double, Near, Distant, Numbers, Chars, Zeros}
 use Rattle.rv_asm.specs.Pseudos.{word_modulo, reaching}
-use Rattle.rv_asm.specs.Labels.{LabelView, value_of, exported, exported_as}
-use Rattle.rv_asm.specs.Pieces.{Piece, Word, Bytes, label_value, near_instr, operand_value, bytes_from, code_of, pieces_of}
-use Rattle.rv_asm.specs.Assembling.{marked}
+use Rattle.rv_asm.specs.Labels.{LabelView, value_of_label, exported, exported_as}
+use Rattle.rv_asm.specs.Pieces.{Piece, Word, Bytes, label_value, near_instr, operand_value, bytes_from, instruction_pieces, pieces_of}
+use Rattle.rv_asm.specs.Assembling.{with_export}
 use Rattle.asm_laws.specs.Programs.{unexported}
 
 -- the labels give each name the same value
 pub record SameValues (one other : List LabelView) : Type 0 where
-  pub values : (name : List ℕ) → value_of one name ≡ value_of other name
+  pub values : (name : List ℕ) → value_of_label one name ≡ value_of_label other name
   pub bare : map unexported one ≡ map unexported other
 
 pub same-values : (labels : List LabelView) → SameValues labels labels
@@ -67,10 +67,10 @@ bare-same (l ∷ ls) name =
     ∙ ap (λ (xs : List LabelView). unexported l ∷ xs) (bare-same ls name)
 
 exported-same : (labels : List LabelView) (name : List ℕ) → SameValues (exported labels name) labels
-unfolding exported value_of
+unfolding exported value_of_label
 exported-same labels name = record { values = λ wanted. found-same labels name wanted; bare = bare-same labels name }
 
-pub marked-same : (labels : List LabelView) (item : SourceItem) → SameValues (marked labels item) labels
+pub marked-same : (labels : List LabelView) (item : SourceItem) → SameValues (with_export labels item) labels
 marked-same labels Nothing = same-values labels
 marked-same labels (Section b) = same-values labels
 marked-same labels (Export name) = exported-same labels name

@@ -5,7 +5,7 @@ use Rattle.rv_asm.specs.declared.object.Object.{Object}
 use Rattle.rv_asm.specs.declared.place.SectionPlace.{SectionPlace}
 use Rattle.rv_asm.specs.Scanning.{said, label_in, statement_in}
 use Rattle.rv_asm.specs.Items.{SourceItem}
-use Rattle.rv_asm.specs.Places.{start, address_of, length_at, place_after, item_at}
+use Rattle.rv_asm.specs.Places.{start_of_text, address_of, length_at, place_after, item_at}
 use Rattle.rv_asm.specs.Labels.{LabelView}
 use Rattle.rv_asm.specs.Pieces.{Piece, pieces_of}
 use Rattle.rv_asm.specs.Sized.{pieces_size}
@@ -32,14 +32,14 @@ AllStand labels place (line ∷ lines) (p ∷ ps) end =
     LineStandsFor labels place line p × AllStand labels (place_after place p.item) lines ps end
 
 -- the section of a position
-abbrev pub section_at : Object → SectionPlace → List ℕ
-section_at object place = if place.in_text then object.text_bytes else object.data_bytes
+abbrev pub placed_section : Object → SectionPlace → List ℕ
+placed_section object place = if place.in_text then object.text_bytes else object.data_bytes
 
 -- the item's instructions and bytes are in its section where it is placed: a word there decodes to its instruction, and
 -- bytes are unchanged
 abbrev pub IsThere : Object → Placed → Type 0
 IsThere object p =
-    Spells p.pieces (take (pieces_size p.pieces) (drop (length_at p.place) (section_at object p.place)))
+    Spells p.pieces (take (pieces_size p.pieces) (drop (length_at p.place) (placed_section object p.place)))
 
 abbrev pub AreThere : Object → List Placed → Type 0
 AreThere object [] = Unit {0}
@@ -65,7 +65,7 @@ unexported label = record label { global = false }
 pub record IsProgram (lines : List (List ℕ)) (object : Object) : Type 0 where
   pub items : List Placed
   pub end : SectionPlace
-  pub stand : AllStand object.labels start lines items end
+  pub stand : AllStand object.labels start_of_text lines items end
   pub there : AreThere object items
   pub text : length object.text_bytes ≡ end.text_len
   pub data_section : length object.data_bytes ≡ end.data_len

@@ -6,10 +6,10 @@ use Rattle.std.specs.List.Sorted.{IsPermutation, IsStableByKey, ties}
 use Rattle.std.specs.Ordering.{is_lt, nat_cmp}
 use Rattle.std.proofs.lemmas.Bool.Decides.{nat_tests}
 use Rattle.std.proofs.lemmas.List.Sorted.{length_permutation}
-use Rattle.elf_view.specs.Symbols.{NamedSymbol, is_named, shown_lazy}
+use Rattle.elf_view.specs.Symbols.{NamedSymbol, has_name, shown_lazy}
 use Rattle.elf_view.specs.declared.symbols.LazySymbol.{LazySymbol}
 use Rattle.asm_listing.specs.Labels.{Ascend, HaveLines, has_value}
-use Rattle.asm_listing.specs.Lines.{label_line, label_lines}
+use Rattle.asm_listing.specs.Lines.{symbol_line, label_lines}
 
 -- no symbols are in order
 pub none_ascend : Ascend []
@@ -62,9 +62,9 @@ front_is value (suc i) (x ∷ xs) least low high =
 -- a symbol of another value has no line
 one_line : (pc : ℕ) (x : LazySymbol) (kept xs : List LazySymbol) (t : Bool) → has_value pc x ≡ t
     → label_lines (map shown_lazy kept) pc ≡ label_lines (map shown_lazy xs) pc
-    → label_lines (map shown_lazy (cond t (x ∷ kept) kept)) pc ≡ label_line pc (shown_lazy x) ++ label_lines (map shown_lazy xs) pc
-unfolding label_line
-one_line pc x kept xs true e h = ap (λ (l : List ℕ). label_line pc (shown_lazy x) ++ l) h
+    → label_lines (map shown_lazy (cond t (x ∷ kept) kept)) pc ≡ symbol_line pc (shown_lazy x) ++ label_lines (map shown_lazy xs) pc
+unfolding symbol_line
+one_line pc x kept xs true e h = ap (λ (l : List ℕ). symbol_line pc (shown_lazy x) ++ l) h
 one_line pc x kept xs false e h = rw e h
 
 -- the symbols of a value have the lines at it
@@ -80,17 +80,17 @@ both_false true = refl
 both_false false = refl
 
 -- a symbol without a name has no line
-named_line : (pc : ℕ) (x : NamedSymbol) (kept xs : List NamedSymbol) (t : Bool) → is_named x ≡ t
+named_line : (pc : ℕ) (x : NamedSymbol) (kept xs : List NamedSymbol) (t : Bool) → has_name x ≡ t
     → label_lines kept pc ≡ label_lines xs pc
-    → label_lines (cond t (x ∷ kept) kept) pc ≡ label_line pc x ++ label_lines xs pc
-unfolding label_line
-named_line pc x kept xs true e h = ap (λ (l : List ℕ). label_line pc x ++ l) h
+    → label_lines (cond t (x ∷ kept) kept) pc ≡ symbol_line pc x ++ label_lines xs pc
+unfolding symbol_line
+named_line pc x kept xs true e h = ap (λ (l : List ℕ). symbol_line pc x ++ l) h
 named_line pc x kept xs false e h = rw (e, both_false (x.value == pc)) h
 
 -- those that have one have the lines
-pub lines_of_named : (pc : ℕ) (xs : List NamedSymbol) → label_lines (filter is_named xs) pc ≡ label_lines xs pc
+pub lines_of_named : (pc : ℕ) (xs : List NamedSymbol) → label_lines (filter has_name xs) pc ≡ label_lines xs pc
 lines_of_named pc [] = refl
-lines_of_named pc (x ∷ xs) = named_line pc x (filter is_named xs) xs (is_named x) refl (lines_of_named pc xs)
+lines_of_named pc (x ∷ xs) = named_line pc x (filter has_name xs) xs (has_name x) refl (lines_of_named pc xs)
 
 -- numbers tie where they are equal
 tie : (a b : ℕ) → (not (is_lt (nat_cmp a b)) && not (is_lt (nat_cmp b a))) ≡ (b == a)
@@ -129,7 +129,7 @@ pub lines_stay : (xs ys : List LazySymbol) → IsPermutation xs ys → IsStableB
 lines_stay xs ys moved stable = record { at = line_stays xs ys (length_permutation xs ys moved) stable }
 
 -- symbols have the lines of those that they were taken from because they have a name, and so has each order of them
-pub lines_ordered : (symbols named labels : List NamedSymbol) → named ≡ filter is_named symbols → HaveLines named labels → HaveLines symbols labels
+pub lines_ordered : (symbols named labels : List NamedSymbol) → named ≡ filter has_name symbols → HaveLines named labels → HaveLines symbols labels
 lines_ordered symbols named labels e lines = record {
   at = λ pc. lines.at pc ∙ ap (λ (l : List NamedSymbol). label_lines l pc) e ∙ lines_of_named pc symbols;
 }

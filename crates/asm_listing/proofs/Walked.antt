@@ -7,12 +7,12 @@ use Rattle.std.specs.List.{flat_map}
 use Rattle.elf_view.specs.Segments.{LoadSegment}
 use Rattle.elf_view.specs.Symbols.{NamedSymbol}
 use Rattle.asm_listing.specs.Labels.{HaveLines}
-use Rattle.asm_listing.specs.Lines.{label_lines, word_line, lines_at, lines_from, skipped, IsFirstWord}
+use Rattle.asm_listing.specs.Lines.{label_lines, word_line, listed_at, listed_from, skipped, IsFirstWord}
 use Rattle.asm_listing.specs.Listing.{segment_lines}
 
 -- no word is at an address that 4 does not divide
-pub unaligned : (symbols : List NamedSymbol) (pc : ℕ) (bytes : List ℕ) → 1 ≤ pc % 4 → lines_at symbols pc bytes ≡ []
-unfolding lines_at
+pub unaligned : (symbols : List NamedSymbol) (pc : ℕ) (bytes : List ℕ) → 1 ≤ pc % 4 → listed_at symbols pc bytes ≡ []
+unfolding listed_at
 unaligned symbols pc bytes h = let no : (pc % 4 == 0) ≡ false = grind (arith, nat_tests) in rw no refl
 
 both-false : (a : Bool) → (a && false) ≡ false
@@ -20,11 +20,11 @@ both-false true = refl
 both-false false = refl
 
 -- nor in fewer than four bytes
-pub too-few : (symbols : List NamedSymbol) (pc : ℕ) (bytes : List ℕ) → length bytes ≤ 3 → lines_at symbols pc bytes ≡ []
-unfolding lines_at
+pub too-few : (symbols : List NamedSymbol) (pc : ℕ) (bytes : List ℕ) → length bytes ≤ 3 → listed_at symbols pc bytes ≡ []
+unfolding listed_at
 too-few symbols pc bytes h = let no : nat_le 4 (length bytes) ≡ false = grind (arith, nat_tests) in rw (no, both-false (pc % 4 == 0)) refl
 
-pub no-lines : (symbols : List NamedSymbol) (pc : ℕ) (bytes : List ℕ) → length bytes ≤ 3 → lines_from symbols pc bytes ≡ []
+pub no-lines : (symbols : List NamedSymbol) (pc : ℕ) (bytes : List ℕ) → length bytes ≤ 3 → listed_from symbols pc bytes ≡ []
 no-lines symbols pc [] h = refl
 no-lines symbols pc (b ∷ bs) h = rw (too-few symbols pc (b ∷ bs) h, no-lines symbols ((pc + 1) % 2 ^ 32) bs (omega arith)) refl
 
@@ -40,18 +40,18 @@ below pc = omega arith
 
 -- the bytes before the first address that 4 divides have no line
 pub skip-by : (n : ℕ) (symbols : List NamedSymbol) (pc : ℕ) (bytes : List ℕ) → n ≡ skipped pc → pc < 2 ^ 32
-    → lines_from symbols pc bytes ≡ lines_from symbols ((pc + n) % 2 ^ 32) (drop n bytes)
-skip-by zero symbols pc bytes e h = let same : pc ≡ (pc + 0) % 2 ^ 32 = omega arith in ap (λ (at : ℕ). lines_from symbols at bytes) same
+    → listed_from symbols pc bytes ≡ listed_from symbols ((pc + n) % 2 ^ 32) (drop n bytes)
+skip-by zero symbols pc bytes e h = let same : pc ≡ (pc + 0) % 2 ^ 32 = omega arith in ap (λ (at : ℕ). listed_from symbols at bytes) same
 skip-by (suc n) symbols pc [] e h = refl
 skip-by (suc n) symbols pc (b ∷ bs) e h =
     let off : 1 ≤ pc % 4 = omega arith in
     let next = (pc + 1) % 2 ^ 32 in
-    ap (λ (l : List ℕ). l ++ lines_from symbols next bs) (unaligned symbols pc (b ∷ bs) off)
+    ap (λ (l : List ℕ). l ++ listed_from symbols next bs) (unaligned symbols pc (b ∷ bs) off)
     ∙ skip-by n symbols next bs (omega (arith, next-address pc h off)) (below (pc + 1))
-    ∙ ap (λ (at : ℕ). lines_from symbols at (drop n bs)) (same-address pc n)
+    ∙ ap (λ (at : ℕ). listed_from symbols at (drop n bs)) (same-address pc n)
 
 pub skip : (symbols : List NamedSymbol) (pc next : ℕ) (bytes rest : List ℕ) → next ≡ (pc + skipped pc) % 2 ^ 32 → rest ≡ drop (skipped pc) bytes → pc < 2 ^ 32
-    → lines_from symbols next rest ≡ lines_from symbols pc bytes
+    → listed_from symbols next rest ≡ listed_from symbols pc bytes
 skip symbols pc next bytes rest e k h = rw (e, k) (sym (skip-by (skipped pc) symbols pc bytes refl h))
 
 pub skipped-aligned : (pc next : ℕ) → next ≡ (pc + skipped pc) % 2 ^ 32 → pc < 2 ^ 32 → next % 4 ≡ 0
@@ -59,29 +59,29 @@ skipped-aligned pc next e h = omega arith
 
 -- the bytes after the first of a word have no line
 others : (symbols : List NamedSymbol) (pc b c d : ℕ) (rest : List ℕ) → pc < 2 ^ 32 → pc % 4 ≡ 0
-    → lines_from symbols ((pc + 1) % 2 ^ 32) (b ∷ c ∷ d ∷ rest) ≡ lines_from symbols ((pc + 4) % 2 ^ 32) rest
+    → listed_from symbols ((pc + 1) % 2 ^ 32) (b ∷ c ∷ d ∷ rest) ≡ listed_from symbols ((pc + 4) % 2 ^ 32) rest
 others symbols pc b c d rest h k =
     let three : skipped ((pc + 1) % 2 ^ 32) ≡ 3 = omega arith in
     let at : ((pc + 1) % 2 ^ 32 + 3) % 2 ^ 32 ≡ (pc + 4) % 2 ^ 32 = omega arith in
-    skip-by 3 symbols ((pc + 1) % 2 ^ 32) (b ∷ c ∷ d ∷ rest) (sym three) (below (pc + 1)) ∙ ap (λ (n : ℕ). lines_from symbols n rest) at
+    skip-by 3 symbols ((pc + 1) % 2 ^ 32) (b ∷ c ∷ d ∷ rest) (sym three) (below (pc + 1)) ∙ ap (λ (n : ℕ). listed_from symbols n rest) at
 
 -- a word at an address that 4 divides
 pub word-first : (symbols : List NamedSymbol) (pc a b c d : ℕ) (rest : List ℕ) → pc % 4 ≡ 0 → pc < 2 ^ 32
-    → lines_from symbols pc (a ∷ b ∷ c ∷ d ∷ rest)
-    ≡ (label_lines symbols pc ++ word_line pc (from_le_bytes w32 (a ∷ b ∷ c ∷ d ∷ []))) ++ lines_from symbols ((pc + 4) % 2 ^ 32) rest
-unfolding lines_at
+    → listed_from symbols pc (a ∷ b ∷ c ∷ d ∷ rest)
+    ≡ (label_lines symbols pc ++ word_line pc (from_le_bytes w32 (a ∷ b ∷ c ∷ d ∷ []))) ++ listed_from symbols ((pc + 4) % 2 ^ 32) rest
+unfolding listed_at
 word-first symbols pc a b c d rest k h =
     let yes : (pc % 4 == 0) ≡ true = grind (arith, nat_tests) in
     let some : nat_le 4 (length (a ∷ b ∷ c ∷ d ∷ rest)) ≡ true = grind (arith, nat_tests) in
-    let first : lines_at symbols pc (a ∷ b ∷ c ∷ d ∷ rest) ≡ label_lines symbols pc ++ word_line pc (from_le_bytes w32 (a ∷ b ∷ c ∷ d ∷ [])) =
+    let first : listed_at symbols pc (a ∷ b ∷ c ∷ d ∷ rest) ≡ label_lines symbols pc ++ word_line pc (from_le_bytes w32 (a ∷ b ∷ c ∷ d ∷ [])) =
     rw (yes, some) refl in
-    ap (λ (l : List ℕ). l ++ lines_from symbols ((pc + 1) % 2 ^ 32) (b ∷ c ∷ d ∷ rest)) first
+    ap (λ (l : List ℕ). l ++ listed_from symbols ((pc + 1) % 2 ^ 32) (b ∷ c ∷ d ∷ rest)) first
     ∙ ap (λ (l : List ℕ). (label_lines symbols pc ++ word_line pc (from_le_bytes w32 (a ∷ b ∷ c ∷ d ∷ []))) ++ l) (others symbols pc b c d rest h k)
 
 -- the same of any bytes of which there are at least four
 pub word-next : (symbols : List NamedSymbol) (pc next word : ℕ) (bytes rest : List ℕ) → IsFirstWord bytes word rest
     → next ≡ (pc + 4) % 2 ^ 32 → pc % 4 ≡ 0 → pc < 2 ^ 32
-    → lines_from symbols pc bytes ≡ (label_lines symbols pc ++ word_line pc word) ++ lines_from symbols next rest
+    → listed_from symbols pc bytes ≡ (label_lines symbols pc ++ word_line pc word) ++ listed_from symbols next rest
 word-next symbols pc next word [] rest f n k h = absurd (omega (arith, f.enough))
 word-next symbols pc next word (a ∷ []) rest f n k h = absurd (omega (arith, f.enough))
 word-next symbols pc next word (a ∷ b ∷ []) rest f n k h = absurd (omega (arith, f.enough))
@@ -97,8 +97,8 @@ pub ruleset walked = (skip, skipped-aligned)
 
 -- labels that have the lines of the symbols make the same lines of words
 lines-same : (symbols labels : List NamedSymbol) → HaveLines symbols labels → (pc : ℕ) (bytes : List ℕ) →
-    lines_from labels pc bytes ≡ lines_from symbols pc bytes
-unfolding lines_at
+    listed_from labels pc bytes ≡ listed_from symbols pc bytes
+unfolding listed_at
 lines-same symbols labels h pc [] = refl
 lines-same symbols labels h pc (byte ∷ bytes) = rw (h.at pc, lines-same symbols labels h ((pc + 1) % 2 ^ 32) bytes) refl
 

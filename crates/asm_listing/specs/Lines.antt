@@ -26,28 +26,28 @@ abbrev pub is_label_at : ℕ → NamedSymbol → Bool
 is_label_at pc symbol = (symbol.value == pc) && not (length symbol.name == 0)
 
 -- the line of a symbol that is a label at the address
-unfoldable pub label_line : ℕ → NamedSymbol → List ℕ
-label_line pc symbol = if is_label_at pc symbol then symbol.name ++ line (codes ":") else []
+unfoldable pub symbol_line : ℕ → NamedSymbol → List ℕ
+symbol_line pc symbol = if is_label_at pc symbol then symbol.name ++ line (codes ":") else []
 
 -- the lines of all labels at the address
 abbrev pub label_lines : List NamedSymbol → ℕ → List ℕ
-label_lines symbols pc = flat_map (label_line pc) symbols
+label_lines symbols pc = flat_map (symbol_line pc) symbols
 
 -- a word and its labels, where the address is a multiple of 4 and the bytes from there on are at least a word
-unfoldable pub lines_at : List NamedSymbol → ℕ → List ℕ → List ℕ
-lines_at symbols pc bytes =
+unfoldable pub listed_at : List NamedSymbol → ℕ → List ℕ → List ℕ
+listed_at symbols pc bytes =
     if (pc % 4 == 0) && nat_le 4 (length bytes)
     then label_lines symbols pc ++ word_line pc (from_le_bytes w32 (take 4 bytes)) else []
 
 -- the lines of bytes from an address on, each at its own address; after the last address comes 0
-abbrev pub lines_from : List NamedSymbol → ℕ → List ℕ → List ℕ
-lines_from symbols pc [] = []
-lines_from symbols pc (byte ∷ bytes) =
-    lines_at symbols pc (byte ∷ bytes) ++ lines_from symbols ((pc + 1) % 2 ^ 32) bytes
+abbrev pub listed_from : List NamedSymbol → ℕ → List ℕ → List ℕ
+listed_from symbols pc [] = []
+listed_from symbols pc (byte ∷ bytes) =
+    listed_at symbols pc (byte ∷ bytes) ++ listed_from symbols ((pc + 1) % 2 ^ 32) bytes
 
 -- the same, with symbols whose names are looked up only when they are written
 abbrev pub labelled_lines : List LazySymbol → ℕ → List ℕ → List ℕ
-labelled_lines symbols pc bytes = lines_from (map shown_lazy symbols) pc bytes
+labelled_lines symbols pc bytes = listed_from (map shown_lazy symbols) pc bytes
 
 -- how many bytes come before the next address that 4 divides
 abbrev pub skipped : ℕ → ℕ

@@ -1,12 +1,12 @@
 //! The lines of labels.
-#![tactic(auto, unfolding(crate::specs::Lines::label_line), using(cf_io::proofs::Owing::owing))]
+#![tactic(auto, unfolding(crate::specs::Lines::symbol_line), using(cf_io::proofs::Owing::owing))]
 
 ghost use Rattle.std.specs.Prelude.{◌≡◌, ◌≤◌, All, OnOk, OnErr, filter, map};
 ghost use Rattle.cf_io.specs.Causes.{HasCause};
 ghost use Rattle.cf_io.specs.Puts.{Writes, WritesFront};
 ghost use Rattle.elf_view.specs.Symbols.{shown_lazy};
 ghost use Rattle.asm_listing.specs.Labels.{Ascend, has_value};
-ghost use Rattle.asm_listing.specs.Lines.{is_label_at, label_line, label_lines};
+ghost use Rattle.asm_listing.specs.Lines.{is_label_at, symbol_line, label_lines};
 
 use crate::putting::put_two;
 use cf_io::{Failed, Sink};
@@ -20,8 +20,8 @@ fn is_label_at(symbol: &LazySymbol, pc: u32) -> bool
 
 /// Writes the line of a symbol, where it is a label at the address.
 fn put_label<K: Sink>(symbol: &LazySymbol, pc: u32, out: &mut K) -> Result<(), Failed>
-    ensures ok { OnOk result (Writes (K.written out.old) (K.written out.new) (label_line pc (shown_lazy symbol.now))) }
-    ensures err { OnErr result (WritesFront (K.written out.old) (K.written out.new) (label_line pc (shown_lazy symbol.now))) }
+    ensures ok { OnOk result (Writes (K.written out.old) (K.written out.new) (symbol_line pc (shown_lazy symbol.now))) }
+    ensures err { OnErr result (WritesFront (K.written out.old) (K.written out.new) (symbol_line pc (shown_lazy symbol.now))) }
     ensures cause { HasCause (K.faults out.old) (K.faults out.new) result }
 {
     if !is_label_at(symbol, pc) {

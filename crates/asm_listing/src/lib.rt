@@ -8,3 +8,4 @@ mod putting;
 mod words;
 
 pub use listing::{ListingErr, put_elf_listing, put_flat_listing};
+pub use words::put_line;

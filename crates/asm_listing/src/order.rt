@@ -1,7 +1,7 @@
 //! The order of the symbols of a file.
 
 ghost use Rattle.std.specs.Prelude.{◌≡◌, OnOk, IfOk, filter, map};
-ghost use Rattle.elf_view.specs.Symbols.{is_named, shown_lazy, symbols_of};
+ghost use Rattle.elf_view.specs.Symbols.{has_name, shown_lazy, symbols_of};
 ghost use Rattle.asm_listing.specs.Labels.{Ascend, HaveLines};
 
 use elf_view::{Elf, LazySymbol};
@@ -9,7 +9,7 @@ use std::alloc::{AllocError, Global};
 
 /// The symbols of a file that have a name, in their order there.
 fn named_symbols<'a>(alloc: Global, elf: &Elf<'a>) -> Result<Vec<LazySymbol<'a>>, AllocError>
-    ensures { IfOk result (λ symbols. map shown_lazy symbols.items ≡ filter is_named (symbols_of elf.now)) }
+    ensures { IfOk result (λ symbols. map shown_lazy symbols.items ≡ filter has_name (symbols_of elf.now)) }
 {
     let mut symbols = Vec::new(alloc);
     for symbol in elf.lazy_symbols() {

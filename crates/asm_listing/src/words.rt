@@ -39,9 +39,10 @@ fn raw_page(word: u32) -> Page
     page
 }
 
-/// Writes the line of a word: the text of its instruction, or else the word.
+/// Writes the line of a word at an address: both, and the text of the instruction, or else the word. After `Failed` a
+/// prefix of the line was written.
 #[tactic(auto, unfolding(crate::specs::Lines::word_line, crate::specs::Lines::word_text))]
-fn put_line<K: Sink>(pc: u32, word: u32, out: &mut K) -> Result<(), Failed>
+pub fn put_line<K: Sink>(pc: u32, word: u32, out: &mut K) -> Result<(), Failed>
     ensures ok { OnOk result (Writes (K.written out.old) (K.written out.new) (word_line pc word)) }
     ensures err { OnErr result (WritesFront (K.written out.old) (K.written out.new) (word_line pc word)) }
     ensures cause { HasCause (K.faults out.old) (K.faults out.new) result }

@@ -2,7 +2,7 @@
 use Rattle.std.proofs.Common.{◌≡◌, ℕ, ◌+◌, ◌-◌, ◌<◌, ◌≤◌, List, [], ◌∷◌, ◌++◌, length, take, drop, Option, Some, None, refl, sym, ap, subst, ◌∙◌, append-nil, arith}
 use Rattle.std.proofs.lemmas.List.{take-append-drop, length-take-le}
 use Rattle.std.proofs.lemmas.Option.{same_Some}
-use Rattle.run_options.specs.declared.show.Show.TheVariants as show
+use Rattle.run_options.specs.Reportings as show
 use Rattle.cf_io.specs.Puts.{Writes}
 use Rattle.rv_machine.specs.Streams.{Streams}
 use Rattle.cf_bind.specs.declared.moves.Move.{Move}
@@ -25,7 +25,7 @@ use Rattle.cf_audit.proofs.Parting.{goes_on}
 
 -- an audit has reached this AuditRun: the comparison has the text and the groups of the run, which agree
 pub record Comes (text : List ℕ) (start : RunPlace) (now : AuditRun) : Type 0 where
-  pub reached : Reaches most_retired show.Moves start now.place
+  pub reached : Reaches most_retired show.moves start now.place
   pub read_back : AreReadBack reached.trace
   pub begins : start.report ≡ Some (told_by (fresh text))
   pub tells : now.place.report ≡ Some (told_by now.seen)
@@ -41,8 +41,8 @@ first_comes : (text : List ℕ) (core : Processor) (streams : Streams) → core.
 first_comes text core streams none =
     let start : RunPlace = place_of core streams (Some (told_by (fresh text))) no_tally in
     record {
-      reached = reached-none most_retired show.Moves start refl;
-      read_back = subst AreReadBack (sym (none-trace most_retired show.Moves start refl)) tt;
+      reached = reached-none most_retired show.moves start refl;
+      read_back = subst AreReadBack (sym (none-trace most_retired show.moves start refl)) tt;
       begins = refl;
       tells = refl;
       none = refl;
@@ -60,14 +60,14 @@ comes-first text core streams seen is none =
 -- the text, and the run's groups as far as they agree
 pub record SoFar (text : List ℕ) (start : RunPlace) (now : AuditRun) (trace : List Made) : Type 0 where
   pub text_is : now.seen.text ≡ text
-  pub groups : take now.seen.agreed text ≡ all_shown show.Moves start.core.plan 1 trace
+  pub groups : take now.seen.agreed text ≡ all_shown show.moves start.core.plan 1 trace
 
 put_all_agreed : (seen : Comparison) → seen.other ≡ None → put_of seen ≡ take seen.agreed seen.text
 put_all_agreed seen none = ap (λ (o : Option ℕ). take seen.agreed seen.text ++ alone o) none ∙ append-nil (take seen.agreed seen.text)
 
 pub so-far : (text : List ℕ) (start : RunPlace) (now : AuditRun) (h : Comes text start now) → SoFar text start now h.reached.trace
 so-far text start now h =
-    let groups : List ℕ = all_shown show.Moves start.core.plan 1 h.reached.trace in
+    let groups : List ℕ = all_shown show.moves start.core.plan 1 h.reached.trace in
     let P : Option (List ℕ) → Type 0 = λ o. Writes o now.place.report groups in
     let written : now.place.report ≡ Some (told_by (fresh text) ++ groups) = subst P h.begins h.reached.report in
     let told : told_by now.seen ≡ told_by (fresh text) ++ groups = same_Some _ _ (sym h.tells ∙ written) in
@@ -83,7 +83,7 @@ are_more [] made h k = (k, tt)
 are_more (first ∷ trace) made (h, hs) k = (h, are_more trace made hs k)
 
 -- a group is not an empty text
-pub shown-some : (plan : Plan) (n : ℕ) (made : Made) → 0 < length (shown show.Moves plan n made)
+pub shown-some : (plan : Plan) (n : ℕ) (made : Made) → 0 < length (shown show.moves plan n made)
 unfolding shown numbered_move
 shown-some plan n made = omega arith
 
@@ -109,10 +109,10 @@ pub comes-more : (text : List ℕ) (start : RunPlace) (now new : AuditRun) (mv :
 comes-more text start now new mv small tells h next a =
     let made : Made = record { move = mv; event = a.event; state = new.place.core.state } in
     let low : now.place.core.state.retired < most_retired = retires-below text start now h small in
-    let more : Reaches most_retired show.Moves start new.place = reached-more most_retired show.Moves start now.place new.place mv a.event h.reached low a.makes
+    let more : Reaches most_retired show.moves start new.place = reached-more most_retired show.moves start now.place new.place mv a.event h.reached low a.makes
     in
-    let trace : more.trace ≡ h.reached.trace ++ made ∷ [] = reached-trace most_retired show.Moves start now.place new.place mv a.event h.reached low a.makes in
-    let group : List ℕ = shown show.Moves now.place.core.plan new.place.tally.moves made in
+    let trace : more.trace ≡ h.reached.trace ++ made ∷ [] = reached-trace most_retired show.moves start now.place new.place mv a.event h.reached low a.makes in
+    let group : List ℕ = shown show.moves now.place.core.plan new.place.tally.moves made in
     let P : Option (List ℕ) → Type 0 = λ o. Writes o new.place.report group in
     let written : new.place.report ≡ Some (told_by now.seen ++ group) = subst P h.tells a.makes.report in
     let told : told_by new.seen ≡ told_by now.seen ++ group = same_Some _ _ (sym tells ∙ written) in
@@ -124,7 +124,7 @@ comes-more text start now new mv small tells h next a =
     (shown-some now.place.core.plan new.place.tally.moves made) agreed in
     let one : now.place.core.state.retired < now.place.core.state.retired + 1 = omega arith in
     let retires : new.place.core.state.retired ≤ now.place.core.state.retired + 1 = made-within
-    (now.place.core.state.retired + 1) show.Moves now.place new.place mv a.event one a.makes in
+    (now.place.core.state.retired + 1) show.moves now.place new.place mv a.event one a.makes in
     let count : new.place.tally.moves ≡ now.place.tally.moves + 1 = ap (λ (t : Tally). t.moves) a.makes.makes.tally in (
       record {
         reached = more;
@@ -156,7 +156,7 @@ pub counts-small : (text : List ℕ) (start : RunPlace) (now : AuditRun) → Com
     → (now.place.tally.moves ≤ most_trace) × (now.place.tally.meets ≤ most_trace) × (now.place.tally.kills ≤ most_trace) × (now.place.tally.dead ≤ most_trace)
 counts-small text start now h small =
     let size : length now.seen.text ≡ length text = ap length (so-far text start now h).text_is in
-    let counts = counts-within most_retired show.Moves start now.place h.reached in (
+    let counts = counts-within most_retired show.moves start now.place h.reached in (
       omega (arith, h.few, h.within, size),
       omega (arith, h.few, h.within, size, counts.0),
       omega (arith, h.few, h.within, size, counts.1),

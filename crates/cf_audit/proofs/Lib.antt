@@ -6,3 +6,4 @@ pub mod Coming
 pub mod Turning
 pub mod Unique
 pub mod Sequential
+pub mod SmallNumbers

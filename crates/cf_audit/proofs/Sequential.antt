@@ -1,16 +1,18 @@
 -- The retirement lines of the trace of a run are those of the sequential machine.
 use Rattle.std.proofs.Common.{◌≡◌, ℕ, ◌+◌, List, length, Option, Some, None, refl, ap, subst, ◌∙◌}
-use Rattle.run_options.specs.declared.show.Show.TheVariants as show
+use Rattle.run_options.specs.Reportings as show
 use Rattle.rv_machine.specs.Hart.{Hart}
 use Rattle.rv_machine.specs.Machine.{Machine}
 use Rattle.cf_layout.specs.Accepted.{IsAccepted}
 use Rattle.cf_layout.specs.Layout.{Plan}
-use Rattle.cf_semantics.specs.runs.Lines.{Line, lines}
+use Rattle.cf_semantics.specs.runs.Lines.{lines}
 use Rattle.cf_semantics.specs.claims.Refines.{Refines, gained}
 use Rattle.cf_semantics.specs.runs.Runs.{opened as opened_on, start as start_on}
 use Rattle.cf_semantics.specs.state.State.{Moment}
 use Rattle.theory_refinement.proofs.claims.Runs.{opened_retired}
 use Rattle.theory_refinement.proofs.Theorems.{run_refines}
+use Rattle.theory_unknown_input.proofs.Invariant.{HoldsAnew}
+use Rattle.theory_unknown_input.proofs.Theorems.{holds_anew}
 use Rattle.cf_core.specs.Processors.{Processor, opened}
 use Rattle.cf_run.specs.Going.{moment_of, Leads}
 use Rattle.cf_run.specs.Headline.{machine_on, moment_after, AreTexts}
@@ -18,6 +20,8 @@ use Rattle.cf_run.specs.Made.{moves_of, all_shown}
 use Rattle.cf_run.proofs.Arrived.{begins}
 use Rattle.cf_run.proofs.Retirements.{shown-lines}
 use Rattle.cf_run.proofs.Runs.{leads-run}
+use Rattle.cf_run.proofs.Throughout.{right-anew}
+use Rattle.cf_run.proofs.UnknownInput.{LeadsAnew, leads-anew}
 use Rattle.cf_audit.specs.declared.answer.Audit.{Audit}
 use Rattle.cf_audit.specs.declared.answer.Audit.TheVariants.{Agrees, Wrong, ReadFault}
 use Rattle.cf_audit.specs.Audits.{Audits, RetiresAs, RetiresSequentially}
@@ -27,34 +31,59 @@ opened_regs : (plan : Plan) (hart : Hart) → (opened plan hart).state.regs ≡ 
 unfolding opened opened_on
 opened_regs plan hart = refl
 
-retires_as : (core : Processor) (hart : Hart) (rest text : List ℕ) (n : ℕ) (last : Moment) → IsAccepted core.plan → length core.state.regs ≡ 32 →
-    core ≡ opened core.plan hart → IsTrace core (Some rest) text n last → RetiresAs core hart rest text n
-retires_as core hart rest text n last accepted wide opens t =
+-- so the hart has as many
+opened_wide : (core : Processor) (hart : Hart) → core ≡ opened core.plan hart → length core.state.regs ≡ 32 → length hart.regs ≡ 32
+opened_wide core hart opens wide =
+    subst (λ (r : List ℕ). length r ≡ 32) (ap (λ (p : Processor). p.state.regs) opens ∙ opened_regs core.plan hart) wide
+
+-- over an input whose remaining bytes are known
+retires_told : (core : Processor) (hart : Hart) (rest text : List ℕ) (n : ℕ) (last : Moment) → IsAccepted core.plan → length core.state.regs ≡ 32 →
+    core ≡ opened core.plan hart → IsTrace core (Some rest) text n last → RetiresAs core hart (Some rest) text n
+retires_told core hart rest text n last accepted wide opens t =
     let plan : Plan = core.plan in
     let x : Machine = machine_on hart rest in
     let same : moment_of core t.rest ≡ start_on plan x = begins core hart rest t.rest opens t.is_told in
     let leads : Leads plan most_retired (Some rest) (start_on plan x) t.trace last = subst
     (λ (m : Moment). Leads plan most_retired (Some rest) m t.trace last) same t.leads in
     let runs = leads-run plan most_retired rest (start_on plan x) t.trace last leads in
-    let regs : core.state.regs ≡ hart.regs = ap (λ (p : Processor). p.state.regs) opens ∙ opened_regs plan hart in
-    let size : length x.hart.regs ≡ 32 = subst (λ (r : List ℕ). length r ≡ 32) regs wide in
     let refines : Refines plan x (lines plan (start_on plan x) (moves_of t.trace)) (moment_after plan x (moves_of t.trace)) =
-    run_refines plan x (moves_of t.trace) accepted size runs.0 in
-    let texts = subst (λ (k : ℕ). AreTexts (k + 1) (lines plan (start_on plan x) (moves_of t.trace)) (all_shown show.Retired plan 1 t.trace))
-    (opened_retired plan x)
-    (shown-lines plan most_retired rest (start_on plan x) 1 t.trace last leads) in
+    run_refines plan x (moves_of t.trace) accepted (opened_wide core hart opens wide) runs.0 in
     record {
       last = last;
       is = t;
       retired = gained x (moment_after plan x (moves_of t.trace)).state;
-      lines = subst (λ (l : List Line). AreTexts (x.hart.retired + 1) l (all_shown show.Retired plan 1 t.trace)) refines.lines texts;
+      written = lines plan (start_on plan x) (moves_of t.trace);
+      machine = refines.lines;
+      lines = subst (λ (k : ℕ). AreTexts (k + 1) (lines plan (start_on plan x) (moves_of t.trace)) (all_shown show.retired plan 1 t.trace))
+          (opened_retired plan x) (shown-lines plan most_retired rest (start_on plan x) 1 t.trace last leads);
+    }
+
+-- and over one whose remaining bytes are unknown
+retires_untold : (core : Processor) (hart : Hart) (text : List ℕ) (n : ℕ) (last : Moment) → IsAccepted core.plan → length core.state.regs ≡ 32 →
+    core ≡ opened core.plan hart → IsTrace core None text n last → RetiresAs core hart None text n
+retires_untold core hart text n last accepted wide opens t =
+    let plan : Plan = core.plan in
+    let x : Machine = machine_on hart t.rest in
+    let leads : Leads plan most_retired None (start_on plan x) t.trace last = subst
+    (λ (m : Moment). Leads plan most_retired None m t.trace last) (begins core hart t.rest t.rest opens refl) t.leads in
+    let anew : LeadsAnew plan (start_on plan x) 1 t.trace last = leads-anew plan most_retired (start_on plan x) 1 t.trace last leads in
+    let holds : HoldsAnew plan x anew.written last = holds_anew plan x (moves_of t.trace) last anew.written accepted
+    (opened_wide core hart opens wide) anew.leads in
+    record {
+      last = last;
+      is = t;
+      retired = gained x last.state;
+      written = anew.written;
+      machine = (holds.at, (right-anew plan hart t.rest (moves_of t.trace) last anew.written accepted anew.leads holds).goes);
+      lines = subst (λ (k : ℕ). AreTexts (k + 1) anew.written (all_shown show.retired plan 1 t.trace)) (opened_retired plan x) anew.texts;
     }
 
 pub retires-sequentially : (core new : Processor) (told now : Option (List ℕ)) (text : List ℕ) (answer : Audit) → IsAccepted core.plan →
     length core.state.regs ≡ 32 → Audits core new told now text answer → RetiresSequentially core told text answer
 unfolding Audits RetiresSequentially
-retires-sequentially core new None now text answer accepted wide h = tt
 retires-sequentially core new (Some rest) now text (Agrees n) accepted wide (last, trace, stands) =
-    λ hart opens. retires_as core hart rest text n last accepted wide opens trace
-retires-sequentially core new (Some rest) now text (Wrong line kind) accepted wide h = tt
-retires-sequentially core new (Some rest) now text ReadFault accepted wide h = tt
+    λ hart opens. retires_told core hart rest text n last accepted wide opens trace
+retires-sequentially core new None now text (Agrees n) accepted wide (last, trace, stands) =
+    λ hart opens. retires_untold core hart text n last accepted wide opens trace
+retires-sequentially core new told now text (Wrong line kind) accepted wide h = tt
+retires-sequentially core new told now text ReadFault accepted wide h = tt

@@ -1,12 +1,12 @@
 -- What a move that was made and shown says about the next group of the trace.
-use Rattle.std.proofs.Common.{◌≡◌, ℕ, ◌≤◌, List, length, Option, Some, None, Ok, Err, sym, subst, arith}
+use Rattle.std.proofs.Common.{◌≡◌, ℕ, List, length, Option, Some, None, Ok, Err, sym, subst, arith}
 use Rattle.std.proofs.Math.Seq.{take-length}
-use Rattle.run_options.specs.declared.show.Show.TheVariants as show
-use Rattle.cf_io.specs.Causes.{HasCause, raised}
+use Rattle.run_options.specs.Reportings as show
+use Rattle.cf_io.specs.Causes.{HasCause, Rose}
 use Rattle.cf_io.specs.Puts.{Writes, WritesFront}
 use Rattle.cf_bind.specs.declared.moves.Move.{Move}
 use Rattle.cf_semantics.specs.declared.event.Event.{Event}
-use Rattle.cf_run.specs.declared.answer.Ran.TheVariants as ran
+use Rattle.run_finishes.specs.declared.finish.Ran.TheVariants as ran
 use Rattle.cf_run.specs.Moving.{MakesAndShows, MakesUnshown, MoveDoes, shown_of}
 use Rattle.cf_audit.specs.declared.answer.Audit.{Audit}
 use Rattle.cf_audit.specs.declared.answer.Audit.TheVariants.{Agrees, Wrong, ReadFault}
@@ -23,27 +23,27 @@ puts_front : (a b : Option (List ℕ)) (text : List ℕ) → WritesFront a b tex
 puts_front None b text front = (0, omega arith, tt)
 puts_front (Some told) b text (n, short, k) = (n, omega (arith, short), k)
 
-parts_shown : (mv : Move) (now new : AuditRun) (e : Event) → MakesAndShows show.Moves mv e now.place new.place → HasOther new.seen → ShownDiffers mv now new
+parts_shown : (mv : Move) (now new : AuditRun) (e : Event) → MakesAndShows show.moves mv e now.place new.place → HasOther new.seen → ShownDiffers mv now new
 parts_shown mv now new e d other =
     record {
       event = e;
       makes = d.makes;
-      report = puts_all now.place.report new.place.report (shown_of show.Moves mv e now.place new.place) d.report;
+      report = puts_all now.place.report new.place.report (shown_of show.moves mv e now.place new.place) d.report;
       differs =
           other;
     }
 
-parts_unshown : (mv : Move) (now new : AuditRun) (e : Event) → MakesUnshown show.Moves mv e now.place new.place → HasOther new.seen → ShownDiffers mv now new
+parts_unshown : (mv : Move) (now new : AuditRun) (e : Event) → MakesUnshown show.moves mv e now.place new.place → HasOther new.seen → ShownDiffers mv now new
 parts_unshown mv now new e d other =
     record {
       event = e;
       makes = d.makes;
-      report = puts_front now.place.report new.place.report (shown_of show.Moves mv e now.place new.place) d.report;
+      report = puts_front now.place.report new.place.report (shown_of show.moves mv e now.place new.place) d.report;
       differs = other;
     }
 
 -- the move was made and shown
-pub tried-shown : (text : List ℕ) (mv : Move) (now new : AuditRun) (e : Event) (answer : Option Audit) → MoveDoes show.Moves mv now.place new.place (Ok e) →
+pub tried-shown : (text : List ℕ) (mv : Move) (now new : AuditRun) (e : Event) (answer : Option Audit) → MoveDoes show.moves mv now.place new.place (Ok e) →
     ComparisonAnswers text new.seen answer → AuditTries text mv now new answer
 unfolding MoveDoes ComparisonAnswers AuditTries
 tried-shown text mv now new e None d h = record { event = e; makes = d; same = h }
@@ -56,7 +56,7 @@ tried-shown text mv now new e (Some ReadFault) d h = absurd h
 
 -- the move was made, and the comparison failed
 pub tried-unshown : (text : List ℕ) (mv : Move) (now new : AuditRun) (before : ℕ) (answer : Option Audit) →
-    MoveDoes show.Moves mv now.place new.place (Err ran.ReportFault) → raised before ≤ new.seen.faults → ComparisonAnswers text new.seen answer →
+    MoveDoes show.moves mv now.place new.place (Err ran.ReportFault) → Rose before new.seen.faults → ComparisonAnswers text new.seen answer →
     AuditTries text mv now new answer
 unfolding MoveDoes ComparisonAnswers AuditTries
 tried-unshown text mv now new before None d rose h = absurd (omega (arith, rose, h.works))

@@ -3,7 +3,7 @@ use Rattle.std.proofs.Common.{◌≡◌, ℕ, ◌+◌, ◌-◌, ◌<◌, ◌≤�
 use Rattle.std.specs.Prelude.{slice_get}
 use Rattle.std.proofs.lemmas.List.{take_all}
 use Rattle.std.proofs.lemmas.Option.{same_Some}
-use Rattle.run_options.specs.declared.show.Show.TheVariants as show
+use Rattle.run_options.specs.Reportings as show
 use Rattle.rv_machine.specs.Streams.{Streams, streams_of}
 use Rattle.cf_layout.specs.Layout.{Plan}
 use Rattle.cf_bind.specs.declared.moves.Move.{Move}
@@ -52,7 +52,7 @@ last_made plan limit told m (first ∷ trace) made last (rest, finds, is, h) =
     record { at = l.at; leads = (rest, finds, is, l.leads); rest = l.rest; finds = l.finds; is = l.is; last_is = l.last_is }
 
 -- where the group of the next move and the text differ first
-record PartsThere (text : List ℕ) (start : RunPlace) (now new : AuditRun) (reached : Reaches most_retired show.Moves start now.place) : Type 0 where
+record PartsThere (text : List ℕ) (start : RunPlace) (now new : AuditRun) (reached : Reaches most_retired show.moves start now.place) : Type 0 where
   last : Moment
   leads : Leads start.core.plan most_retired start.streams.input (moment_of start.core reached.rest) reached.trace last
   stop : Moment
@@ -65,14 +65,14 @@ record PartsThere (text : List ℕ) (start : RunPlace) (now new : AuditRun) (rea
 parts_there : (text : List ℕ) (start : RunPlace) (now new : AuditRun) (mv : Move) → length text ≤ most_trace → new.place.report ≡ Some (told_by new.seen) →
     (h : Comes text start now) → NextIs now mv → ShownDiffers mv now new → PartsThere text start now new h.reached
 parts_there text start now new mv small tells h next p =
-    let group : List ℕ = shown_of show.Moves mv p.event now.place new.place in
+    let group : List ℕ = shown_of show.moves mv p.event now.place new.place in
     let full : RunPlace = record new.place { report = filled now.place.report group } in
     let made : Made = record { move = mv; event = p.event; state = new.place.core.state } in
     let low : now.place.core.state.retired < most_retired = retires-below text start now h small in
-    let makes : MakesAndShows show.Moves mv p.event now.place full = shown_too show.Moves mv p.event now.place new.place p.makes in
-    let more : Reaches most_retired show.Moves start full = reached-more most_retired show.Moves start now.place full mv p.event h.reached low makes in
-    let trace : more.trace ≡ h.reached.trace ++ made ∷ [] = reached-trace most_retired show.Moves start now.place full mv p.event h.reached low makes in
-    let rest : more.rest ≡ h.reached.rest = reached-rest most_retired show.Moves start now.place full mv p.event h.reached low makes in
+    let makes : MakesAndShows show.moves mv p.event now.place full = shown_too show.moves mv p.event now.place new.place p.makes in
+    let more : Reaches most_retired show.moves start full = reached-more most_retired show.moves start now.place full mv p.event h.reached low makes in
+    let trace : more.trace ≡ h.reached.trace ++ made ∷ [] = reached-trace most_retired show.moves start now.place full mv p.event h.reached low makes in
+    let rest : more.rest ≡ h.reached.rest = reached-rest most_retired show.moves start now.place full mv p.event h.reached low makes in
     let leads : Leads start.core.plan most_retired start.streams.input (moment_of start.core h.reached.rest) (h.reached.trace ++ made ∷ []) more.last =
     subst (λ (r : List ℕ). Leads start.core.plan most_retired start.streams.input (moment_of start.core r) (h.reached.trace ++ made ∷ []) more.last) rest
     (subst (λ (t : List Made). Leads start.core.plan most_retired start.streams.input (moment_of start.core more.rest) t more.last) trace more.leads) in
@@ -107,7 +107,7 @@ parts_there text start now new mv small tells h next p =
           made = made;
           is_made = l.is;
           move = refl;
-          is = ap (λ (layout : Plan). shown show.Moves layout new.place.tally.moves made) plan ∙ ap (λ (n : ℕ). shown show.Moves start.core.plan n made) number;
+          is = ap (λ (layout : Plan). shown show.moves layout new.place.tally.moves made) plan ∙ ap (λ (n : ℕ). shown show.moves start.core.plan n made) number;
         };
         leads = l.last_is;
         same = apart.1.same;

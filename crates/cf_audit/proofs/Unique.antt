@@ -2,7 +2,7 @@
 use Rattle.std.proofs.Common.{◌≡◌, ℕ, zero, suc, ◌+◌, ◌<◌, true, false, List, [], ◌∷◌, ◌++◌, length, Option, Some, None, inl, inr, refl, sym, ap, subst, ◌∙◌, append-nil, append_assoc, length-append, arith}
 use Rattle.std.specs.Prelude.{Bool, slice_get, codes, decimal, ◌||◌, ◌==◌}
 use Rattle.std.proofs.lemmas.List.{append_cancel_left}
-use Rattle.run_options.specs.declared.show.Show.TheVariants as show
+use Rattle.run_options.specs.Reportings as show
 use Rattle.cf_layout.specs.Layout.{Plan}
 use Rattle.cf_bind.specs.declared.moves.Move.{Move}
 use Rattle.cf_bind.specs.MoveTexts.{move_line}
@@ -30,7 +30,7 @@ use Rattle.cf_audit.proofs.FirstLines.{one_told}
 rest_of_group : Plan → Made → List ℕ
 rest_of_group plan made = retirement made.state.retired made.event ++ picture plan made.state
 
-group_parts : (plan : Plan) (n : ℕ) (made : Made) (more : List ℕ) → shown show.Moves plan n made ++ more ≡ numbered_move n made.move
+group_parts : (plan : Plan) (n : ℕ) (made : Made) (more : List ℕ) → shown show.moves plan n made ++ more ≡ numbered_move n made.move
     ++ (rest_of_group plan made ++ more)
 unfolding shown rest_of_group
 group_parts plan n made more =
@@ -41,7 +41,7 @@ group_parts plan n made more =
 
 -- a move that is made at a moment has one group, and leads to one state
 same_group : (plan : Plan) (m : Moment) (n : ℕ) (a b : Made) → IsMade plan most_retired m a → IsMade plan most_retired m b → a.move ≡ b.move →
-    (a.state ≡ b.state) × (shown show.Moves plan n a ≡ shown show.Moves plan n b)
+    (a.state ≡ b.state) × (shown show.moves plan n a ≡ shown show.moves plan n b)
 unfolding shown
 same_group plan m n a b h k same =
     let states : a.state ≡ b.state = h.state ∙ ap (λ (mv : Move). (next plan m mv).state) same ∙ sym k.state in
@@ -68,7 +68,7 @@ record IsOneMove (plan : Plan) (m : Moment) (a b : Made) (x y : List ℕ) : Type
   after : x ≡ y
 
 one_move : (plan : Plan) (m : Moment) (n : ℕ) (a b : Made) (x y : List ℕ) → IsMade plan most_retired m a → IsMade plan most_retired m b → IsReadBack a.move →
-    IsReadBack b.move → shown show.Moves plan n a ++ x ≡ shown show.Moves plan n b ++ y → IsOneMove plan m a b x y
+    IsReadBack b.move → shown show.moves plan n a ++ x ≡ shown show.moves plan n b ++ y → IsOneMove plan m a b x y
 one_move plan m n a b x y h k reads tells same =
     let lines = one_told n a.move b.move (rest_of_group plan a ++ x) (rest_of_group plan b ++ y) reads tells (sym (group_parts plan n a x) ∙ same
     ∙ group_parts plan n b y) in
@@ -76,7 +76,7 @@ one_move plan m n a b x y h k reads tells same =
     record {
       move = lines.0;
       state = groups.0;
-      after = append_cancel_left (shown show.Moves plan n b) x y (ap (λ (t : List ℕ). t ++ x) (sym groups.1) ∙ same);
+      after = append_cancel_left (shown show.moves plan n b) x y (ap (λ (t : List ℕ). t ++ x) (sym groups.1) ∙ same);
     }
 
 -- the input that a move finds is what is left
@@ -91,23 +91,23 @@ leads_rest plan told m last rest made trace finds leads =
     subst (λ (r : List ℕ). Leads plan most_retired (Some told) (next plan (record m { rest = r }) made.move) trace last) finds leads
 
 -- an empty text begins with no group
-no_group : (plan : Plan) (n : ℕ) (made : Made) (more : List ℕ) → [] ≡ shown show.Moves plan n made ++ more → ⊥
+no_group : (plan : Plan) (n : ℕ) (made : Made) (more : List ℕ) → [] ≡ shown show.moves plan n made ++ more → ⊥
 no_group plan n made more e =
-    let size : 0 ≡ length (shown show.Moves plan n made ++ more) = ap length e in
-    absurd (omega (arith, size, length-append (shown show.Moves plan n made) more, shown-some plan n made))
+    let size : 0 ≡ length (shown show.moves plan n made ++ more) = ap length e in
+    absurd (omega (arith, size, length-append (shown show.moves plan n made) more, shown-some plan n made))
 
 -- the trace of a run is that of no run with another number of moves
 same_count : (plan : Plan) (told : List ℕ) (m : Moment) (n : ℕ) (a b : List Made) (last end : Moment) → Leads plan most_retired (Some told) m a last →
     Leads plan most_retired (Some told) m b end → AreReadBack a → AreReadBack b
-    → all_shown show.Moves plan n a ≡ all_shown show.Moves plan n b → length a ≡ length b
+    → all_shown show.moves plan n a ≡ all_shown show.moves plan n b → length a ≡ length b
 unfolding Leads all_shown
 same_count plan told m n [] [] last end h k reads tells same = refl
-same_count plan told m n [] (made ∷ b) last end h k reads tells same = absurd (no_group plan n made (all_shown show.Moves plan (n + 1) b) same)
-same_count plan told m n (made ∷ a) [] last end h k reads tells same = absurd (no_group plan n made (all_shown show.Moves plan (n + 1) a) (sym same))
+same_count plan told m n [] (made ∷ b) last end h k reads tells same = absurd (no_group plan n made (all_shown show.moves plan (n + 1) b) same)
+same_count plan told m n (made ∷ a) [] last end h k reads tells same = absurd (no_group plan n made (all_shown show.moves plan (n + 1) a) (sym same))
 same_count plan told m n (first ∷ a) (other ∷ b) last end (r, f, i, h) (s, g, j, k) (read, reads) (tell, tells) same =
     let here : IsMade plan most_retired m first = at_rest plan told m r first f i in
     let there : IsMade plan most_retired m other = at_rest plan told m s other g j in
-    let one = one_move plan m n first other (all_shown show.Moves plan (n + 1) a) (all_shown show.Moves plan (n + 1) b) here there read tell same in
+    let one = one_move plan m n first other (all_shown show.moves plan (n + 1) a) (all_shown show.moves plan (n + 1) b) here there read tell same in
     let left : Leads plan most_retired (Some told) (next plan m first.move) a last = leads_rest plan told m last r first a f h in
     let right : Leads plan most_retired (Some told) (next plan m first.move) b end = subst
     (λ (mv : Move). Leads plan most_retired (Some told) (next plan m mv) b end) (sym one.move) (leads_rest plan told m end s other b g k) in
@@ -137,7 +137,7 @@ get_front (x ∷ front) more (suc place) byte e = get_front front more place byt
 
 -- a text that begins with the group of a move that can be made does not fail
 not_parted : (plan : Plan) (told : List ℕ) (m : Moment) (n : ℕ) (made : Made) (left more : List ℕ) (place : ℕ) (stop : Moment) →
-    IsMade plan most_retired m made → IsReadBack made.move → left ≡ shown show.Moves plan n made ++ more → PartsAt plan (Some told) m n left place stop → ⊥
+    IsMade plan most_retired m made → IsReadBack made.move → left ≡ shown show.moves plan n made ++ more → PartsAt plan (Some told) m n left place stop → ⊥
 not_parted plan told m n made left more place stop is reads same p =
     let g = p.is_group in
     let here : IsMade plan most_retired m g.made = at_rest plan told m g.rest g.made g.finds g.is_made in
@@ -145,11 +145,11 @@ not_parted plan told m n made left more place stop is reads same p =
     ∙ group_parts plan n made more in
     let moves = one_told n p.move made.move p.begins.after (rest_of_group plan made ++ more) p.begins.told reads lines in
     let groups = same_group plan m n g.made made here is (g.move ∙ moves.0) in
-    let group : p.group ≡ shown show.Moves plan n made = g.is ∙ groups.1 in
+    let group : p.group ≡ shown show.moves plan n made = g.is ∙ groups.1 in
     p.differs (ap (λ (t : List ℕ). slice_get t place) (same ∙ ap (λ (t : List ℕ). t ++ more) (sym group)) ∙ get_front p.group more place p.other p.goes_on)
 
 not_failing : (plan : Plan) (told : List ℕ) (m : Moment) (n : ℕ) (made : Made) (left more : List ℕ) (place : ℕ) (kind : TraceKind) (stop : Moment) →
-    IsMade plan most_retired m made → IsReadBack made.move → left ≡ shown show.Moves plan n made ++ more →
+    IsMade plan most_retired m made → IsReadBack made.move → left ≡ shown show.moves plan n made ++ more →
     TraceFails plan (Some told) m n left place kind stop → ⊥
 unfolding TraceFails
 not_failing plan told m n made left more place NotAMove stop is reads same (has, none, at, still) =
@@ -169,7 +169,7 @@ not_failing plan told m n made left more place Cut stop is reads same (inr (p, a
 no_trace : (plan : Plan) (told : List ℕ) (m : Moment) (n k : ℕ) (a b : List Made) (last end : Moment) (left : List ℕ) (place : ℕ) (kind : TraceKind)
     (stop : Moment) → k ≡ n + length a → Leads plan most_retired (Some told) m a last → Leads plan most_retired (Some told) m b end → AreReadBack a →
     AreReadBack b
-    → 0 < length left → TraceFails plan (Some told) last k left place kind stop → all_shown show.Moves plan n a ++ left ≡ all_shown show.Moves plan n b → ⊥
+    → 0 < length left → TraceFails plan (Some told) last k left place kind stop → all_shown show.moves plan n a ++ left ≡ all_shown show.moves plan n b → ⊥
 unfolding Leads all_shown
 no_trace plan told m n k [] [] last end left place kind stop count h l reads tells some fails same = absurd (omega (arith, ap length same))
 no_trace plan told m n k [] (made ∷ b) last end left place kind stop count h (s, g, j, l) reads (tell, tells) some fails same =
@@ -177,15 +177,15 @@ no_trace plan told m n k [] (made ∷ b) last end left place kind stop count h (
     let number : k ≡ n = omega (arith, count) in
     let here : TraceFails plan (Some told) m n left place kind stop = subst (λ (i : ℕ). TraceFails plan (Some told) m i left place kind stop) number
     (subst (λ (q : Moment). TraceFails plan (Some told) q k left place kind stop) h fails) in
-    not_failing plan told m n made left (all_shown show.Moves plan (n + 1) b) place kind stop there tell same here
+    not_failing plan told m n made left (all_shown show.moves plan (n + 1) b) place kind stop there tell same here
 no_trace plan told m n k (made ∷ a) [] last end left place kind stop count h l reads tells some fails same =
-    no_group plan n made (all_shown show.Moves plan (n + 1) a ++ left) (sym same ∙ append_assoc (shown show.Moves plan n made)
-    (all_shown show.Moves plan (n + 1) a) left)
+    no_group plan n made (all_shown show.moves plan (n + 1) a ++ left) (sym same ∙ append_assoc (shown show.moves plan n made)
+    (all_shown show.moves plan (n + 1) a) left)
 no_trace plan told m n k (first ∷ a) (other ∷ b) last end left place kind stop count (r, f, i, h) (s, g, j, l) (read, reads) (tell, tells) some fails same =
     let here : IsMade plan most_retired m first = at_rest plan told m r first f i in
     let there : IsMade plan most_retired m other = at_rest plan told m s other g j in
-    let one = one_move plan m n first other (all_shown show.Moves plan (n + 1) a ++ left) (all_shown show.Moves plan (n + 1) b) here there read tell
-    (sym (append_assoc (shown show.Moves plan n first) (all_shown show.Moves plan (n + 1) a) left) ∙ same) in
+    let one = one_move plan m n first other (all_shown show.moves plan (n + 1) a ++ left) (all_shown show.moves plan (n + 1) b) here there read tell
+    (sym (append_assoc (shown show.moves plan n first) (all_shown show.moves plan (n + 1) a) left) ∙ same) in
     let before : Leads plan most_retired (Some told) (next plan m first.move) a last = leads_rest plan told m last r first a f h in
     let after : Leads plan most_retired (Some told) (next plan m first.move) b end = subst
     (λ (mv : Move). Leads plan most_retired (Some told) (next plan m mv) b end) (sym one.move) (leads_rest plan told m end s other b g l) in
@@ -212,7 +212,7 @@ wrong-for-none core told text line n kind stop end w b =
     subst (λ (m : Moment). Leads core.plan most_retired (Some told) m a.trace w.last) (same_start core told a.rest a.is_told) a.leads in
     let second : Leads core.plan most_retired (Some told) (moment_of core told) b.trace end =
     subst (λ (m : Moment). Leads core.plan most_retired (Some told) m b.trace end) (same_start core told b.rest b.is_told) b.leads in
-    let whole : all_shown show.Moves core.plan 1 a.trace ++ w.left ≡ all_shown show.Moves core.plan 1 b.trace = ap (λ (t : List ℕ). t ++ w.left) (sym a.is)
+    let whole : all_shown show.moves core.plan 1 a.trace ++ w.left ≡ all_shown show.moves core.plan 1 b.trace = ap (λ (t : List ℕ). t ++ w.left) (sym a.is)
     ∙ sym w.agrees.parts ∙ b.is in
     no_trace core.plan told (moment_of core told) 1 (w.n + 1) a.trace b.trace w.last end w.left w.place kind stop
     (omega (arith, a.count)) first second a.read_back b.read_back w.agrees.some w.fails whole

@@ -1,10 +1,13 @@
 -- The outcome of an audit of a recorded trace, and what a trace that agrees says about the sequential machine.
-use Rattle.std.specs.Prelude.{◌≡◌, ℕ, ◌+◌, List, Option, Some, None}
-use Rattle.run_options.specs.declared.show.Show.TheVariants as show
+use Rattle.std.specs.Prelude.{◌≡◌, ℕ, ◌+◌, List, [], Option, Some, None}
+use Rattle.run_options.specs.Reportings as show
 use Rattle.rv_machine.specs.Hart.{Hart}
+use Rattle.rv_machine.specs.Machine.{Machine}
+use Rattle.cf_layout.specs.Layout.{Plan}
 use Rattle.cf_semantics.specs.state.Layouts.{isa_of}
-use Rattle.cf_semantics.specs.runs.Lines.{sequence}
+use Rattle.cf_semantics.specs.runs.Lines.{Line, sequence}
 use Rattle.cf_semantics.specs.state.State.{Moment}
+use Rattle.theory_unknown_input.specs.UnknownInput.{GoesTo}
 use Rattle.cf_core.specs.Processors.{Processor, opened}
 use Rattle.cf_run.specs.Headline.{machine_on, AreTexts}
 use Rattle.cf_run.specs.Made.{all_shown}
@@ -33,18 +36,24 @@ AgreesWithAll core None text answer = Unit {0}
 AgreesWithAll core (Some rest) text answer =
     (n : ℕ) (last : Moment) → IsTrace core (Some rest) text n last → IsAgreement n answer
 
--- The retirement lines of the run whose trace the text is are those of the sequential machine that starts on this hart
--- with this input: a line for each of its first instructions, up to some number, in their order, numbered by the
--- machine's count.
-pub record RetiresAs (core : Processor) (hart : Hart) (rest text : List ℕ) (n : ℕ) : Type 0 where
-  pub last : Moment
-  pub is : IsTrace core (Some rest) text n last
-  pub retired : ℕ
-  pub lines : AreTexts (hart.retired + 1) (sequence (isa_of core.plan) (machine_on hart rest) retired) (all_shown show.Retired core.plan 1 is.trace)
+-- These are the instructions that the sequential machine retires which starts on this hart: its first ones, as many as
+-- this, with what the input tells; where it tells nothing, in as many steps, each of which finds some input.
+abbrev pub AreRetired : Plan → Hart → Option (List ℕ) → ℕ → List Line → Type 0
+AreRetired plan hart (Some rest) n written = written ≡ sequence (isa_of plan) (machine_on hart rest) n
+AreRetired plan hart None n written = (at : Machine) × GoesTo (isa_of plan) (machine_on hart []) n at written
 
--- This holds of each trace that agrees, on whatever hart the processor was opened, where the input's remaining bytes
--- are known.
+-- The retirement lines of the run whose trace the text is are those of the sequential machine that starts on this hart:
+-- a line for each of its first instructions, up to some number, in their order, numbered by the machine's count.
+pub record RetiresAs (core : Processor) (hart : Hart) (told : Option (List ℕ)) (text : List ℕ) (n : ℕ) : Type 0 where
+  pub last : Moment
+  pub is : IsTrace core told text n last
+  pub retired : ℕ
+  pub written : List Line
+  pub machine : AreRetired core.plan hart told retired written
+  pub lines : AreTexts (hart.retired + 1) written (all_shown show.retired core.plan 1 is.trace)
+
+-- This holds of each trace that agrees, on whatever hart the processor was opened.
 unfoldable pub RetiresSequentially : Processor → Option (List ℕ) → List ℕ → Audit → Type 0
-RetiresSequentially core (Some rest) text (Agrees n) =
-    (hart : Hart) → core ≡ opened core.plan hart → RetiresAs core hart rest text n
+RetiresSequentially core told text (Agrees n) =
+    (hart : Hart) → core ≡ opened core.plan hart → RetiresAs core hart told text n
 RetiresSequentially core told text answer = Unit {0}

@@ -1,7 +1,7 @@
 -- Recorded traces: the text of a run, and where a text that is not a trace goes wrong (a format of this project).
 use Rattle.std.specs.Prelude.{◌≡◌, ◌⊎◌, ℕ, ◌+◌, ◌-◌, ◌<◌, ◌^◌, Bool, true, false, List, [], ◌∷◌, ◌++◌, length, take, slice_get, count_by, Option, Some, None, Ok}
 use Rattle.std.specs.List.{list_any}
-use Rattle.run_options.specs.declared.show.Show.TheVariants as show
+use Rattle.run_options.specs.Reportings as show
 use Rattle.rv_text.specs.Lines.{is_line_feed}
 use Rattle.rv_machine.specs.Streams.{IsTold, Becomes, streams_of}
 use Rattle.cf_layout.specs.Layout.{Plan}
@@ -42,7 +42,7 @@ pub record IsTrace (core : Processor) (told : Option (List ℕ)) (text : List �
   pub leads : Leads core.plan most_retired told (moment_of core rest) trace last
   pub read_back : AreReadBack trace
   pub count : length trace ≡ n
-  pub is : text ≡ all_shown show.Moves core.plan 1 trace
+  pub is : text ≡ all_shown show.moves core.plan 1 trace
 
 -- the processor and the input are what the moves that lead to the moment leave
 pub record ReachesMoment (core new : Processor) (told now : Option (List ℕ)) (last : Moment) : Type 0 where
@@ -77,7 +77,7 @@ pub record IsGroup (plan : Plan) (told : Option (List ℕ)) (last : Moment) (n :
   pub made : Made
   pub is_made : IsMade plan most_retired (record last { rest = rest }) made
   pub move : made.move ≡ mv
-  pub is : group ≡ shown show.Moves plan n made
+  pub is : group ≡ shown show.moves plan n made
 
 -- what is left begins with the line of a move that can be made, which leads to the moment `stop`, and it is the move's
 -- group up to this index, at which the group has another byte or the text has ended

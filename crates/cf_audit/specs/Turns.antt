@@ -1,6 +1,6 @@
 -- One turn of an audit: the next group of the trace is tested and its move made, or the audit ends.
 use Rattle.std.specs.Prelude.{◌≡◌, ◌⊎◌, ℕ, ◌+◌, ◌<◌, ◌≤◌, true, false, List, length, take, drop, Option, Some, None, Result, Ok, Err}
-use Rattle.run_options.specs.declared.show.Show.TheVariants as show
+use Rattle.run_options.specs.Reportings as show
 use Rattle.cf_io.specs.Puts.{Writes}
 use Rattle.rv_machine.specs.Streams.{streams_of}
 use Rattle.cf_bind.specs.declared.moves.Move.{Move}
@@ -8,7 +8,7 @@ use Rattle.cf_semantics.specs.declared.event.Event.{Event}
 use Rattle.cf_semantics.specs.moves.Bars.{bar as first_bar}
 use Rattle.cf_core.specs.Processors.{Processor}
 use Rattle.cf_report.specs.declared.tally.Tally.{Tally}
-use Rattle.cf_run.specs.declared.answer.Ran.TheVariants as ran
+use Rattle.run_finishes.specs.declared.finish.Ran.TheVariants as ran
 use Rattle.cf_run.specs.Moving.{RunPlace, place_of, MakesMove, MakesAndShows, MoveDoes, shown_of}
 use Rattle.cf_audit.specs.declared.answer.Audit.{Audit}
 use Rattle.cf_audit.specs.declared.answer.Audit.TheVariants.{Agrees, Wrong, ReadFault}
@@ -49,7 +49,7 @@ ComparisonAnswers text seen (Some answer) = ⊥
 -- the move was made, and all that is shown for it comes next in the text
 pub record Advances (mv : Move) (now new : AuditRun) : Type 0 where
   pub event : Event
-  pub makes : MakesAndShows show.Moves mv event now.place new.place
+  pub makes : MakesAndShows show.moves mv event now.place new.place
   pub same : AllAgrees new.seen
 
 -- a prefix of these bytes was written, or all of them
@@ -60,7 +60,7 @@ PutsSome before after bytes = (n : ℕ) × (n ≤ length bytes) × Writes before
 pub record ShownDiffers (mv : Move) (now new : AuditRun) : Type 0 where
   pub event : Event
   pub makes : MakesMove mv event now.place new.place
-  pub report : PutsSome now.place.report new.place.report (shown_of show.Moves mv event now.place new.place)
+  pub report : PutsSome now.place.report new.place.report (shown_of show.moves mv event now.place new.place)
   pub differs : HasOther new.seen
 
 -- what the move of the next line leads to
@@ -74,7 +74,7 @@ AuditTries text mv now new (Some (Wrong line Differs)) =
     ShownDiffers mv now new × (new.seen.agreed < length new.seen.text) × (line ≡ line_of text new.seen.agreed)
 AuditTries text mv now new (Some (Wrong line Cut)) =
     ShownDiffers mv now new × (new.seen.agreed ≡ length new.seen.text) × (line ≡ line_of text new.seen.agreed)
-AuditTries text mv now new (Some ReadFault) = MoveDoes show.Moves mv now.place new.place (Err ran.ReadFault)
+AuditTries text mv now new (Some ReadFault) = MoveDoes show.moves mv now.place new.place (Err ran.ReadFault)
 
 -- the next group is tested: its first line names a move, which is tried, or names none
 unfoldable pub Tests : List ℕ → (now new : AuditRun) → Option Audit → Type 0

@@ -17,7 +17,7 @@ use crate::first_line::recorded_move;
 use cf_core::Core;
 use cf_io::{Nowhere, Source};
 use cf_report::Tally;
-use cf_run::{Ran, Show, known, make_and_show};
+use cf_run::{Ran, Reporting, Show, known, make_and_show};
 use run_scripts::{MOST_SCRIPT, TraceKind};
 
 /// The greatest length of a trace, in bytes: that of a script.
@@ -108,7 +108,18 @@ fn advance<S: Source>(
     if let Some(bar) = core.allowed(mv) {
         return Some(wrong(trace, report.agreed(), TraceKind::Barred(bar)));
     }
-    match make_and_show(core, mv, Show::Moves, input, &mut Nowhere, report, tally) {
+    match make_and_show(
+        core,
+        mv,
+        Reporting {
+            show: Show::Moves,
+            every: None,
+        },
+        input,
+        &mut Nowhere,
+        report,
+        tally,
+    ) {
         Ok(_) => compared(trace, report),
         Err(Ran::ReportFault) => compared(trace, report),
         Err(Ran::ReadFault) => Some(Audit::ReadFault),
@@ -130,8 +141,9 @@ fn advance<S: Source>(
 /// that were made lead: those of the groups before, and for `Differs`, and for `Cut` within a group, also the move of
 /// this group.
 ///
-/// So over an input whose remaining bytes are known, the lines of retired instructions in a trace that agrees are those
-/// of the sequential machine, in its order, whatever made the trace and in whatever order its moves were made.
+/// So the lines of retired instructions in a trace that agrees are those of the sequential machine, in its order,
+/// whatever made the trace and in whatever order its moves were made: with the input's remaining bytes where these are
+/// known, and otherwise with some input that each call finds.
 ///
 /// `ReadFault` comes only where the input failed a call of the environment, and its count of faults rose. The program's
 /// output is discarded.

@@ -1,5 +1,5 @@
 -- What commands and lines leave, from what their parts leave.
-use Rattle.std.proofs.Common.{◌≡◌, ◌≢◌, ℕ, ◌+◌, ◌<◌, ◌≤◌, List, [], ◌∷◌, ◌++◌, length, Option, Some, None, Bool, true, false, Ok, Err, refl, sym, ap, subst, ◌∙◌, append-nil, append_assoc, inl, inr, arith}
+use Rattle.std.proofs.Common.{◌≡◌, ◌≢◌, ℕ, zero, suc, ◌+◌, ◌<◌, ◌≤◌, List, [], ◌∷◌, ◌++◌, length, Option, Some, None, Bool, true, false, Ok, Err, refl, sym, ap, subst, ◌∙◌, append-nil, append_assoc, inl, inr, arith}
 use Rattle.std.specs.Prelude.{◌⊎◌, Result, codes}
 use Rattle.std.specs.Result.{IsErrAnd}
 use Rattle.cf_io.specs.Causes.{HasCause}
@@ -27,7 +27,7 @@ use Rattle.cf_debug.specs.Commands.{command_in}
 use Rattle.cf_debug.specs.Driving.{Turn, DriveTakes, Passes, Pauses, Drives, first_turn, next_turn}
 use Rattle.cf_debug.specs.Making.{ProcessorState, MakesAndKeeps, MakesKeptOrFails, FailsOne, processor_state}
 use Rattle.cf_debug.specs.Outcomes.{CommandLeaves, DrivesOut, PutsBack, of_report, output_broken, report_broken}
-use Rattle.cf_debug.specs.Replies.{DebuggerState, debugger_state, AnswersLine, AnswersAll, AnswersPart, Automates, CommandAnswers, CommandAnswersPart, FailsAnswer, SessionGoesOn, IsAtLimit, Moves, RunsAground, OnlyAnswers, TakesBack, back_text, moved_text, refused_line, refusal_text}
+use Rattle.cf_debug.specs.Replies.{DebuggerState, debugger_state, AnswersLine, AnswersAll, AnswersPart, Automates, CommandAnswers, CommandAnswersPart, FailsAnswer, SessionGoesOn, IsAtLimit, Moves, RunsAground, OnlyAnswers, TakesBack, TakesMoves, TakesNewest, back_text, moved_text, refused_line, refusal_text}
 use Rattle.rv_text.specs.Lines.{without_return}
 use Rattle.cf_debug.specs.Sessions.{LineLeaves, FinishesSession, StaysOnRun, UsesByte, commands_ended, ended_by, output_ended, report_ended}
 use Rattle.cf_debug.specs.Standing.{StandsAfterMoves, IsOnRun}
@@ -156,23 +156,37 @@ auto-stopped n now new stop written after b (Err e) same h = subst (λ (by : Bro
     (debugger_state new stop) written after (Err by)) (sym same) (auto-broken n now new stop written after b h)
 
 -- `back`, whatever the output exposes
-pub carries-back : (core new : Processor) (ring later : List Kept) (output : Option (List ℕ)) (stop : Option ℕ) (written after : Option (List ℕ)) (i j : ℕ)
-    (answer : Result (Unit {0}) Failed) → PutsBack (processor_state core ring None) (processor_state new later None) written after i j answer
-    → CommandLeaves Back (debugger_state (processor_state core ring output) stop) (debugger_state (processor_state new later output) stop) written after
-    (of_report answer)
-unfolding CommandAnswers CommandAnswersPart
-carries-back core new ring later output stop written after i j answer (text, h, put) =
-    let back : TakesBack (processor_state core ring output) (processor_state new later output) text = of h in
-    carries-told Back (debugger_state (processor_state core ring output) stop) (debugger_state (processor_state new later output) stop) text written after i j
-    answer (refl, back) (refl, back) put
-  where
-    at : ProcessorState → ProcessorState
-    at b = processor_state b.core b.ring output
+abbrev put_beside : Option (List ℕ) → ProcessorState → ProcessorState
+put_beside output b = processor_state b.core b.ring output
 
-    of : TakesBack (processor_state core ring None) (processor_state new later None) text →
-        TakesBack (processor_state core ring output) (processor_state new later output) text
-    of (inl (none, (same, is))) = inl (none, (ap at same, is))
-    of (inr (older, k, there, same, is)) = inr (older, k, there, ap at same, is)
+takes_beside : (n : ℕ) (now new : ProcessorState) (output : Option (List ℕ)) (text : List ℕ) → TakesMoves n now new text →
+    TakesMoves n (put_beside output now) (put_beside output new) text
+unfolding TakesMoves
+takes_beside zero now new output text (same, none) = (ap (put_beside output) same, none)
+takes_beside (suc n) now new output text (between, lines, last, before, (older, k, there, is, line), all) = (
+  put_beside output between,
+  lines,
+  last,
+  takes_beside n now between output lines before,
+  (older, k, there, ap (put_beside output) is, line),
+  all,
+)
+
+back_beside : (n : ℕ) (now new : ProcessorState) (output : Option (List ℕ)) (text : List ℕ) → TakesBack n now new text →
+    TakesBack n (put_beside output now) (put_beside output new) text
+back_beside n now new output text (inl all) = inl (takes_beside n now new output text all)
+back_beside n now new output text (inr (m, lines, few, some, none, is)) =
+    inr (m, lines, few, takes_beside m now new output lines some, none, is)
+
+pub carries-back : (n : ℕ) (core new : Processor) (ring later : List Kept) (output : Option (List ℕ)) (stop : Option ℕ) (written after : Option (List ℕ))
+    (answer : Result (Unit {0}) Failed) → PutsBack n (processor_state core ring None) (processor_state new later None) written after answer
+    → CommandLeaves (Back n) (debugger_state (processor_state core ring output) stop) (debugger_state (processor_state new later output) stop) written after
+    (of_report answer)
+unfolding PutsBack CommandLeaves CommandAnswers CommandAnswersPart
+carries-back n core new ring later output stop written after (Ok done) (text, back, put) =
+    (text, (refl, back_beside n (processor_state core ring None) (processor_state new later None) output text back), put)
+carries-back n core new ring later output stop written after (Err failed) (text, (m, few, back), put) =
+    (text, (refl, (m, few, back_beside m (processor_state core ring None) (processor_state new later None) output text back)), put)
 
 -- Lines --
 
@@ -284,6 +298,20 @@ processor_same : (start : Processor) (now new : DebuggerState) → StandsAfterMo
     StandsAfterMoves start new.processor.core new.processor.ring
 processor_same start now new h same = subst (λ (d : DebuggerState). StandsAfterMoves start d.processor.core d.processor.ring) (sym same) h
 
+newest_stand : (start : Processor) (now new : ProcessorState) (text : List ℕ) → StandsAfterMoves start now.core now.ring → TakesNewest now new text →
+    StandsAfterMoves start new.core new.ring
+newest_stand start now new text h (older, k, there, is, line) =
+    let before : StandsAfterMoves start now.core (older ++ k ∷ []) = subst (StandsAfterMoves start now.core) there h in
+    subst (StandsAfterMoves start new.core) (sym (ap (λ (b : ProcessorState). b.ring) is))
+    (stands-back start now.core new.core older k before (ap (λ (b : ProcessorState). b.core) is))
+
+takes_stand : (start : Processor) (n : ℕ) (now new : ProcessorState) (text : List ℕ) → StandsAfterMoves start now.core now.ring →
+    TakesMoves n now new text → StandsAfterMoves start new.core new.ring
+unfolding TakesMoves
+takes_stand start zero now new text h (same, none) = same_stands start now new h same
+takes_stand start (suc n) now new text h (between, lines, last, before, newest, is) =
+    newest_stand start between new last (takes_stand start n now between lines h before) newest
+
 -- each command keeps a session on its run
 carries_stand : (start : Processor) (command : DebugCommand) (now new : DebuggerState) (text : List ℕ) →
     StandsAfterMoves start now.processor.core now.processor.ring → CommandAnswers command now new text →
@@ -299,11 +327,9 @@ carries_stand start (Auto n) now new text h (same, inr (below, (count, lines, d,
     d.passes) d.pauses
 carries_stand start (Show view) now new text h c = processor_same start now new h c.0
 carries_stand start (Break stop) now new text h c = same_stands start now.processor new.processor h (ap (λ (d : DebuggerState). d.processor) c.0)
-carries_stand start Back now new text h (same, inl (none, r)) = same_stands start now.processor new.processor h r.0
-carries_stand start Back now new text h (same, inr (older, k, there, is, t)) =
-    let before : StandsAfterMoves start now.processor.core (older ++ k ∷ []) = subst (StandsAfterMoves start now.processor.core) there h in
-    subst (StandsAfterMoves start new.processor.core) (sym (ap (λ (b : ProcessorState). b.ring) is))
-    (stands-back start now.processor.core new.processor.core older k before (ap (λ (b : ProcessorState). b.core) is))
+carries_stand start (Back n) now new text h (same, inl all) = takes_stand start n now.processor new.processor text h all
+carries_stand start (Back n) now new text h (same, inr (m, lines, few, some, none, is)) =
+    takes_stand start m now.processor new.processor lines h some
 carries_stand start End now new text h c = processor_same start now new h c.0
 
 -- so does each line that is answered

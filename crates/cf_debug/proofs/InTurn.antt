@@ -2,6 +2,7 @@
 use Rattle.std.proofs.Common.{◌≡◌, ℕ, zero, suc, ◌+◌, ◌<◌, ◌≤◌, List, [], ◌∷◌, ◌++◌, length, Option, Some, None, Bool, true, false, Ok, Err, refl, sym, ap, subst, ◌∙◌, append-nil, append_assoc, inl, inr, arith}
 use Rattle.std.specs.Prelude.{◌⊎◌, slice_get}
 use Rattle.std.proofs.lemmas.List.{length-append}
+use Rattle.run_options.specs.declared.guess_rule.GuessRule.TheVariants as rules
 use Rattle.cf_io.specs.Puts.{Writes, WritesFront}
 use Rattle.cf_io.specs.declared.failed.Failed.{Failed}
 use Rattle.cf_io.proofs.Owing.{writes-again, front-again}
@@ -12,14 +13,15 @@ use Rattle.cf_semantics.specs.declared.event.Event.{Event}
 use Rattle.cf_semantics.specs.moves.Bars.{bar}
 use Rattle.cf_semantics.specs.state.Drained.{is_drained}
 use Rattle.cf_semantics.specs.moves.Holding.{offered, paced}
-use Rattle.theory_unknown_input.proofs.Offered.{offered_allowed}
 use Rattle.cf_semantics.specs.state.State.{State}
-use Rattle.cf_sched.specs.Paces.{PaceCount, offers as offers_by, saw, stopped}
+use Rattle.cf_sched.specs.Paces.{PaceCount, offered_by, offers as offers_by, saw, stopped}
+use Rattle.cf_sched.proofs.ByRule.{any-offered}
 use Rattle.cf_sched.specs.Policies.{round_pick, round_on}
 use Rattle.cf_report.specs.Putting.{PutsText}
 use Rattle.cf_run.specs.Made.{Made, retirement}
 use Rattle.cf_run.specs.Policies.{Chooser, chooser, choice, fresh, offered_to}
 use Rattle.cf_run.specs.Reaching.{GoesOn}
+use Rattle.cf_run.proofs.ByRule.{ruled-allowed}
 use Rattle.cf_run.proofs.Stopped.{offered-stopped, offers-offered, paced-stopped}
 use Rattle.cf_debug.specs.declared.answer.Broken.{Broken}
 use Rattle.cf_debug.specs.declared.answer.Broken.TheVariants as broken
@@ -65,11 +67,13 @@ steers-aground stop at later now new mv written failed goes is fails =
     (goes, is ∙ ap Some fails.serves, subst (λ (v : Move). FailsOne v now new) fails.serves fails, refl)
 
 -- the turn after it
-pub next-is : (at : Turn) (now : ProcessorState) (made : Made) (c later : PaceCount) (policy : Option Move) (drained : Bool) → at.count ≡ c.count →
+pub next-is : (at : Turn) (now : ProcessorState) (made : Made) (c later : PaceCount) (policy : Option Move) (drained : Bool) → at.rule ≡ rules.Any →
+    at.count ≡ c.count →
     c.stages ≡ now.core.plan.stages → drained ≡ is_drained made.state → later ≡ saw c made.move made.event drained →
     policy ≡ round_on at.policy (offered_to now.core.plan at now.core.state)
-    → IsNextTurn at (chooser policy later.count) now made
-next-is at now made c later policy drained count beside drained_is later_is on = record {
+    → IsNextTurn at (chooser rules.Any policy later.count) now made
+next-is at now made c later policy drained ruled count beside drained_is later_is on = record {
+  rule = sym ruled;
   policy = on;
   count = ap (λ (d : PaceCount). d.count) later_is ∙ ap (λ (b : Bool). stopped c.stages (paced c.count made.move made.event b)) drained_is
       ∙ ap (λ (n : ℕ). stopped n (paced c.count made.move made.event (is_drained made.state))) beside
@@ -77,31 +81,36 @@ next-is at now made c later policy drained count beside drained_is later_is on =
 }
 
 -- what is offered by a count is offered for the stages of the layout
-pub offered-offers : (c : PaceCount) (plan : Plan) (s : State) → c.stages ≡ plan.stages → 0 < length (offered plan c.count s) → 0 < length (offers_by c plan s)
-offered-offers c plan s beside some = subst (λ (moves : List Move). 0 < length moves) (sym (offers-offered c plan s beside)) some
+offers-any : (c : PaceCount) (plan : Plan) (s : State) → c.stages ≡ plan.stages → c.rule ≡ rules.Any → offers_by c plan s ≡ offered_by rules.Any plan c.count s
+offers-any c plan s beside ruled = offers-offered c plan s beside ∙ ap (λ r. offered_by r plan c.count s) ruled
+
+pub offered-offers : (c : PaceCount) (plan : Plan) (s : State) → c.stages ≡ plan.stages → c.rule ≡ rules.Any → 0 < length (offered plan c.count s) →
+    0 < length (offers_by c plan s)
+offered-offers c plan s beside ruled some =
+    subst (λ (moves : List Move). 0 < length moves) (sym (offers-any c plan s beside ruled ∙ any-offered plan c.count s)) some
 
 -- the move that is chosen is the one that is picked
-pub chosen-pick : (last : Option Move) (c : PaceCount) (now : ProcessorState) (mv : Move) → c.stages ≡ now.core.plan.stages →
+pub chosen-pick : (last : Option Move) (c : PaceCount) (now : ProcessorState) (mv : Move) → c.stages ≡ now.core.plan.stages → c.rule ≡ rules.Any →
     Some mv ≡ slice_get (offers_by c now.core.plan now.core.state) (round_pick last (offers_by c now.core.plan now.core.state)) →
-    pick (chooser last c.count) now ≡ Some mv
-chosen-pick last c now mv beside is = sym (is ∙ ap (λ (moves : List Move). slice_get moves (round_pick last moves))
-    (offers-offered c now.core.plan now.core.state beside))
+    pick (chooser rules.Any last c.count) now ≡ Some mv
+chosen-pick last c now mv beside ruled is = sym (is ∙ ap (λ (moves : List Move). slice_get moves (round_pick last moves))
+    (offers-any c now.core.plan now.core.state beside ruled))
 
 -- and allowed
-pub chosen-allowed : (last : Option Move) (c : PaceCount) (now : ProcessorState) (mv : Move) → c.stages ≡ now.core.plan.stages →
+pub chosen-allowed : (last : Option Move) (c : PaceCount) (now : ProcessorState) (mv : Move) → c.stages ≡ now.core.plan.stages → c.rule ≡ rules.Any →
     Some mv ≡ slice_get (offers_by c now.core.plan now.core.state) (round_pick last (offers_by c now.core.plan now.core.state)) →
     bar now.core.plan now.core.state mv ≡ None
-chosen-allowed last c now mv beside is = offered_allowed now.core.plan c.count now.core.state
-    (round_pick last (offered now.core.plan c.count now.core.state)) mv (chosen-pick last c now mv beside is)
+chosen-allowed last c now mv beside ruled is = ruled-allowed rules.Any now.core.plan c.count now.core.state
+    (round_pick last (offered_by rules.Any now.core.plan c.count now.core.state)) mv (chosen-pick last c now mv beside ruled is)
 
 -- and after it comes the next turn
 pub chosen-next : (last policy : Option Move) (c later : PaceCount) (now new : ProcessorState) (mv : Move) (e : Event) (drained : Bool) →
-    c.stages ≡ now.core.plan.stages → drained ≡ is_drained new.core.state → later ≡ saw c mv e drained →
+    c.stages ≡ now.core.plan.stages → c.rule ≡ rules.Any → drained ≡ is_drained new.core.state → later ≡ saw c mv e drained →
     policy ≡ round_on last (offers_by c now.core.plan now.core.state)
-    → IsNextTurn (chooser last c.count) (chooser policy later.count) now (made_of mv e new)
-chosen-next last policy c later now new mv e drained beside drained_is later_is on =
-    next-is (chooser last c.count) now (made_of mv e new) c later policy drained refl beside drained_is later_is (on
-    ∙ ap (round_on last) (offers-offered c now.core.plan now.core.state beside))
+    → IsNextTurn (chooser rules.Any last c.count) (chooser rules.Any policy later.count) now (made_of mv e new)
+chosen-next last policy c later now new mv e drained beside ruled drained_is later_is on =
+    next-is (chooser rules.Any last c.count) now (made_of mv e new) c later policy drained refl refl beside drained_is later_is (on
+    ∙ ap (round_on last) (offers-any c now.core.plan now.core.state beside ruled))
 
 -- Moves so far --
 
@@ -111,6 +120,7 @@ pub record Comes (stop : Option ℕ) (start now : ProcessorState) (held : Turn) 
   pub trace : List Made
   pub at : Turn
   pub passes : Passes stop first_turn start trace at now
+  pub rule : held.rule ≡ at.rule
   pub policy : held.policy ≡ at.policy
   pub count_is : held.count ≡ stopped now.core.plan.stages at.count
   pub many : count ≡ length trace
@@ -121,12 +131,13 @@ nothing_put None = tt
 nothing_put (Some told) = ap Some (sym (append-nil told))
 
 pub comes-first : (stop : Option ℕ) (start : ProcessorState) (policy : Option Move) (held stages : ℕ) (written : Option (List ℕ)) → policy ≡ None →
-    held ≡ stopped stages 0 → stages ≡ start.core.plan.stages → Comes stop start start (chooser policy held) written written 0
+    held ≡ stopped stages 0 → stages ≡ start.core.plan.stages → Comes stop start start (chooser rules.Any policy held) written written 0
 unfolding Passes retirements
 comes-first stop start policy held stages written fresh_policy zero_held beside = record {
   trace = [];
   at = first_turn;
   passes = (refl, refl);
+  rule = refl;
   policy = fresh_policy;
   count_is = zero_held ∙ ap (λ (n : ℕ). stopped n 0) beside;
   many = refl;
@@ -137,7 +148,9 @@ comes-first stop start policy held stages written fresh_policy zero_held beside 
 offers : (stop : Option ℕ) (start now : ProcessorState) (held : Turn) (written after : Option (List ℕ)) (count : ℕ) →
     (c : Comes stop start now held written after count) → offered_to now.core.plan held now.core.state ≡ offered_to now.core.plan c.at now.core.state
 offers stop start now held written after count c =
-    ap (λ (n : ℕ). offered now.core.plan n now.core.state) c.count_is ∙ offered-stopped now.core.plan c.at.count now.core.state
+    ap (λ (n : ℕ). offered_by held.rule now.core.plan n now.core.state) c.count_is
+    ∙ offered-stopped held.rule now.core.plan c.at.count now.core.state
+    ∙ ap (λ r. offered_by r now.core.plan c.at.count now.core.state) c.rule
 
 picks_same : (stop : Option ℕ) (start now : ProcessorState) (held : Turn) (written after : Option (List ℕ)) (count : ℕ) →
     (c : Comes stop start now held written after count) → pick held now ≡ pick c.at now
@@ -198,6 +211,7 @@ comes-more stop start now new held later written between after count last goes_o
       trace = c.trace ++ made ∷ [];
       at = next_turn c.at now made;
       passes = passes_more stop first_turn start c.trace c.at now made new c.passes taken (free ∙ goes_on);
+      rule = next.rule ∙ c.rule;
       policy = next.policy ∙ onward_same stop start now held written between count c;
       count_is = next.count ∙ ap (λ (n : ℕ). stopped now.core.plan.stages (paced n made.move made.event (is_drained made.state))) c.count_is
           ∙ paced-stopped now.core.plan.stages c.at.count made.move made.event (is_drained made.state)

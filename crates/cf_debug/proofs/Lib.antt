@@ -1,8 +1,10 @@
 pub mod Kept
+pub mod Listing
 pub mod Standing
 pub mod KeptMoves
 pub mod InTurn
 pub mod Cutting
 pub mod Ranges
 pub mod Answering
+pub mod Backwards
 pub mod Sessions

@@ -1,19 +1,20 @@
 -- The commands of the debugger, one a line (a format of this project): a name, and what has to follow it.
-use Rattle.std.specs.Prelude.{ℕ, ◌≤◌, ◌==◌, ◌&&◌, List, [], drop, length, Option, Some, None, Result, Ok, Err, codes, nat_le, nat_lt, if◌then◌else◌}
+use Rattle.std.specs.Prelude.{ℕ, ◌≤◌, ◌==◌, ◌&&◌, List, [], drop, length, Option, Some, None, Result, Ok, Err, codes, is_some, nat_le, nat_lt, if◌then◌else◌}
 use Rattle.std.specs.Str.{bytes_eq}
 use Rattle.texts.specs.Answers.{and_then, needed}
 use Rattle.rv_text.specs.Pieces.{name_part, operand_part}
 use Rattle.cf_bind.specs.declared.moves.Move.{Move as AnyMove}
 use Rattle.run_scripts.specs.declared.refusal.ScriptKind.{ScriptKind}
+use Rattle.run_scripts.specs.Kinds.{place_named}
 use Rattle.run_scripts.specs.MoveLines.{move_in}
 use Rattle.run_scripts.specs.Words.{words_of, first_word, first_number, address_in}
 use Rattle.cf_debug.specs.declared.command.DebugCommand.{DebugCommand}
 use Rattle.cf_debug.specs.declared.command.DebugCommand.TheVariants.{Nothing, Move, Auto, Show, Break, Back, End}
 use Rattle.cf_debug.specs.declared.command.View.{View}
-use Rattle.cf_debug.specs.declared.command.View.TheVariants.{Picture, Registers, Memory, Bound}
+use Rattle.cf_debug.specs.declared.command.View.TheVariants.{Picture, Registers, Memory, Bound, Allowed, Standing, Code, Help}
 use Rattle.cf_debug.specs.declared.command.Refusal.{Refusal}
 use Rattle.cf_debug.specs.declared.command.Refusal.TheVariants.{TooLong, UnknownCommand, BadNumber, ExtraWords, Script}
-use Rattle.cf_debug.specs.Limits.{longest_line, most_moves}
+use Rattle.cf_debug.specs.Limits.{longest_line, most_kept, most_moves}
 
 -- the number, from one up to a limit, or a refusal where it is missing
 abbrev pub within : ℕ → Result ℕ ScriptKind → Result ℕ Refusal
@@ -41,9 +42,24 @@ abbrev pub move_told : Result AnyMove ScriptKind → Result DebugCommand Refusal
 move_told (Ok mv) = Ok (Move mv)
 move_told (Err kind) = Err (Script kind)
 
+-- the move whose first bar is asked for, in the same way
+abbrev pub why_told : Result AnyMove ScriptKind → Result DebugCommand Refusal
+why_told (Ok mv) = Ok (Show (Standing mv))
+why_told (Err kind) = Err (Script kind)
+
 -- how many moves
 unfoldable pub auto_told : List (List ℕ) → Result DebugCommand Refusal
 auto_told words = and_then (number_told most_moves words) (λ n. alone (drop 1 words) (Auto n))
+
+-- how many moves are taken back, up to as many as are kept: one where no word follows
+unfoldable pub back_told : List (List ℕ) → Result DebugCommand Refusal
+back_told words =
+    if length words == 0 then Ok (Back 1)
+    else and_then (number_told most_kept words) (λ n. alone (drop 1 words) (Back n))
+
+-- an address, and nothing more
+unfoldable pub code_told : List (List ℕ) → Result DebugCommand Refusal
+code_told words = and_then (address_told (first_word words)) (λ address. alone (drop 1 words) (Show (Code address)))
 
 -- an address and how many bytes, up to 16
 unfoldable pub memory_told : List (List ℕ) → Result DebugCommand Refusal
@@ -62,7 +78,8 @@ lone_command name =
     if bytes_eq name (codes "show") then Some (Show Picture)
     else if bytes_eq name (codes "regs") then Some (Show Registers)
     else if bytes_eq name (codes "bound") then Some (Show Bound)
-    else if bytes_eq name (codes "back") then Some Back
+    else if bytes_eq name (codes "moves") then Some (Show Allowed)
+    else if bytes_eq name (codes "help") then Some (Show Help)
     else if bytes_eq name (codes "end") then Some End
     else None
 
@@ -71,21 +88,30 @@ abbrev pub lone_told : Option DebugCommand → List (List ℕ) → Result DebugC
 lone_told None words = Err UnknownCommand
 lone_told (Some command) words = alone words command
 
--- the command of this name, with the text after it
-unfoldable pub command_named : List ℕ → List ℕ → Result DebugCommand Refusal
-command_named name after =
+-- a line that begins with the name of a move is one, as a line of a script; another is a command after which no word may
+-- follow
+unfoldable pub other_told : (line name after : List ℕ) → Result DebugCommand Refusal
+other_told line name after =
+    if is_some (place_named name) then move_told (move_in line) else lone_told (lone_command name) (words_of after)
+
+-- the command of a line, by its name and the text after it
+unfoldable pub command_named : (line name after : List ℕ) → Result DebugCommand Refusal
+command_named line name after =
     if bytes_eq name (codes "") then Ok Nothing
     else if bytes_eq name (codes "move") then move_told (move_in after)
     else if bytes_eq name (codes "auto") then auto_told (words_of after)
     else if bytes_eq name (codes "mem") then memory_told (words_of after)
     else if bytes_eq name (codes "break") then stop_told (words_of after)
-    else lone_told (lone_command name) (words_of after)
+    else if bytes_eq name (codes "why") then why_told (move_in after)
+    else if bytes_eq name (codes "back") then back_told (words_of after)
+    else if bytes_eq name (codes "list") then code_told (words_of after)
+    else other_told line name after
 
 -- the command of a line, or the first refusal
 unfoldable pub command_in : List ℕ → Result DebugCommand Refusal
 command_in line =
     if nat_lt longest_line (length line) then Err TooLong
-    else command_named (name_part line) (operand_part line)
+    else command_named line (name_part line) (operand_part line)
 
 -- the view shows at most 16 bytes of memory
 abbrev pub ShowsFew : View → Type 0

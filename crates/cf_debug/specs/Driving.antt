@@ -1,6 +1,7 @@
 -- Moves in turn: the debugger picks them as a run under the policy Round does, until enough are made, the run is over,
 -- or an instruction at the break address is issued.
 use Rattle.std.specs.Prelude.{◌≡◌, ◌⊎◌, ℕ, ◌<◌, ◌≤◌, ◌==◌, ◌&&◌, List, [], ◌∷◌, ◌++◌, length, Option, Some, None, Bool, true, false}
+use Rattle.run_options.specs.declared.guess_rule.GuessRule.TheVariants as rules
 use Rattle.cf_bind.specs.declared.moves.Move.{Move}
 use Rattle.cf_bind.specs.declared.moves.Move.TheVariants.{Serve}
 use Rattle.cf_bind.specs.declared.packet.Fetch.{Fetch}
@@ -30,7 +31,7 @@ Turn = Chooser (Option Move)
 
 -- before the first pick
 abbrev pub first_turn : Turn
-first_turn = fresh None
+first_turn = fresh rules.Any None
 
 -- the move that is picked in the state
 abbrev pub pick : Turn → ProcessorState → Option Move

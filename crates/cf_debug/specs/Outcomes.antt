@@ -1,6 +1,6 @@
 -- The outcome of a command, or of a move of `auto`: it is carried out and its answer written; or the report failed
 -- after a prefix of the answer; or the output failed it.
-use Rattle.std.specs.Prelude.{◌≡◌, ℕ, List, Option, Some, Bool, Result, Ok, Err}
+use Rattle.std.specs.Prelude.{◌≡◌, ◌≢◌, ◌⊎◌, ℕ, ◌≤◌, List, [], codes, Option, Some, Bool, true, false, Result, Ok, Err}
 use Rattle.cf_io.specs.Puts.{Writes, WritesFront}
 use Rattle.cf_io.specs.declared.failed.Failed.{Failed}
 use Rattle.cf_bind.specs.declared.moves.Move.TheVariants.{Serve}
@@ -16,10 +16,11 @@ use Rattle.cf_debug.specs.declared.command.DebugCommand.{DebugCommand}
 use Rattle.cf_debug.specs.Driving.{Turn, DriveTakes, Drives, DrivesOn, DrivesAground, breaks, next_turn, pick}
 use Rattle.cf_debug.specs.Limits.{most_retired}
 use Rattle.cf_debug.specs.Making.{ProcessorState, FailsOne}
-use Rattle.cf_debug.specs.Replies.{DebuggerState, CommandAnswers, CommandAnswersPart, RunsAground, TakesBack}
+use Rattle.cf_debug.specs.Replies.{DebuggerState, CommandAnswers, CommandAnswersPart, RefusesLine, RunsAground, TakesBack, TakesNewest}
 
 -- the turn after a move, by a count that stops where Issue is held back
 pub record IsNextTurn (at later : Turn) (now : ProcessorState) (made : Made) : Type 0 where
+  pub rule : later.rule ≡ (next_turn at now made).rule
   pub policy : later.policy ≡ (next_turn at now made).policy
   pub count : later.count ≡ stopped now.core.plan.stages (next_turn at now made).count
 
@@ -44,9 +45,16 @@ abbrev pub of_report : Result (Unit {0}) Failed → Result (Unit {0}) Broken
 of_report (Ok done) = Ok tt
 of_report (Err failed) = Err broken.Report
 
--- the outcome of `back`, and what is written
-abbrev pub PutsBack : (now new : ProcessorState) → (written after : Option (List ℕ)) → (before faults : ℕ) → Result (Unit {0}) Failed → Type 0
-PutsBack now new written after before faults answer = (text : List ℕ) × TakesBack now new text × PutsText written after before faults text answer
+-- the outcome of a step of `back`, and whether a move was kept
+unfoldable pub PutsNewest : (now new : ProcessorState) → (written after : Option (List ℕ)) → (before faults : ℕ) → Result Bool Failed → Type 0
+PutsNewest now new written after before faults answer =
+    (text : List ℕ) × PutsText written after before faults text answer
+    × ((TakesNewest now new text × (answer ≢ Ok false)) ⊎ ((now.ring ≡ []) × RefusesLine now new text (codes "NothingKept") × (answer ≢ Ok true)))
+
+-- the outcome of `back`, and what is written: by a failed report it may be that of fewer moves
+unfoldable pub PutsBack : ℕ → (now new : ProcessorState) → (written after : Option (List ℕ)) → Result (Unit {0}) Failed → Type 0
+PutsBack n now new written after (Ok done) = (text : List ℕ) × TakesBack n now new text × Writes written after text
+PutsBack n now new written after (Err failed) = (text : List ℕ) × ((m : ℕ) × (m ≤ n) × TakesBack m now new text) × WritesFront written after text
 
 -- the outcome of a command: it is carried out and its answer written; or the report failed after a prefix of the
 -- answer; or the output failed it

@@ -1,28 +1,35 @@
 -- What each command does and answers: the table of the debugger (a format of this project).
-use Rattle.std.specs.Prelude.{◌≡◌, ◌≢◌, ◌⊎◌, ℕ, ◌<◌, ◌≤◌, ◌/◌, ◌%◌, List, [], ◌∷◌, ◌++◌, Option, Some, None, Result, Ok, Err, codes, decimal}
+use Rattle.std.specs.Prelude.{◌≡◌, ◌≢◌, ◌⊎◌, ℕ, zero, suc, ◌<◌, ◌≤◌, ◌/◌, ◌%◌, List, [], ◌∷◌, ◌++◌, Option, Some, None, Result, Ok, Err, codes, decimal}
 use Rattle.std.specs.Char.{digit_char}
+use Rattle.std.specs.List.{flat_map}
+use Rattle.mem_regions.specs.declared.access.MemErr.{MemErr}
+use Rattle.mem_regions.specs.Fetching.{fetch_at}
 use Rattle.mem_regions.specs.Ranges.{range_of}
 use Rattle.cf_bind.specs.declared.moves.Bar.{Bar}
 use Rattle.cf_bind.specs.declared.moves.Move.{Move as AnyMove}
 use Rattle.cf_bind.specs.MoveTexts.{move_line}
 use Rattle.cf_semantics.specs.declared.event.Event.{Event}
 use Rattle.cf_semantics.specs.moves.Bars.{bar}
+use Rattle.cf_semantics.specs.moves.Candidates.{candidates}
 use Rattle.cf_semantics.specs.moves.Kept.{Kept, restored}
 use Rattle.cf_semantics.specs.claims.Weight.{weight}
 use Rattle.cf_core.specs.Processors.{Processor, in_state}
+use Rattle.asm_listing.specs.Lines.{word_line}
 use Rattle.texts.specs.Hexadecimal.{hex8}
 use Rattle.texts.specs.Lines.{line, counted_line}
 use Rattle.cf_report.specs.Lines.{registers_text}
 use Rattle.cf_report.specs.Picture.{picture}
 use Rattle.report_refusals.specs.Bars.{bar_text}
 use Rattle.report_refusals.specs.Scripts.{script_refusal}
+use Rattle.report_closing.specs.Moves.{line_in}
 use Rattle.cf_run.specs.Made.{retirement}
 use Rattle.cf_debug.specs.declared.command.DebugCommand.{DebugCommand}
 use Rattle.cf_debug.specs.declared.command.DebugCommand.TheVariants.{Nothing, Move, Auto, Show, Break, Back, End}
 use Rattle.cf_debug.specs.declared.command.Refusal.{Refusal}
 use Rattle.cf_debug.specs.declared.command.View.{View}
-use Rattle.cf_debug.specs.declared.command.View.TheVariants.{Picture, Registers, Memory, Bound}
+use Rattle.cf_debug.specs.declared.command.View.TheVariants.{Picture, Registers, Memory, Bound, Allowed, Standing, Code, Help}
 use Rattle.cf_debug.specs.declared.command.Refusal.TheVariants.{TooLong, UnknownCommand, BadNumber, ExtraWords, Script}
+use Rattle.cf_debug.specs.declared.help.TheConstants.{COMMANDS_HELP}
 use Rattle.cf_debug.specs.Commands.{command_in}
 use Rattle.cf_debug.specs.Driving.{Drives, DrivesOn, DrivesAground}
 use Rattle.cf_debug.specs.Limits.{most_retired}
@@ -59,6 +66,11 @@ bytes_text (byte ∷ bytes) = (codes " " ++ digit_char (byte / 16) ∷ digit_cha
 unfoldable pub memory_text : ℕ → Option (List ℕ) → List ℕ
 memory_text address None = refused_line (codes "NoAccess")
 memory_text address (Some bytes) = line (hex8 address ++ bytes_text bytes)
+
+-- the word that is fetched at an address, as a line of a listing
+unfoldable pub code_text : ℕ → Result ℕ MemErr → List ℕ
+code_text address (Ok word) = word_line address word
+code_text address (Err error) = refused_line (codes "NoAccess")
 
 -- a break address, or that there is none
 unfoldable pub break_text : Option ℕ → List ℕ
@@ -99,12 +111,25 @@ Automates n stop now new text =
     (IsAtLimit now × RefusesLine now new text (codes "Limit"))
     ⊎ (SessionGoesOn now × ((count : ℕ) × (lines : List ℕ) × Drives n stop now new count lines × (text ≡ lines ++ counted_line (codes "auto ") count)))
 
--- `back`: nothing is kept, or the newest move that is kept is taken back
-abbrev pub TakesBack : (now new : ProcessorState) → List ℕ → Type 0
-TakesBack now new text =
-    ((now.ring ≡ []) × RefusesLine now new text (codes "NothingKept"))
-    ⊎ ((older : List Kept) × (k : Kept) × (now.ring ≡ older ++ k ∷ [])
-    × (new ≡ record now { core = in_state now.core (restored now.core.state k); ring = older }) × (text ≡ back_text k.move))
+-- the newest move that is kept is taken back
+abbrev pub TakesNewest : (now new : ProcessorState) → List ℕ → Type 0
+TakesNewest now new text =
+    (older : List Kept) × (k : Kept) × (now.ring ≡ older ++ k ∷ [])
+    × (new ≡ record now { core = in_state now.core (restored now.core.state k); ring = older }) × (text ≡ back_text k.move)
+
+-- this many moves are taken back, each the newest that is kept then
+unfoldable pub TakesMoves : ℕ → (now new : ProcessorState) → List ℕ → Type 0
+TakesMoves zero now new text = (new ≡ now) × (text ≡ [])
+TakesMoves (suc n) now new text =
+    (between : ProcessorState) × (lines last : List ℕ) × TakesMoves n now between lines × TakesNewest between new last
+    × (text ≡ lines ++ last)
+
+-- `back`: as many moves as are asked for are taken back; or fewer, after which nothing is kept
+abbrev pub TakesBack : ℕ → (now new : ProcessorState) → List ℕ → Type 0
+TakesBack n now new text =
+    TakesMoves n now new text
+    ⊎ ((m : ℕ) × (lines : List ℕ) × (m < n) × TakesMoves m now new lines × (new.ring ≡ [])
+    × (text ≡ lines ++ refused_line (codes "NothingKept")))
 
 -- nothing changes, and this is the answer
 abbrev pub OnlyAnswers : (now new : DebuggerState) → (text told : List ℕ) → Type 0
@@ -116,6 +141,10 @@ shown core Picture = picture core.plan core.state
 shown core Registers = registers_text core.state.regs
 shown core (Memory address len) = memory_text address (range_of core.state.mem address len)
 shown core Bound = counted_line (codes "bound ") (weight core.plan core.state)
+shown core Allowed = flat_map (line_in core.plan core.state) (candidates core.plan core.state)
+shown core (Standing mv) = line_in core.plan core.state mv
+shown core (Code address) = code_text address (fetch_at core.state.mem address)
+shown core Help = COMMANDS_HELP.now
 
 -- the table
 unfoldable pub CommandAnswers : DebugCommand → (now new : DebuggerState) → List ℕ → Type 0
@@ -124,12 +153,14 @@ CommandAnswers (Move mv) now new text = (new.stop ≡ now.stop) × Moves mv now.
 CommandAnswers (Auto n) now new text = (new.stop ≡ now.stop) × Automates n now.stop now.processor new.processor text
 CommandAnswers (Show view) now new text = OnlyAnswers now new text (shown now.processor.core view)
 CommandAnswers (Break stop) now new text = (new ≡ debugger_state now.processor stop) × (text ≡ break_text stop)
-CommandAnswers Back now new text = (new.stop ≡ now.stop) × TakesBack now.processor new.processor text
+CommandAnswers (Back n) now new text = (new.stop ≡ now.stop) × TakesBack n now.processor new.processor text
 CommandAnswers End now new text = OnlyAnswers now new text []
 
--- the same where the report fails after a prefix of the text: the whole command is carried out, or `auto` in part
+-- the same where the report fails after a prefix of the text: the whole command is carried out, or `auto` in part, or
+-- `back` as one for fewer moves
 unfoldable pub CommandAnswersPart : DebugCommand → (now new : DebuggerState) → List ℕ → Type 0
 CommandAnswersPart (Auto n) now new text = CommandAnswers (Auto n) now new text ⊎ ((new.stop ≡ now.stop) × DrivesOn n now.stop now.processor new.processor text)
+CommandAnswersPart (Back n) now new text = (new.stop ≡ now.stop) × ((m : ℕ) × (m ≤ n) × TakesBack m now.processor new.processor text)
 CommandAnswersPart command now new text = CommandAnswers command now new text
 
 -- the output fails the call of a move

@@ -1,27 +1,27 @@
 //! Carrying out a command.
 
-ghost use Rattle.std.specs.Prelude.{◌≡◌, None};
+ghost use Rattle.std.specs.Prelude.{◌≡◌, IfOk, None};
 ghost use Rattle.cf_io.specs.Causes.{HasCause};
 ghost use Rattle.cf_report.specs.Putting.{PutsText};
 ghost use Rattle.cf_debug.specs.declared.command.DebugCommand.TheVariants as commands;
-ghost use Rattle.cf_debug.specs.Commands.{AsksFew, ShowsFew};
+ghost use Rattle.cf_debug.specs.Commands.{AsksFew};
 ghost use Rattle.cf_debug.specs.Lending.{debugger_state_left, debugger_state_lent};
 ghost use Rattle.cf_debug.specs.Making.{processor_state};
-ghost use Rattle.cf_debug.specs.Outcomes.{CommandLeaves, PutsBack, of_report, output_broken, report_broken};
-ghost use Rattle.cf_debug.specs.Replies.{break_text, shown};
+ghost use Rattle.cf_debug.specs.Outcomes.{CommandLeaves, PutsBack, PutsNewest, of_report, output_broken, report_broken};
+ghost use Rattle.cf_debug.specs.Replies.{break_text};
 ghost use Rattle.cf_debug.specs.Standing.{StandsSomewhere};
 
 use crate::answer::Broken;
-use crate::command::{DebugCommand, View};
+use crate::command::DebugCommand;
 use crate::debugger_state::DebuggerState;
 use crate::driving::{drive, is_spent};
 use crate::making::make;
-use crate::replies::{put_back, put_break, put_counted, put_memory, put_moved, refuse, refuse_bar};
+use crate::replies::{put_back, put_break, put_counted, put_moved, refuse, refuse_bar};
 use crate::ring::Ring;
+use crate::showing::show;
 use cf_bind::Move;
 use cf_core::Core;
 use cf_io::{Failed, Sink};
-use cf_report::{put_picture, put_registers};
 
 /// Only the report can fail a command that makes no move.
 pub(crate) fn told(answer: Result<(), Failed>) -> Result<(), Broken>
@@ -86,19 +86,44 @@ fn carry_auto<K: Sink, R: Sink>(
     told(put_counted(b"auto ", u64::from(made), report))
 }
 
-/// `back`.
-fn carry_back<R: Sink>(core: &mut Core, ring: &mut Ring, report: &mut R) -> Result<(), Failed>
+/// Takes the newest move back that is kept, and returns whether there was one.
+fn take_back<R: Sink>(core: &mut Core, ring: &mut Ring, report: &mut R) -> Result<bool, Failed>
     requires stands { StandsSomewhere core.old ring.old }
-    ensures { PutsBack (processor_state core.old ring.old None) (processor_state core.new ring.new None)
+    ensures puts { PutsNewest (processor_state core.old ring.old None) (processor_state core.new ring.new None)
         (R.written report.old) (R.written report.new) (R.faults report.old) (R.faults report.new) result }
+    ensures stands { StandsSomewhere core.new ring.new }
 {
     match ring.pop() {
         Some(undo) => {
             core.back(undo);
-            put_back(undo.moved(), report)
+            put_back(undo.moved(), report)?;
+            Ok(true)
         }
-        None => refuse(b"NothingKept", report),
+        None => {
+            refuse(b"NothingKept", report)?;
+            Ok(false)
+        }
     }
+}
+
+/// `back`.
+fn carry_back<R: Sink>(
+    count: u32,
+    core: &mut Core,
+    ring: &mut Ring,
+    report: &mut R,
+) -> Result<(), Failed>
+    requires stands { StandsSomewhere core.old ring.old }
+    ensures puts { PutsBack count (processor_state core.old ring.old None) (processor_state core.new ring.new None)
+        (R.written report.old) (R.written report.new) result }
+    ensures cause { HasCause (R.faults report.old) (R.faults report.new) result }
+{
+    for taken in 0..count {
+        if !take_back(core, ring, report)? {
+            return Ok(());
+        }
+    }
+    Ok(())
 }
 
 /// `break`.
@@ -113,21 +138,6 @@ fn carry_break<R: Sink>(
 {
     *stop = address;
     put_break(address, report)
-}
-
-/// Writes a view of the processor.
-#[tactic(auto, unfolding(crate::specs::Replies::shown))]
-fn show<R: Sink>(view: View, core: &Core, report: &mut R) -> Result<(), Failed>
-    requires { ShowsFew view }
-    ensures { PutsText (R.written report.old) (R.written report.new) (R.faults report.old) (R.faults report.new)
-        (shown core.now view) result }
-{
-    match view {
-        View::Picture => put_picture(core, report),
-        View::Registers => put_registers(core.regs(), report),
-        View::Memory(address, len) => put_memory(core, address, len, report),
-        View::Bound => put_counted(b"bound ", core.bound(), report),
-    }
 }
 
 /// Carries a command out.
@@ -149,11 +159,18 @@ pub(crate) fn carry_out<K: Sink, R: Sink>(
         DebugCommand::Nothing => Ok(()),
         DebugCommand::Move(mv) => carry_move(mv, debugger, output, report),
         DebugCommand::Auto(count) => carry_auto(count, debugger, output, report),
-        DebugCommand::Show(view) => told(show(view, debugger.core, report)),
+        DebugCommand::Show(view) => {
+            let DebuggerState {
+                core,
+                candidates,
+                ..
+            } = debugger;
+            told(show(view, core, candidates, report))
+        }
         DebugCommand::Break(address) => told(carry_break(address, debugger.stop, report)),
-        DebugCommand::Back => {
+        DebugCommand::Back(count) => {
             let DebuggerState { core, ring, .. } = debugger;
-            told(carry_back(core, ring, report))
+            told(carry_back(count, core, ring, report))
         }
         DebugCommand::End => Ok(()),
     }

@@ -21,8 +21,8 @@ pub(crate) enum DebugCommand {
     /// Sets or clears the address at which `auto` stops.
     Break(Option<u32>),
 
-    /// Takes the last move back.
-    Back,
+    /// Takes this many moves back, the last one first.
+    Back(u32),
 
     /// Ends the session.
     End,
@@ -42,6 +42,18 @@ pub(crate) enum View {
 
     /// The weight of its state.
     Bound,
+
+    /// The moves that can be made.
+    Allowed,
+
+    /// That a move can be made, or its bar.
+    Standing(AnyMove),
+
+    /// The word that is fetched at an address.
+    Code(u32),
+
+    /// The commands of the debugger.
+    Help,
 }
 
 /// Why a line is not a command, in the order of the tests.

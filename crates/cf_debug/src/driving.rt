@@ -1,6 +1,7 @@
 //! Making moves in turn.
 
 ghost use Rattle.std.specs.Prelude.{◌≡◌, ◌<◌, ◌≤◌, false, length, true};
+ghost use Rattle.run_options.specs.declared.guess_rule.GuessRule.TheVariants as rules;
 ghost use Rattle.cf_io.specs.Causes.{HasCause};
 ghost use Rattle.cf_semantics.specs.moves.Holding.{offered};
 ghost use Rattle.cf_run.specs.Reaching.{GoesOn};
@@ -21,6 +22,7 @@ use cf_index::Candidates;
 use cf_io::Sink;
 use cf_run::known;
 use cf_sched::{Pace, Policy, Round};
+use run_options::GuessRule;
 
 /// The greatest number of instructions that retire in a session.
 const MOST_RETIRED: u64 = 10_000_000;
@@ -65,10 +67,12 @@ fn advance<K: Sink, R: Sink>(
 ) -> Result<bool, Broken>
     requires goes { GoesOn most_retired core.old.state }
     requires stages { pace.old.stages ≡ core.old.plan.stages }
+    requires rule { pace.old.rule ≡ rules.Any }
     requires some { 0 < length (offered core.old.plan pace.old.count core.old.state) }
-    ensures steers { Steers stop (chooser round.old pace.old.count) (chooser round.new pace.new.count)
+    ensures steers { Steers stop (chooser rules.Any round.old pace.old.count) (chooser rules.Any round.new pace.new.count)
         (processor_state core.old ring.old (K.written output.old)) (processor_state core.new ring.new (K.written output.new))
         (R.written report.old) (R.written report.new) result }
+    ensures rule { pace.new.rule ≡ pace.old.rule }
     ensures stages { pace.new.stages ≡ pace.old.stages }
     ensures output { HasCause (K.faults output.old) (K.faults output.new) (output_broken result) }
     ensures report { HasCause (R.faults report.old) (R.faults report.new) (report_broken result) }
@@ -106,7 +110,7 @@ pub(crate) fn drive<K: Sink, R: Sink>(
     ensures report { HasCause (R.faults report.old) (R.faults report.new) (report_broken result) }
 {
     known(core);
-    let mut pace = Pace::new(core.layout().stages());
+    let mut pace = Pace::new(GuessRule::Any, core.layout().stages());
     let mut round = Round::new();
     for made in 0..count {
         if !goes_on(core) {

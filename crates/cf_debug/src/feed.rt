@@ -1,6 +1,6 @@
 //! The bytes of the commands, one after another.
 
-ghost use Rattle.std.specs.Prelude.{◌≡◌, ◌<◌, ◌≤◌, ◌+◌, [], ◌∷◌, length, false, true, IfOk, OnErr, OnOk};
+ghost use Rattle.std.specs.Prelude.{◌≡◌, ◌<◌, ◌≤◌, ◌+◌, [], ◌∷◌, length, min, false, true, IfOk, OnErr, OnOk};
 ghost use Rattle.cf_io.specs.Causes.{HasCause};
 ghost use Rattle.cf_io.specs.Takes.{IsAtEnd};
 ghost use Rattle.rv_machine.specs.Streams.{GivesInput};
@@ -76,6 +76,13 @@ impl Feed {
         }
     }
 
+    /// How many bytes a take asks for: as many as there is a place for, or as may still be taken.
+    fn room(&self) -> usize
+        ensures { result ≡ min self.now.left most_taken }
+    {
+        self.left.min(4096)
+    }
+
     /// Takes some bytes, where none is left in the buffer, and returns how many.
     fn fill<S: Source>(&mut self, commands: &mut S) -> Result<usize, Failed>
         requires none { self.old.rest ≡ [] }
@@ -88,7 +95,7 @@ impl Feed {
         ensures failed { OnErr result ((self.new ≡ self.old) × GivesInput (S.left commands.old) (S.left commands.new) []) }
         ensures cause { HasCause (S.faults commands.old) (S.faults commands.new) result }
     {
-        let room = self.left.min(4096);
+        let room = self.room();
         match commands.take(&mut self.piece[..room]) {
             Ok(count) => {
                 self.at = 0;

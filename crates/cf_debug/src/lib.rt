@@ -7,12 +7,14 @@ mod command;
 mod debugger_state;
 mod driving;
 mod feed;
+mod help;
 mod making;
 mod pending;
 mod reading;
 mod replies;
 mod ring;
 mod session;
+mod showing;
 
 pub use answer::Debugged;
 pub use ring::Ring;

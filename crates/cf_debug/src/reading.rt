@@ -3,14 +3,17 @@
 ghost use Rattle.std.specs.Prelude.{◌≡◌, drop};
 ghost use Rattle.run_scripts.specs.MoveLines.{move_in};
 ghost use Rattle.run_scripts.specs.Words.{words_of};
-ghost use Rattle.cf_debug.specs.Commands.{address_told, alone, auto_told, break_told, command_in, command_named, lone_command, lone_told, memory_told, move_told, number_told, stop_told};
+ghost use Rattle.cf_debug.specs.Commands.{address_told, alone, auto_told, back_told, break_told, code_told, command_in, command_named, lone_command, lone_told, memory_told, move_told, number_told, other_told, stop_told, why_told};
 
 use crate::command::{DebugCommand, Refusal, View};
-use run_scripts::{Words, read_move};
+use run_scripts::{Words, place_named, read_move};
 use rv_text::{numeral, split_name};
 
 /// The greatest number of moves of one command.
 const MOST_MOVES: u32 = 1_000_000;
+
+/// The greatest number of moves that one command takes back.
+const MOST_KEPT: u32 = 1024;
 
 /// The number that the next word spells: one to nine decimal digits, from 1 up to a limit.
 #[tactic(auto, unfolding(crate::specs::Commands::number_told))]
@@ -66,6 +69,16 @@ fn read_moves(after: &[u8]) -> Result<DebugCommand, Refusal>
     }
 }
 
+/// What follows `why`: a move, as in a script.
+fn read_why(after: &[u8]) -> Result<DebugCommand, Refusal>
+    ensures { result ≡ why_told (move_in after.now) }
+{
+    match read_move(after) {
+        Ok(mv) => Ok(DebugCommand::Show(View::Standing(mv))),
+        Err(kind) => Err(Refusal::Script(kind)),
+    }
+}
+
 /// What follows `auto`: how many moves.
 #[tactic(auto, unfolding(crate::specs::Commands::auto_told))]
 fn read_auto(mut words: Words<'_>) -> Result<DebugCommand, Refusal>
@@ -73,6 +86,27 @@ fn read_auto(mut words: Words<'_>) -> Result<DebugCommand, Refusal>
 {
     let count = number(&mut words, MOST_MOVES)?;
     alone(&words, DebugCommand::Auto(count))
+}
+
+/// What follows `back`: how many moves, or nothing for one.
+#[tactic(auto, unfolding(crate::specs::Commands::back_told))]
+fn read_back(mut words: Words<'_>) -> Result<DebugCommand, Refusal>
+    ensures { result ≡ back_told words.entry }
+{
+    if words.is_empty() {
+        return Ok(DebugCommand::Back(1));
+    }
+    let count = number(&mut words, MOST_KEPT)?;
+    alone(&words, DebugCommand::Back(count))
+}
+
+/// What follows `list`: an address.
+#[tactic(auto, unfolding(crate::specs::Commands::code_told))]
+fn read_code(mut words: Words<'_>) -> Result<DebugCommand, Refusal>
+    ensures { result ≡ code_told words.entry }
+{
+    let address = address(words.next())?;
+    alone(&words, DebugCommand::Show(View::Code(address)))
 }
 
 /// What follows `mem`: an address, and how many bytes.
@@ -117,8 +151,10 @@ fn lone_command(name: &[u8]) -> Option<DebugCommand>
         Some(DebugCommand::Show(View::Registers))
     } else if name == b"bound".as_slice() {
         Some(DebugCommand::Show(View::Bound))
-    } else if name == b"back".as_slice() {
-        Some(DebugCommand::Back)
+    } else if name == b"moves".as_slice() {
+        Some(DebugCommand::Show(View::Allowed))
+    } else if name == b"help".as_slice() {
+        Some(DebugCommand::Show(View::Help))
     } else if name == b"end".as_slice() {
         Some(DebugCommand::End)
     } else {
@@ -136,10 +172,23 @@ fn read_lone(name: &[u8], after: &[u8]) -> Result<DebugCommand, Refusal>
     }
 }
 
-/// The command of a name, with the text after it.
+/// The command of a line whose name is none of these: the name of a move, after which the whole line is a move as in a
+/// script, or a command after which no word may follow.
+#[tactic(auto, unfolding(crate::specs::Commands::other_told))]
+fn read_other(line: &[u8], name: &[u8], after: &[u8]) -> Result<DebugCommand, Refusal>
+    ensures { result ≡ other_told line.now name.now after.now }
+{
+    if place_named(name).is_some() {
+        read_moves(line)
+    } else {
+        read_lone(name, after)
+    }
+}
+
+/// The command of a line, by its name and the text after it.
 #[tactic(auto, unfolding(crate::specs::Commands::command_named))]
-fn read_named(name: &[u8], after: &[u8]) -> Result<DebugCommand, Refusal>
-    ensures { result ≡ command_named name.now after.now }
+fn read_named(line: &[u8], name: &[u8], after: &[u8]) -> Result<DebugCommand, Refusal>
+    ensures { result ≡ command_named line.now name.now after.now }
 {
     if name == b"".as_slice() {
         Ok(DebugCommand::Nothing)
@@ -151,13 +200,19 @@ fn read_named(name: &[u8], after: &[u8]) -> Result<DebugCommand, Refusal>
         read_memory(Words::of(after))
     } else if name == b"break".as_slice() {
         read_break(Words::of(after))
+    } else if name == b"why".as_slice() {
+        read_why(after)
+    } else if name == b"back".as_slice() {
+        read_back(Words::of(after))
+    } else if name == b"list".as_slice() {
+        read_code(Words::of(after))
     } else {
-        read_lone(name, after)
+        read_other(line, name, after)
     }
 }
 
 /// The command of a line, or the first refusal of `TooLong`, `UnknownCommand`, `BadNumber` and `ExtraWords`; after
-/// `move` the refusals of scripts replace the last two.
+/// `move`, `why` and the name of a move the refusals of scripts replace the last two.
 #[tactic(auto, unfolding(crate::specs::Commands::command_in))]
 pub(crate) fn read_command(line: &[u8]) -> Result<DebugCommand, Refusal>
     ensures { result ≡ command_in line.now }
@@ -166,5 +221,5 @@ pub(crate) fn read_command(line: &[u8]) -> Result<DebugCommand, Refusal>
         return Err(Refusal::TooLong);
     }
     let (name, after) = split_name(line);
-    read_named(name, after)
+    read_named(line, name, after)
 }

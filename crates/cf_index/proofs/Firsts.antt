@@ -3,9 +3,12 @@ use Rattle.std.proofs.Common.{◌≡◌, ◌∙◌, sym, refl, ap, ℕ, zero, su
 use Rattle.std.specs.Prelude.{◌-◌, filter, find, not, slice_get, IfSome}
 use Rattle.std.specs.List.{position_or_len}
 use Rattle.std.proofs.lemmas.Bool.Decides.{nat_tests}
+use Rattle.std.proofs.lemmas.List.{append_assoc}
 use Rattle.std.proofs.lemmas.List.Elements.{filter-append}
 use Rattle.std.proofs.lemmas.List.Folds.{find_at}
 use Rattle.std.proofs.lemmas.Option.{slice_get_within}
+use Rattle.run_options.specs.declared.guess_rule.GuessRule.{GuessRule}
+use Rattle.run_options.specs.declared.guess_rule.GuessRule.TheVariants as rules
 use Rattle.cf_layout.specs.Layout.{Plan, SidingPlan}
 use Rattle.cf_bind.specs.declared.moves.Move.{Move}
 use Rattle.cf_bind.specs.declared.moves.Move.TheVariants.{Issue, Emit, Climb, Fall, Meet, Execute, Send, Launch, Slide, Access, Recover, Leave, Exit, Serve}
@@ -13,10 +16,12 @@ use Rattle.cf_bind.specs.declared.passenger.Guess.TheVariants.{Next, Taken, Wait
 use Rattle.cf_semantics.specs.moves.Candidates.{candidates, counted_from, held_back, other_moves, slides_from}
 use Rattle.cf_semantics.specs.state.State.{State}
 use Rattle.cf_semantics.specs.claims.Weight.{is_issue}
-use Rattle.cf_index.specs.Allowed.{all_entering, all_leaving, all_passing, allowed_others, is_allowed, withheld}
+use Rattle.cf_index.specs.Allowed.{all_entering, all_leaving, all_passing, allowed_issues, allowed_others, is_allowed, kept_issues, withheld}
+use Rattle.cf_index.specs.GuessRules.{guided, keeps}
 use Rattle.cf_index.specs.Order.{first_after, kind_place, stands_after}
 use Rattle.cf_index.proofs.FirstsAfter.{found_after, found_candidate, found_held, found_second, entering_none, no_issue}
 use Rattle.cf_index.proofs.Filled.{all_chosen}
+use Rattle.cf_index.proofs.Guided.{found-kept, keeps-others, kept-others, same-others}
 use Rattle.cf_index.proofs.Held.{others_parts}
 use Rattle.cf_index.proofs.Passed.{later}
 
@@ -114,6 +119,54 @@ others_are plan s =
     let q = is_allowed plan s in
     ap other_moves (in_parts plan s) ∙ entering_others (q (Issue Next)) (q (Issue Taken)) (q (Issue Wait)) (q Emit) (rest_of plan s) (rest_others plan s)
 
+-- the candidates are those that issue and the others
+pub candidates_parts : (plan : Plan) (s : State) → candidates plan s ≡ allowed_issues plan s ++ allowed_others plan s
+unfolding rest_of
+candidates_parts plan s =
+    let q = is_allowed plan s in
+    in_parts plan s
+    ∙ ap (λ (xs : List Move). xs ++ rest_of plan s) (filter-append q (Issue Next ∷ Issue Taken ∷ Issue Wait ∷ []) (Emit ∷ []))
+    ∙ append_assoc (allowed_issues plan s) (filter q (Emit ∷ [])) (rest_of plan s)
+
+-- a guess rule leaves the same others
+pub guided_others : (r : GuessRule) (plan : Plan) (s : State) → other_moves (guided r plan s) ≡ allowed_others plan s
+unfolding guided
+guided_others r plan s = same-others (keeps r plan s) (candidates plan s) (keeps-others r plan s) ∙ others_are plan s
+
+others_kept : (r : GuessRule) (plan : Plan) (s : State) → filter (keeps r plan s) (allowed_others plan s) ≡ allowed_others plan s
+others_kept r plan s =
+    let e = others_are plan s in
+    ap (filter (keeps r plan s)) (sym e) ∙ kept-others (keeps r plan s) (candidates plan s) (keeps-others r plan s) ∙ e
+
+pub guided_parts : (r : GuessRule) (plan : Plan) (s : State) → guided r plan s ≡ kept_issues r plan s ++ allowed_others plan s
+unfolding guided
+guided_parts r plan s =
+    let k = keeps r plan s in
+    ap (filter k) (candidates_parts plan s) ∙ filter-append k (allowed_issues plan s) (allowed_others plan s)
+    ∙ ap (λ (xs : List Move). kept_issues r plan s ++ xs) (others_kept r plan s)
+
+-- what is filled in by its parts; and by the rule that keeps every guess, all candidates
+pub guided_chosen : (r : GuessRule) (plan : Plan) (s : State) (es ps ss ls : List Move) →
+    es ≡ filter (keeps r plan s) (filter (is_allowed plan s) all_entering) → ps ≡ filter (is_allowed plan s) (all_passing plan) →
+    ss ≡ filter (is_allowed plan s) (slides_from 0 plan.sidings) → ls ≡ filter (is_allowed plan s) (all_leaving plan) →
+    es ++ (ps ++ (ss ++ ls)) ≡ guided r plan s
+unfolding guided rest_of
+guided_chosen r plan s es ps ss ls enter pass slide leave =
+    let k = keeps r plan s in
+    let free : filter k (rest_of plan s) ≡ rest_of plan s = ap (filter k) (sym (rest_others plan s))
+    ∙ kept-others k (rest_of plan s) (keeps-others r plan s) ∙ rest_others plan s in
+    rw (enter, pass, slide, leave) (sym (ap (filter k) (in_parts plan s) ∙ filter-append k (filter (is_allowed plan s) all_entering) (rest_of plan s)
+    ∙ ap (λ (xs : List Move). filter k (filter (is_allowed plan s) all_entering) ++ xs) free))
+
+any_kept : (xs : List Move) (plan : Plan) (s : State) → filter (keeps rules.Any plan s) xs ≡ xs
+any_kept [] plan s = refl
+any_kept (Issue g ∷ xs) plan s = ap (λ (l : List Move). Issue g ∷ l) (any_kept xs plan s)
+any_kept (x ∷ xs) plan s = ap (λ (l : List Move). x ∷ l) (any_kept xs plan s)
+
+pub any_guided : (plan : Plan) (s : State) → guided rules.Any plan s ≡ candidates plan s
+unfolding guided
+any_guided plan s = any_kept (candidates plan s) plan s
+
 -- the first of the candidates that are held back
 held_first : (xs : List Move) (m : Move) → Some m ≡ slice_get (other_moves xs) 0 → Some m ≡ slice_get (held_back xs) 0
 unfolding held_back
@@ -122,22 +175,29 @@ held_first xs m e =
     let some : nat_lt 0 (length (other_moves xs)) ≡ true = grind (arith, nat_tests) in
     rw some e
 
-pub first_held : (plan : Plan) (s : State) (held : Bool) (o : Option Move) → held ≡ true → o ≡ slice_get (allowed_others plan s) 0 →
-    IfSome o (λ next. Some next ≡ slice_get (withheld held (candidates plan s)) 0)
-first_held plan s held None e first = tt
-first_held plan s held (Some m) e first = rw e (held_first (candidates plan s) m (first ∙ ap (λ (l : List Move). slice_get l 0) (sym (others_are plan s))))
+pub first_held : (r : GuessRule) (plan : Plan) (s : State) (held : Bool) (o : Option Move) → held ≡ true → o ≡ slice_get (allowed_others plan s) 0 →
+    IfSome o (λ next. Some next ≡ slice_get (withheld held (guided r plan s)) 0)
+first_held r plan s held None e first = tt
+first_held r plan s held (Some m) e first = rw e (held_first (guided r plan s) m (first ∙ ap (λ (l : List Move). slice_get l 0) (sym (guided_others r plan s))))
 
 -- and of all of them
-pub first_issue : (plan : Plan) (s : State) (held : Bool) → held ≡ false → is_allowed plan s (Issue Next) ≡ true →
-    Some (Issue Next) ≡ slice_get (withheld held (candidates plan s)) 0
-first_issue plan s held e free = rw (e, in_parts plan s, free) refl
+in_first : (xs ys : List Move) (m : Move) → Some m ≡ slice_get xs 0 → Some m ≡ slice_get (xs ++ ys) 0
+in_first [] ys m e = absurd (cc)
+in_first (x ∷ xs) ys m e = e
 
-pub first_free : (plan : Plan) (s : State) (held : Bool) (o : Option Move) → held ≡ false → is_allowed plan s (Issue Next) ≡ false →
-    is_allowed plan s (Issue Taken) ≡ false → is_allowed plan s (Issue Wait) ≡ false → o ≡ slice_get (allowed_others plan s) 0 →
-    IfSome o (λ next. Some next ≡ slice_get (withheld held (candidates plan s)) 0)
-unfolding rest_of
-first_free plan s held None e next taken wait first = tt
-first_free plan s held (Some m) e next taken wait first = rw (e, in_parts plan s, next, taken, wait) first
+in_second : (xs ys : List Move) → slice_get xs 0 ≡ None → slice_get ys 0 ≡ slice_get (xs ++ ys) 0
+in_second [] ys e = refl
+in_second (x ∷ xs) ys e = absurd (cc)
+
+pub first_issue : (r : GuessRule) (plan : Plan) (s : State) (held : Bool) (m : Move) (o : Option Move) → held ≡ false →
+    o ≡ slice_get (kept_issues r plan s) 0 → o ≡ Some m → Some m ≡ slice_get (withheld held (guided r plan s)) 0
+first_issue r plan s held m o e first is = rw (e, guided_parts r plan s) (in_first (kept_issues r plan s) (allowed_others plan s) m (sym is ∙ first))
+
+pub first_free : (r : GuessRule) (plan : Plan) (s : State) (held : Bool) (i o : Option Move) → held ≡ false → i ≡ slice_get (kept_issues r plan s) 0 →
+    i ≡ None → o ≡ slice_get (allowed_others plan s) 0 → IfSome o (λ next. Some next ≡ slice_get (withheld held (guided r plan s)) 0)
+first_free r plan s held i None e none is first = tt
+first_free r plan s held i (Some m) e none is first =
+    rw (e, guided_parts r plan s) (first ∙ in_second (kept_issues r plan s) (allowed_others plan s) (sym none ∙ is))
 
 -- After a move --
 
@@ -200,25 +260,34 @@ none_withheld p true xs e = by (nat_lt 0 (length (other_moves xs)))
     by true = none_chosen p (λ mv. not (is_issue mv)) xs e
     by false = e
 
-pub wrapped : (plan : Plan) (s : State) (last : Move) (held : Bool) (o r : Option Move) → 1 ≤ kind_place last →
+pub wrapped : (r : GuessRule) (plan : Plan) (s : State) (last : Move) (held : Bool) (o n : Option Move) → 1 ≤ kind_place last →
     o ≡ find (stands_after last) (filter (is_allowed plan s) (all_passing plan) ++ (filter (is_allowed plan s) (slides_from 0 plan.sidings)
     ++ filter (is_allowed plan s) (all_leaving plan))) → o ≡ None →
-    IfSome r (λ next. Some next ≡ slice_get (withheld held (candidates plan s)) 0) → IfSome r (λ next. Some next
-    ≡ slice_get (withheld held (candidates plan s)) (first_after (Some last) (withheld held (candidates plan s))))
-unfolding rest_of
-wrapped plan s last held o r after e none first =
+    IfSome n (λ next. Some next ≡ slice_get (withheld held (guided r plan s)) 0) → IfSome n (λ next. Some next
+    ≡ slice_get (withheld held (guided r plan s)) (first_after (Some last) (withheld held (guided r plan s))))
+unfolding rest_of guided
+wrapped r plan s last held o n after e none first =
     let p = stands_after last in
     let nowhere : find p (candidates plan s) ≡ None = ap (find p) (in_parts plan s) ∙ found_second p (filter (is_allowed plan s) all_entering) (rest_of plan s)
     (entering_none last (is_allowed plan s) after) ∙ (sym e ∙ none) in
-    let zero_is = none_after last (withheld held (candidates plan s)) (none_withheld p held (candidates plan s) nowhere) in
+    let unguided : find p (guided r plan s) ≡ None = none_chosen p (keeps r plan s) (candidates plan s) nowhere in
+    let zero_is = none_after last (withheld held (guided r plan s)) (none_withheld p held (guided r plan s) unguided) in
     rw zero_is first
 
-pub found_soon : (plan : Plan) (s : State) (last m : Move) (held : Bool) (o : Option Move) → 1 ≤ kind_place last →
+pub found_soon : (r : GuessRule) (plan : Plan) (s : State) (last m : Move) (held : Bool) (o : Option Move) → 1 ≤ kind_place last →
     o ≡ find (stands_after last) (filter (is_allowed plan s) (all_passing plan) ++ (filter (is_allowed plan s) (slides_from 0 plan.sidings)
     ++ filter (is_allowed plan s) (all_leaving plan))) → o ≡ Some m →
-    Some m ≡ slice_get (withheld held (candidates plan s)) (first_after (Some last) (withheld held (candidates plan s)))
-found_soon plan s last m true o after e is = found_after last (held_back (candidates plan s)) m
-    (found_held (stands_after last) (candidates plan s) m (λ mv f. no_issue last mv after f) (found_candidate plan s last m after (sym e ∙ is)))
-found_soon plan s last m false o after e is = found_after last (candidates plan s) m (found_candidate plan s last m after (sym e ∙ is))
+    Some m ≡ slice_get (withheld held (guided r plan s)) (first_after (Some last) (withheld held (guided r plan s)))
+unfolding guided
+found_soon r plan s last m held o after e is = of held
+  where
+    there : find (stands_after last) (guided r plan s) ≡ Some m
+    there = found-kept (stands_after last) (keeps r plan s) (candidates plan s) m (λ mv f. keeps-others r plan s mv (no_issue last mv after f))
+        (found_candidate plan s last m after (sym e ∙ is))
+
+    of : (b : Bool) → Some m ≡ slice_get (withheld b (guided r plan s)) (first_after (Some last) (withheld b (guided r plan s)))
+    of true = found_after last (held_back (guided r plan s)) m
+        (found_held (stands_after last) (guided r plan s) m (λ mv f. no_issue last mv after f) there)
+    of false = found_after last (guided r plan s) m there
 
 pub ruleset firsts = (first_held, first_issue, first_free)

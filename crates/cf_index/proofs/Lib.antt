@@ -20,5 +20,8 @@ pub mod FirstsAfter
 pub mod There
 pub mod Independence
 pub mod Ranks
+pub mod Guided
 pub mod Firsts
+pub mod OneIssue
 pub mod Others
+pub mod AnyIssue

@@ -43,6 +43,10 @@ none_left false b off = refl
 pub nothing_left : (w k : ℕ) (b : Bool) → b ≡ false → has_bit 0 k ≡ (has_bit w k && b)
 nothing_left w k b off = no_bits k ∙ none_left (has_bit w k) b off
 
+-- so where the rank is past the kind no stage is left
+pub none_after : (r : Rank) (kind : ℕ → Move) (w k : ℕ) → kind_place (kind (k + 1)) < r.kind → has_bit 0 k ≡ (has_bit w k && is_past r (kind (k + 1)))
+none_after r kind w k late = nothing_left w k (is_past r (kind (k + 1))) (sooner r (kind (k + 1)) late)
+
 -- Words --
 
 -- of the moves of a word the first after the rank is the first of the word of those after it

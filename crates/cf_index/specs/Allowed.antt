@@ -1,17 +1,24 @@
 -- Which moves are allowed, by the parts of the list of all moves.
-use Rattle.std.specs.Prelude.{◌≡◌, ℕ, ◌+◌, List, [], ◌∷◌, ◌++◌, Bool, ◌&&◌, not, nat_lt, filter, if◌then◌else◌}
+use Rattle.std.specs.Prelude.{◌≡◌, ℕ, ◌+◌, List, [], ◌∷◌, ◌++◌, Bool, true, false, ◌&&◌, not, nat_lt, filter, length, if◌then◌else◌}
+use Rattle.run_options.specs.declared.guess_rule.GuessRule.{GuessRule}
 use Rattle.cf_layout.specs.Layout.{Plan}
 use Rattle.cf_layout.specs.Words.{has_bit}
+use Rattle.cf_bind.specs.declared.passenger.Guess.{Guess}
 use Rattle.cf_bind.specs.declared.passenger.Guess.TheVariants as guess
 use Rattle.cf_bind.specs.declared.moves.Move.{Move}
 use Rattle.cf_bind.specs.declared.moves.Move.TheVariants.{Issue, Emit, Climb, Fall, Meet, Execute, Send, Launch, Access, Recover, Leave, Exit, Serve}
+use Rattle.cf_bind.specs.declared.packet.Fetch.{Fetch}
+use Rattle.cf_bind.specs.declared.packet.Fetch.TheVariants.{Running, Waiting}
 use Rattle.cf_semantics.specs.state.Options.{is_some}
 use Rattle.cf_semantics.specs.state.State.{State}
 use Rattle.cf_semantics.specs.moves.Bars.{bar}
 use Rattle.cf_semantics.specs.moves.Candidates.{at_stages, held_back, slides_from}
+use Rattle.cf_stages.specs.Changes.{passenger_at}
 use Rattle.cf_stages.specs.Words.{word_of}
 use Rattle.cf_index.specs.declared.passing.Passing.{Passing}
+use Rattle.cf_index.specs.GuessRules.{keeps, keeps_guess}
 use Rattle.cf_index.specs.Listed.{at_word}
+use Rattle.cf_index.specs.Words.{goes_on}
 
 -- nothing bars the move
 abbrev pub is_allowed : Plan → State → Move → Bool
@@ -67,13 +74,32 @@ all_passing plan =
 abbrev pub all_leaving : Plan → List Move
 all_leaving plan = Access ∷ (at_stages plan Recover ++ Leave ∷ Exit ∷ Serve ∷ [])
 
+-- fetch runs at an address
+abbrev pub is_running : Fetch → Bool
+is_running (Running pc) = true
+is_running Waiting = false
+
+-- whatever instruction fetch comes to can be issued with the guess Next: the processor goes on, fetch runs, no instruction
+-- is in the lowest stage, and the lane has room for two requests, the most that an instruction makes
+abbrev pub issues_any : Plan → State → Bool
+issues_any plan s =
+    goes_on s && (is_running s.fetch && (not (is_some (passenger_at s.cells 1)) && nat_lt (length s.lane + 1) plan.lane))
+
 -- the allowed moves that issue
 abbrev pub allowed_issues : Plan → State → List Move
 allowed_issues plan s = filter (is_allowed plan s) (Issue guess.Next ∷ Issue guess.Taken ∷ Issue guess.Wait ∷ [])
 
+-- an Issue by this guess is allowed, and the guess rule keeps it
+abbrev pub may_issue : GuessRule → Plan → State → Guess → Bool
+may_issue r plan s g = is_allowed plan s (Issue g) && keeps_guess r plan s g
+
+-- the allowed moves that issue and that a guess rule keeps
+abbrev pub kept_issues : GuessRule → Plan → State → List Move
+kept_issues r plan s = filter (keeps r plan s) (allowed_issues plan s)
+
 -- those that are offered where Issue is held back, and where it is not
-abbrev pub unheld_issues : Bool → Plan → State → List Move
-unheld_issues held plan s = if held then [] else allowed_issues plan s
+abbrev pub unheld_issues : Bool → GuessRule → Plan → State → List Move
+unheld_issues held r plan s = if held then [] else kept_issues r plan s
 
 -- the allowed moves but for each Issue
 abbrev pub allowed_others : Plan → State → List Move

@@ -3,6 +3,7 @@ pub mod Listed
 pub mod Most
 pub mod Order
 pub mod Ranks
+pub mod GuessRules
 pub mod Allowed
 pub mod Words
 pub mod Spread

@@ -1,9 +1,11 @@
 //! The first move over the stages that comes after another in the order of all moves. The word of a kind is computed only
 //! when no kind before it has such a move.
 
-ghost use Rattle.std.specs.Prelude.{◌≡◌, filter, find};
+ghost use Rattle.std.specs.Prelude.{◌≡◌, ℕ, ◌+◌, ◌&&◌, filter, find};
+ghost use Rattle.cf_bind.specs.declared.moves.Move.TheVariants as mv;
+ghost use Rattle.cf_layout.specs.Words.{has_bit};
 ghost use Rattle.cf_core.specs.Masks.{masks_of};
-ghost use Rattle.cf_index.specs.Allowed.{all_passing, is_allowed};
+ghost use Rattle.cf_index.specs.Allowed.{all_passing, is_allowed, passing_of};
 ghost use Rattle.cf_index.specs.Allowed.{launch_on, send_on, execute_on, meet_on, fall_on, climb_on};
 ghost use Rattle.cf_index.specs.Ranks.{is_past};
 
@@ -12,6 +14,34 @@ use crate::rank::{CLIMB, EXECUTE, FALL, LAUNCH, MEET, Rank, SEND};
 use crate::stages::{climbs, executes, falls, launches, meets, sends, stages};
 use cf_bind::Move;
 use cf_core::{Core, Masks};
+
+/// The stages where a Climb comes after the rank.
+// The word is made only where one can.
+#[inline(always)]
+fn climbs_after(core: &Core, masks: &Masks, last: Rank) -> u32
+    requires { masks.now ≡ masks_of core.now.plan core.now.state }
+    ensures { (k : ℕ) → has_bit result k ≡ (has_bit (passing_of core.now.plan core.now.state).climb k && is_past last (mv.Climb (k + 1))) }
+{
+    if last.kind > CLIMB {
+        0
+    } else {
+        last.after(CLIMB, climbs(core, masks))
+    }
+}
+
+/// The stages where a Fall comes after the rank.
+// The word is made only where one can.
+#[inline(always)]
+fn falls_after(core: &Core, masks: &Masks, last: Rank) -> u32
+    requires { masks.now ≡ masks_of core.now.plan core.now.state }
+    ensures { (k : ℕ) → has_bit result k ≡ (has_bit (passing_of core.now.plan core.now.state).fall k && is_past last (mv.Fall (k + 1))) }
+{
+    if last.kind > FALL {
+        0
+    } else {
+        last.after(FALL, falls(core, masks))
+    }
+}
 
 /// The first Launch after the rank.
 #[inline(always)]
@@ -68,7 +98,7 @@ fn next_fall(core: &Core, masks: &Masks, last: Rank) -> Option<Move>
     requires { masks.now ≡ masks_of core.now.plan core.now.state }
     ensures { result ≡ find (is_past last) (fall_on core.now.plan core.now.state) }
 {
-    match lowest(last.after(FALL, falls(core, masks))) {
+    match lowest(falls_after(core, masks, last)) {
         Some(k) => Some(Move::Fall(k + 1)),
         None => next_meet(core, masks, last),
     }
@@ -80,7 +110,7 @@ fn next_climb(core: &Core, masks: &Masks, last: Rank) -> Option<Move>
     requires { masks.now ≡ masks_of core.now.plan core.now.state }
     ensures { result ≡ find (is_past last) (climb_on core.now.plan core.now.state) }
 {
-    match lowest(last.after(CLIMB, climbs(core, masks))) {
+    match lowest(climbs_after(core, masks, last)) {
         Some(k) => Some(Move::Climb(k + 1)),
         None => next_fall(core, masks, last),
     }

@@ -6,15 +6,18 @@ ghost use Rattle.cf_layout.specs.Words.{has_bit};
 ghost use Rattle.cf_semantics.specs.moves.Candidates.{candidates, slides_from};
 ghost use Rattle.cf_core.specs.Masks.{masks_of};
 ghost use Rattle.cf_index.specs.Allowed.{all_entering, all_leaving, all_passing, is_allowed};
+ghost use Rattle.cf_index.specs.GuessRules.{guided, keeps};
 ghost use Rattle.cf_index.specs.Listed.{entering_moves, leaving_moves, passing_moves, slide_at, slides_of};
 
 use crate::bits::with_bit;
 use crate::candidates::Candidates;
 use crate::entering::Entering;
+use crate::guiding::guided;
 use crate::leaving::Leaving;
 use crate::passing::Passing;
 use crate::stages::{climbs, executes, falls, launches, meets, sends, stages};
 use cf_core::{Core, Masks};
+use run_options::GuessRule;
 
 /// How many cells a siding has: 1 to 8. There are 8 sidings at most.
 #[inline(always)]
@@ -53,13 +56,13 @@ pub(crate) fn slides(core: &Core) -> u64
     word
 }
 
-/// The candidates by which something enters.
+/// The candidates by which something enters, of each Issue those that the guess rule keeps.
 #[inline(always)]
 #[tactic(auto, unfolding(crate::specs::Listed::entering_moves))]
-fn entering(core: &Core) -> Entering
-    ensures { entering_moves result ≡ filter (is_allowed core.now.plan core.now.state) all_entering }
+fn entering(core: &Core, rule: GuessRule) -> Entering
+    ensures { entering_moves result ≡ filter (keeps rule core.now.plan core.now.state) (filter (is_allowed core.now.plan core.now.state) all_entering) }
 {
-    let issuable = core.issuable();
+    let issuable = guided(core, rule);
     Entering {
         next: issuable.next,
         taken: issuable.taken,
@@ -107,8 +110,16 @@ impl Candidates {
     pub fn fill(&mut self, core: &Core)
         ensures { self.new ≡ candidates core.now.plan core.now.state }
     {
+        self.fill_by(core, GuessRule::Any);
+    }
+
+    /// Replaces them by the moves that are allowed now and that the guess rule keeps.
+    #[inline(always)]
+    pub fn fill_by(&mut self, core: &Core, rule: GuessRule)
+        ensures { self.new ≡ guided rule core.now.plan core.now.state }
+    {
         let masks = core.masks();
-        self.entering = entering(core);
+        self.entering = entering(core, rule);
         self.passing = passing(core, &masks);
         self.slides = slides(core);
         self.leaving = leaving(core, &masks);

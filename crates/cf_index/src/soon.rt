@@ -2,9 +2,10 @@
 
 ghost use Rattle.std.specs.Prelude.{◌≡◌, ◌≢◌, ◌++◌, false, IfSome, Some, filter, find, slice_get};
 ghost use Rattle.cf_bind.specs.declared.moves.Move.{Move as Step};
-ghost use Rattle.cf_semantics.specs.moves.Candidates.{candidates, slides_from};
+ghost use Rattle.cf_semantics.specs.moves.Candidates.{slides_from};
 ghost use Rattle.cf_semantics.specs.claims.Weight.{is_issue};
 ghost use Rattle.cf_index.specs.Allowed.{all_leaving, all_passing, allowed_others, is_allowed, withheld};
+ghost use Rattle.cf_index.specs.GuessRules.{guided};
 ghost use Rattle.cf_index.specs.Order.{first_after, slide_place};
 ghost use Rattle.cf_index.specs.Ranks.{is_past, rank_of};
 
@@ -13,8 +14,9 @@ use crate::candidates::Candidates;
 use crate::outward::next_outward;
 use crate::rank::{ISSUE, Rank, SLIDE};
 use crate::stages::goes_on;
-use cf_bind::{Guess, Move};
+use cf_bind::Move;
 use cf_core::Core;
+use run_options::GuessRule;
 
 /// The first move by which nothing enters, after one that is not within the sidings.
 #[inline(always)]
@@ -40,65 +42,61 @@ fn first_other(core: &Core) -> Option<Move>
     }
 }
 
-/// The first candidate, with Issue held back or not.
+/// The first candidate that the guess rule keeps, with Issue held back or not.
 // The search seldom begins anew, and is then a call, so that the search after a move is part of the loop of a run.
 #[inline(never)]
 #[tactic(auto, using(crate::proofs::Firsts::firsts))]
-fn look_for_first(core: &Core, held: bool) -> Option<Move>
-    ensures { IfSome result (λ next. Some next ≡ slice_get (withheld held (candidates core.now.plan core.now.state)) 0) }
+fn look_for_first(core: &Core, rule: GuessRule, held: bool) -> Option<Move>
+    ensures { IfSome result (λ next. Some next ≡ slice_get (withheld held (guided rule core.now.plan core.now.state)) 0) }
 {
     if held {
         return first_other(core);
     }
-    let issuable = core.issuable();
-    if issuable.next {
-        Some(Move::Issue(Guess::Next))
-    } else if issuable.taken || issuable.wait {
-        None
-    } else {
-        first_other(core)
+    match Candidates::first_issue(core, rule) {
+        Some(next) => Some(next),
+        None => first_other(core),
     }
 }
 
 /// The first candidate, as it is found by a call.
 // The answer of the call has a place in memory here, which is written only where the call is made.
 #[inline(always)]
-fn first(core: &Core, held: bool) -> Option<Move>
-    ensures { IfSome result (λ next. Some next ≡ slice_get (withheld held (candidates core.now.plan core.now.state)) 0) }
+fn first(core: &Core, rule: GuessRule, held: bool) -> Option<Move>
+    ensures { IfSome result (λ next. Some next ≡ slice_get (withheld held (guided rule core.now.plan core.now.state)) 0) }
 {
-    look_for_first(core, held)
+    look_for_first(core, rule, held)
 }
 
 /// The first candidate, if it is not an Issue.
 #[inline(always)]
-fn first_unissued(core: &Core, held: bool) -> Option<Move>
-    ensures first { IfSome result (λ next. Some next ≡ slice_get (withheld held (candidates core.now.plan core.now.state)) 0) }
+fn first_unissued(core: &Core, rule: GuessRule, held: bool) -> Option<Move>
+    ensures first { IfSome result (λ next. Some next ≡ slice_get (withheld held (guided rule core.now.plan core.now.state)) 0) }
     ensures other { IfSome result (λ next. is_issue next ≡ false) }
 {
-    match first(core, held) {
+    match first(core, rule, held) {
         Some(Move::Issue(_)) => None,
         next => next,
     }
 }
 
 impl Candidates {
-    /// The first candidate of a processor after the move of this rank, or the first of all if none comes after it, with Issue held
-    /// back or not. There is no answer after Slide, nor where one Issue may follow another: there all candidates are needed.
+    /// Of the candidates that the guess rule keeps, the first after the move of this rank, or the first of all if none comes after
+    /// it, with Issue held back or not. There is no answer after Slide, nor where one Issue may follow another: there all candidates are needed.
     #[inline(always)]
-    pub fn soon(core: &Core, last: Rank, held: bool) -> Option<Move>
-        ensures next { (mv : Step) → last ≡ rank_of mv → IfSome result (λ next. Some next ≡ slice_get (withheld held (candidates core.now.plan core.now.state))
-            (first_after (Some mv) (withheld held (candidates core.now.plan core.now.state)))) }
+    pub fn soon(core: &Core, last: Rank, rule: GuessRule, held: bool) -> Option<Move>
+        ensures next { (mv : Step) → last ≡ rank_of mv → IfSome result (λ next. Some next ≡ slice_get (withheld held (guided rule core.now.plan core.now.state))
+            (first_after (Some mv) (withheld held (guided rule core.now.plan core.now.state)))) }
         ensures slide { last.kind ≡ slide_place → result ≡ None }
     {
         if !goes_on(core) || last.kind == SLIDE {
             return None;
         }
         if last.kind == ISSUE {
-            return first_unissued(core, held);
+            return first_unissued(core, rule, held);
         }
         match next(core, last) {
             Some(next) => Some(next),
-            None => first(core, held),
+            None => first(core, rule, held),
         }
     }
 }

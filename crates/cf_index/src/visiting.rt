@@ -5,7 +5,7 @@ ghost use Rattle.cf_bind.specs.declared.moves.Move.{Move as Step};
 ghost use Rattle.cf_bind.specs.declared.moves.Move.TheVariants as mv;
 ghost use Rattle.cf_core.specs.Masks.{masks_of};
 ghost use Rattle.cf_semantics.specs.moves.Candidates.{slides_from};
-ghost use Rattle.cf_index.specs.Allowed.{all_leaving, all_passing, allowed_issues, allowed_others, is_allowed};
+ghost use Rattle.cf_index.specs.Allowed.{all_leaving, all_passing, allowed_others, is_allowed, kept_issues};
 ghost use Rattle.cf_index.specs.Listed.{entering_moves, flagged, leaving_moves, passing_moves, slides_of};
 ghost use Rattle.cf_index.specs.Most.{most_leaving, most_of_kind, most_others, most_passing};
 ghost use Rattle.cf_index.specs.Places.{places};
@@ -15,10 +15,13 @@ use crate::bits::count;
 use crate::candidates::Candidates;
 use crate::entering::Entering;
 use crate::fill::{leaving, passing, slides};
+use crate::guiding::{guided, is_any};
 use crate::leaving::Leaving;
 use crate::passing::Passing;
+use crate::plainly::issues_any;
 use cf_bind::{Guess, Move};
 use cf_core::{Core, Masks};
+use run_options::GuessRule;
 
 /// Something that is shown moves one after another. Its new state depends only on its old state and the move.
 pub trait Visitor {
@@ -205,13 +208,17 @@ impl Candidates {
         visit_leaving(core, &masks, visitor);
     }
 
-    /// The first of the allowed moves that issue.
+    /// The first of the allowed moves that issue and that the guess rule keeps. Where every guess is kept, and whatever
+    /// fetch comes to can be issued, nothing is decoded.
     #[inline(always)]
-    #[tactic(auto, using(crate::proofs::Others::issues))]
-    pub fn first_issue(core: &Core) -> Option<Move>
-        ensures { result ≡ slice_get (allowed_issues core.now.plan core.now.state) 0 }
+    #[tactic(auto, using(crate::proofs::Others::issues, crate::proofs::AnyIssue::any_first))]
+    pub fn first_issue(core: &Core, rule: GuessRule) -> Option<Move>
+        ensures { result ≡ slice_get (kept_issues rule core.now.plan core.now.state) 0 }
     {
-        let issuable = core.issuable();
+        if is_any(rule) && issues_any(core) {
+            return Some(Move::Issue(Guess::Next));
+        }
+        let issuable = guided(core, rule);
         if issuable.next {
             Some(Move::Issue(Guess::Next))
         } else if issuable.taken {

@@ -41,19 +41,13 @@ abbrev pub ReadsFile : Option FilesSeen → Option FilesSeen → List ℕ → �
 ReadsFile None after name most result = after ≡ None
 ReadsFile (Some told) after name most result = ReadsTold told after name most result
 
--- Failed comes only where the count rose, and any other answer only where it did not
+-- one failure is counted where the answer is Failed, and none elsewhere
 abbrev pub RoseOnFailed : {T : Type 0} → ℕ → ℕ → Result T FilesErr → Type 0
 RoseOnFailed before now (Err err.Failed) = Rose before now
 RoseOnFailed before now (Err err.NoMemory) = now ≡ before
 RoseOnFailed before now (Ok x) = now ≡ before
 
--- the count never falls, and rises exactly where the answer is Failed
+-- the count never falls, and rises by one exactly where the answer is Failed
 pub record HasReadCause {T : Type 0} (before now : ℕ) (result : Result T FilesErr) : Type 0 where
   pub never_falls : before ≤ now
   pub rose : RoseOnFailed before now result
-
--- a read is counted exactly where it answers Failed
-abbrev pub CountsReadFaults : {T : Type 0} → ℕ → ℕ → Result T FilesErr → Type 0
-CountsReadFaults before now (Err err.Failed) = now ≡ raised before
-CountsReadFaults before now (Err err.NoMemory) = now ≡ before
-CountsReadFaults before now (Ok x) = now ≡ before

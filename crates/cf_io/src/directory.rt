@@ -3,7 +3,7 @@
 ghost use Rattle.std.specs.Prelude.{◌≡◌, ◌≤◌, ◌↔◌, None, IfOk, IfSome, take, vec_len};
 ghost use Rattle.std.specs.IoError.{error_kind};
 ghost use Rattle.std.specs.declared.io.ErrorKind.TheVariants as kind;
-ghost use Rattle.cf_io.specs.Reads.{ReadsFile, HasReadCause, CountsReadFaults};
+ghost use Rattle.cf_io.specs.Reads.{ReadsFile, HasReadCause};
 
 use crate::files::{Files, FilesErr};
 use std::alloc::Global;
@@ -71,7 +71,6 @@ impl<'a, R: rt::Files + AllocGlobal> Files for DirFiles<'a, R> {
         ensures bytes { ReadsFile None None name.now most result }
         ensures most { IfOk result (λ bytes. vec_len bytes ≤ most) }
         ensures cause { HasReadCause self.old.faults self.new.faults result }
-        ensures counted { CountsReadFaults self.old.faults self.new.faults result }
     {
         match read_front(self.rt, alloc, name, most) {
             Ok(bytes) => Ok(bytes),

@@ -3,7 +3,7 @@
 ghost use Rattle.std.specs.Prelude.{◌≡◌, None};
 ghost use Rattle.std.specs.Io.KnownBytes.{ReadConsumes, WriteAppends};
 ghost use Rattle.cf_io.specs.Adapted.{answer_of_reader, answer_of_writer};
-ghost use Rattle.cf_io.specs.Causes.{HasCause, CountsFaults};
+ghost use Rattle.cf_io.specs.Causes.{HasCause};
 ghost use Rattle.cf_io.specs.Takes.{Takes};
 ghost use Rattle.cf_io.specs.Puts.{Puts};
 
@@ -61,7 +61,6 @@ impl<R: Read + Drop> Source for StdSource<R> {
     fn take(&mut self, into: &mut [u8]) -> Result<usize, Failed>
         ensures bytes { Takes None None into.old into.new result }
         ensures cause { HasCause self.old.faults self.new.faults result }
-        ensures counted { CountsFaults self.old.faults self.new.faults result }
         ensures reads { ReadConsumes (R.remaining self.old.inner) (R.remaining self.new.inner)
             result into.new }
     {
@@ -108,7 +107,6 @@ impl<W: Write + Drop> Sink for StdSink<W> {
     fn put(&mut self, bytes: &[u8]) -> Result<usize, Failed>
         ensures bytes { Puts None None bytes.now result }
         ensures cause { HasCause self.old.faults self.new.faults result }
-        ensures counted { CountsFaults self.old.faults self.new.faults result }
         ensures writes { WriteAppends (W.contents self.old.inner) (W.contents self.new.inner)
             result bytes.now }
     {

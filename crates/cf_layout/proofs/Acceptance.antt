@@ -6,10 +6,10 @@ use Rattle.rv_inst.specs.declared.classes.Class.{Class}
 use Rattle.rv_inst.specs.declared.classes.Class.TheVariants.{Add, Logic, Shift, Compare, Branch, Jump, Memory, Serial, Free, Mul, Div}
 use Rattle.cf_layout.specs.declared.parts.Parts.{Parts}
 use Rattle.cf_layout.specs.Asked.{natural, is_within, IsSmallSiding, is_asked, listed, ascending, plan_of}
-use Rattle.cf_layout.specs.Accepted.{is_needed, is_control, IsAccepted}
-use Rattle.cf_layout.specs.Acceptable.{AreComputed, IsAcceptable}
-use Rattle.cf_layout.specs.Refusal.{refusal, missing, missing_refusal, needed_classes, above, turn_refusal, control_refusal, turns_in, siding_for, memory_launch_in}
-use Rattle.cf_layout.proofs.Control.{described}
+use Rattle.cf_layout.specs.Accepted.{is_needed, is_control, IsEquipped, IsAccepted}
+use Rattle.cf_layout.specs.Acceptable.{AreComputed, AreEquipped, IsAcceptable}
+use Rattle.cf_layout.specs.Refusal.{loose_refusal, refusal, missing, missing_refusal, needed_classes, above, turn_refusal, control_refusal, turns_in, siding_for, memory_launch_in}
+use Rattle.cf_layout.proofs.Control.{described_equipped, described}
 use Rattle.cf_layout.proofs.Passing.{first_passes, next_passes, holds, none_found, all_fail, within_most, limits_hold, units_hold, sidings_hold, small_sidings, all_once}
 
 -- no class is missing
@@ -81,17 +81,17 @@ missing_hold parts e =
     let f = next_passes _ _ e in
     (needed_asked parts (none_missing _ (first_passes _ _ e)), pair_asked _ _ (holds _ _ (first_passes _ _ f)) (holds _ _ (next_passes _ _ f)))
 
--- parts that are not refused are acceptable
-pub acceptable : (parts : Parts) → refusal parts ≡ None → IsAcceptable parts
-unfolding refusal
-acceptable parts e =
+-- parts that pass all tests but the last are equipped
+pub equipped : (parts : Parts) → loose_refusal parts ≡ None → AreEquipped parts
+unfolding loose_refusal
+equipped parts e =
     let limits = limits_hold parts (first_passes _ _ e) in
     let f = next_passes _ _ e in
     let units = first_passes _ _ f in
     let g = next_passes _ _ f in
     let sidings = first_passes _ _ g in
     let h = next_passes _ _ g in
-    let there = missing_hold parts (first_passes _ _ h) in
+    let there = missing_hold parts h in
     record {
       stages = limits.0;
       lane = limits.1;
@@ -101,22 +101,35 @@ acceptable parts e =
       once = all_once (natural parts.stages) parts.units parts.sidings units sidings;
       needed = there.0;
       pair = there.1;
-      control = control_low parts (next_passes _ _ h);
     }
 
--- so what parts that are not refused describe is accepted
+-- and parts that are not refused are acceptable
+pub acceptable : (parts : Parts) → refusal parts ≡ None → IsAcceptable parts
+unfolding refusal
+acceptable parts e = record { equipped = equipped parts (first_passes _ _ e); control = control_low parts (next_passes _ _ e) }
+
+-- and pass all tests but the last
+pub loosely_passed : (parts : Parts) → refusal parts ≡ None → loose_refusal parts ≡ None
+unfolding refusal
+loosely_passed parts e = first_passes _ _ e
+
+-- so what parts that pass all tests but the last describe is equipped
+pub equips : (parts : Parts) → AreComputed parts → loose_refusal parts ≡ None → IsEquipped (plan_of parts)
+equips parts computed e = described_equipped parts computed (equipped parts e)
+
+-- and what parts that are not refused describe is accepted
 pub accepted : (parts : Parts) → AreComputed parts → refusal parts ≡ None → IsAccepted (plan_of parts)
 accepted parts computed e = described parts computed (acceptable parts e)
 
 -- their numbers are within the limits of a layout
-pub limits_kept : (parts : Parts) → refusal parts ≡ None → (is_within 2 32 parts.stages ≡ true) × (is_within 2 64 parts.lane ≡ true)
+pub limits_kept : (parts : Parts) → loose_refusal parts ≡ None → (is_within 2 32 parts.stages ≡ true) × (is_within 2 64 parts.lane ≡ true)
     × (length parts.sidings ≤ 8)
-unfolding refusal
+unfolding loose_refusal
 limits_kept parts e = limits_hold parts (first_passes _ _ e)
 
 -- and so are those of their sidings
-pub small_kept : (parts : Parts) → refusal parts ≡ None → All IsSmallSiding parts.sidings
-unfolding refusal
+pub small_kept : (parts : Parts) → loose_refusal parts ≡ None → All IsSmallSiding parts.sidings
+unfolding loose_refusal
 small_kept parts e =
     let limits = limits_hold parts (first_passes _ _ e) in
     let sidings = first_passes _ _ (next_passes _ _ (next_passes _ _ e)) in

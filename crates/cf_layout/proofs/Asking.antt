@@ -16,7 +16,7 @@ use Rattle.cf_layout.specs.Layout.{Plan, SidingPlan, place_of, same_class, compu
 use Rattle.cf_layout.specs.Accepted.{IsStage, IsAccepted, is_needed, is_control, memory_launch}
 use Rattle.cf_layout.specs.Accepted as accepted
 use Rattle.cf_layout.specs.Asked.{is_within, names, is_sided, is_asked, stages_in, listed, ascending, siding_plan, units_plan, plan_of}
-use Rattle.cf_layout.specs.Acceptable.{IsComputed, IsAcceptable, IsUnit, IsSiding, times, sided_classes, asked_classes}
+use Rattle.cf_layout.specs.Acceptable.{IsComputed, AreEquipped, IsAcceptable, IsUnit, IsSiding, times, sided_classes, asked_classes}
 use Rattle.cf_layout.specs.Refusal.{siding_for, turns_in, memory_launch_in, refusal}
 use Rattle.cf_layout.proofs.Counts.{same_true, times_append, times_cons, times_nil, is_sided_times, is_asked_times}
 use Rattle.cf_layout.proofs.Facts.{one_home}
@@ -381,9 +381,9 @@ control_right plan a c turns =
     (turns_right (stages_of plan c) (find (λ s. serves s c) plan.sidings) (memory_launch plan) (units_low plan a c turns)
     (λ s e. found_holds (λ t. t.recover ≤ memory_launch plan) (λ t. serves t c) plan.sidings s (a.control_sidings c turns) e))
 
--- the parts that request an accepted layout are acceptable
-pub asking_acceptable : (plan : Plan) → IsAccepted plan → IsAcceptable (asking plan)
-asking_acceptable plan a = record {
+-- the parts that request an accepted layout are equipped
+asking_equipped : (plan : Plan) → IsAccepted plan → AreEquipped (asking plan)
+asking_equipped plan a = record {
   stages = within_test 2 32 plan.stages a.stages.0 a.stages.1;
   lane = within_test 2 64 plan.lane a.lane.0 a.lane.1;
   few_sidings = rw length-map a.few_sidings;
@@ -392,8 +392,11 @@ asking_acceptable plan a = record {
   once = asked_once plan a;
   needed = needed_asked plan a;
   pair = is_asked_homed plan a Mul (omega arith) ∙ (ap (λ (n : ℕ). nat_lt 0 n) a.pair ∙ sym (is_asked_homed plan a Div (omega arith)));
-  control = control_right plan a;
 }
+
+-- and acceptable
+pub asking_acceptable : (plan : Plan) → IsAccepted plan → IsAcceptable (asking plan)
+asking_acceptable plan a = record { equipped = asking_equipped plan a; control = control_right plan a }
 
 -- and so not refused
 pub asking_passes : (plan : Plan) → IsAccepted plan → refusal (asking plan) ≡ None

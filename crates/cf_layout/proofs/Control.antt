@@ -15,7 +15,7 @@ use Rattle.cf_layout.specs.Layout.{Plan, SidingPlan, no_siding, siding_of, launc
 use Rattle.cf_layout.specs.Accepted.{memory_launch}
 use Rattle.cf_layout.specs.Accepted as accepted
 use Rattle.cf_layout.specs.Asked.{natural, is_within, is_asked, units_plan, names, ascending, siding_plan, is_unit, is_sided, listed, plan_of}
-use Rattle.cf_layout.specs.Acceptable.{IsComputed, AreComputed, IsAcceptable, IsSiding, asked_classes, sided_classes, times}
+use Rattle.cf_layout.specs.Acceptable.{IsComputed, AreComputed, AreEquipped, IsAcceptable, IsSiding, asked_classes, sided_classes, times}
 use Rattle.cf_layout.specs.Refusal.{siding_for, launch_in, memory_launch_in, turns_in}
 use Rattle.cf_layout.proofs.Counts.{any_kept, times_append, is_unit_times, is_sided_times, is_asked_times}
 use Rattle.cf_layout.proofs.Passing.{lt_true}
@@ -182,13 +182,11 @@ nine_classes units = refl
 sided_once : (parts : Parts) (c : Class) → times (asked_classes parts) c ≤ 1 → times (sided_classes parts.sidings) c ≤ 1
 sided_once parts c once = omega (arith, times_append (map (λ unit. unit.0) parts.units) (sided_classes parts.sidings) c)
 
--- the layout that acceptable parts describe is accepted
-pub described : (parts : Parts) → AreComputed parts → IsAcceptable parts → accepted.IsAccepted (plan_of parts)
-unfolding plan_of unit_at
-described parts computed a =
+-- the layout that equipped parts describe is equipped
+pub described_equipped : (parts : Parts) → AreComputed parts → AreEquipped parts → accepted.IsEquipped (plan_of parts)
+unfolding plan_of
+described_equipped parts computed a =
     let high : natural parts.stages ≤ 32 = (natural_within 2 32 parts.stages a.stages).1 in
-    let beside = no_memory_unit (natural parts.stages) parts.units a.units in
-    let launch = launch_given parts.sidings (plan_of parts) refl (memory_sided parts beside (a.needed Memory refl)) in
     record {
       stages = natural_within 2 32 parts.stages a.stages;
       lane = natural_within 2 64 parts.lane a.lane;
@@ -201,6 +199,16 @@ described parts computed a =
       pair = same_homes parts Mul Div (omega arith) (omega arith) high a.units a.once a.pair;
       pair_once = rw (homes_times parts Mul (omega arith) high a.units (a.once Mul)) (a.once Mul);
       memory = no_memory_stages parts a.units;
+    }
+
+-- and the one that acceptable parts describe is accepted
+pub described : (parts : Parts) → AreComputed parts → IsAcceptable parts → accepted.IsAccepted (plan_of parts)
+unfolding plan_of unit_at
+described parts computed a =
+    let beside = no_memory_unit (natural parts.stages) parts.units a.units in
+    let launch = launch_given parts.sidings (plan_of parts) refl (memory_sided parts beside (a.needed Memory refl)) in
+    record {
+      equipped = described_equipped parts computed a.equipped;
       control_units = λ c i turns at. rw launch (units_low parts c (memory_launch_in parts.sidings) i (is_unit parts.units c) refl (a.once c)
           (a.control c turns) (rw (described_stages parts c (needed_computed c (control_needed c turns))) at at));
       control_sidings = λ c turns. rw launch (sidings_low parts.sidings c (ascending (listed parts.units c)) (memory_launch_in parts.sidings)

@@ -8,7 +8,7 @@ use Rattle.std.proofs.lemmas.Bool.Decides.{nat_tests}
 use Rattle.rv_inst.specs.declared.classes.Class.{Class}
 use Rattle.rv_inst.specs.declared.classes.Class.TheVariants.{Add, Logic, Shift, Compare, Branch, Jump, Memory, Serial, Free, Mul, Div}
 use Rattle.cf_layout.specs.Layout.{Plan, SidingPlan, place_of, same_class, no_siding, siding_at, siding_of, launch_stage, recover_stage, cells_of, serves, stages_of, unit_at, unit_homes, homes, is_homed, last_of, recovers_by}
-use Rattle.cf_layout.specs.Accepted.{memory_launch, IsStage, IsSiding, IsAccepted}
+use Rattle.cf_layout.specs.Accepted.{memory_launch, IsStage, IsSiding, IsEquipped, IsAccepted}
 use Rattle.std.proofs.lemmas.List.Folds.{list_any_at}
 use Rattle.std.proofs.Math.Bool.{or-true, or-false}
 use Rattle.cf_layout.proofs.Counts.{same_true, any_kept}
@@ -30,7 +30,7 @@ siding_found plan c k e =
     (within, ap (λ (s : SidingPlan). serves s c) (read_at plan.sidings k within) ∙ p.1)
 
 -- what holds of each siding holds of a class's siding
-pub siding_rules : (plan : Plan) → IsAccepted plan → (c : Class) (k : ℕ) → siding_of plan c ≡ Some k → IsSiding plan (siding_at plan k)
+pub siding_rules : (plan : Plan) → IsEquipped plan → (c : Class) (k : ℕ) → siding_of plan c ≡ Some k → IsSiding plan (siding_at plan k)
 siding_rules plan a c k e =
     let f = siding_found plan c k e in
     let within : k < length plan.sidings = f.0 in
@@ -40,11 +40,11 @@ siding_rules plan a c k e =
 pub launches_low : (plan : Plan) → IsAccepted plan → (c : Class) (k : ℕ) → siding_of plan c ≡ Some k →
     (1 ≤ launch_stage plan k) × (launch_stage plan k < recover_stage plan k) × (recover_stage plan k ≤ plan.stages)
 unfolding launch_stage recover_stage
-launches_low plan a c k e = let s = siding_rules plan a c k e in (s.launches.0, s.order, s.recovers.1)
+launches_low plan a c k e = let s = siding_rules plan a.equipped c k e in (s.launches.0, s.order, s.recovers.1)
 
 pub has_cells : (plan : Plan) → IsAccepted plan → (c : Class) (k : ℕ) → siding_of plan c ≡ Some k → (1 ≤ cells_of plan k) × (cells_of plan k ≤ 8)
 unfolding cells_of
-has_cells plan a c k e = (siding_rules plan a c k e).cells
+has_cells plan a c k e = (siding_rules plan a.equipped c k e).cells
 
 -- a list with some stage in it is one home
 some_stage : (i : ℕ) (stages : List ℕ) → list_any (nat_eq i) stages ≡ true → unit_homes stages ≡ 1
@@ -137,7 +137,7 @@ memory_launches plan k e = rw e refl
 pub memory_alone : (plan : Plan) → IsAccepted plan → (k : ℕ) (c : Class) → siding_of plan Memory ≡ Some k → siding_of plan c ≡ Some k → c ≡ Memory
 unfolding serves
 memory_alone plan a k c e f =
-    let r = siding_rules plan a Memory k e in
+    let r = siding_rules plan a.equipped Memory k e in
     let m = siding_found plan Memory k e in
     let s = siding_found plan c k f in
     let only = rw (r.memory_alone m.1) at s.1 in

@@ -9,6 +9,7 @@ pub mod Control
 pub mod Unrefused
 pub mod Acceptance
 pub mod PlainLayout
+pub mod Beside
 pub mod Telling
 pub mod Facts
 pub mod Ordered

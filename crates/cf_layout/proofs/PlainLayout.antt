@@ -6,7 +6,7 @@ use Rattle.std.proofs.lemmas.Bool.Decides.{nat_tests}
 use Rattle.rv_inst.specs.declared.classes.Class.{Class}
 use Rattle.rv_inst.specs.declared.classes.Class.TheVariants.{Add, Logic, Shift, Compare, Branch, Jump, Memory, Serial, Free, Mul, Div}
 use Rattle.cf_layout.specs.Layout.{SidingPlan, place_of, no_siding, stages_of, unit_at, serves, siding_of, launch_stage, homes}
-use Rattle.cf_layout.specs.Accepted.{is_needed, is_control, memory_launch, IsStage, IsSiding, IsAccepted}
+use Rattle.cf_layout.specs.Accepted.{is_needed, is_control, memory_launch, IsStage, IsSiding, IsEquipped, IsAccepted}
 use Rattle.cf_layout.specs.Asked.{stage_numbers, ascending, in_class_order}
 use Rattle.cf_layout.specs.Held.{AreHeld}
 use Rattle.cf_layout.specs.Plain.{plain, memory_siding}
@@ -129,9 +129,9 @@ plain_within : All (All (IsStage plain)) plain.units
 plain_within = All-from_recursion (All (IsStage plain)) plain.units
     (stages_246, (stages_24, (stages_4, (stages_24, (stages_3, (stages_3, (stages_none, (stages_none, (stages_none, tt)))))))))
 
--- the built-in layout is accepted
-pub plain_accepted : IsAccepted plain
-plain_accepted = record {
+-- the built-in layout is equipped
+pub plain_equipped : IsEquipped plain
+plain_equipped = record {
   stages = (omega arith, omega arith);
   lane = (omega arith, omega arith);
   few_sidings = omega arith;
@@ -143,6 +143,12 @@ plain_accepted = record {
   pair = plain_pair.0 ∙ sym plain_pair.1;
   pair_once = omega (arith, plain_pair.0);
   memory = plain_memory;
+}
+
+-- and accepted
+pub plain_accepted : IsAccepted plain
+plain_accepted = record {
+  equipped = plain_equipped;
   control_units = λ c i e at. let l = plain_control c i e at in rw plain_launch l;
   control_sidings = λ c e. All-from_recursion (λ (s : SidingPlan). serves s c ≡ true → s.recover ≤ memory_launch plain) (memory_siding ∷ [])
       ((λ at. let off = plain_unsided c e in cc), tt);

@@ -18,12 +18,12 @@ use Rattle.cf_layout.specs.declared.refusal.LayoutErr.TheVariants.{StagesOutOfRa
 use Rattle.cf_layout.specs.Layout.{same_class}
 use Rattle.cf_layout.specs.Accepted.{is_needed, is_control}
 use Rattle.cf_layout.specs.Asked.{natural, is_within, names, is_unit, is_sided, is_asked, listed, ascending}
-use Rattle.cf_layout.specs.Acceptable.{IsAcceptable, times, sided_classes, asked_classes}
+use Rattle.cf_layout.specs.Acceptable.{AreEquipped, IsAcceptable, times, sided_classes, asked_classes}
 use Rattle.cf_layout.specs.Causes.{IsLayoutCause}
-use Rattle.cf_layout.specs.Refusal.{unless, outside, twice, missing, above, limits_refusal, unit_refusal, units_refusal, first_repeated, stages_refusal, classes_refusal, filled_refusal, siding_refusal, sidings_refusal, missing_refusal, needed_classes, turn_refusal, control_refusal, turns_in, siding_for, memory_launch_in, refusal}
+use Rattle.cf_layout.specs.Refusal.{unless, outside, twice, missing, above, limits_refusal, unit_refusal, units_refusal, first_repeated, stages_refusal, classes_refusal, filled_refusal, siding_refusal, sidings_refusal, missing_refusal, needed_classes, turn_refusal, control_refusal, turns_in, siding_for, memory_launch_in, loose_refusal, refusal}
 use Rattle.cf_layout.proofs.Counts.{same_true, same_self, times_cons, times_append, is_unit_times, is_sided_times}
-use Rattle.cf_layout.proofs.Acceptance.{acceptable}
-use Rattle.cf_layout.proofs.Unrefused.{not_refused}
+use Rattle.cf_layout.proofs.Acceptance.{equipped, acceptable}
+use Rattle.cf_layout.proofs.Unrefused.{not_loosely_refused, not_refused}
 use Rattle.cf_layout.proofs.Passing.{seen_more, lt_true}
 
 -- what failing tests say
@@ -317,14 +317,18 @@ says_control : (parts : Parts) → Says parts (control_refusal parts)
 unfolding control_refusal
 says_control parts = says_first parts _ _ (says_turns parts Branch refl) (says_turns parts Jump refl)
 
+-- all tests but the last
+says_loosely : (parts : Parts) → Says parts (loose_refusal parts)
+unfolding loose_refusal
+says_loosely parts =
+    says_first parts _ _ (says_limits parts)
+    (says_first parts _ _ (says_units parts [] parts.units refl)
+    (says_first parts _ _ (says_sidings parts [] parts.sidings refl) (says_missing parts)))
+
 -- all tests
 says_all : (parts : Parts) → Says parts (refusal parts)
 unfolding refusal
-says_all parts =
-    says_first parts _ _ (says_limits parts)
-    (says_first parts _ _ (says_units parts [] parts.units refl)
-    (says_first parts _ _ (says_sidings parts [] parts.sidings refl)
-    (says_first parts _ _ (says_missing parts) (says_control parts))))
+says_all parts = says_first parts _ _ (says_loosely parts) (says_control parts)
 
 -- what is answered is a cause
 told_cause : (parts : Parts) (o : Option LayoutErr) (e : LayoutErr) → Says parts o → o ≡ Some e → IsLayoutCause parts e
@@ -350,3 +354,18 @@ refused_unacceptable parts (Err e) h = λ a. let n = not_refused parts a in cc
 pub accepted_acceptable : {T : Type 0} (parts : Parts) (r : Result T LayoutErr) → IfOk r (λ x. refusal parts ≡ None) → IfOk r (λ x. IsAcceptable parts)
 accepted_acceptable parts (Ok x) h = acceptable parts h
 accepted_acceptable parts (Err e) h = tt
+
+-- the same of the tests but the last
+pub loosely_refused_cause : {T : Type 0} (parts : Parts) (r : Result T LayoutErr) → IfErr r (λ e. loose_refusal parts ≡ Some e) →
+    IfErr r (λ e. IsLayoutCause parts e)
+loosely_refused_cause parts (Ok x) h = tt
+loosely_refused_cause parts (Err e) h = told_cause parts (loose_refusal parts) e (says_loosely parts) h
+
+pub refused_unequipped : {T : Type 0} (parts : Parts) (r : Result T LayoutErr) → IfErr r (λ e. loose_refusal parts ≡ Some e) →
+    IfErr r (λ e. ¬ AreEquipped parts)
+refused_unequipped parts (Ok x) h = tt
+refused_unequipped parts (Err e) h = λ a. let n = not_loosely_refused parts a in cc
+
+pub laid_equipped : {T : Type 0} (parts : Parts) (r : Result T LayoutErr) → IfOk r (λ x. loose_refusal parts ≡ None) → IfOk r (λ x. AreEquipped parts)
+laid_equipped parts (Ok x) h = equipped parts h
+laid_equipped parts (Err e) h = tt

@@ -13,8 +13,8 @@ use Rattle.cf_layout.specs.declared.parts.Parts.{Parts}
 use Rattle.cf_layout.specs.declared.refusal.LayoutErr.{LayoutErr}
 use Rattle.cf_layout.specs.Layout.{same_class}
 use Rattle.cf_layout.specs.Asked.{natural, is_within, names, is_unit, is_sided, is_asked, listed, ascending}
-use Rattle.cf_layout.specs.Acceptable.{IsUnit, IsSiding, IsAcceptable, times, sided_classes}
-use Rattle.cf_layout.specs.Refusal.{unless, outside, twice, missing, above, limits_refusal, unit_refusal, units_refusal, first_repeated, stages_refusal, classes_refusal, filled_refusal, siding_refusal, sidings_refusal, missing_refusal, needed_classes, turn_refusal, control_refusal, turns_in, siding_for, memory_launch_in, refusal}
+use Rattle.cf_layout.specs.Acceptable.{IsUnit, IsSiding, AreEquipped, IsAcceptable, times, sided_classes}
+use Rattle.cf_layout.specs.Refusal.{unless, outside, twice, missing, above, limits_refusal, unit_refusal, units_refusal, first_repeated, stages_refusal, classes_refusal, filled_refusal, siding_refusal, sidings_refusal, missing_refusal, needed_classes, turn_refusal, control_refusal, turns_in, siding_for, memory_launch_in, loose_refusal, refusal}
 use Rattle.cf_layout.proofs.Counts.{same_true, same_self, times_cons, times_append, is_unit_times}
 use Rattle.cf_layout.proofs.Passing.{unit_more, sided_more, seen_more}
 
@@ -78,7 +78,7 @@ in_sidings u t true e le = let more : 0 < u = grind (arith, nat_tests) in omega 
 in_sidings u t false e le = omega arith
 
 -- the limits
-limits_pass : (parts : Parts) → IsAcceptable parts → limits_refusal parts ≡ None
+limits_pass : (parts : Parts) → AreEquipped parts → limits_refusal parts ≡ None
 unfolding limits_refusal
 limits_pass parts a = both _ _ (passes _ _ a.stages) (both _ _ (passes _ _ a.lane) (passes _ _ (le_test _ _ a.few_sidings)))
 
@@ -172,7 +172,7 @@ sidings_pass n units before (siding ∷ sidings) all once =
     (λ c. rw (sided_more units before siding c) (once_after (times siding.classes c) _ _ _ refl (split c))))
 
 -- what is missing
-missing_pass : (parts : Parts) → IsAcceptable parts → missing_refusal parts ≡ None
+missing_pass : (parts : Parts) → AreEquipped parts → missing_refusal parts ≡ None
 unfolding missing_refusal
 missing_pass parts a =
     both _ _ (ap missing (none_outside (is_asked parts) needed_classes (All-from_recursion (λ c. is_asked parts c ≡ true) needed_classes (
@@ -201,14 +201,19 @@ control_pass : (parts : Parts) → IsAcceptable parts → control_refusal parts 
 unfolding control_refusal
 control_pass parts a = both _ _ (turn_pass parts Branch (a.control Branch refl)) (turn_pass parts Jump (a.control Jump refl))
 
--- acceptable parts are not refused
-pub not_refused : (parts : Parts) → IsAcceptable parts → refusal parts ≡ None
-unfolding refusal
-not_refused parts a =
+-- equipped parts pass all tests but perhaps the last
+pub not_loosely_refused : (parts : Parts) → AreEquipped parts → loose_refusal parts ≡ None
+unfolding loose_refusal
+not_loosely_refused parts a =
     let split = λ (c : Class). rw (times_append (map (λ unit. unit.0) parts.units) (sided_classes parts.sidings) c) at (a.once c) in
     both _ _ (limits_pass parts a)
     (both _ _ (units_pass (natural parts.stages) [] parts.units a.units (λ c. in_units _ (times (sided_classes parts.sidings) c) (split c)))
     (both _ _ (sidings_pass (natural parts.stages) parts.units [] parts.sidings a.sidings (λ c. rw
     (or-false (is_unit parts.units c), is_unit_times parts.units c) (in_sidings (times (map (λ unit. unit.0) parts.units) c)
     (times (sided_classes parts.sidings) c) _ refl (split c))))
-    (both _ _ (missing_pass parts a) (control_pass parts a))))
+    (missing_pass parts a)))
+
+-- and acceptable parts are not refused
+pub not_refused : (parts : Parts) → IsAcceptable parts → refusal parts ≡ None
+unfolding refusal
+not_refused parts a = both _ _ (not_loosely_refused parts a.equipped) (control_pass parts a)

@@ -51,8 +51,8 @@ pub record IsSiding (n : ℕ) (siding : Siding) : Type 0 where
   -- Memory shares its siding with no other class
   pub memory_alone : names siding.classes Memory ≡ true → length siding.classes ≡ 1
 
--- what has to hold of all parts
-pub record IsAcceptable (parts : Parts) : Type 0 where
+-- what has to hold of all parts, wherever control turns
+pub record AreEquipped (parts : Parts) : Type 0 where
   pub stages : is_within 2 32 parts.stages ≡ true
   pub lane : is_within 2 64 parts.lane ≡ true
   pub few_sidings : length parts.sidings ≤ 8
@@ -63,6 +63,11 @@ pub record IsAcceptable (parts : Parts) : Type 0 where
   -- no class that every processor computes is missing; of multiplication and division both are present or neither
   pub needed : (c : Class) → is_needed c ≡ true → is_asked parts c ≡ true
   pub pair : is_asked parts Mul ≡ is_asked parts Div
+
+-- what has to hold of all parts
+pub record IsAcceptable (parts : Parts) : Type 0 where
+  pub equipped : AreEquipped parts
+  pub open equipped use *
   -- control turns, at a unit or a recovery, at or below the stage from which loads and stores are launched
   pub control : (c : Class) → is_control c ≡ true → All (λ stage. stage ≤ memory_launch_in parts.sidings)
       (turns_in (ascending (listed parts.units c)) (siding_for parts.sidings c))

@@ -45,8 +45,8 @@ pub record IsSiding (plan : Plan) (siding : SidingPlan) : Type 0 where
   -- Memory shares its siding with no other class
   pub memory_alone : serves siding Memory ≡ true → siding.classes ≡ Memory ∷ []
 
--- the layout is accepted
-pub record IsAccepted (plan : Plan) : Type 0 where
+-- each instruction finds its unit or its siding on its way up, wherever control turns
+pub record IsEquipped (plan : Plan) : Type 0 where
   -- there are 2 to 32 stages, 2 to 64 entries in the lane, and at most 8 sidings
   pub stages : (2 ≤ plan.stages) × (plan.stages ≤ 32)
   pub lane : (2 ≤ plan.lane) × (plan.lane ≤ 64)
@@ -63,6 +63,11 @@ pub record IsAccepted (plan : Plan) : Type 0 where
   pub pair_once : homes plan Mul ≤ 1
   -- loads and stores go through a siding
   pub memory : stages_of plan Memory ≡ []
+
+-- the layout is accepted
+pub record IsAccepted (plan : Plan) : Type 0 where
+  pub equipped : IsEquipped plan
+  pub open equipped use *
   -- control turns, at a unit or a recovery, at or below the stage from which loads and stores are launched
   pub control_units : (c : Class) (i : ℕ) → is_control c ≡ true → unit_at plan c i ≡ true → i ≤ memory_launch plan
   pub control_sidings : (c : Class) → is_control c ≡ true → All (λ siding. serves siding c ≡ true → siding.recover ≤ memory_launch plan) plan.sidings

@@ -126,14 +126,23 @@ turn_refusal parts c = above c (memory_launch_in parts.sidings) (find (nat_lt (m
 unfoldable pub control_refusal : Parts → Option LayoutErr
 control_refusal parts = option_or (turn_refusal parts Branch) (turn_refusal parts Jump)
 
--- the first test that the parts fail
-unfoldable pub refusal : Parts → Option LayoutErr
-refusal parts =
+-- the first test that the parts fail, of all but the last, on where control turns
+unfoldable pub loose_refusal : Parts → Option LayoutErr
+loose_refusal parts =
     option_or (limits_refusal parts)
     (option_or (units_refusal (natural parts.stages) [] parts.units)
     (option_or (sidings_refusal (natural parts.stages) parts.units [] parts.sidings)
-    (option_or (missing_refusal parts)
-    (control_refusal parts))))
+    (missing_refusal parts)))
+
+-- the first test that the parts fail
+unfoldable pub refusal : Parts → Option LayoutErr
+refusal parts = option_or (loose_refusal parts) (control_refusal parts)
+
+-- the refusal, unless it is for where control turns
+abbrev pub beside_control : Option LayoutErr → Option LayoutErr
+beside_control None = None
+beside_control (Some (ControlAboveMemory c stage launch)) = None
+beside_control (Some e) = Some e
 
 -- the outcome of a test
 abbrev pub told : Option LayoutErr → Result (Unit {0}) LayoutErr

@@ -3,16 +3,16 @@
 ghost use Rattle.std.specs.Prelude.{◌≡◌, All, IfOk, IfErr, OnOk, true, Some, None, ◌≤◌, ◌||◌, [], ◌∷◌, find, not, nat_lt, length, is_some};
 ghost use Rattle.std.specs.Option.{option_copied};
 ghost use Rattle.cf_layout.specs.Asked.{plan_of, is_within, IsSmallSiding, natural, is_unit, is_sided, is_asked, names, listed, ascending};
-ghost use Rattle.cf_layout.specs.Acceptable.{AreComputed, IsAcceptable};
+ghost use Rattle.cf_layout.specs.Acceptable.{AreComputed, AreEquipped, IsAcceptable};
 ghost use Rattle.cf_layout.specs.Causes.{IsLayoutCause};
-ghost use Rattle.cf_layout.specs.Refusal.{refusal, told, limits_refusal, unit_refusal, units_refusal, first_repeated, stages_refusal, classes_refusal, filled_refusal, siding_refusal, sidings_refusal, missing_refusal, memory_launch_in, siding_for, launch_in, turns_in, turn_refusal, control_refusal, needed_classes};
+ghost use Rattle.cf_layout.specs.Refusal.{loose_refusal, refusal, told, limits_refusal, unit_refusal, units_refusal, first_repeated, stages_refusal, classes_refusal, filled_refusal, siding_refusal, sidings_refusal, missing_refusal, memory_launch_in, siding_for, launch_in, turns_in, turn_refusal, control_refusal, needed_classes};
 
 use crate::asked::{
     first_outside, is_asked, is_sided, is_unit, is_within, listed, names, natural, siding_for,
 };
 use crate::classes::{CLASSES, is_same};
 use crate::stage_set::StageSet;
-use crate::{Layout, LayoutErr, Listed, Parts, Siding};
+use crate::{Layout, LayoutErr, Listed, LooseLayout, Parts, Siding};
 use rv_inst::Class;
 
 /// How many classes every processor computes: those at the start of class order, all but multiplication and division.
@@ -305,18 +305,41 @@ fn count_stages(parts: &Parts) -> u32
     natural(parts.stages)
 }
 
-/// Makes all tests, in their order.
-#[tactic(auto, unfolding(crate::specs::Refusal::refusal))]
-fn check_all(parts: &Parts) -> Result<(), LayoutErr>
-    ensures { result ≡ told (refusal parts.now) }
+/// Makes all tests but the last, in their order.
+#[tactic(auto, unfolding(crate::specs::Refusal::loose_refusal))]
+fn check_equipment(parts: &Parts) -> Result<(), LayoutErr>
+    ensures answer { result ≡ told (loose_refusal parts.now) }
+    ensures small { OnOk result (All IsSmallSiding parts.now.sidings) }
 {
     let units = parts.units.as_slice();
     check_limits(parts)?;
     let most = count_stages(parts);
     check_units(most, units)?;
     check_sidings(most, units, parts.sidings.as_slice())?;
-    check_missing(parts)?;
+    check_missing(parts)
+}
+
+/// Makes all tests, in their order.
+#[tactic(auto, unfolding(crate::specs::Refusal::refusal))]
+fn check_all(parts: &Parts) -> Result<(), LayoutErr>
+    ensures { result ≡ told (refusal parts.now) }
+{
+    check_equipment(parts)?;
     check_control(parts)
+}
+
+/// The layout that the parts describe, if they pass all tests but perhaps the last, or else the first test that they
+/// fail.
+fn lay_loosely(parts: &Parts) -> Result<LooseLayout, LayoutErr>
+    requires { AreComputed parts.now }
+    ensures ok { IfOk result (λ layout. layout ≡ plan_of parts.now) }
+    ensures not_refused { IfOk result (λ layout. loose_refusal parts.now ≡ None) }
+    ensures refused { IfErr result (λ error. loose_refusal parts.now ≡ Some error) }
+{
+    match check_equipment(parts) {
+        Ok(()) => Ok(LooseLayout::lay(parts)),
+        Err(error) => Err(error),
+    }
 }
 
 /// The layout that the parts describe, if they pass the tests, or else the first test that they fail.
@@ -330,6 +353,23 @@ fn lay_out(parts: &Parts) -> Result<Layout, LayoutErr>
         Ok(()) => Ok(Layout::lay(parts)),
         Err(error) => Err(error),
     }
+}
+
+/// The layout that the parts describe, if it meets every rule but, perhaps, the one on where control turns, or else the
+/// first test that the parts fail.
+///
+/// It refuses as `check` does, but never for where control turns: that is the last of the tests. Each entry must name a
+/// class that units or sidings compute.
+pub fn check_loosely(parts: &Parts) -> Result<LooseLayout, LayoutErr>
+    requires { AreComputed parts.now }
+    ensures ok { IfOk result (λ layout. layout ≡ plan_of parts.now) }
+    ensures equipped { IfOk result (λ layout. AreEquipped parts.now) }
+    ensures not_refused { IfOk result (λ layout. loose_refusal parts.now ≡ None) }
+    ensures refused { IfErr result (λ error. loose_refusal parts.now ≡ Some error) }
+    ensures unequipped { IfErr result (λ error. ¬ AreEquipped parts.now) }
+    ensures cause { IfErr result (λ error. IsLayoutCause parts.now error) }
+{
+    lay_loosely(parts)
 }
 
 /// The layout that the parts describe, if that is accepted, or else the first test that they fail.

@@ -3,9 +3,9 @@
 ghost use Rattle.std.specs.Prelude.{◌≡◌, None};
 ghost use Rattle.cf_layout.specs.declared.parts.Parts.{Parts as Asked};
 ghost use Rattle.cf_layout.specs.Asked.{plan_of};
-ghost use Rattle.cf_layout.specs.Accepted.{IsAccepted};
-ghost use Rattle.cf_layout.specs.Acceptable.{AreComputed, IsAcceptable};
-ghost use Rattle.cf_layout.specs.Refusal.{refusal};
+ghost use Rattle.cf_layout.specs.Accepted.{IsEquipped, IsAccepted};
+ghost use Rattle.cf_layout.specs.Acceptable.{AreComputed, AreEquipped, IsAcceptable};
+ghost use Rattle.cf_layout.specs.Refusal.{loose_refusal, refusal, beside_control};
 
 /// The tests in their order refuse exactly the parts that are not acceptable.
 #[tactic(auto, using(crate::proofs::Acceptance::acceptable, crate::proofs::Unrefused::not_refused))]
@@ -18,4 +18,16 @@ pub fn refused_unless_acceptable()
 #[tactic(auto, using(crate::proofs::Control::described))]
 pub fn acceptable_describe_accepted()
     ensures { (parts : Asked) → AreComputed parts → IsAcceptable parts → IsAccepted (plan_of parts) }
+{}
+
+/// The layout that equipped parts describe is equipped.
+#[tactic(auto, using(crate::proofs::Control::described_equipped))]
+pub fn equipped_describe_equipped()
+    ensures { (parts : Asked) → AreComputed parts → AreEquipped parts → IsEquipped (plan_of parts) }
+{}
+
+/// The tests before the last refuse as all tests do, unless that is for where control turns.
+#[tactic(auto, using(crate::proofs::Beside::loosely))]
+pub fn refused_loosely()
+    ensures { (parts : Asked) → loose_refusal parts ≡ beside_control (refusal parts) }
 {}

@@ -10,6 +10,7 @@ ghost use Rattle.cf_passengers.specs.Issuing.{meant};
 ghost use Rattle.cf_passengers.specs.Facts.{IsInstruction, IsPassenger};
 
 use crate::guessing::word_after;
+use crate::loose;
 use cf_bind::{Binding, End, Guess, Passenger};
 use cf_ends::Ends;
 use cf_layout::Layout;
@@ -21,11 +22,7 @@ use rv_inst::{Class, Instr, Isa, class_of, decode_as, dest, sources};
 pub fn isa_of(layout: &Layout) -> Isa
     ensures { result ≡ set_of layout.now }
 {
-    if layout.has_mul() {
-        Isa::Rv32im
-    } else {
-        Isa::Rv32i
-    }
+    loose::isa_of(layout.loose())
 }
 
 /// The instruction of the set at the address, or the trap of that address: cause 0 where 4 does not divide it, 1 where

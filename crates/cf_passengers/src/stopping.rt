@@ -1,10 +1,10 @@
 //! Where an instruction stops on its way up.
 
 ghost use Rattle.std.specs.Prelude.{◌≡◌};
-ghost use Rattle.cf_semantics.specs.state.Layouts.{launches as launches_at, recovers as recovers_at, ends_units as ends_units_at};
+ghost use Rattle.cf_semantics.specs.state.Layouts.{launches as launches_at, recovers as recovers_at};
 ghost use Rattle.cf_semantics.specs.moves.Bars.{stops_at as stops};
 
-use crate::reading::kind;
+use crate::loose;
 use cf_bind::Passenger;
 use cf_layout::Layout;
 use rv_inst::Class;
@@ -14,10 +14,7 @@ use rv_inst::Class;
 pub fn launches(layout: &Layout, class: Class, stage: u32) -> bool
     ensures { result ≡ launches_at layout.now class stage }
 {
-    match layout.siding_of(class) {
-        Some(siding) => layout.launch_stage(siding) == stage,
-        None => false,
-    }
+    loose::launches(layout.loose(), class, stage)
 }
 
 /// Whether a siding for the class recovers at the stage.
@@ -25,21 +22,7 @@ pub fn launches(layout: &Layout, class: Class, stage: u32) -> bool
 pub fn recovers(layout: &Layout, class: Class, stage: u32) -> bool
     ensures { result ≡ recovers_at layout.now class stage }
 {
-    match layout.siding_of(class) {
-        Some(siding) => layout.recover_stage(siding) == stage,
-        None => false,
-    }
-}
-
-/// Whether the last unit for the class, which has no siding, is at the stage.
-#[inline(always)]
-pub fn ends_units(layout: &Layout, class: Class, stage: u32) -> bool
-    ensures { result ≡ ends_units_at layout.now class stage }
-{
-    match layout.siding_of(class) {
-        Some(_) => false,
-        None => layout.last_stage(class) == stage,
-    }
+    loose::recovers(layout.loose(), class, stage)
 }
 
 /// Whether the instruction must not climb out of the stage: its operation was launched and is recovered here, or it is
@@ -48,10 +31,5 @@ pub fn ends_units(layout: &Layout, class: Class, stage: u32) -> bool
 pub fn stops_at(layout: &Layout, p: &Passenger, stage: u32) -> bool
     ensures { result ≡ stops layout.now p.now stage }
 {
-    let class = kind(p);
-    (p.launched && !p.recovered && recovers(layout, class, stage))
-        || (!p.dead
-            && !p.done
-            && !p.launched
-            && (ends_units(layout, class, stage) || launches(layout, class, stage)))
+    loose::stops_at(layout.loose(), p, stage)
 }

@@ -7,7 +7,7 @@ use Rattle.cf_layout.specs.Layout.{Plan, SidingPlan, no_siding, cells_of}
 use Rattle.cf_layout.specs.Accepted.{IsAccepted}
 use Rattle.texts.specs.Lines.{register_name}
 use Rattle.cf_semantics.specs.state.Passengers.{cached}
-use Rattle.cf_report.specs.Picture.{or_dash, requests_text, kept_text, kept_below}
+use Rattle.cf_report.specs.Picture.{or_dash, requests_text, cached_text, kept_below}
 
 pub requests-listed : (lane : List ℕ) → 0 < length lane → or_dash (requests_text lane) ≡ requests_text lane
 requests-listed [] h = absurd (omega arith)
@@ -32,9 +32,9 @@ unfolding kept_below
 kept-none text cache = sym (append-nil text)
 
 pub kept-next : (text : List ℕ) (cache : List (Option ℕ)) (r : ℕ)
-    → (text ++ kept_below r cache) ++ kept_text r (cached cache r) ≡ text ++ kept_below (r + 1) cache
+    → (text ++ kept_below r cache) ++ cached_text r (cached cache r) ≡ text ++ kept_below (r + 1) cache
 unfolding kept_below
-kept-next text cache r = rw add-one (append_assoc text (kept_below r cache) (kept_text r (cached cache r)))
+kept-next text cache r = rw add-one (append_assoc text (kept_below r cache) (cached_text r (cached cache r)))
 
 -- a siding of an accepted layout has at most eight cells
 pub cells-few : (plan : Plan) (k : ℕ) → IsAccepted plan → k < length plan.sidings → cells_of plan k ≤ 8

@@ -6,6 +6,7 @@ use Rattle.cf_bind.specs.MoveTexts.{move_line}
 use Rattle.texts.specs.Lines.{line, counted_line, registers_from}
 use Rattle.texts.specs.Retirement.{retirement_text}
 use Rattle.cf_report.specs.declared.tally.Tally.{Tally}
+use Rattle.cf_report.specs.Passengers.{value_text}
 
 -- the line of the instruction that retired as the n-th
 abbrev pub retired_line : ℕ → Retired → List ℕ
@@ -24,3 +25,7 @@ tally_text t =
 -- the 32 registers, four a line
 abbrev pub registers_text : List ℕ → List ℕ
 registers_text regs = registers_from 0 regs
+
+-- the line of one register
+abbrev pub register_line : ℕ → ℕ → List ℕ
+register_line r value = line (value_text r value)

@@ -23,11 +23,11 @@ packet_text (Turn pc) = codes "turn " ++ hex8 pc
 packet_text Halt = codes "halt"
 
 -- the guess of an instruction
-unfoldable pub guess_text : Guess → List ℕ
-guess_text Next = codes "next"
-guess_text Taken = codes "taken"
-guess_text Wait = codes "wait"
-guess_text (To t) = codes "to:" ++ hex8 t
+unfoldable pub guess_field : Guess → List ℕ
+guess_field Next = codes "next"
+guess_field Taken = codes "taken"
+guess_field Wait = codes "wait"
+guess_field (To t) = codes "to:" ++ hex8 t
 
 -- a register with its value, or `?` where the value is unknown
 abbrev pub known_text : ℕ → Option ℕ → List ℕ
@@ -58,7 +58,7 @@ flag_text p =
 
 -- its address, its guess and its state
 abbrev pub standing_text : Passenger → List ℕ
-standing_text p = hex8 p.pc ++ codes " " ++ guess_text p.guess ++ codes " " ++ flag_text p ++ codes " "
+standing_text p = hex8 p.pc ++ codes " " ++ guess_field p.guess ++ codes " " ++ flag_text p ++ codes " "
 
 -- its two sources and its destination
 abbrev pub bindings_text : Passenger → List ℕ
@@ -82,11 +82,15 @@ held_text None (Some k) met = codes " result | " ++ packet_text k
 held_text None None met = []
 
 -- nothing is in a stage
-abbrev pub is_empty : Cell → Bool
-is_empty c = is_none c.passenger && is_none c.packet
+abbrev pub is_empty_cell : Cell → Bool
+is_empty_cell c = is_none c.passenger && is_none c.packet
 
 -- the line of a stage, and no line for an empty one
 unfoldable pub stage_line : ℕ → Cell → List ℕ
 stage_line i c =
-    if is_empty c then []
+    if is_empty_cell c then []
     else line ((codes "stage " ++ decimal i) ++ held_text c.passenger c.packet c.met)
+
+-- the line of any stage: an empty one has a line too
+unfoldable pub any_stage_line : ℕ → Cell → List ℕ
+any_stage_line i c = if is_empty_cell c then line ((codes "stage " ++ decimal i) ++ codes " empty") else stage_line i c

@@ -33,14 +33,14 @@ unfoldable pub lane_line : List ℕ → List ℕ
 lane_line lane = line (codes "lane" ++ or_dash (requests_text lane))
 
 -- a register after a space where it is cached
-abbrev pub kept_text : ℕ → Option ℕ → List ℕ
-kept_text r None = []
-kept_text r (Some v) = codes " " ++ value_text r v
+abbrev pub cached_text : ℕ → Option ℕ → List ℕ
+cached_text r None = []
+cached_text r (Some v) = codes " " ++ value_text r v
 
 -- the cached registers with numbers below n, ascending
 unfoldable pub kept_below : ℕ → List (Option ℕ) → List ℕ
 kept_below zero cache = []
-kept_below (suc r) cache = kept_below r cache ++ kept_text r (cached cache r)
+kept_below (suc r) cache = kept_below r cache ++ cached_text r (cached cache r)
 
 -- the cached registers among all 32
 unfoldable pub cache_line : List (Option ℕ) → List ℕ
@@ -66,9 +66,13 @@ abbrev pub ops_text : List (Option Op) → List ℕ
 ops_text [] = []
 ops_text (cell ∷ ops) = op_text cell ++ ops_text ops
 
+-- the line of any siding: one without an operation has a line too
+unfoldable pub any_siding_line : ℕ → List (Option Op) → List ℕ
+any_siding_line k ops = line (codes "siding " ++ decimal k ++ ops_text ops)
+
 -- the line of a siding, and no line for one without an operation
 unfoldable pub siding_line : ℕ → List (Option Op) → List ℕ
-siding_line k ops = if list_any is_some ops then line (codes "siding " ++ decimal k ++ ops_text ops) else []
+siding_line k ops = if list_any is_some ops then any_siding_line k ops else []
 
 -- the lines of the sidings from number k on
 abbrev pub siding_lines : ℕ → List (List (Option Op)) → List ℕ

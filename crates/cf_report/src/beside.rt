@@ -1,9 +1,9 @@
 //! The lines of the parts beside the stages: fetch, the lane, the cache and the sidings.
-#![tactic(auto, unfolding(crate::specs::Picture::fetch_line, crate::specs::Picture::lane_line, crate::specs::Picture::cache_line, crate::specs::Picture::op_text, crate::specs::Picture::siding_line))]
+#![tactic(auto, unfolding(crate::specs::Picture::fetch_line, crate::specs::Picture::lane_line, crate::specs::Picture::cache_line, crate::specs::Picture::op_text, crate::specs::Picture::any_siding_line, crate::specs::Picture::siding_line))]
 
 ghost use Rattle.std.specs.Prelude.{◌≡◌, ◌+◌, ◌*◌, ◌≤◌, ◌++◌, length, is_some};
 ghost use Rattle.std.specs.List.{list_any};
-ghost use Rattle.cf_report.specs.Picture.{fetch_line, or_dash, requests_text, lane_line, kept_text, kept_below, cache_line, answered_text, op_text, ops_text, siding_line};
+ghost use Rattle.cf_report.specs.Picture.{fetch_line, or_dash, requests_text, lane_line, cached_text, kept_below, cache_line, answered_text, op_text, ops_text, any_siding_line, siding_line};
 ghost use Rattle.cf_report.specs.Putting.{PutsText};
 ghost use Rattle.texts.specs.Room.{page_room};
 
@@ -14,7 +14,8 @@ use cf_core::Core;
 use cf_io::{Failed, Sink};
 use texts::Page;
 
-fn fetch_page(fetch: Fetch) -> Page
+/// The line of fetch: where it runs, or that it waits.
+pub fn fetch_page(fetch: Fetch) -> Page
     ensures { result ≡ fetch_line fetch }
 {
     let mut page = Page::new();
@@ -65,7 +66,8 @@ fn push_lane(page: &mut Page, core: &Core)
     }
 }
 
-fn lane_page(core: &Core) -> Page
+/// The line of the requested registers, the next to be answered first.
+pub fn lane_page(core: &Core) -> Page
     ensures { result ≡ lane_line core.now.state.lane }
 {
     let mut page = Page::new();
@@ -87,7 +89,7 @@ pub(crate) fn put_lane<R: Sink>(core: &Core, report: &mut R) -> Result<(), Faile
 /// Appends a register after a space where it is cached.
 fn push_kept(page: &mut Page, register: u8, kept: Option<u32>)
     requires { length page.old + 13 ≤ page_room }
-    ensures text { page.new ≡ page.old ++ kept_text register kept }
+    ensures text { page.new ≡ page.old ++ cached_text register kept }
     ensures size { length page.new ≤ length page.old + 13 }
 {
     if let Some(value) = kept {
@@ -107,7 +109,8 @@ fn push_cache(page: &mut Page, core: &Core)
     }
 }
 
-fn cache_page(core: &Core) -> Page
+/// The line of the cached registers, ascending.
+pub fn cache_page(core: &Core) -> Page
     ensures { result ≡ cache_line core.now.state.cache }
 {
     let mut page = Page::new();
@@ -163,19 +166,27 @@ fn has_operation(ops: &[Option<Op>]) -> bool
     ops.iter().any(|cell| cell.is_some())
 }
 
-fn siding_page(siding: u32, ops: &[Option<Op>]) -> Page
+/// The line of a siding with its cells, at most eight, also of one without an operation.
+pub fn any_siding_page(siding: u32, ops: &[Option<Op>]) -> Page
     requires { length ops.now ≤ 8 }
-    ensures { result ≡ siding_line siding ops.now }
+    ensures { result ≡ any_siding_line siding ops.now }
 {
     let mut page = Page::new();
-    if !has_operation(ops) {
-        return page;
-    }
     page.push(b"siding ");
     page.push_decimal(u64::from(siding));
     push_ops(&mut page, ops);
     page.push(b"\n");
     page
+}
+
+fn siding_page(siding: u32, ops: &[Option<Op>]) -> Page
+    requires { length ops.now ≤ 8 }
+    ensures { result ≡ siding_line siding ops.now }
+{
+    if !has_operation(ops) {
+        return Page::new();
+    }
+    any_siding_page(siding, ops)
 }
 
 /// Writes the line of a siding with its cells, at most eight, and nothing for one without an operation.

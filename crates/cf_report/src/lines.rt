@@ -4,9 +4,10 @@
 ghost use Rattle.std.specs.Prelude.{◌≡◌, ◌++◌, codes, decimal};
 ghost use Rattle.cf_bind.specs.MoveTexts.{move_line};
 ghost use Rattle.texts.specs.Lines.{line as line_of};
-ghost use Rattle.cf_report.specs.Lines.{retired_line, numbered_move, tally_text as text_of_tally, registers_text};
+ghost use Rattle.cf_report.specs.Lines.{retired_line, numbered_move, tally_text as text_of_tally, registers_text, register_line};
 ghost use Rattle.cf_report.specs.Putting.{PutsText};
 
+use crate::passengers::push_value;
 use crate::putting::put_text;
 use crate::tally::Tally;
 use cf_bind::{Move, MoveLine, move_text};
@@ -82,4 +83,14 @@ pub fn put_registers<R: Sink>(regs: &[u32; 32], report: &mut R) -> Result<(), Fa
     let mut page = Page::new();
     page.push_registers(regs);
     put_text(page.bytes(), report)
+}
+
+/// The line of one register.
+pub fn register_page(register: u8, value: u32) -> Page
+    ensures { result ≡ register_line register value }
+{
+    let mut page = Page::new();
+    push_value(&mut page, register, value);
+    page.push(b"\n");
+    page
 }

@@ -1,8 +1,8 @@
 //! The text of an instruction and of a result in a picture.
-#![tactic(auto, unfolding(crate::specs::Passengers::packet_text, crate::specs::Passengers::guess_text, crate::specs::Passengers::binding_text, crate::specs::Passengers::owed_text, crate::specs::Passengers::flag_text))]
+#![tactic(auto, unfolding(crate::specs::Passengers::packet_text, crate::specs::Passengers::guess_field, crate::specs::Passengers::binding_text, crate::specs::Passengers::owed_text, crate::specs::Passengers::flag_text))]
 
 ghost use Rattle.std.specs.Prelude.{◌≡◌, ◌+◌, ◌≤◌, ◌++◌, length, codes};
-ghost use Rattle.cf_report.specs.Passengers.{value_text, packet_text, guess_text, binding_text, owed_text, progress_text, flag_text, standing_text, bindings_text, passenger_text};
+ghost use Rattle.cf_report.specs.Passengers.{value_text, packet_text, guess_field, binding_text, owed_text, progress_text, flag_text, standing_text, bindings_text, passenger_text};
 ghost use Rattle.texts.specs.Room.{page_room};
 
 use cf_bind::{Binding, End, Guess, Packet, Passenger};
@@ -37,7 +37,7 @@ pub(crate) fn push_packet(page: &mut Page, packet: Packet)
 
 fn push_guess(page: &mut Page, guess: Guess)
     requires { length page.old + 11 ≤ page_room }
-    ensures text { page.new ≡ page.old ++ guess_text guess }
+    ensures text { page.new ≡ page.old ++ guess_field guess }
     ensures size { length page.new ≤ length page.old + 11 }
 {
     match guess {

@@ -1,9 +1,10 @@
 //! The line of a stage.
-#![tactic(auto, unfolding(crate::specs::Passengers::held_text, crate::specs::Passengers::stage_line))]
+#![tactic(auto, unfolding(crate::specs::Passengers::held_text, crate::specs::Passengers::stage_line, crate::specs::Passengers::any_stage_line))]
 
 ghost use Rattle.std.specs.Prelude.{◌≡◌, ◌+◌, ◌≤◌, ◌++◌, length, codes, decimal};
-ghost use Rattle.cf_report.specs.Passengers.{packet_text, passenger_text, met_text as text_of_met, held_text, is_empty as is_empty_cell, stage_line};
+ghost use Rattle.cf_report.specs.Passengers.{packet_text, passenger_text, met_text as text_of_met, held_text, is_empty_cell, stage_line, any_stage_line};
 ghost use Rattle.cf_report.specs.Putting.{PutsText};
+ghost use Rattle.texts.specs.Lines.{line as line_of};
 ghost use Rattle.texts.specs.Room.{page_room};
 
 use crate::passengers::{push_packet, push_passenger};
@@ -92,6 +93,27 @@ fn stage_page(stage: u32, cell: &Cell) -> Page
     push_held(&mut page, cell);
     page.push(b"\n");
     page
+}
+
+/// The line of an empty stage.
+fn empty_stage_page(stage: u32) -> Page
+    ensures { result ≡ line_of ((codes "stage " ++ decimal stage) ++ codes " empty") }
+{
+    let mut page = Page::new();
+    push_number(&mut page, stage);
+    page.push(b" empty\n");
+    page
+}
+
+/// The line of a stage, also of an empty one.
+pub fn any_stage_page(stage: u32, cell: &Cell) -> Page
+    ensures { result ≡ any_stage_line stage cell.now }
+{
+    if is_empty(cell) {
+        empty_stage_page(stage)
+    } else {
+        stage_page(stage, cell)
+    }
 }
 
 /// Writes the line of a stage, and nothing for an empty one.

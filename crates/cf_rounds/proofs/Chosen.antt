@@ -12,6 +12,7 @@ use Rattle.cf_semantics.specs.state.State.{State}
 use Rattle.cf_semantics.specs.claims.Weight.{is_issue}
 use Rattle.cf_index.specs.Alone.{HasSidings, stands_alone}
 use Rattle.cf_index.specs.Sites.{shares}
+use Rattle.cf_index.specs.GuessRules.{guided, keeps}
 use Rattle.cf_rounds.specs.Rounds.{AreApart, AreCandidates, IsAllowed, IsFull, IsRound, IsTaken, round_of, shares_any, taken}
 use Rattle.cf_rounds.proofs.Free.{IsFree, unshared_back}
 use Rattle.cf_index.proofs.Independence.{IsPlain}
@@ -44,16 +45,20 @@ all_free plan s (mv ∷ moves) = by (not (is_some (bar plan s mv))) refl (all_fr
 
 -- each candidate can be made
 pub candidates_allowed : (plan : Plan) (s : State) (moves : List Move) → AreCandidates plan s moves → AllByRecursion (IsAllowed plan s) moves
-unfolding candidates held_back
-candidates_allowed plan s moves (inl is) = subst (AllByRecursion (IsAllowed plan s)) (sym is) (all_free plan s (all_moves plan))
-candidates_allowed plan s moves (inr is) = subst (AllByRecursion (IsAllowed plan s)) (sym is) (by (nat_lt 0 (length (other_moves all))))
+unfolding candidates guided held_back
+candidates_allowed plan s moves (r, inl is) = subst (AllByRecursion (IsAllowed plan s)) (sym is)
+    (all_passed (IsAllowed plan s) (keeps r plan s) (filter (λ mv. not (is_some (bar plan s mv))) (all_moves plan)) (all_free plan s (all_moves plan)))
+candidates_allowed plan s moves (r, inr is) = subst (AllByRecursion (IsAllowed plan s)) (sym is) (by (nat_lt 0 (length (other_moves all))))
   where
     all : List Move
-    all = filter (λ mv. not (is_some (bar plan s mv))) (all_moves plan)
+    all = filter (keeps r plan s) (filter (λ mv. not (is_some (bar plan s mv))) (all_moves plan))
+
+    free : AllByRecursion (IsAllowed plan s) all
+    free = all_passed (IsAllowed plan s) (keeps r plan s) (filter (λ mv. not (is_some (bar plan s mv))) (all_moves plan)) (all_free plan s (all_moves plan))
 
     by : (b : Bool) → AllByRecursion (IsAllowed plan s) (if b then other_moves all else all)
-    by true = all_passed (IsAllowed plan s) (λ mv. not (is_issue mv)) all (all_free plan s (all_moves plan))
-    by false = all_free plan s (all_moves plan)
+    by true = all_passed (IsAllowed plan s) (λ mv. not (is_issue mv)) all free
+    by false = free
 
 -- a move that is found passes the test, and is one of the list
 pub found_one : (test : Move → Type 0) (p : Move → Bool) (moves : List Move) (mv : Move) → AllByRecursion test moves → find p moves ≡ Some mv →

@@ -7,3 +7,4 @@ pub mod Making
 pub mod Level
 pub mod Pacing
 pub mod Rounding
+pub mod Said

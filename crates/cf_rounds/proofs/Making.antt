@@ -4,7 +4,8 @@ use Rattle.std.specs.Prelude.{◌⊎◌, slice_get, if◌then◌else◌}
 use Rattle.std.specs.List.{AllByRecursion}
 use Rattle.std.proofs.lemmas.Bool.Decides.{nat_tests}
 use Rattle.std.proofs.Math.Seq.{take-length}
-use Rattle.run_options.specs.declared.show.Show.TheVariants as show
+use Rattle.run_options.specs.declared.guess_rule.GuessRule.{GuessRule}
+use Rattle.run_options.specs.Reportings as show
 use Rattle.cf_layout.specs.Layout.{Plan}
 use Rattle.cf_bind.specs.declared.moves.Move.{Move}
 use Rattle.cf_bind.specs.declared.moves.Move.TheVariants.{Issue, Emit, Climb, Fall, Meet, Execute, Send, Launch, Slide, Access, Recover, Leave, Exit, Serve}
@@ -25,7 +26,7 @@ use Rattle.cf_index.proofs.SharedSites.{shared_at}
 use Rattle.cf_index.proofs.Independence.{IsPlain}
 use Rattle.cf_report.specs.declared.tally.Tally.{Tally}
 use Rattle.cf_sched.specs.Paces.{PaceCount, HasCounted}
-use Rattle.cf_run.specs.declared.answer.Ran.TheVariants as ran
+use Rattle.run_finishes.specs.declared.finish.Ran.TheVariants as ran
 use Rattle.cf_run.specs.Made.{Made, moves_of, counted, raised_if}
 use Rattle.cf_run.specs.Moving.{RunPlace, MakesAndShows, MoveDoes}
 use Rattle.cf_run.proofs.AfterOutput.{next-retired}
@@ -38,10 +39,10 @@ use Rattle.cf_rounds.proofs.Chosen.{Form, alone, together, round_form}
 use Rattle.cf_rounds.proofs.Free.{IsFree, free_step, sidings_stay}
 
 -- one more move
-all_more : (trace : List Made) (made : Made) (now mid new : RunPlace) → MakesAll trace now mid → MakesAndShows show.Report made.move made.event mid new →
+all_more : (trace : List Made) (made : Made) (now mid new : RunPlace) → MakesAll trace now mid → MakesAndShows show.report made.move made.event mid new →
     made.state ≡ new.core.state → MakesAll (trace ++ made ∷ []) now new
 unfolding MakesAll
-all_more [] made now mid new h d e = (new, subst (λ (p : RunPlace). MakesAndShows show.Report made.move made.event p new) h d, e, refl)
+all_more [] made now mid new h d e = (new, subst (λ (p : RunPlace). MakesAndShows show.report made.move made.event p new) h d, e, refl)
 all_more (first ∷ trace) made now mid new (there, one, is, h) d e = (there, one, is, all_more trace made there mid new h d e)
 
 none_made : (now new : RunPlace) → MakesAll [] now new → new ≡ now
@@ -230,7 +231,7 @@ pub record FiredSoFar (plan : Plan) (round : List Move) (start now : RunPlace) (
   pub moves : moves_of trace ≡ take place round
   pub makes : MakesAll trace start now
   pub seen : IsSeen trace fired
-  pub paced : (stages count : ℕ) → HasCounted stages count pace → HasCounted stages (paced_by count trace) current
+  pub paced : (rule : GuessRule) (stages count : ℕ) → HasCounted rule stages count pace → HasCounted rule stages (paced_by count trace) current
   pub plan_is : now.core.plan ≡ plan
   pub left : IsLeft plan now.core.state round place
   pub first : place ≡ 0 → (now ≡ start) × (current ≡ pace)
@@ -249,7 +250,7 @@ fired-none start pace round p sidings r =
       moves = refl;
       makes = refl;
       seen = tt;
-      paced = λ stages count h. h;
+      paced = λ rule stages count h. h;
       plan_is = refl;
       left = first.0;
       first = λ e. (refl, refl);
@@ -264,8 +265,9 @@ raised false n m place h = omega arith
 -- with the move whose turn it is, and its event
 pub fired-more : (plan : Plan) (round : List Move) (start now new : RunPlace) (pace current later : PaceCount) (fired answer : Fired) (place : ℕ) (mv : Move)
     (e : Event) (drained : Bool) → FiredSoFar plan round start now pace current fired place → Some mv ≡ slice_get round place
-    → MoveDoes show.Report mv now new (Ok e) → drained ≡ is_drained new.core.state → ((stages count : ℕ) → HasCounted stages count current →
-    HasCounted stages (paced count mv e drained) later) → answer ≡ seen fired e
+    → MoveDoes show.report mv now new (Ok e) → drained ≡ is_drained new.core.state → ((rule : GuessRule) (stages count : ℕ) → HasCounted rule stages count
+    current →
+    HasCounted rule stages (paced count mv e drained) later) → answer ≡ seen fired e
     → FiredSoFar plan round start new pace later answer (place + 1)
 unfolding MoveDoes
 fired-more plan round start now new pace current later fired answer place mv e drained h there d drained_is counts answer_is =
@@ -283,8 +285,8 @@ fired-more plan round start now new pace current later fired answer place mv e d
       moves = moves_more h.trace made ∙ ap (λ (moves : List Move). moves ++ mv ∷ []) h.moves ∙ sym (take_at round place mv there);
       makes = all_more h.trace made start now new h.makes d refl;
       seen = subst (λ (f : Fired). IsSeen (h.trace ++ made ∷ []) f) (sym answer_is) (seen_more h.trace made fired h.seen);
-      paced = λ stages count held. subst (λ (n : ℕ). HasCounted stages n later) (ap (paced (paced_by count h.trace) mv e) drained_is
-          ∙ sym (paced_more count h.trace made)) (counts stages (paced_by count h.trace) (h.paced stages count held));
+      paced = λ rule stages count held. subst (λ (n : ℕ). HasCounted rule stages n later) (ap (paced (paced_by count h.trace) mv e) drained_is
+          ∙ sym (paced_more count h.trace made)) (counts rule stages (paced_by count h.trace) (h.paced rule stages count held));
       plan_is = makes.plan ∙ h.plan_is;
       left = subst (λ (s : State). IsLeft plan s round (place + 1)) state left;
       first = λ none. absurd (omega (arith, none));
@@ -321,27 +323,27 @@ fired-all plan round start now pace current WriteFault place all h = absurd h.se
 
 -- the input or the output failed its call
 pub fired-unread : (plan : Plan) (round : List Move) (start now new : RunPlace) (pace current : PaceCount) (fired : Fired) (place : ℕ) (mv : Move) →
-    FiredSoFar plan round start now pace current fired place → Some mv ≡ slice_get round place → MoveDoes show.Report mv now new (Err ran.ReadFault)
+    FiredSoFar plan round start now pace current fired place → Some mv ≡ slice_get round place → MoveDoes show.report mv now new (Err ran.ReadFault)
     → Fires round start new pace current ReadFault
 unfolding Fires MoveDoes
 fired-unread plan round start now new pace current fired place mv h there d =
     let alone = left_serves plan now.core.state round place mv h.left there d.0.serves in
     let start_is = h.first alone.0 in (
       alone.1,
-      subst (λ (p : RunPlace). MoveDoes show.Report Serve p new (Err ran.ReadFault)) start_is.0
-          (subst (λ (m : Move). MoveDoes show.Report m now new (Err ran.ReadFault)) d.0.serves d),
+      subst (λ (p : RunPlace). MoveDoes show.report Serve p new (Err ran.ReadFault)) start_is.0
+          (subst (λ (m : Move). MoveDoes show.report m now new (Err ran.ReadFault)) d.0.serves d),
       start_is.1,
     )
 
 pub fired-unwritten : (plan : Plan) (round : List Move) (start now new : RunPlace) (pace current : PaceCount) (fired : Fired) (place : ℕ) (mv : Move) →
-    FiredSoFar plan round start now pace current fired place → Some mv ≡ slice_get round place → MoveDoes show.Report mv now new (Err ran.WriteFault)
+    FiredSoFar plan round start now pace current fired place → Some mv ≡ slice_get round place → MoveDoes show.report mv now new (Err ran.WriteFault)
     → Fires round start new pace current WriteFault
 unfolding Fires MoveDoes
 fired-unwritten plan round start now new pace current fired place mv h there d =
     let alone = left_serves plan now.core.state round place mv h.left there d.0.serves in
     let start_is = h.first alone.0 in (
       alone.1,
-      subst (λ (p : RunPlace). MoveDoes show.Report Serve p new (Err ran.WriteFault)) start_is.0
-          (subst (λ (m : Move). MoveDoes show.Report m now new (Err ran.WriteFault)) d.0.serves d),
+      subst (λ (p : RunPlace). MoveDoes show.report Serve p new (Err ran.WriteFault)) start_is.0
+          (subst (λ (m : Move). MoveDoes show.report m now new (Err ran.WriteFault)) d.0.serves d),
       start_is.1,
     )

@@ -5,6 +5,7 @@ use Rattle.std.specs.Prelude.{◌||◌, slice_get, if◌then◌else◌}
 use Rattle.std.specs.List.{AllByRecursion, find}
 use Rattle.std.proofs.lemmas.Bool.Decides.{nat_tests}
 use Rattle.rv_machine.specs.Machine.{Machine}
+use Rattle.run_options.specs.declared.guess_rule.GuessRule.{GuessRule}
 use Rattle.cf_layout.specs.Accepted.{IsAccepted}
 use Rattle.cf_layout.specs.Layout.{Plan}
 use Rattle.cf_bind.specs.declared.moves.Move.{Move}
@@ -12,7 +13,7 @@ use Rattle.cf_bind.specs.declared.moves.Move.TheVariants.{Issue, Emit, Climb, Fa
 use Rattle.cf_semantics.specs.declared.event.Event.{Event}
 use Rattle.cf_semantics.specs.moves.Bars.{bar}
 use Rattle.cf_semantics.specs.state.Drained.{IsStuck, is_drained}
-use Rattle.cf_semantics.specs.moves.Holding.{is_held, is_retirement, offered, paced}
+use Rattle.cf_semantics.specs.moves.Holding.{is_held, is_retirement, paced}
 use Rattle.cf_semantics.specs.runs.Lines.{Line, retires}
 use Rattle.cf_semantics.specs.moves.Moves.{next}
 use Rattle.cf_semantics.specs.state.Options.{on}
@@ -23,13 +24,15 @@ use Rattle.theory_confluence.proofs.Candidates.{HasShape}
 use Rattle.theory_refinement.proofs.layouts.Accepted.{accepted_suits}
 use Rattle.theory_unknown_input.proofs.Invariant.{HoldsAnew}
 use Rattle.theory_unknown_input.specs.Paced.{PacesTo}
-use Rattle.theory_unknown_input.proofs.Offered.{anew_shape, offered_held}
+use Rattle.theory_unknown_input.proofs.Offered.{anew_shape}
 use Rattle.theory_unknown_input.proofs.Theorems.{anew_kept}
 use Rattle.cf_index.specs.Alone.{stands_alone}
 use Rattle.cf_index.specs.Sites.{shares, uses_place}
 use Rattle.cf_index.proofs.SharedSites.{shared_at}
 use Rattle.cf_run.specs.Made.{Made, moves_of}
 use Rattle.cf_run.specs.Going.{Leads}
+use Rattle.cf_run.proofs.ByRule.{ruled-held}
+use Rattle.cf_sched.specs.Paces.{offered_by}
 use Rattle.cf_rounds.specs.Firing.{paced_by}
 use Rattle.cf_rounds.specs.Rounds.{AreApart, round_of, taken}
 use Rattle.cf_rounds.specs.Running.{InRounds, all_of, state_after}
@@ -140,26 +143,26 @@ in_round plan limit count told x before m last (first ∷ made) rest accepted ho
     (retires plan m.state first.move ++ goes.0, (r, goes.0, first.event, is.allowed, one, is.event, counted, refl))
 
 -- the offered moves, where the program goes on
-offered_may : (plan : Plan) (x : Machine) (before : List Line) (m : Moment) (count : ℕ) → HoldsAnew plan x before m → m.state.ending ≡ None →
-    AllByRecursion (MayIssue plan count m.state) (offered plan count m.state)
-offered_may plan x before m count holds going_on =
+offered_may : (r : GuessRule) (plan : Plan) (x : Machine) (before : List Line) (m : Moment) (count : ℕ) → HoldsAnew plan x before m → m.state.ending ≡ None →
+    AllByRecursion (MayIssue plan count m.state) (offered_by r plan count m.state)
+offered_may r plan x before m count holds going_on =
     let shape : HasShape plan m.state = anew_shape plan x m before holds going_on in
-    all_from (MayIssue plan count m.state) (offered plan count m.state) (λ k mv e held issue. offered_held plan count m.state k mv shape e held issue)
+    all_from (MayIssue plan count m.state) (offered_by r plan count m.state) (λ k mv e held issue. ruled-held r plan count m.state k mv shape e held issue)
 
 -- all rounds
-pub rounds_paced : (plan : Plan) (limit below count held : ℕ) (told : Option (List ℕ)) (x : Machine) (before : List Line) (m last : Moment)
-    (rounds : List (List Made)) (end : State) → IsAccepted plan → HoldsAnew plan x before m → InRounds plan below count m.state rounds held end →
+pub rounds_paced : (r : GuessRule) (plan : Plan) (limit below count held : ℕ) (told : Option (List ℕ)) (x : Machine) (before : List Line) (m last : Moment)
+    (rounds : List (List Made)) (end : State) → IsAccepted plan → HoldsAnew plan x before m → InRounds r plan below count m.state rounds held end →
     Leads plan limit told m (all_of rounds) last
     → (written : List Line) × PacesTo plan count m (moves_of (all_of rounds)) last written
 unfolding InRounds Leads PacesTo
-rounds_paced plan limit below count held told x before m last [] end accepted holds rounds leads = ([], (leads, refl))
-rounds_paced plan limit below count held told x before m last (made ∷ more) end accepted holds (goes, is, rounds) leads =
-    let round : List Move = round_of plan m.state (offered plan count m.state) in
-    let apart : AreApart plan (moves_of made) = subst (AreApart plan) (sym is) (round_apart plan m.state (offered plan count m.state)) in
+rounds_paced r plan limit below count held told x before m last [] end accepted holds rounds leads = ([], (leads, refl))
+rounds_paced r plan limit below count held told x before m last (made ∷ more) end accepted holds (goes, is, rounds) leads =
+    let round : List Move = round_of plan m.state (offered_by r plan count m.state) in
+    let apart : AreApart plan (moves_of made) = subst (AreApart plan) (sym is) (round_apart plan m.state (offered_by r plan count m.state)) in
     let may : AllByRecursion (MayIssue plan count m.state) (moves_of made) = subst (AllByRecursion (MayIssue plan count m.state)) (sym is)
-    (round_all (MayIssue plan count m.state) plan m.state (offered plan count m.state) (offered_may plan x before m count holds goes.unended)) in
+    (round_all (MayIssue plan count m.state) plan m.state (offered_by r plan count m.state) (offered_may r plan x before m count holds goes.unended)) in
     let after : GoesOnAfter plan limit count told x m.state made (all_of more) last = record {
-      go = λ q b same h l. rounds_paced plan limit below (paced_by count made) held told x b q last more end accepted h
-          (subst (λ (s : State). InRounds plan below (paced_by count made) s more held end) (sym same) rounds) l;
+      go = λ q b same h l. rounds_paced r plan limit below (paced_by count made) held told x b q last more end accepted h
+          (subst (λ (s : State). InRounds r plan below (paced_by count made) s more held end) (sym same) rounds) l;
     } in
     in_round plan limit count told x before m last made (all_of more) accepted holds leads apart may after

@@ -1,7 +1,8 @@
 -- Making a round: its moves one after the other, each counted, and seen by the pace.
 use Rattle.std.specs.Prelude.{◌≡◌, ℕ, List, [], ◌∷◌, ◌++◌, Bool, true, false, Result, Ok, Err}
 use Rattle.std.specs.List.{AllByRecursion}
-use Rattle.run_options.specs.declared.show.Show.TheVariants as show
+use Rattle.run_options.specs.declared.guess_rule.GuessRule.{GuessRule}
+use Rattle.run_options.specs.Reportings as show
 use Rattle.cf_bind.specs.declared.moves.Move.{Move}
 use Rattle.cf_bind.specs.declared.moves.Move.TheVariants.{Serve}
 use Rattle.cf_semantics.specs.declared.event.Event.{Event}
@@ -9,7 +10,7 @@ use Rattle.cf_semantics.specs.declared.event.Event.TheVariants as event
 use Rattle.cf_semantics.specs.state.Drained.{is_drained}
 use Rattle.cf_semantics.specs.moves.Holding.{paced}
 use Rattle.cf_sched.specs.Paces.{PaceCount, HasCounted}
-use Rattle.cf_run.specs.declared.answer.Ran.TheVariants as ran
+use Rattle.run_finishes.specs.declared.finish.Ran.TheVariants as ran
 use Rattle.cf_run.specs.Made.{Made, moves_of}
 use Rattle.cf_run.specs.Moving.{RunPlace, MakesAndShows, MoveDoes}
 use Rattle.cf_rounds.specs.declared.answer.Fired.{Fired}
@@ -19,7 +20,7 @@ use Rattle.cf_rounds.specs.declared.answer.Fired.TheVariants.{Plain, Retired, En
 unfoldable pub MakesAll : List Made → (now new : RunPlace) → Type 0
 MakesAll [] now new = new ≡ now
 MakesAll (made ∷ trace) now new =
-    (next : RunPlace) × MakesAndShows show.Report made.move made.event now next × (made.state ≡ next.core.state)
+    (next : RunPlace) × MakesAndShows show.report made.move made.event now next × (made.state ≡ next.core.state)
     × MakesAll trace next new
 
 -- the count of Issue moves after these
@@ -58,14 +59,14 @@ pub record FiresAll (round : List Move) (now new : RunPlace) (pace later : PaceC
   pub moves : moves_of trace ≡ round
   pub makes : MakesAll trace now new
   pub seen : IsSeen trace answer
-  pub paced : (stages count : ℕ) → HasCounted stages count pace → HasCounted stages (paced_by count trace) later
+  pub paced : (rule : GuessRule) (stages count : ℕ) → HasCounted rule stages count pace → HasCounted rule stages (paced_by count trace) later
 
 -- the round was made; or it is Serve alone, and the input or the output failed its call
 unfoldable pub Fires : List Move → (now new : RunPlace) → (pace later : PaceCount) → Fired → Type 0
 Fires round now new pace later ReadFault =
-    (round ≡ Serve ∷ []) × MoveDoes show.Report Serve now new (Err ran.ReadFault) × (later ≡ pace)
+    (round ≡ Serve ∷ []) × MoveDoes show.report Serve now new (Err ran.ReadFault) × (later ≡ pace)
 Fires round now new pace later WriteFault =
-    (round ≡ Serve ∷ []) × MoveDoes show.Report Serve now new (Err ran.WriteFault) × (later ≡ pace)
+    (round ≡ Serve ∷ []) × MoveDoes show.report Serve now new (Err ran.WriteFault) × (later ≡ pace)
 Fires round now new pace later answer = FiresAll round now new pace later answer
 
 -- an error where the input failed the round

@@ -2,13 +2,15 @@
 -- order.
 use Rattle.std.specs.Prelude.{◌≡◌, ◌⊎◌, ℕ, ◌≤◌, List, length, [], ◌∷◌, ◌++◌, Bool, true, false, None, if◌then◌else◌}
 use Rattle.std.specs.List.{AllByRecursion, find, list_any}
+use Rattle.run_options.specs.declared.guess_rule.GuessRule.{GuessRule}
 use Rattle.cf_layout.specs.Layout.{Plan}
 use Rattle.cf_bind.specs.declared.moves.Move.{Move}
 use Rattle.cf_semantics.specs.moves.Bars.{bar}
-use Rattle.cf_semantics.specs.moves.Candidates.{candidates, held_back}
+use Rattle.cf_semantics.specs.moves.Candidates.{held_back}
 use Rattle.cf_semantics.specs.state.Options.{on}
 use Rattle.cf_semantics.specs.state.State.{State}
 use Rattle.cf_index.specs.Alone.{stands_alone}
+use Rattle.cf_index.specs.GuessRules.{guided}
 use Rattle.cf_index.specs.Sites.{shares}
 
 -- a round is stored in a table of 128 moves, of which the first entries are used
@@ -29,11 +31,11 @@ taken plan round (mv ∷ moves) = taken plan (if shares_any plan round mv then r
 unfoldable pub round_of : Plan → State → List Move → List Move
 round_of plan s moves = on (find (stands_alone plan s) moves) (taken plan [] moves) (λ mv. mv ∷ [])
 
--- these are the candidates of the state, Issue held back or not
+-- these are the candidates of the state that some guess rule keeps, Issue held back or not
 abbrev pub AreCandidates : Plan → State → List Move → Type 0
-AreCandidates plan s moves = (moves ≡ candidates plan s) ⊎ (moves ≡ held_back (candidates plan s))
+AreCandidates plan s moves = (r : GuessRule) × ((moves ≡ guided r plan s) ⊎ (moves ≡ held_back (guided r plan s)))
 
--- the moves are the round of the candidates of the state, Issue held back or not
+-- the moves are the round of the candidates of the state that some guess rule keeps, Issue held back or not
 pub record IsRound (plan : Plan) (s : State) (round : List Move) : Type 0 where
   pub moves : List Move
   pub are : AreCandidates plan s moves

@@ -1,25 +1,25 @@
 -- One turn of a run in rounds: the round of what is offered is made, or the run stops.
 use Rattle.std.specs.Prelude.{◌≡◌, ℕ, ◌<◌, List, [], ◌∷◌, length, Option, Some, None, Result, Ok, Err}
-use Rattle.run_options.specs.declared.show.Show.TheVariants as show
+use Rattle.run_options.specs.declared.guess_rule.GuessRule.{GuessRule}
+use Rattle.run_options.specs.Reportings as show
 use Rattle.cf_bind.specs.declared.moves.Move.{Move}
 use Rattle.cf_bind.specs.declared.moves.Move.TheVariants.{Serve}
-use Rattle.cf_semantics.specs.moves.Holding.{offered}
 use Rattle.cf_index.specs.Alone.{HasSidings}
-use Rattle.cf_sched.specs.Paces.{PaceCount, HasCounted}
-use Rattle.cf_run.specs.declared.answer.Ran.{Ran as Answer}
-use Rattle.cf_run.specs.declared.answer.Ran.TheVariants as ran
+use Rattle.cf_sched.specs.Paces.{PaceCount, HasCounted, offered_by}
+use Rattle.run_finishes.specs.declared.finish.Ran.{Ran as Answer}
+use Rattle.run_finishes.specs.declared.finish.Ran.TheVariants as ran
 use Rattle.cf_run.specs.Moving.{RunPlace, MoveDoes}
 use Rattle.cf_run.specs.Reaching.{GoesOn, IsOver}
 use Rattle.cf_rounds.specs.declared.answer.Clocked.{Clocked}
-use Rattle.cf_rounds.specs.declared.answer.Clocked.TheVariants.{Exit, Trap, Limit, ReadFault, WriteFault}
+use Rattle.cf_rounds.specs.declared.answer.Clocked.TheVariants.{Exit, Trap, Limit, ReadFault, WriteFault, ReportFault}
 use Rattle.cf_rounds.specs.declared.answer.Fired.{Fired}
 use Rattle.cf_rounds.specs.declared.answer.Fired.TheVariants as fired
 use Rattle.cf_rounds.specs.Firing.{FiresAll}
 use Rattle.cf_rounds.specs.Rounds.{IsRound, round_of}
 
--- these candidates are offered there, for whatever count of Issue moves the pace has, and this is their round
+-- these candidates are offered there, for whatever guess rule and count of Issue moves the pace has, and this is their round
 pub record IsOffered (now : RunPlace) (pace : PaceCount) (moves round : List Move) : Type 0 where
-  pub moves_are : (count : ℕ) → HasCounted now.core.plan.stages count pace → moves ≡ offered now.core.plan count now.core.state
+  pub moves_are : (rule : GuessRule) (count : ℕ) → HasCounted rule now.core.plan.stages count pace → moves ≡ offered_by rule now.core.plan count now.core.state
   pub round_is : round ≡ round_of now.core.plan now.core.state moves
   pub is_round : IsRound now.core.plan now.core.state round
   pub sidings : HasSidings now.core.plan now.core.state
@@ -41,7 +41,7 @@ pub record FailsRound (limit : ℕ) (now new : RunPlace) (pace : PaceCount) (ans
   pub round : List Move
   pub offer : IsOffered now pace moves round
   pub serves : round ≡ Serve ∷ []
-  pub does : MoveDoes show.Report Serve now new (Err answer)
+  pub does : MoveDoes show.report Serve now new (Err answer)
 
 -- one turn
 unfoldable pub RoundTurns : ℕ → (now new : RunPlace) → (pace later : PaceCount) → Option Clocked → Type 0
@@ -51,6 +51,7 @@ RoundTurns limit now new pace later (Some (Trap cause pc detail)) = IsOver limit
 RoundTurns limit now new pace later (Some Limit) = IsOver limit now.core.state ran.Limit × (new ≡ now)
 RoundTurns limit now new pace later (Some ReadFault) = FailsRound limit now new pace ran.ReadFault
 RoundTurns limit now new pace later (Some WriteFault) = FailsRound limit now new pace ran.WriteFault
+RoundTurns limit now new pace later (Some ReportFault) = ⊥
 
 -- how the run finishes with a round that shows this, if it does
 abbrev pub finish_with : Fired → Option Clocked
@@ -67,3 +68,8 @@ input_turned answer = Ok tt
 abbrev pub output_turned : Option Clocked → Result (Unit {0}) (Unit {0})
 output_turned (Some WriteFault) = Err tt
 output_turned answer = Ok tt
+
+-- an error where the report failed behind a round
+abbrev pub report_turned : Option Clocked → Result (Unit {0}) (Unit {0})
+report_turned (Some ReportFault) = Err tt
+report_turned answer = Ok tt

@@ -39,4 +39,7 @@ pub enum Clocked {
 
     /// The output failed in a call of the environment.
     WriteFault,
+
+    /// The report failed.
+    ReportFault,
 }

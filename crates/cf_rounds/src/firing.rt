@@ -13,7 +13,7 @@ use crate::round_set::RoundSet;
 use cf_core::{Core, Event};
 use cf_io::{Nowhere, Sink, Source};
 use cf_report::Tally;
-use cf_run::{Ran, Show, make_and_show};
+use cf_run::{Ran, Reporting, Show, make_and_show};
 use cf_sched::Pace;
 
 /// What a round shows, with one more event.
@@ -58,7 +58,18 @@ pub fn fire<S: Source, K: Sink>(
     let mut fired = Fired::Plain;
     for place in 0..set.len() {
         let mv = set.get(place);
-        match make_and_show(core, mv, Show::Report, input, output, &mut Nowhere, tally) {
+        match make_and_show(
+            core,
+            mv,
+            Reporting {
+                show: Show::Report,
+                every: None,
+            },
+            input,
+            output,
+            &mut Nowhere,
+            tally,
+        ) {
             Ok(event) => {
                 pace.saw(mv, &event, core.drained());
                 fired = with_event(fired, &event);

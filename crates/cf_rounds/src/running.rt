@@ -2,18 +2,21 @@
 #![tactic(auto, unfolding(crate::specs::Turns::RoundTurns, crate::specs::Firing::Fires))]
 
 ghost use Rattle.std.specs.Prelude.{◌≡◌, ℕ, ◌+◌, ◌<◌, ◌≤◌, ◌^◌, MatchOption, None, Some, length};
+ghost use Rattle.run_options.specs.declared.guess_rule.GuessRule.{GuessRule as Rule};
 ghost use Rattle.run_options.specs.Limits.{most_limit};
 ghost use Rattle.cf_io.specs.Causes.{HasCause};
 ghost use Rattle.rv_machine.specs.Streams.{streams_of};
-ghost use Rattle.cf_semantics.specs.moves.Holding.{offered};
-ghost use Rattle.cf_sched.specs.Paces.{HasCounted};
-ghost use Rattle.cf_run.specs.declared.answer.Scripted.TheVariants as scripted;
+ghost use Rattle.cf_sched.specs.Paces.{HasCounted, offered_by};
+ghost use Rattle.run_finishes.specs.declared.finish.Scripted.TheVariants as scripted;
 ghost use Rattle.cf_run.specs.Ending.{EndsSequentially};
 ghost use Rattle.cf_run.specs.Moving.{place_of};
 ghost use Rattle.cf_run.specs.Policies.{IsOpened, most_moves};
 ghost use Rattle.cf_run.specs.Reaching.{GoesOn, IsOver, no_tally};
-ghost use Rattle.cf_rounds.specs.Running.{RoundsRunRight, ran_of};
-ghost use Rattle.cf_rounds.specs.Turns.{RoundTurns, finish_with, input_turned, output_turned};
+ghost use Rattle.cf_report.specs.Putting.{PutsText};
+ghost use Rattle.cf_rounds.specs.Running.{ran_of};
+ghost use Rattle.cf_rounds.specs.RunsRight.{RoundsRunRight};
+ghost use Rattle.cf_rounds.specs.Saying.{round_text};
+ghost use Rattle.cf_rounds.specs.Turns.{RoundTurns, finish_with, input_turned, output_turned, report_turned};
 
 use crate::answer::{Clocked, Fired};
 use crate::choosing::choose;
@@ -21,10 +24,11 @@ use crate::firing::fire;
 use crate::round_set::RoundSet;
 use cf_core::Core;
 use cf_index::Candidates;
-use cf_io::{Sink, Source};
-use cf_report::Tally;
+use cf_io::{Failed, Sink, Source};
+use cf_report::{Tally, is_step, put_rounds_progress};
 use cf_run::{Ran, known, over};
 use cf_sched::Pace;
+use run_options::GuessRule;
 
 /// How the run finishes before a further round, if it does.
 fn finish_before(core: &Core, limit: u64) -> Option<Clocked>
@@ -67,9 +71,9 @@ fn advance<S: Source, K: Sink>(
 ) -> Option<Clocked>
     requires limit { limit + 2 < 2 ^ 64 }
     requires retired { core.old.state.retired ≤ limit }
-    requires counted { (count : ℕ) × HasCounted core.old.plan.stages count pace.old }
+    requires counted { (rule : Rule) × (count : ℕ) × HasCounted rule core.old.plan.stages count pace.old }
     requires some { core.old.state.ending ≡ None →
-        (count : ℕ) → 0 < length (offered core.old.plan count core.old.state) }
+        (rule : Rule) (count : ℕ) → 0 < length (offered_by rule core.old.plan count core.old.state) }
     requires moves { tally.old.moves < 2 ^ 63 }
     requires meets { tally.old.meets < 2 ^ 63 }
     requires kills { tally.old.kills < 2 ^ 63 }
@@ -90,21 +94,47 @@ fn advance<S: Source, K: Sink>(
     finish_with(fire(core, set, pace, input, output, tally))
 }
 
-/// Runs an opened processor in rounds: makes the round of the candidates, one after the other, until the program ends
-/// or as many instructions have retired as the limit allows, which is tested before each round. The candidates are held
-/// back as under a policy.
+/// Writes behind a round how far the run has come, if an instruction retired in it, and the retired ones are then a multiple
+/// of the step.
+fn put_progress<R: Sink>(
+    core: &Core,
+    every: Option<u64>,
+    before: u64,
+    rounds: u64,
+    moves: u64,
+    report: &mut R,
+) -> Result<(), Failed>
+    ensures { PutsText (R.written report.old) (R.written report.new) (R.faults report.old) (R.faults report.new)
+        (round_text every rounds moves before core.now.state.retired) result }
+{
+    let retired = core.retired();
+    if retired != before && is_step(every, retired) {
+        put_rounds_progress(retired, rounds, moves, report)
+    } else {
+        Ok(())
+    }
+}
+
+/// Runs an opened processor in rounds: makes the round of the candidates that the guess rule keeps, one after the other,
+/// until the program ends or as many instructions have retired as the limit allows, which is tested before each round. The
+/// candidates are held back as under a policy. Behind each round in which an instruction retires as a multiple of `every`,
+/// it is written to the report how far the run has come.
 ///
 /// `ReadFault` and `WriteFault` come only where the input or the output failed a call of the environment; that round is
-/// not counted, nor its move. In each case that stream's count of faults rose.
+/// not counted, nor its move. `ReportFault` comes only where the report failed behind a round, which is counted. In each
+/// case that object's count of faults rose.
 ///
 /// Where the processor was opened on a machine, the run is a run of that machine, whether or not the input's remaining
 /// bytes are known, and ends as that machine does under the same limit. It has at most 4 N K (limit + 1) moves.
-pub fn run_rounds<S: Source, K: Sink>(
+pub fn run_rounds<S: Source, K: Sink, R: Sink>(
     core: &mut Core,
     candidates: &mut Candidates,
+    rule: GuessRule,
     limit: u64,
+    every: Option<u64>,
     input: &mut S,
     output: &mut K,
+    report: &mut R,
     tally: &mut Tally,
     rounds: &mut u64,
 ) -> Clocked
@@ -113,10 +143,10 @@ pub fn run_rounds<S: Source, K: Sink>(
     requires opened { IsOpened core.old }
     requires tally { tally.old ≡ no_tally }
     requires rounds { rounds.old ≡ 0 }
-    ensures run { RoundsRunRight limit
+    ensures run { RoundsRunRight rule limit every
         (place_of core.old (streams_of (S.left input.old) (K.written output.old)) None tally.old)
         (place_of core.new (streams_of (S.left input.new) (K.written output.new)) None tally.new)
-        rounds.new result }
+        (R.written report.old) (R.written report.new) rounds.new result }
     ensures ends { EndsSequentially limit
         (place_of core.old (streams_of (S.left input.old) (K.written output.old)) None tally.old)
         (place_of core.new (streams_of (S.left input.new) (K.written output.new)) None tally.new)
@@ -124,11 +154,13 @@ pub fn run_rounds<S: Source, K: Sink>(
     ensures bounded { tally.new.moves ≤ most_moves core.old.plan limit }
     ensures input { HasCause (S.faults input.old) (S.faults input.new) (input_turned (Some result)) }
     ensures output { HasCause (K.faults output.old) (K.faults output.new) (output_turned (Some result)) }
+    ensures report { HasCause (R.faults report.old) (R.faults report.new) (report_turned (Some result)) }
 {
     known(core);
-    let mut pace = Pace::new(core.layout().stages());
+    let mut pace = Pace::new(rule, core.layout().stages());
     let mut set = RoundSet::new();
     loop {
+        let before = core.retired();
         let end = advance(
             core, candidates, &mut set, &mut pace, limit, input, output, tally,
         );
@@ -136,5 +168,9 @@ pub fn run_rounds<S: Source, K: Sink>(
             return clocked;
         }
         *rounds += 1;
+        match put_progress(core, every, before, *rounds, tally.moves, report) {
+            Ok(()) => {}
+            Err(_) => return Clocked::ReportFault,
+        }
     }
 }

@@ -1,7 +1,7 @@
 -- The streams that the moves of a run use, with one more move.
 use Rattle.std.proofs.Common.{◌≡◌, ℕ, List, [], ◌∷◌, ◌++◌, Option, Some, None, inl, inr, ap, sym, subst, ◌∙◌}
 use Rattle.std.specs.Prelude.{◌⊎◌, Result, Ok}
-use Rattle.run_options.specs.declared.show.Show.{Show}
+use Rattle.run_options.specs.declared.reporting.Reporting.{Reporting}
 use Rattle.cf_layout.specs.Layout.{Plan}
 use Rattle.cf_bind.specs.declared.moves.Move.{Move}
 use Rattle.cf_semantics.specs.moves.Moves.{next}
@@ -35,7 +35,7 @@ some-last asks plan limit told m (first ∷ trace) last made (rest, finds, is, h
     (next plan (record m { rest = rest }) first.move) trace last made h k))
 
 -- a stream that the moves made so far use, or the next one, the moves with that one use
-pub one-more : (asks : Processor → Move → Type 0) (limit : ℕ) (show : Show) (start now : RunPlace) (h : Reaches limit show start now) (made : Made) →
+pub one-more : (asks : Processor → Move → Type 0) (limit : ℕ) (show : Reporting) (start now : RunPlace) (h : Reaches limit show start now) (made : Made) →
     SomeAsks asks start.core.plan start.core.state h.trace ⊎ asks now.core made.move
     → SomeAsks asks start.core.plan start.core.state (h.trace ++ made ∷ [])
 one-more asks limit show start now h made (inl some) = some-first asks start.core.plan start.core.state h.trace (made ∷ []) some
@@ -51,13 +51,13 @@ same_next answer line other mv last e f =
     ap (λ (next : ℕ × Move). next.1) same
 
 -- the next move of the script is the one that uses the stream
-next_asked : (asks : Processor → Move → Type 0) (limit : ℕ) (show : Show) (now new : ScriptRun) (t : ScriptTries limit show now new None) (made : Made) →
+next_asked : (asks : Processor → Move → Type 0) (limit : ℕ) (show : Reporting) (now new : ScriptRun) (t : ScriptTries limit show now new None) (made : Made) →
     made.move ≡ t.move → NextAsks asks limit now.place.core now.script → asks now.place.core made.move
 next_asked asks limit show now new t made same next =
     subst (asks now.place.core) (same_next (next_of now.script) next.line t.line next.move t.move next.next t.next ∙ sym same) next.asked
 
 -- the same of a run with one more move
-asked-more : (asks : Processor → Move → Type 0) (limit : ℕ) (show : Show) (start now new : ScriptRun) (f : Follows limit show start now)
+asked-more : (asks : Processor → Move → Type 0) (limit : ℕ) (show : Reporting) (start now new : ScriptRun) (f : Follows limit show start now)
     (t : ScriptTries limit show now new None) → SomeAsks asks start.place.core.plan start.place.core.state f.reaches.trace
     ⊎ NextAsks asks limit now.place.core now.script
     → SomeAsks asks start.place.core.plan start.place.core.state (followed-more limit show start now new f t).reaches.trace
@@ -72,7 +72,7 @@ asked-more asks limit show start now new f t asked =
     here (inr next) = let made = followed-trace limit show start now new f t in inr (next_asked asks limit show now new t made.0 made.1 next)
 
 -- a stream that no move used is unchanged, with one more move
-pub unasked-more : {T : Type 0} (asks : Processor → Move → Type 0) (limit : ℕ) (show : Show) (start now new : ScriptRun) (f : Follows limit show start now)
+pub unasked-more : {T : Type 0} (asks : Processor → Move → Type 0) (limit : ℕ) (show : Reporting) (start now new : ScriptRun) (f : Follows limit show start now)
     (t : ScriptTries limit show now new None) (first between last : T) → ((SomeAsks asks start.place.core.plan start.place.core.state f.reaches.trace → ⊥) →
     between ≡ first) → ((NextAsks asks limit now.place.core now.script → ⊥) → last ≡ between)
     → (SomeAsks asks start.place.core.plan start.place.core.state (followed-more limit show start now new f t).reaches.trace → ⊥) → last ≡ first

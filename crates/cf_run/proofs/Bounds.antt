@@ -4,12 +4,12 @@ use Rattle.std.proofs.Common.{◌≡◌, ℕ, suc, ◌+◌, ◌-◌, ◌*◌, �
 use Rattle.std.proofs.lemmas.List.{length-map}
 use Rattle.std.proofs.lemmas.Bool.Decides.{nat_tests}
 use Rattle.run_options.specs.Limits.{most_limit}
-use Rattle.run_options.specs.declared.show.Show.{Show}
+use Rattle.run_options.specs.declared.guess_rule.GuessRule.{GuessRule}
+use Rattle.run_options.specs.declared.reporting.Reporting.{Reporting}
 use Rattle.rv_machine.specs.Machine.{Machine}
 use Rattle.cf_layout.specs.Accepted.{IsAccepted, IsSiding}
 use Rattle.cf_layout.specs.Layout.{SidingPlan, Plan}
 use Rattle.cf_bind.specs.declared.moves.Move.{Move}
-use Rattle.cf_semantics.specs.moves.Holding.{offered}
 use Rattle.cf_semantics.specs.runs.Lines.{Line}
 use Rattle.cf_semantics.specs.claims.Refines.{gained}
 use Rattle.cf_semantics.specs.runs.Runs.{opened as opened_on, start as start_on}
@@ -17,10 +17,10 @@ use Rattle.cf_semantics.specs.state.State.{Moment}
 use Rattle.cf_semantics.specs.claims.Weight.{most_cells, moves_per_issue}
 use Rattle.theory_unknown_input.proofs.Invariant.{HoldsAnew}
 use Rattle.theory_unknown_input.specs.Paced.{PacesTo}
-use Rattle.theory_unknown_input.proofs.Offered.{offered_some}
 use Rattle.theory_unknown_input.proofs.Pacing.{paces_leads, paced_bounded_anew}
 use Rattle.theory_unknown_input.proofs.Theorems.{anew_started, holds_anew}
 use Rattle.cf_core.specs.Processors.{Processor, in_state, opened}
+use Rattle.cf_sched.specs.Paces.{offered_by}
 use Rattle.cf_run.specs.Going.{moment_of, Leads}
 use Rattle.cf_run.specs.Headline.{machine_on}
 use Rattle.cf_run.specs.Made.{Made, moves_of, tally_of}
@@ -28,6 +28,7 @@ use Rattle.cf_run.specs.Moving.{RunPlace}
 use Rattle.cf_run.specs.Policies.{IsOpened, Chooser, fresh, Picks, most_moves}
 use Rattle.cf_run.specs.Reaching.{Reaches}
 use Rattle.cf_run.proofs.Arrived.{begins}
+use Rattle.cf_run.proofs.ByRule.{ruled-some}
 use Rattle.cf_run.proofs.Picking.{picks-paced}
 
 -- an opened processor has the registers and the count of its hart
@@ -44,20 +45,21 @@ abbrev pub machine_of : (core : Processor) → IsOpened core → List ℕ → Ma
 machine_of core o rest = machine_on o.hart rest
 
 -- the picks of a policy on an opened processor are a run under the hold rule
-reached-paced : {P : Type 0} (picked : P → List Move → ℕ) (onward : P → List Move → P) (limit : ℕ) (shows : Show) (begin now : RunPlace) (policy : P)
+reached-paced : {P : Type 0} (rule : GuessRule) (picked : P → List Move → ℕ) (onward : P → List Move → P) (limit : ℕ) (shows : Reporting) (begin now : RunPlace)
+    (policy : P)
     (at : Chooser P) → IsAccepted begin.core.plan → length begin.core.state.regs ≡ 32 → (o : IsOpened begin.core) → (h : Reaches limit shows begin now) →
-    Picks picked onward begin.core.plan (fresh policy) begin.core.state h.trace at
+    Picks picked onward begin.core.plan (fresh rule policy) begin.core.state h.trace at
     → (written : List Line) × PacesTo begin.core.plan 0 (start_on begin.core.plan (machine_of begin.core o h.rest)) (moves_of h.trace) h.last written
-reached-paced {P} picked onward limit shows begin now policy at accepted wide o h picks =
+reached-paced {P} rule picked onward limit shows begin now policy at accepted wide o h picks =
     let plan : Plan = begin.core.plan in
     let x : Machine = machine_of begin.core o h.rest in
     let m : Moment = moment_of begin.core h.rest in
     let same : m ≡ start_on plan x = begins begin.core o.hart h.rest h.rest o.is refl in
     let leads : Leads plan limit begin.streams.input (start_on plan x) h.trace h.last = subst
     (λ (q : Moment). Leads plan limit begin.streams.input q h.trace h.last) same h.leads in
-    let first : Picks picked onward plan (fresh policy) (start_on plan x).state h.trace at =
-    subst (λ (q : Moment). Picks picked onward plan (fresh policy) q.state h.trace at) same picks in
-    picks-paced picked onward plan limit begin.streams.input x [] (start_on plan x) h.trace h.last (fresh policy) at accepted
+    let first : Picks picked onward plan (fresh rule policy) (start_on plan x).state h.trace at =
+    subst (λ (q : Moment). Picks picked onward plan (fresh rule policy) q.state h.trace at) same picks in
+    picks-paced picked onward plan limit begin.streams.input x [] (start_on plan x) h.trace h.last (fresh rule policy) at accepted
     (anew_started plan x (opened_wide begin.core o wide)) leads first
 
 -- so it has a bounded number of moves
@@ -65,7 +67,7 @@ counted-moves : (trace : List Made) → (tally_of trace).moves ≡ length (moves
 unfolding tally_of
 counted-moves trace = sym (length-map trace (λ made. made.move))
 
-pub paced-bounded : (limit : ℕ) (shows : Show) (begin now : RunPlace) → IsAccepted begin.core.plan → length begin.core.state.regs ≡ 32 →
+pub paced-bounded : (limit : ℕ) (shows : Reporting) (begin now : RunPlace) → IsAccepted begin.core.plan → length begin.core.state.regs ≡ 32 →
     (o : IsOpened begin.core) → (h : Reaches limit shows begin now) (written : List Line) →
     PacesTo begin.core.plan 0 (start_on begin.core.plan (machine_of begin.core o h.rest)) (moves_of h.trace) h.last written
     → now.tally.moves ≤ most_moves begin.core.plan (now.core.state.retired - begin.core.state.retired)
@@ -81,34 +83,36 @@ paced-bounded limit shows begin now accepted wide o h written paces =
     (subst (λ (r : ℕ). length (moves_of h.trace) ≤ most_moves plan r) grown bound)
 
 -- and while it goes on a move is offered
-pub paced-offered : (limit : ℕ) (shows : Show) (begin now : RunPlace) → IsAccepted begin.core.plan → length begin.core.state.regs ≡ 32 →
+pub paced-offered : (limit : ℕ) (shows : Reporting) (begin now : RunPlace) → IsAccepted begin.core.plan → length begin.core.state.regs ≡ 32 →
     (o : IsOpened begin.core) → (h : Reaches limit shows begin now) (written : List Line) →
     PacesTo begin.core.plan 0 (start_on begin.core.plan (machine_of begin.core o h.rest)) (moves_of h.trace) h.last written
-    → now.core.state.ending ≡ None → (count : ℕ) → 1 ≤ length (offered now.core.plan count now.core.state)
-paced-offered limit shows begin now accepted wide o h written paces unended count =
+    → now.core.state.ending ≡ None → (r : GuessRule) (count : ℕ) → 1 ≤ length (offered_by r now.core.plan count now.core.state)
+paced-offered limit shows begin now accepted wide o h written paces unended r count =
     let plan : Plan = begin.core.plan in
     let x : Machine = machine_of begin.core o h.rest in
     let holds : HoldsAnew plan x written h.last = holds_anew plan x (moves_of h.trace) h.last written accepted (opened_wide begin.core o wide)
     (paces_leads plan 0 (start_on plan x) h.last (moves_of h.trace) written paces) in
-    let P : Processor → Type 0 = λ p. p.state.ending ≡ None → 1 ≤ length (offered p.plan count p.state) in
-    let there : P (in_state begin.core h.last.state) = offered_some plan x h.last count written accepted holds in
+    let P : Processor → Type 0 = λ p. p.state.ending ≡ None → 1 ≤ length (offered_by r p.plan count p.state) in
+    let there : P (in_state begin.core h.last.state) = ruled-some r plan x h.last count written accepted holds in
     subst P (sym h.core) there unended
 
 -- so the picks of a policy are bounded in number
-pub reached-bounded : {P : Type 0} (picked : P → List Move → ℕ) (onward : P → List Move → P) (limit : ℕ) (shows : Show) (begin now : RunPlace) (policy : P)
+pub reached-bounded : {P : Type 0} (rule : GuessRule) (picked : P → List Move → ℕ) (onward : P → List Move → P) (limit : ℕ) (shows : Reporting)
+    (begin now : RunPlace) (policy : P)
     (at : Chooser P) → IsAccepted begin.core.plan → length begin.core.state.regs ≡ 32 → IsOpened begin.core → (h : Reaches limit shows begin now) →
-    Picks picked onward begin.core.plan (fresh policy) begin.core.state h.trace at
+    Picks picked onward begin.core.plan (fresh rule policy) begin.core.state h.trace at
     → now.tally.moves ≤ most_moves begin.core.plan (now.core.state.retired - begin.core.state.retired)
-reached-bounded {P} picked onward limit shows begin now policy at accepted wide o h picks =
-    let paces = reached-paced picked onward limit shows begin now policy at accepted wide o h picks in
+reached-bounded {P} rule picked onward limit shows begin now policy at accepted wide o h picks =
+    let paces = reached-paced rule picked onward limit shows begin now policy at accepted wide o h picks in
     paced-bounded limit shows begin now accepted wide o h paces.0 paces.1
 
-pub reached-offered : {P : Type 0} (picked : P → List Move → ℕ) (onward : P → List Move → P) (limit : ℕ) (shows : Show) (begin now : RunPlace) (policy : P)
+pub reached-offered : {P : Type 0} (rule : GuessRule) (picked : P → List Move → ℕ) (onward : P → List Move → P) (limit : ℕ) (shows : Reporting)
+    (begin now : RunPlace) (policy : P)
     (at : Chooser P) → IsAccepted begin.core.plan → length begin.core.state.regs ≡ 32 → IsOpened begin.core → (h : Reaches limit shows begin now) →
-    Picks picked onward begin.core.plan (fresh policy) begin.core.state h.trace at
-    → now.core.state.ending ≡ None → (count : ℕ) → 1 ≤ length (offered now.core.plan count now.core.state)
-reached-offered {P} picked onward limit shows begin now policy at accepted wide o h picks =
-    let paces = reached-paced picked onward limit shows begin now policy at accepted wide o h picks in
+    Picks picked onward begin.core.plan (fresh rule policy) begin.core.state h.trace at
+    → now.core.state.ending ≡ None → (r : GuessRule) (count : ℕ) → 1 ≤ length (offered_by r now.core.plan count now.core.state)
+reached-offered {P} rule picked onward limit shows begin now policy at accepted wide o h picks =
+    let paces = reached-paced rule picked onward limit shows begin now policy at accepted wide o h picks in
     paced-offered limit shows begin now accepted wide o h paces.0 paces.1
 
 -- no siding has more than eight cells
@@ -121,26 +125,26 @@ few_cells plan (siding ∷ sidings) h =
     grind (arith, nat_tests, one, more)
 
 -- so the bound is at most this number
-pub bound_number : (plan : Plan) (r : ℕ) → IsAccepted plan → r ≤ most_limit → most_moves plan r ≤ 128 * 272 * (most_limit + 1)
+pub bound_number : (plan : Plan) (r most : ℕ) → IsAccepted plan → r ≤ most → most_moves plan r ≤ 128 * 272 * (most + 1)
 unfolding moves_per_issue
-bound_number plan r accepted few =
+bound_number plan r most accepted few =
     let n = accepted.stages.1 in
     let d = few_cells plan plan.sidings accepted.sidings in
     let k : moves_per_issue plan ≤ 272 = omega (arith, n, d) in
-    product plan.stages (moves_per_issue plan) (r + 1) n k (omega (arith, few))
+    product plan.stages (moves_per_issue plan) (r + 1) (most + 1) n k (omega (arith, few))
   where
     times : (a b c d : ℕ) → a ≤ b → c ≤ d → a * c ≤ b * d
     times a b c d f g = grind (arith, f, g)
 
-    product : (a b c : ℕ) → a ≤ 32 → b ≤ 272 → c ≤ most_limit + 1 → 4 * a * b * c ≤ 128 * 272 * (most_limit + 1)
-    product a b c f g h =
+    product : (a b c d : ℕ) → a ≤ 32 → b ≤ 272 → c ≤ d → 4 * a * b * c ≤ 128 * 272 * d
+    product a b c d f g h =
         let one : 4 * a ≤ 128 = omega (arith, f) in
         let two : 4 * a * b ≤ 128 * 272 = times (4 * a) 128 b 272 one g in
-        times (4 * a * b) (128 * 272) c (most_limit + 1) two h
+        times (4 * a * b) (128 * 272) c d two h
 
 -- which can be counted
 pub bound_small : (plan : Plan) (r : ℕ) → IsAccepted plan → r ≤ most_limit → most_moves plan r + 1 < 2 ^ 63
-bound_small plan r accepted few = let n = bound_number plan r accepted few in omega (arith, n)
+bound_small plan r accepted few = let n = bound_number plan r most_limit accepted few in omega (arith, n)
 
 -- more retirements allow for more moves
 pub bound_grows : (plan : Plan) (r s : ℕ) → r ≤ s → most_moves plan r ≤ most_moves plan s

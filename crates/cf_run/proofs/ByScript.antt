@@ -1,11 +1,11 @@
 -- The run of a script reaches some RunPlace by its first moves, as many as were counted, whatever stops it there.
 use Rattle.std.proofs.Common.{◌≡◌, ℕ, List, [], ◌∷◌, ◌++◌, Some, None, sym, ap, subst, ◌∙◌}
-use Rattle.run_options.specs.declared.show.Show.{Show}
+use Rattle.run_options.specs.declared.reporting.Reporting.{Reporting}
 use Rattle.cf_layout.specs.Accepted.{IsAccepted}
 use Rattle.cf_bind.specs.declared.moves.Move.{Move}
-use Rattle.cf_run.specs.declared.answer.Ran.TheVariants as ran
-use Rattle.cf_run.specs.declared.answer.Scripted.{Scripted}
-use Rattle.cf_run.specs.declared.answer.Scripted.TheVariants.{Ran, ScriptEnd, BadScript, BarredAt}
+use Rattle.run_finishes.specs.declared.finish.Ran.TheVariants as ran
+use Rattle.run_finishes.specs.declared.finish.Scripted.{Scripted}
+use Rattle.run_finishes.specs.declared.finish.Scripted.TheVariants.{Ran, ScriptEnd, BadScript, BarredAt}
 use Rattle.cf_run.specs.Headline.{StopsAt, Gets}
 use Rattle.cf_run.specs.Made.{moves_of, tally_of}
 use Rattle.cf_run.specs.Moving.{RunPlace, MoveDoes, shown_of}
@@ -14,13 +14,13 @@ use Rattle.cf_run.proofs.Runs.{moves-more, followed-more, followed-trace}
 use Rattle.cf_run.proofs.Stopping.{ComesTo, comes_here, comes_over, comes_unread, comes_unwritten, comes_unshown, filled, shown_too}
 
 -- the moves that lead to a ScriptRun are the first of the script, as many as were counted
-followed_moves : (limit : ℕ) (shows : Show) (begin now : ScriptRun) (f : Follows limit shows begin now) →
+followed_moves : (limit : ℕ) (shows : Reporting) (begin now : ScriptRun) (f : Follows limit shows begin now) →
     moves_of f.reaches.trace ≡ first_moves begin.script now.place.tally
 unfolding tally_of
 followed_moves limit shows begin now f = rw f.reaches.tally f.moves
 
 -- the same moves by the count of another RunPlace that has counted as many
-by_count : (limit : ℕ) (shows : Show) (begin now new : ScriptRun) (answer : Scripted) (f : Follows limit shows begin now) → new.place.tally ≡ now.place.tally →
+by_count : (limit : ℕ) (shows : Reporting) (begin now new : ScriptRun) (answer : Scripted) (f : Follows limit shows begin now) → new.place.tally ≡ now.place.tally →
     ComesTo limit shows begin.place (moves_of f.reaches.trace) new.place answer → ComesTo limit shows begin.place
     (first_moves begin.script new.place.tally) new.place answer
 by_count limit shows begin now new answer f same c =
@@ -28,13 +28,13 @@ by_count limit shows begin now new answer f same c =
     ∙ ap (first_moves begin.script) (sym same)) c
 
 -- a run of a script that does not go on
-stays_there : (limit : ℕ) (shows : Show) (begin now new : ScriptRun) (answer : Scripted) (f : Follows limit shows begin now) → new.place ≡ now.place →
+stays_there : (limit : ℕ) (shows : Reporting) (begin now new : ScriptRun) (answer : Scripted) (f : Follows limit shows begin now) → new.place ≡ now.place →
     ComesTo limit shows begin.place (moves_of f.reaches.trace) new.place answer → ComesTo limit shows begin.place
     (first_moves begin.script new.place.tally) new.place answer
 stays_there limit shows begin now new answer f same c = by_count limit shows begin now new answer f (ap (λ (p : RunPlace). p.tally) same) c
 
 -- the last move, whose report failed, is the next of the script
-unshown_moves : (limit : ℕ) (shows : Show) (begin now new : ScriptRun) (f : Follows limit shows begin now)
+unshown_moves : (limit : ℕ) (shows : Reporting) (begin now new : ScriptRun) (f : Follows limit shows begin now)
     (t : ScriptTries limit shows now new (Some (Ran ran.ReportFault))) → moves_of f.reaches.trace ++ t.move ∷ [] ≡ first_moves begin.script new.place.tally
 unfolding DoesLine MoveDoes
 unshown_moves limit shows begin now new f t =
@@ -54,7 +54,7 @@ unshown_moves limit shows begin now new f t =
     ∙ followed_moves limit shows begin there (followed-more limit shows begin now there f tries)
 
 -- whatever stops it, a run of a script reached some RunPlace and stopped there
-pub comes-to : (limit : ℕ) (shows : Show) (begin now new : ScriptRun) (answer : Scripted) → IsAccepted begin.place.core.plan → Follows limit shows begin now →
+pub comes-to : (limit : ℕ) (shows : Reporting) (begin now new : ScriptRun) (answer : Scripted) → IsAccepted begin.place.core.plan → Follows limit shows begin now →
     ScriptStops limit shows now new answer → ComesTo limit shows begin.place (first_moves begin.script new.place.tally) new.place answer
 unfolding ScriptStops DoesLine MoveDoes StopsAt Gets
 comes-to limit shows begin now new ScriptEnd accepted f stops =

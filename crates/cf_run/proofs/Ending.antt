@@ -1,6 +1,7 @@
 -- A run that ends with the program's end or at the limit ends as the sequential machine does.
 use Rattle.std.proofs.Common.{◌≡◌, ℕ, ◌+◌, ◌-◌, ◌<◌, List, [], ◌∷◌, Option, Some, None, refl, sym, ap, subst, ◌∙◌, length, arith}
-use Rattle.run_options.specs.declared.show.Show.{Show}
+use Rattle.run_options.specs.declared.guess_rule.GuessRule.{GuessRule}
+use Rattle.run_options.specs.declared.reporting.Reporting.{Reporting}
 use Rattle.rv_inst.specs.declared.isa.Isa.{Isa}
 use Rattle.rv_machine.specs.After.{after}
 use Rattle.rv_machine.specs.Hart.{Hart}
@@ -33,10 +34,10 @@ use Rattle.theory_unknown_input.specs.UnknownInput.{finding, GoesTo}
 use Rattle.theory_unknown_input.proofs.Invariant.{HoldsAnew}
 use Rattle.theory_unknown_input.proofs.Theorems.{holds_anew, refines_held}
 use Rattle.cf_core.specs.Processors.{Processor, in_state, opened}
-use Rattle.cf_run.specs.declared.answer.Ran.{Ran as Answer}
-use Rattle.cf_run.specs.declared.answer.Ran.TheVariants as ran
-use Rattle.cf_run.specs.declared.answer.Scripted.{Scripted}
-use Rattle.cf_run.specs.declared.answer.Scripted.TheVariants.{Ran, ScriptEnd, BadScript, BarredAt}
+use Rattle.run_finishes.specs.declared.finish.Ran.{Ran as Answer}
+use Rattle.run_finishes.specs.declared.finish.Ran.TheVariants as ran
+use Rattle.run_finishes.specs.declared.finish.Scripted.{Scripted}
+use Rattle.run_finishes.specs.declared.finish.Scripted.TheVariants.{Ran, ScriptEnd, BadScript, BarredAt}
 use Rattle.cf_run.specs.Ending.{IsAfterSteps, EndsUnderLimit, EndsAsMachine, EndsAlike, EndsSequentially}
 use Rattle.cf_run.specs.Going.{moment_of, Leads}
 use Rattle.cf_run.specs.Headline.{machine_on}
@@ -49,7 +50,8 @@ use Rattle.cf_run.proofs.Arrived.{begins}
 use Rattle.cf_run.proofs.Headline.{opened_here, opened_regs}
 use Rattle.cf_run.proofs.Retirements.{ended-kept}
 use Rattle.cf_run.proofs.Runs.{leads-run}
-use Rattle.cf_run.proofs.UnknownInput.{LeadsAnew, leads-anew, goes-anew, left-untold}
+use Rattle.cf_run.proofs.Throughout.{goes-anew}
+use Rattle.cf_run.proofs.UnknownInput.{LeadsAnew, leads-anew, left-untold}
 
 -- where a run has arrived, it is level with the count at the limit, and the program ends below that
 pub record Over (plan : Plan) (limit : ℕ) (s : State) : Type 0 where
@@ -175,7 +177,7 @@ over-opened limit core hart accepted wide opens =
     subst (Over core.plan limit) (sym (ap (λ (p : Processor). p.state) opens)) (over-started core.plan limit (machine_on hart []) accepted wide)
 
 -- and where a run leads to
-over-reached : (limit : ℕ) (shows : Show) (begin now : RunPlace) (hart : Hart) → IsAccepted begin.core.plan → length hart.regs ≡ 32 →
+over-reached : (limit : ℕ) (shows : Reporting) (begin now : RunPlace) (hart : Hart) → IsAccepted begin.core.plan → length hart.regs ≡ 32 →
     begin.core ≡ opened begin.core.plan hart → Reaches limit shows begin now → Over begin.core.plan limit now.core.state
 over-reached limit shows begin now hart accepted wide opens h =
     subst (Over begin.core.plan limit) (sym (ap (λ (p : Processor). p.state) h.core))
@@ -183,7 +185,7 @@ over-reached limit shows begin now hart accepted wide opens h =
     (over-opened limit begin.core hart accepted wide opens) h.leads)
 
 -- over an input whose remaining bytes are known
-ends_told : (bound limit : ℕ) (shows : Show) (begin now : RunPlace) (hart : Hart) (rest : List ℕ) (answer : Answer) → IsAccepted begin.core.plan →
+ends_told : (bound limit : ℕ) (shows : Reporting) (begin now : RunPlace) (hart : Hart) (rest : List ℕ) (answer : Answer) → IsAccepted begin.core.plan →
     length hart.regs ≡ 32 → begin.core ≡ opened begin.core.plan hart → begin.streams.input ≡ Some rest → Reaches bound shows begin now →
     Over begin.core.plan limit now.core.state → IsOver limit now.core.state answer
     → (at : Machine) × (after (isa_of begin.core.plan) (machine_on hart rest) (now.core.state.retired - hart.retired) ≡ Some at)
@@ -211,7 +213,7 @@ ends_told bound limit shows begin now hart rest answer accepted wide opens tells
     )
 
 -- over an input whose remaining bytes are unknown
-ends_untold : (bound limit : ℕ) (shows : Show) (begin now : RunPlace) (hart : Hart) (answer : Answer) → IsAccepted begin.core.plan → length hart.regs ≡ 32 →
+ends_untold : (bound limit : ℕ) (shows : Reporting) (begin now : RunPlace) (hart : Hart) (answer : Answer) → IsAccepted begin.core.plan → length hart.regs ≡ 32 →
     begin.core ≡ opened begin.core.plan hart → begin.streams.input ≡ None → Reaches bound shows begin now → Over begin.core.plan limit now.core.state →
     IsOver limit now.core.state answer
     → (at : Machine) × ((written : List Line) × GoesTo (isa_of begin.core.plan) (machine_on hart []) (now.core.state.retired - hart.retired) at written)
@@ -244,7 +246,7 @@ ends_untold bound limit shows begin now hart answer accepted wide opens none h l
     )
 
 -- a run that is over where it is level ends as the machine does
-pub ends-level : (bound limit : ℕ) (shows : Show) (begin now : RunPlace) (hart : Hart) (answer : Answer) → IsAccepted begin.core.plan → length hart.regs ≡ 32 →
+pub ends-level : (bound limit : ℕ) (shows : Reporting) (begin now : RunPlace) (hart : Hart) (answer : Answer) → IsAccepted begin.core.plan → length hart.regs ≡ 32 →
     begin.core ≡ opened begin.core.plan hart → Reaches bound shows begin now → Over begin.core.plan limit now.core.state → IsOver limit now.core.state answer →
     EndsAsMachine limit hart begin now answer
 ends-level bound limit shows begin now hart answer accepted wide opens h level over = go begin.streams.input refl
@@ -272,7 +274,7 @@ ends-level bound limit shows begin now hart answer accepted wide opens h level o
         }
 
 -- so does a run whose moves were all made below the limit
-pub ends-sequentially : (limit : ℕ) (shows : Show) (begin now : RunPlace) (hart : Hart) (answer : Answer) → IsAccepted begin.core.plan → length hart.regs ≡ 32 →
+pub ends-sequentially : (limit : ℕ) (shows : Reporting) (begin now : RunPlace) (hart : Hart) (answer : Answer) → IsAccepted begin.core.plan → length hart.regs ≡ 32 →
     begin.core ≡ opened begin.core.plan hart → Reaches limit shows begin now → IsOver limit now.core.state answer → EndsAsMachine limit hart begin now answer
 ends-sequentially limit shows begin now hart answer accepted wide opens h over =
     ends-level limit limit shows begin now hart answer accepted wide opens h (over-reached limit shows begin now hart accepted wide opens h) over
@@ -283,7 +285,7 @@ pub same_place : (limit : ℕ) (hart : Hart) (begin now new : RunPlace) (answer 
 same_place limit hart begin now new answer same e = subst (λ (p : RunPlace). EndsAsMachine limit hart begin p answer) (sym same) e
 
 -- so does the run of a script
-pub script-ends : (limit : ℕ) (shows : Show) (begin new : ScriptRun) (hart : Hart) (answer : Scripted) → IsAccepted begin.place.core.plan →
+pub script-ends : (limit : ℕ) (shows : Reporting) (begin new : ScriptRun) (hart : Hart) (answer : Scripted) → IsAccepted begin.place.core.plan →
     length hart.regs ≡ 32 → begin.place.core ≡ opened begin.place.core.plan hart → RunsScript limit shows begin new answer →
     EndsAlike limit hart begin.place new.place answer
 unfolding ScriptStops
@@ -304,33 +306,36 @@ script-ends limit shows begin new hart (BadScript refusal) accepted wide opens r
 script-ends limit shows begin new hart (BarredAt line bar) accepted wide opens r = tt
 
 -- and of a policy
-pub policy-ends : {P : Type 0} (picked : P → List Move → ℕ) (onward : P → List Move → P) (limit : ℕ) (shows : Show) (begin new : RunPlace) (policy later : P)
+pub policy-ends : {P : Type 0} (rule : GuessRule) (picked : P → List Move → ℕ) (onward : P → List Move → P) (limit : ℕ) (shows : Reporting) (begin new : RunPlace)
+    (policy later : P)
     (moves : List Move) (hart : Hart) (answer : Answer) → IsAccepted begin.core.plan → length hart.regs ≡ 32 → begin.core ≡ opened begin.core.plan hart →
-    RunsPolicy picked onward limit shows begin new policy later moves answer → EndsAlike limit hart begin new (Ran answer)
-policy-ends picked onward limit shows begin new policy later moves hart (ran.Exit status) accepted wide opens r =
+    RunsPolicy rule picked onward limit shows begin new policy later moves answer → EndsAlike limit hart begin new (Ran answer)
+policy-ends rule picked onward limit shows begin new policy later moves hart (ran.Exit status) accepted wide opens r =
     same_place limit hart begin r.now new (ran.Exit status) r.stops.1 (ends-sequentially limit shows begin r.now hart
     (ran.Exit status) accepted wide opens r.reaches r.stops.0)
-policy-ends picked onward limit shows begin new policy later moves hart (ran.Trap cause pc detail) accepted wide opens r =
+policy-ends rule picked onward limit shows begin new policy later moves hart (ran.Trap cause pc detail) accepted wide opens r =
     same_place limit hart begin r.now new (ran.Trap cause pc detail) r.stops.1 (ends-sequentially limit shows begin r.now hart
     (ran.Trap cause pc detail) accepted wide opens r.reaches r.stops.0)
-policy-ends picked onward limit shows begin new policy later moves hart ran.Limit accepted wide opens r =
+policy-ends rule picked onward limit shows begin new policy later moves hart ran.Limit accepted wide opens r =
     same_place limit hart begin r.now new ran.Limit r.stops.1 (ends-sequentially limit shows begin r.now hart ran.Limit accepted wide opens r.reaches r.stops.0)
-policy-ends picked onward limit shows begin new policy later moves hart ran.ReadFault accepted wide opens r = tt
-policy-ends picked onward limit shows begin new policy later moves hart ran.WriteFault accepted wide opens r = tt
-policy-ends picked onward limit shows begin new policy later moves hart ran.ReportFault accepted wide opens r = tt
+policy-ends rule picked onward limit shows begin new policy later moves hart ran.ReadFault accepted wide opens r = tt
+policy-ends rule picked onward limit shows begin new policy later moves hart ran.WriteFault accepted wide opens r = tt
+policy-ends rule picked onward limit shows begin new policy later moves hart ran.ReportFault accepted wide opens r = tt
 
 -- on whatever hart the processor was opened
-pub script-ends-sequentially : (limit : ℕ) (shows : Show) (begin new : ScriptRun) (answer : Scripted) → IsAccepted begin.place.core.plan →
+pub script-ends-sequentially : (limit : ℕ) (shows : Reporting) (begin new : ScriptRun) (answer : Scripted) → IsAccepted begin.place.core.plan →
     length begin.place.core.state.regs ≡ 32 → RunsScript limit shows begin new answer → EndsSequentially limit begin.place new.place answer
 unfolding EndsSequentially
 script-ends-sequentially limit shows begin new answer accepted wide r plan hart opens =
     script-ends limit shows begin new hart answer accepted (ap length (sym (opened_regs begin.place.core plan hart opens)) ∙ wide)
     (opened_here begin.place.core plan hart opens) r
 
-pub policy-ends-sequentially : {P : Type 0} (picked : P → List Move → ℕ) (onward : P → List Move →
-    P) (limit : ℕ) (shows : Show) (begin new : RunPlace) (policy later : P) (moves : List Move) (answer : Answer) → IsAccepted begin.core.plan →
-    length begin.core.state.regs ≡ 32 → RunsPolicy picked onward limit shows begin new policy later moves answer → EndsSequentially limit begin new (Ran answer)
+pub policy-ends-sequentially : {P : Type 0} (rule : GuessRule) (picked : P → List Move → ℕ) (onward : P → List Move →
+    P) (limit : ℕ) (shows : Reporting) (begin new : RunPlace) (policy later : P) (moves : List Move) (answer : Answer) → IsAccepted begin.core.plan →
+    length begin.core.state.regs ≡ 32 → RunsPolicy rule picked onward limit shows begin new policy later moves answer → EndsSequentially limit begin new
+    (Ran answer)
 unfolding EndsSequentially
-policy-ends-sequentially picked onward limit shows begin new policy later moves answer accepted wide r plan hart opens =
-    policy-ends picked onward limit shows begin new policy later moves hart answer accepted (ap length (sym (opened_regs begin.core plan hart opens)) ∙ wide)
+policy-ends-sequentially rule picked onward limit shows begin new policy later moves answer accepted wide r plan hart opens =
+    policy-ends rule picked onward limit shows begin new policy later moves hart answer accepted (ap length (sym (opened_regs begin.core plan hart opens)) ∙
+    wide)
     (opened_here begin.core plan hart opens) r

@@ -1,10 +1,10 @@
 -- Which stream failed a run, where it is over and where a move stops it.
 use Rattle.std.proofs.Common.{◌≡◌, ℕ, Some, Ok, Err, refl}
 use Rattle.cf_semantics.specs.state.State.{State}
-use Rattle.cf_run.specs.declared.answer.Ran.{Ran as Answer}
-use Rattle.cf_run.specs.declared.answer.Ran.TheVariants as ran
+use Rattle.run_finishes.specs.declared.finish.Ran.{Ran as Answer}
+use Rattle.run_finishes.specs.declared.finish.Ran.TheVariants as ran
 use Rattle.cf_run.specs.Moving.{input_done, output_done, report_done}
-use Rattle.cf_run.specs.Policies.{input_stopped, output_stopped, report_stopped}
+use Rattle.run_finishes.specs.Stopped.{input_stopped, output_stopped, report_stopped}
 use Rattle.cf_run.specs.Reaching.{IsOver}
 
 -- none where it is over

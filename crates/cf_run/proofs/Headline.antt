@@ -1,7 +1,7 @@
 -- A run is a run of the sequential machine on which its processor was opened, whatever chose its moves and whatever
 -- stops it, and whether or not the input's remaining bytes are known.
 use Rattle.std.proofs.Common.{◌≡◌, ℕ, ◌+◌, List, Option, Some, None, refl, sym, ap, subst, ◌∙◌, length}
-use Rattle.run_options.specs.declared.show.Show.{Show}
+use Rattle.run_options.specs.declared.reporting.Reporting.{Reporting}
 use Rattle.rv_machine.specs.Hart.{Hart}
 use Rattle.rv_machine.specs.Machine.{Machine}
 use Rattle.cf_layout.specs.Accepted.{IsAccepted}
@@ -9,20 +9,19 @@ use Rattle.cf_layout.specs.Layout.{Plan}
 use Rattle.cf_bind.specs.declared.moves.Move.{Move}
 use Rattle.cf_semantics.specs.runs.Runs.{opened as opened_on}
 use Rattle.cf_core.specs.Processors.{Processor, opened}
-use Rattle.theory_unknown_input.proofs.Theorems.{refines_held}
-use Rattle.cf_run.specs.declared.answer.Scripted.{Scripted}
+use Rattle.run_finishes.specs.declared.finish.Scripted.{Scripted}
 use Rattle.cf_run.specs.Headline.{machine_on, moment_after, lines_after, RunsAs, RunsOverUnknownInput, RunsOver, RunsSequentially}
 use Rattle.cf_run.specs.Moving.{RunPlace}
 use Rattle.cf_run.specs.Made.{moves_of}
 use Rattle.cf_run.specs.Scripts.{ScriptRun, RunsScript, first_moves}
 use Rattle.cf_run.proofs.Arrived.{ArrivesBy, arrives-by}
-use Rattle.cf_run.proofs.Settling.{settles}
 use Rattle.cf_run.proofs.ByScript.{comes-to}
 use Rattle.cf_run.proofs.Stopping.{IsStopped, ComesTo}
+use Rattle.cf_run.proofs.Throughout.{right-throughout}
 use Rattle.cf_run.proofs.UnknownInput.{ArrivesAnew, arrives-anew}
 
 -- a run on an opened processor, over an input whose remaining bytes are known
-run-told : (limit : ℕ) (shows : Show) (hart : Hart) (rest : List ℕ) (begin new : RunPlace) (moves : List Move) (answer : Scripted) →
+run-told : (limit : ℕ) (shows : Reporting) (hart : Hart) (rest : List ℕ) (begin new : RunPlace) (moves : List Move) (answer : Scripted) →
     IsAccepted begin.core.plan → length hart.regs ≡ 32 → begin.core ≡ opened begin.core.plan hart → begin.streams.input ≡ Some rest
     → ComesTo limit shows begin moves new answer → RunsAs shows (machine_on hart rest) moves begin new answer
 run-told limit shows hart rest begin new moves answer accepted wide opens tells c =
@@ -32,28 +31,30 @@ run-told limit shows hart rest begin new moves answer accepted wide opens tells 
     let a : ArrivesBy shows x made begin c.now = arrives-by limit shows hart rest begin c.now accepted wide opens tells c.reaches in
     let h : IsStopped shows x (moment_after plan x made) (hart.retired + 1) (lines_after plan x made) begin new answer =
     c.stops x (moment_after plan x made) (hart.retired + 1) (lines_after plan x made) a.arrives in
-    subst (λ (moves : List Move). RunsAs shows x moves begin new answer) c.moves_are (record { right = a.right; stops = h.stops; report = h.report })
+    subst (λ (moves : List Move). RunsAs shows x moves begin new answer) c.moves_are (record {
+      right = a.right;
+      throughout = right-throughout plan x made accepted wide a.right;
+      stops = h.stops;
+      report = h.report;
+    })
 
 -- and over one whose remaining bytes are unknown
-run-untold : (limit : ℕ) (shows : Show) (hart : Hart) (begin new : RunPlace) (moves : List Move) (answer : Scripted) → IsAccepted begin.core.plan →
+run-untold : (limit : ℕ) (shows : Reporting) (hart : Hart) (begin new : RunPlace) (moves : List Move) (answer : Scripted) → IsAccepted begin.core.plan →
     length hart.regs ≡ 32 → begin.core ≡ opened begin.core.plan hart → begin.streams.input ≡ None
-    → ComesTo limit shows begin moves new answer → RunsOverUnknownInput shows hart begin new answer
+    → ComesTo limit shows begin moves new answer → RunsOverUnknownInput shows hart moves begin new answer
 run-untold limit shows hart begin new moves answer accepted wide opens none c =
     let plan : Plan = begin.core.plan in
-    let a : ArrivesAnew shows hart begin c.now = arrives-anew limit shows hart begin c.now accepted wide opens none c.reaches in
+    let a : ArrivesAnew shows hart (moves_of c.reaches.trace) begin c.now = arrives-anew limit shows hart begin c.now accepted wide opens none c.reaches in
     let h : IsStopped shows a.at a.last (hart.retired + 1) a.written begin new answer = c.stops a.at a.last (hart.retired + 1) a.written a.arrives in
-    record {
+    subst (λ (moves : List Move). RunsOverUnknownInput shows hart moves begin new answer) c.moves_are (record {
       at = a.at;
       written = a.written;
       last = a.last;
-      rises = a.rises;
-      goes = a.goes;
-      refines = refines_held plan a.at a.last accepted a.arrives.kept.held a.count;
-      settles = settles plan a.at a.last accepted a.arrives.kept;
-      bounded = a.bounded;
+      right = a.right;
+      throughout = a.throughout;
       stops = h.stops;
       report = h.report;
-    }
+    })
 
 -- a processor that was opened under a layout has it
 pub opened_here : (core : Processor) (plan : Plan) (hart : Hart) → core ≡ opened plan hart → core ≡ opened core.plan hart
@@ -66,7 +67,7 @@ unfolding opened opened_on
 opened_regs core plan hart is = ap (λ (p : Processor). p.state.regs) is
 
 -- a run that reached some RunPlace is a run of that machine
-runs_over : (limit : ℕ) (shows : Show) (hart : Hart) (begin new : RunPlace) (moves : List Move) (answer : Scripted) → IsAccepted begin.core.plan →
+runs_over : (limit : ℕ) (shows : Reporting) (hart : Hart) (begin new : RunPlace) (moves : List Move) (answer : Scripted) → IsAccepted begin.core.plan →
     length hart.regs ≡ 32 → begin.core ≡ opened begin.core.plan hart
     → ComesTo limit shows begin moves new answer → RunsOver begin.streams.input shows hart moves begin new answer
 runs_over limit shows hart begin new moves answer accepted wide opens c = over begin.streams.input refl
@@ -76,7 +77,7 @@ runs_over limit shows hart begin new moves answer accepted wide opens c = over b
     over None tells = run-untold limit shows hart begin new moves answer accepted wide opens tells c
 
 -- the headline
-pub comes_sequentially : (limit : ℕ) (shows : Show) (begin new : RunPlace) (moves : List Move) (answer : Scripted) → IsAccepted begin.core.plan →
+pub comes_sequentially : (limit : ℕ) (shows : Reporting) (begin new : RunPlace) (moves : List Move) (answer : Scripted) → IsAccepted begin.core.plan →
     length begin.core.state.regs ≡ 32 → ComesTo limit shows begin moves new answer → RunsSequentially shows moves begin new answer
 unfolding RunsSequentially
 comes_sequentially limit shows begin new moves answer accepted wide c plan hart opens =
@@ -84,7 +85,7 @@ comes_sequentially limit shows begin new moves answer accepted wide c plan hart 
     (opened_here begin.core plan hart opens) c
 
 -- of a script
-pub runs-sequentially : (limit : ℕ) (shows : Show) (begin new : ScriptRun) (answer : Scripted) → IsAccepted begin.place.core.plan →
+pub runs-sequentially : (limit : ℕ) (shows : Reporting) (begin new : ScriptRun) (answer : Scripted) → IsAccepted begin.place.core.plan →
     length begin.place.core.state.regs ≡ 32 → RunsScript limit shows begin new answer → RunsSequentially shows
     (first_moves begin.script new.place.tally) begin.place new.place answer
 runs-sequentially limit shows begin new answer accepted wide r =

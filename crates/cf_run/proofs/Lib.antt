@@ -1,3 +1,4 @@
+pub mod ByRule
 pub mod Moves
 pub mod Faults
 pub mod AfterOutput
@@ -7,6 +8,7 @@ pub mod Retirements
 pub mod Fronts
 pub mod Settling
 pub mod Arrived
+pub mod Throughout
 pub mod UnknownInput
 pub mod Stopping
 pub mod ByScript

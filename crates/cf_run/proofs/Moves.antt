@@ -1,6 +1,6 @@
 -- What a move of the processor did, as a move of a run.
 use Rattle.std.proofs.Common.{◌≡◌, ℕ, List, Option, Some, None, Ok, Err, refl, subst}
-use Rattle.run_options.specs.declared.show.Show.{Show}
+use Rattle.run_options.specs.declared.reporting.Reporting.{Reporting}
 use Rattle.rv_machine.specs.Streams.{Streams}
 use Rattle.cf_bind.specs.declared.moves.Move.{Move}
 use Rattle.cf_layout.specs.Layout.{Plan}
@@ -11,9 +11,9 @@ use Rattle.cf_core.specs.Stepping.{MakesOrFails}
 use Rattle.cf_core.specs.declared.fault.Fault.TheVariants as fault
 use Rattle.cf_report.specs.declared.tally.Tally.{Tally}
 use Rattle.cf_report.specs.Putting.{PutsText}
-use Rattle.cf_run.specs.declared.answer.Ran.{Ran as Answer}
-use Rattle.cf_run.specs.declared.answer.Ran.TheVariants as ran
-use Rattle.cf_run.specs.declared.answer.Scripted.TheVariants.{Ran}
+use Rattle.run_finishes.specs.declared.finish.Ran.{Ran as Answer}
+use Rattle.run_finishes.specs.declared.finish.Ran.TheVariants as ran
+use Rattle.run_finishes.specs.declared.finish.Scripted.TheVariants.{Ran}
 use Rattle.cf_run.specs.Made.{counted, shown}
 use Rattle.cf_run.specs.Moving.{RunPlace, place_of, MakesMove, MakesAndShows, MakesUnshown, MoveDoes}
 use Rattle.cf_run.specs.Reaching.{GoesOn}
@@ -31,7 +31,7 @@ same_plan : (mv : Move) (now new : RunPlace) (e : Event) → MakesOrFails now.co
 unfolding MakesOrFails
 same_plan mv now new e h = h.0.plan
 
-pub made-shown : {E : Type 0} (show : Show) (mv : Move) (now new : RunPlace) (e : Event) (i j : ℕ) (done : Unit {0}) →
+pub made-shown : {E : Type 0} (show : Reporting) (mv : Move) (now new : RunPlace) (e : Event) (i j : ℕ) (done : Unit {0}) →
     bar now.core.plan now.core.state mv ≡ None → MakesOrFails now.core new.core mv now.streams new.streams (Ok e) → new.tally ≡ counted now.tally mv e
     → PutsText {E = E} now.report new.report i j (shown show new.core.plan new.tally.moves (record { move = mv; event = e; state = new.core.state }))
     (Ok done) → MakesAndShows show mv e now new
@@ -41,7 +41,7 @@ made-shown {E = E} show mv now new e i j done free h counts put =
     (shown show plan new.tally.moves (record { move = mv; event = e; state = new.core.state })) (Ok done) in
     record { makes = made mv now new e free h counts; report = (subst P (same_plan mv now new e h) put).all }
 
-pub made-unshown : {T E : Type 0} (show : Show) (mv : Move) (now new : RunPlace) (e : Event) (i j : ℕ) (failed : E) →
+pub made-unshown : {T E : Type 0} (show : Reporting) (mv : Move) (now new : RunPlace) (e : Event) (i j : ℕ) (failed : E) →
     bar now.core.plan now.core.state mv ≡ None → MakesOrFails now.core new.core mv now.streams new.streams (Ok e) → new.tally ≡ counted now.tally mv e
     → PutsText {T = T} now.report new.report i j (shown show new.core.plan new.tally.moves (record { move = mv; event = e; state = new.core.state }))
     (Err failed) → MakesUnshown show mv e now new
@@ -52,20 +52,20 @@ made-unshown {T = T} {E = E} show mv now new e i j failed free h counts put =
     record { makes = made mv now new e free h counts; report = (subst P (same_plan mv now new e h) put).front }
 
 -- a stream failed the move
-pub does-read_fault : (show : Show) (mv : Move) (old new : Processor) (before after : Streams) (report : Option (List ℕ)) (tally : Tally) →
+pub does-read_fault : (show : Reporting) (mv : Move) (old new : Processor) (before after : Streams) (report : Option (List ℕ)) (tally : Tally) →
     bar old.plan old.state mv ≡ None → MakesOrFails old new mv before after (Err fault.Read) →
     MoveDoes show mv (place_of old before report tally) (place_of new after report tally) (Err ran.ReadFault)
 unfolding MakesOrFails MoveDoes
 does-read_fault show mv old new before after report tally free h = (record { allowed = free; serves = h.0; report = refl; tally = refl }, h.1)
 
-pub does-write_fault : (show : Show) (mv : Move) (old new : Processor) (before after : Streams) (report : Option (List ℕ)) (tally : Tally) →
+pub does-write_fault : (show : Reporting) (mv : Move) (old new : Processor) (before after : Streams) (report : Option (List ℕ)) (tally : Tally) →
     bar old.plan old.state mv ≡ None → MakesOrFails old new mv before after (Err fault.Write) →
     MoveDoes show mv (place_of old before report tally) (place_of new after report tally) (Err ran.WriteFault)
 unfolding MakesOrFails MoveDoes
 does-write_fault show mv old new before after report tally free h = (record { allowed = free; serves = h.0; report = refl; tally = refl }, h.1)
 
 -- a turn whose move is made
-pub turned-made : (limit : ℕ) (show : Show) (now new : ScriptRun) (line : ℕ) (mv : Move) (event : Event) → GoesOn limit now.place.core.state →
+pub turned-made : (limit : ℕ) (show : Reporting) (now new : ScriptRun) (line : ℕ) (mv : Move) (event : Event) → GoesOn limit now.place.core.state →
     next_of now.script ≡ Ok (Some (line, mv)) → new.script ≡ after_next now.script → MoveDoes show mv now.place new.place (Ok event) →
     ScriptTries limit show now new None
 unfolding DoesLine
@@ -73,7 +73,7 @@ turned-made limit show now new line mv event goes next left does =
     record { goes = goes; line = line; move = mv; next = next; script = left; does = (event, does) }
 
 -- and a turn whose move stops the run
-pub turned-stopped : (limit : ℕ) (show : Show) (now new : ScriptRun) (line : ℕ) (mv : Move) (answer : Answer) → GoesOn limit now.place.core.state →
+pub turned-stopped : (limit : ℕ) (show : Reporting) (now new : ScriptRun) (line : ℕ) (mv : Move) (answer : Answer) → GoesOn limit now.place.core.state →
     next_of now.script ≡ Ok (Some (line, mv)) → new.script ≡ after_next now.script → MoveDoes show mv now.place new.place (Err answer) →
     ScriptStops limit show now new (Ran answer)
 unfolding ScriptStops DoesLine MoveDoes

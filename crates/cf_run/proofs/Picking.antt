@@ -16,8 +16,9 @@ use Rattle.theory_refinement.proofs.claims.Runs.{going}
 use Rattle.theory_unknown_input.specs.UnknownInput.{finding}
 use Rattle.theory_unknown_input.proofs.Invariant.{HoldsAnew}
 use Rattle.theory_unknown_input.specs.Paced.{PacesTo}
-use Rattle.theory_unknown_input.proofs.Offered.{anew_shape, offered_held}
+use Rattle.theory_unknown_input.proofs.Offered.{anew_shape}
 use Rattle.theory_unknown_input.proofs.Theorems.{anew_kept}
+use Rattle.cf_run.proofs.ByRule.{ruled-held}
 use Rattle.cf_run.specs.Made.{Made, moves_of}
 use Rattle.cf_run.specs.Going.{Leads}
 use Rattle.cf_run.specs.Policies.{Chooser, choice, after_choice, offered_to, Picks}
@@ -55,7 +56,7 @@ picks-paced {P} picked onward plan limit told x before m (made ∷ trace) last a
     let on : Chooser P = after_choice onward plan at m.state made in
     let unended = going plan m.state made.move is.allowed in
     let free : is_held plan at.count ≡ true → is_issue made.move ≡ true → IsStuck plan m.state =
-    offered_held plan at.count m.state (picked at.policy (offered_to plan at m.state)) made.move (anew_shape plan x m before holds unended) pick in
+    ruled-held at.rule plan at.count m.state (picked at.policy (offered_to plan at m.state)) made.move (anew_shape plan x m before holds unended) pick in
     let kept : HoldsAnew plan x (before ++ retires plan m.state made.move) t = anew_kept plan x m made.move rest before
     (accepted_suits plan accepted) is.allowed holds in
     let there : Picks picked onward plan on t.state trace now = subst (λ (s : State). Picks picked onward plan on s trace now) is.state picks in

@@ -1,6 +1,6 @@
 -- The lines that are shown of the instructions that retire are those of the run.
 use Rattle.std.proofs.Common.{◌≡◌, ℕ, ◌+◌, List, [], ◌∷◌, ◌++◌, ◌⊎◌, inl, inr, Option, Some, None, true, false, refl, sym, ap, subst, ◌∙◌, arith}
-use Rattle.run_options.specs.declared.show.Show.TheVariants as show
+use Rattle.run_options.specs.Reportings as show
 use Rattle.rv_inst.proofs.OneWord.{Encodes-inj}
 use Rattle.rv_machine.specs.declared.outcome.Retired.{Retired}
 use Rattle.cf_layout.specs.Layout.{Plan}
@@ -158,18 +158,18 @@ made-texts plan limit m made more text is texts =
 
 -- what is shown of the moves where retirements are, is a text of the lines of the run
 pub shown-lines : (plan : Plan) (limit : ℕ) (told : List ℕ) (m : Moment) (n : ℕ) (trace : List Made) (last : Moment) →
-    Leads plan limit (Some told) m trace last → AreTexts (m.state.retired + 1) (lines plan m (moves_of trace)) (all_shown show.Retired plan n trace)
+    Leads plan limit (Some told) m trace last → AreTexts (m.state.retired + 1) (lines plan m (moves_of trace)) (all_shown show.retired plan n trace)
 unfolding Leads lines all_shown shown next
 shown-lines plan limit told m n [] last h = refl
 shown-lines plan limit told m n (made ∷ trace) last (rest, same, is, h) =
     let t : Moment = next plan (record m { rest = rest }) made.move in
-    let later : AreTexts (t.state.retired + 1) (lines plan t (moves_of trace)) (all_shown show.Retired plan (n + 1) trace) =
+    let later : AreTexts (t.state.retired + 1) (lines plan t (moves_of trace)) (all_shown show.retired plan (n + 1) trace) =
     shown-lines plan limit told t (n + 1) trace last h in
     let P : List ℕ → Type 0 = λ r. AreTexts (m.state.retired + 1) (retires plan m.state made.move
     ++ lines plan (next plan (record m { rest = r }) made.move) (moves_of trace)) (retirement made.state.retired made.event
-    ++ all_shown show.Retired plan (n + 1) trace) in
+    ++ all_shown show.retired plan (n + 1) trace) in
     let here : P rest = made-texts plan limit (record m { rest = rest }) made (lines plan t (moves_of trace))
-    (all_shown show.Retired plan (n + 1) trace) is later in
+    (all_shown show.retired plan (n + 1) trace) is later in
     subst P same here
 
 -- a line is shown in one way

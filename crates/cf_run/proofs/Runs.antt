@@ -3,7 +3,7 @@ use Rattle.std.proofs.Common.{◌≡◌, ℕ, zero, suc, ◌+◌, ◌<◌, ◌�
 use Rattle.std.specs.Prelude.{count_by, unwrap_or}
 use Rattle.std.proofs.lemmas.List.{length-append}
 use Rattle.std.proofs.lemmas.List.Sums.{count_by-le-length, sum_by-append}
-use Rattle.run_options.specs.declared.show.Show.{Show}
+use Rattle.run_options.specs.declared.reporting.Reporting.{Reporting}
 use Rattle.cf_io.specs.Puts.{Writes}
 use Rattle.cf_io.proofs.Owing.{writes-nothing, writes-again}
 use Rattle.rv_machine.specs.Streams.{Streams, IsTold, Becomes, Leaves}
@@ -61,7 +61,7 @@ runs-to plan limit None m trace last h = tt
 runs-to plan limit (Some told) m trace last h = leads-run plan limit told m trace last h
 
 -- before the first move
-pub reached-none : (limit : ℕ) (show : Show) (start : RunPlace) → start.tally ≡ no_tally → Reaches limit show start start
+pub reached-none : (limit : ℕ) (show : Reporting) (start : RunPlace) → start.tally ≡ no_tally → Reaches limit show start start
 unfolding Leads tally_of all_shown
 reached-none limit show start none =
     let told : Option (List ℕ) = start.streams.input in
@@ -80,11 +80,11 @@ reached-none limit show start none =
       report = writes-nothing start.report;
     }
 
-pub none-trace : (limit : ℕ) (show : Show) (start : RunPlace) (none : start.tally ≡ no_tally) → (reached-none limit show start none).trace ≡ []
+pub none-trace : (limit : ℕ) (show : Reporting) (start : RunPlace) (none : start.tally ≡ no_tally) → (reached-none limit show start none).trace ≡ []
 unfolding reached-none
 none-trace limit show start none = refl
 
-pub followed-none : (limit : ℕ) (show : Show) (start : ScriptRun) → start.place.tally ≡ no_tally → Follows limit show start start
+pub followed-none : (limit : ℕ) (show : Reporting) (start : ScriptRun) → start.place.tally ≡ no_tally → Follows limit show start start
 unfolding reached-none
 followed-none limit show start none = record { reaches = reached-none limit show start.place none; moves = refl; script = refl }
 
@@ -181,7 +181,7 @@ tally-more trace made =
     ) refl
 
 -- what is shown of one more move
-shown-more : (show : Show) (plan : Plan) (n k : ℕ) (trace : List Made) (made : Made) → k ≡ n + length trace →
+shown-more : (show : Reporting) (plan : Plan) (n k : ℕ) (trace : List Made) (made : Made) → k ≡ n + length trace →
     all_shown show plan n (trace ++ made ∷ []) ≡ all_shown show plan n trace ++ shown show plan k made
 unfolding all_shown
 shown-more show plan n k [] made e = let same : k ≡ n = omega arith in rw same (append-nil (shown show plan n made))
@@ -195,7 +195,7 @@ unfolding tally_of
 moves-counted trace now new mv e same counts = rw (counts, same) (omega arith)
 
 -- one more move
-pub reached-more : (limit : ℕ) (show : Show) (start now new : RunPlace) (mv : Move) (e : Event) → Reaches limit show start now →
+pub reached-more : (limit : ℕ) (show : Reporting) (start now new : RunPlace) (mv : Move) (e : Event) → Reaches limit show start now →
     now.core.state.retired < limit → MakesAndShows show mv e now new → Reaches limit show start new
 reached-more limit show start now new mv e h below d =
     let o : MakesMove mv e now new = d.makes in
@@ -223,20 +223,20 @@ reached-more limit show start now new mv e h below d =
     }
 
 -- the moves that led here, and that one
-pub reached-trace : (limit : ℕ) (show : Show) (start now new : RunPlace) (mv : Move) (e : Event) (h : Reaches limit show start now)
+pub reached-trace : (limit : ℕ) (show : Reporting) (start now new : RunPlace) (mv : Move) (e : Event) (h : Reaches limit show start now)
     (below : now.core.state.retired < limit) (d : MakesAndShows show mv e now new)
     → (reached-more limit show start now new mv e h below d).trace ≡ h.trace ++ record { move = mv; event = e; state = new.core.state } ∷ []
 unfolding reached-more
 reached-trace limit show start now new mv e h below d = refl
 
 -- and the input that they found
-pub reached-rest : (limit : ℕ) (show : Show) (start now new : RunPlace) (mv : Move) (e : Event) (h : Reaches limit show start now)
+pub reached-rest : (limit : ℕ) (show : Reporting) (start now new : RunPlace) (mv : Move) (e : Event) (h : Reaches limit show start now)
     (below : now.core.state.retired < limit) (d : MakesAndShows show mv e now new)
     → (reached-more limit show start now new mv e h below d).rest ≡ h.rest
 unfolding reached-more
 reached-rest limit show start now new mv e h below d = refl
 
-pub followed-more : (limit : ℕ) (show : Show) (start now new : ScriptRun) → Follows limit show start now → ScriptTries limit show now new None →
+pub followed-more : (limit : ℕ) (show : Reporting) (start now new : ScriptRun) → Follows limit show start now → ScriptTries limit show now new None →
     Follows limit show start new
 unfolding DoesLine MoveDoes reached-more
 followed-more limit show start now new f t =
@@ -256,7 +256,7 @@ followed-more limit show start now new f t =
     }
 
 -- the moves that led here, and that one
-pub followed-trace : (limit : ℕ) (show : Show) (start now new : ScriptRun) (f : Follows limit show start now) (t : ScriptTries limit show now new None) →
+pub followed-trace : (limit : ℕ) (show : Reporting) (start now new : ScriptRun) (f : Follows limit show start now) (t : ScriptTries limit show now new None) →
     (made : Made) × (made.move ≡ t.move) × ((followed-more limit show start now new f t).reaches.trace ≡ f.reaches.trace ++ made ∷ [])
 unfolding DoesLine MoveDoes followed-more reached-more
 followed-trace limit show start now new f t = (record { move = t.move; event = t.does.0; state = new.place.core.state }, refl, refl)
@@ -268,11 +268,11 @@ retired-within limit old new mv before after below makes =
     let m : Moment = record { state = old.state; rest = makes.rest; output = [] } in
     omega (arith, next-retired old.plan m mv, ap (λ (q : Moment). q.state.retired) makes.is)
 
-pub made-within : (limit : ℕ) (show : Show) (now new : RunPlace) (mv : Move) (e : Event) → now.core.state.retired < limit → MakesAndShows show mv e now new →
+pub made-within : (limit : ℕ) (show : Reporting) (now new : RunPlace) (mv : Move) (e : Event) → now.core.state.retired < limit → MakesAndShows show mv e now new →
     new.core.state.retired ≤ limit
 made-within limit show now new mv e below d = retired-within limit now.core new.core mv now.streams new.streams below d.makes.makes
 
-pub tried-within : (limit : ℕ) (show : Show) (now new : ScriptRun) → ScriptTries limit show now new None → new.place.core.state.retired ≤ limit
+pub tried-within : (limit : ℕ) (show : Reporting) (now new : ScriptRun) → ScriptTries limit show now new None → new.place.core.state.retired ≤ limit
 unfolding DoesLine MoveDoes
 tried-within limit show now new t = made-within limit show now.place new.place t.move t.does.0 t.goes.below t.does.1
 
@@ -282,15 +282,15 @@ lengths : (moves : List (ℕ × Move)) (refused : Option ScriptErr) (line : ℕ)
 lengths [] refused line mv e = absurd (nothing-next refused line mv e)
 lengths (first ∷ moves) refused line mv e = add-one (length moves)
 
-pub tried-left : (limit : ℕ) (show : Show) (now new : ScriptRun) → ScriptTries limit show now new None → length new.script.moves + 1 ≡ length now.script.moves
+pub tried-left : (limit : ℕ) (show : Reporting) (now new : ScriptRun) → ScriptTries limit show now new None → length new.script.moves + 1 ≡ length now.script.moves
 tried-left limit show now new t = rw t.script (lengths now.script.moves now.script.refused t.line t.move t.next)
 
-pub tried-counted : (limit : ℕ) (show : Show) (now new : ScriptRun) → ScriptTries limit show now new None → new.place.tally.moves ≡ now.place.tally.moves + 1
+pub tried-counted : (limit : ℕ) (show : Reporting) (now new : ScriptRun) → ScriptTries limit show now new None → new.place.tally.moves ≡ now.place.tally.moves + 1
 unfolding DoesLine MoveDoes
 tried-counted limit show now new t = ap (λ (tally : Tally). tally.moves) t.does.1.makes.tally
 
 -- no count is greater than that of the moves
-pub counts-within : (limit : ℕ) (show : Show) (start now : RunPlace) → Reaches limit show start now →
+pub counts-within : (limit : ℕ) (show : Reporting) (start now : RunPlace) → Reaches limit show start now →
     (now.tally.meets ≤ now.tally.moves) × (now.tally.kills ≤ now.tally.moves) × (now.tally.dead ≤ now.tally.moves)
 unfolding tally_of
 counts-within limit show start now h =
@@ -301,7 +301,7 @@ counts-within limit show start now h =
     )
 
 -- so all can be counted on where the moves can
-pub can-count : (limit : ℕ) (show : Show) (start now : RunPlace) → Reaches limit show start now → now.tally.moves + 1 < 2 ^ 64 → CanCount now.tally
+pub can-count : (limit : ℕ) (show : Reporting) (start now : RunPlace) → Reaches limit show start now → now.tally.moves + 1 < 2 ^ 64 → CanCount now.tally
 can-count limit show start now h few =
     let within = counts-within limit show start now h in
     record { moves = few; meets = omega (arith, few, within.0); kills = omega (arith, few, within.1); dead = omega (arith, few, within.2) }

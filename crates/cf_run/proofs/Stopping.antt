@@ -1,8 +1,8 @@
 -- How a run stops, at whatever moment it has reached.
 use Rattle.std.proofs.Common.{◌≡◌, ℕ, ◌<◌, List, [], ◌∷◌, ◌++◌, Option, Some, None, Err, true, arith, refl, sym, ap, subst, ◌∙◌, take, append_assoc}
 use Rattle.std.proofs.lemmas.List.{append_cancel_left}
-use Rattle.run_options.specs.declared.show.Show.{Show}
-use Rattle.run_options.specs.declared.show.Show.TheVariants as show
+use Rattle.run_options.specs.declared.reporting.Reporting.{Reporting}
+use Rattle.run_options.specs.Reportings as show
 use Rattle.cf_io.specs.Puts.{Writes, WritesFront}
 use Rattle.cf_io.proofs.Owing.{front-again, writes-again}
 use Rattle.rv_machine.specs.Machine.{Machine}
@@ -17,10 +17,10 @@ use Rattle.cf_semantics.specs.state.State.{State, Moment}
 use Rattle.theory_refinement.proofs.invariant.Invariant.{HoldsAfter}
 use Rattle.cf_core.specs.Processors.{Processor, in_state}
 use Rattle.cf_core.specs.Stepping.{FailsToRead, FailsToWrite}
-use Rattle.cf_run.specs.declared.answer.Ran.{Ran as Answer}
-use Rattle.cf_run.specs.declared.answer.Ran.TheVariants as ran
-use Rattle.cf_run.specs.declared.answer.Scripted.{Scripted}
-use Rattle.cf_run.specs.declared.answer.Scripted.TheVariants.{Ran}
+use Rattle.run_finishes.specs.declared.finish.Ran.{Ran as Answer}
+use Rattle.run_finishes.specs.declared.finish.Ran.TheVariants as ran
+use Rattle.run_finishes.specs.declared.finish.Scripted.{Scripted}
+use Rattle.run_finishes.specs.declared.finish.Scripted.TheVariants.{Ran}
 use Rattle.cf_run.specs.Headline.{StandsAt, IsUnmoved, FailsInput, FailsOutput, StopsAt, AreTexts, Gets, ReportsLines}
 use Rattle.cf_run.specs.Made.{Made, moves_of, all_shown}
 use Rattle.cf_run.specs.Moving.{RunPlace, MakesMove, MakesAndShows, FailsOutside, MoveDoes, shown_of}
@@ -30,25 +30,23 @@ use Rattle.cf_run.proofs.Fronts.{front-after}
 use Rattle.cf_run.proofs.Runs.{moves-more, reached-more, reached-trace}
 
 -- a run stopped at the moment, and reported these lines, numbered from n on
-pub record IsStopped (shows : Show) (x : Machine) (m : Moment) (n : ℕ) (written : List Line) (begin new : RunPlace) (answer : Scripted) : Type 0 where
+pub record IsStopped (shows : Reporting) (x : Machine) (m : Moment) (n : ℕ) (written : List Line) (begin new : RunPlace) (answer : Scripted) : Type 0 where
   pub stops : StopsAt x m begin new answer
   pub report : ReportsLines shows n written begin new answer
 
 -- whatever holds of the RunPlace that it had reached, it stopped there
-abbrev StopsFrom : Show → (begin now new : RunPlace) → Scripted → Type 0
+abbrev StopsFrom : Reporting → (begin now new : RunPlace) → Scripted → Type 0
 StopsFrom shows begin now new answer =
     (x : Machine) (m : Moment) (n : ℕ) (written : List Line) → Arrives shows x m n written begin now → IsStopped shows x m n written begin new answer
 
 -- the report of a run that stopped in this way
-told_lines : (shows : Show) (begin new : RunPlace) (answer : Scripted) (trace : List Made) (n : ℕ) (written : List Line) →
-    AreTexts n written (all_shown show.Retired begin.core.plan 1 trace)
+told_lines : (shows : Reporting) (begin new : RunPlace) (answer : Scripted) (trace : List Made) (n : ℕ) (written : List Line) →
+    AreTexts n written (all_shown show.retired begin.core.plan 1 trace)
     → Gets begin.report new.report answer (all_shown shows begin.core.plan 1 trace) → ReportsLines shows n written begin new answer
-told_lines show.Retired begin new answer trace n written texts gets = (all_shown show.Retired begin.core.plan 1 trace, texts, gets)
-told_lines show.Report begin new answer trace n written texts gets = tt
-told_lines show.Moves begin new answer trace n written texts gets = (trace, texts, gets)
+told_lines shows begin new answer trace n written texts gets = (trace, texts, gets)
 
 -- a run that does not go on from where it has arrived
-stays : (shows : Show) (begin now new : RunPlace) (answer : Scripted) → new ≡ now → ((x : Machine) (m : Moment) → StandsAt m begin new →
+stays : (shows : Reporting) (begin now new : RunPlace) (answer : Scripted) → new ≡ now → ((x : Machine) (m : Moment) → StandsAt m begin new →
     StopsAt x m begin new answer)
     → ((text : List ℕ) → Writes begin.report new.report text → Gets begin.report new.report answer text) → StopsFrom shows begin now new answer
 stays shows begin now new answer same stops gets x m n written a =
@@ -125,7 +123,7 @@ no_output mv x m begin now new accepted held core streams outside h =
     }
 
 -- the report of a run that a failed call stops, which is not counted or shown
-broken_lines : (shows : Show) (x : Machine) (m : Moment) (n : ℕ) (written : List Line) (begin now new : RunPlace) (answer : Scripted) (mv : Move) →
+broken_lines : (shows : Reporting) (x : Machine) (m : Moment) (n : ℕ) (written : List Line) (begin now new : RunPlace) (answer : Scripted) (mv : Move) →
     Arrives shows x m n written begin now → FailsOutside mv now new
     → ((text : List ℕ) → Writes begin.report new.report text → Gets begin.report new.report answer text) → ReportsLines shows n written begin new answer
 broken_lines shows x m n written begin now new answer mv a outside gets =
@@ -133,7 +131,7 @@ broken_lines shows x m n written begin now new answer mv a outside gets =
     (gets _ (subst (λ (o : Option (List ℕ)). Writes begin.report o (all_shown shows begin.core.plan 1 a.trace)) (sym outside.report) a.report))
 
 -- it stops at a failed read
-unread_stop : (shows : Show) (begin now new : RunPlace) (mv : Move) → FailsOutside mv now new → FailsToRead now.core new.core now.streams new.streams →
+unread_stop : (shows : Reporting) (begin now new : RunPlace) (mv : Move) → FailsOutside mv now new → FailsToRead now.core new.core now.streams new.streams →
     StopsFrom shows begin now new (Ran ran.ReadFault)
 unfolding StopsAt Gets
 unread_stop shows begin now new mv outside fails x m n written a = record {
@@ -142,7 +140,7 @@ unread_stop shows begin now new mv outside fails x m n written a = record {
 }
 
 -- or at a failed write
-unwritten_stop : (shows : Show) (begin now new : RunPlace) (mv : Move) → IsAccepted begin.core.plan → FailsOutside mv now new →
+unwritten_stop : (shows : Reporting) (begin now new : RunPlace) (mv : Move) → IsAccepted begin.core.plan → FailsOutside mv now new →
     FailsToWrite now.core new.core now.streams new.streams → StopsFrom shows begin now new (Ran ran.WriteFault)
 unfolding StopsAt Gets
 unwritten_stop shows begin now new mv accepted outside fails x m n written a = record {
@@ -170,7 +168,7 @@ front_whole (Some told) b c x y z h front whole =
     subst (WritesFront (Some told) c) same (front-again (Some told) b c x y h front)
 
 -- the last move of a run whose report failed, as if it had not failed
-pub shown_too : (shows : Show) (mv : Move) (e : Event) (now new : RunPlace) → MakesMove mv e now new →
+pub shown_too : (shows : Reporting) (mv : Move) (e : Event) (now new : RunPlace) → MakesMove mv e now new →
     MakesAndShows shows mv e now (record new { report = filled now.report (shown_of shows mv e now new) })
 shown_too shows mv e now new d =
     let text : List ℕ = shown_of shows mv e now new in
@@ -180,14 +178,14 @@ shown_too shows mv e now new d =
     }
 
 -- where a run arrived in the end: it made these moves, and stopped there
-pub record ComesTo (limit : ℕ) (shows : Show) (begin : RunPlace) (moves : List Move) (new : RunPlace) (answer : Scripted) : Type 0 where
+pub record ComesTo (limit : ℕ) (shows : Reporting) (begin : RunPlace) (moves : List Move) (new : RunPlace) (answer : Scripted) : Type 0 where
   pub now : RunPlace
   pub reaches : Reaches limit shows begin now
   pub moves_are : moves_of reaches.trace ≡ moves
   pub stops : StopsFrom shows begin now new answer
 
 -- a run that has reached a RunPlace and does not go on
-pub comes_here : (limit : ℕ) (shows : Show) (begin now new : RunPlace) (answer : Scripted) (h : Reaches limit shows begin now) → new ≡ now →
+pub comes_here : (limit : ℕ) (shows : Reporting) (begin now new : RunPlace) (answer : Scripted) (h : Reaches limit shows begin now) → new ≡ now →
     ((x : Machine) (m : Moment) → StandsAt m begin new → StopsAt x m begin new answer)
     → ((text : List ℕ) → Writes begin.report new.report text → Gets begin.report new.report answer text) →
     ComesTo limit shows begin (moves_of h.trace) new answer
@@ -199,7 +197,7 @@ comes_here limit shows begin now new answer h same stops gets = record {
 }
 
 -- a run that is over
-pub comes_over : (limit : ℕ) (shows : Show) (begin now new : RunPlace) (answer : Answer) (h : Reaches limit shows begin now) →
+pub comes_over : (limit : ℕ) (shows : Reporting) (begin now new : RunPlace) (answer : Answer) (h : Reaches limit shows begin now) →
     IsOver limit now.core.state answer → new ≡ now → ComesTo limit shows begin (moves_of h.trace) new (Ran answer)
 unfolding StopsAt Gets
 comes_over limit shows begin now new (ran.Exit status) h is same = comes_here limit shows begin now new (Ran (ran.Exit status)) h same (λ x m h. h)
@@ -212,20 +210,20 @@ comes_over limit shows begin now new ran.WriteFault h is same = absurd is
 comes_over limit shows begin now new ran.ReportFault h is same = absurd is
 
 -- a run whose next move the input failed
-pub comes_unread : (limit : ℕ) (shows : Show) (begin now new : RunPlace) (mv : Move) (h : Reaches limit shows begin now) →
+pub comes_unread : (limit : ℕ) (shows : Reporting) (begin now new : RunPlace) (mv : Move) (h : Reaches limit shows begin now) →
     MoveDoes shows mv now new (Err ran.ReadFault) → ComesTo limit shows begin (moves_of h.trace) new (Ran ran.ReadFault)
 unfolding MoveDoes
 comes_unread limit shows begin now new mv h does = record { now = now; reaches = h; moves_are = refl; stops = unread_stop shows begin now new mv does.0 does.1 }
 
 -- or the output
-pub comes_unwritten : (limit : ℕ) (shows : Show) (begin now new : RunPlace) (mv : Move) → IsAccepted begin.core.plan → (h : Reaches limit shows begin now) →
+pub comes_unwritten : (limit : ℕ) (shows : Reporting) (begin now new : RunPlace) (mv : Move) → IsAccepted begin.core.plan → (h : Reaches limit shows begin now) →
     MoveDoes shows mv now new (Err ran.WriteFault) → ComesTo limit shows begin (moves_of h.trace) new (Ran ran.WriteFault)
 unfolding MoveDoes
 comes_unwritten limit shows begin now new mv accepted h does =
     record { now = now; reaches = h; moves_are = refl; stops = unwritten_stop shows begin now new mv accepted does.0 does.1 }
 
 -- a run whose report failed, after a move that was made and counted
-pub comes_unshown : (limit : ℕ) (shows : Show) (begin now new : RunPlace) (mv : Move) (h : Reaches limit shows begin now) → now.core.state.retired < limit →
+pub comes_unshown : (limit : ℕ) (shows : Reporting) (begin now new : RunPlace) (mv : Move) (h : Reaches limit shows begin now) → now.core.state.retired < limit →
     MoveDoes shows mv now new (Err ran.ReportFault) → ComesTo limit shows begin (moves_of h.trace ++ mv ∷ []) new (Ran ran.ReportFault)
 unfolding MoveDoes StopsAt Gets
 comes_unshown limit shows begin now new mv h below (e, d) =

@@ -1,9 +1,9 @@
--- The headline: a run leaves what the sequential machine leaves on which the processor was opened, whether or not the
--- input's remaining bytes are known; and the processor can drain ("Counterflow Pipeline Processor Architecture", 1994:
--- the order of the local actions is free).
+-- The headline: after each move of a run the processor shows what the sequential machine shows on which it was opened,
+-- whether or not the input's remaining bytes are known; and it can drain ("Counterflow Pipeline Processor
+-- Architecture", 1994: the order of the local actions is free).
 use Rattle.std.specs.Prelude.{◌≡◌, ℕ, ◌+◌, ◌≤◌, List, [], ◌∷◌, ◌++◌, length, Option, Some, None}
-use Rattle.run_options.specs.declared.show.Show.{Show}
-use Rattle.run_options.specs.declared.show.Show.TheVariants as show
+use Rattle.run_options.specs.declared.reporting.Reporting.{Reporting}
+use Rattle.run_options.specs.Reportings as show
 use Rattle.cf_io.specs.Puts.{Writes, WritesFront}
 use Rattle.rv_inst.specs.declared.isa.Isa.{Isa}
 use Rattle.rv_machine.specs.After.{after}
@@ -23,13 +23,13 @@ use Rattle.cf_semantics.specs.claims.Refines.{Refines, gained}
 use Rattle.cf_semantics.specs.runs.Runs.{IsRun, run, start as start_on}
 use Rattle.cf_semantics.specs.state.State.{State, Moment}
 use Rattle.cf_semantics.specs.claims.Weight.{issues, weight}
-use Rattle.theory_unknown_input.specs.UnknownInput.{GoesTo, LeadsTo}
+use Rattle.theory_unknown_input.specs.UnknownInput.{finding, GoesTo, LeadsTo}
 use Rattle.cf_core.specs.Processors.{in_state, opened}
 use Rattle.cf_core.specs.Stepping.{FailsToRead, FailsToWrite}
 use Rattle.cf_report.specs.Lines.{retired_line}
-use Rattle.cf_run.specs.declared.answer.Ran.TheVariants as ran
-use Rattle.cf_run.specs.declared.answer.Scripted.{Scripted}
-use Rattle.cf_run.specs.declared.answer.Scripted.TheVariants.{Ran}
+use Rattle.run_finishes.specs.declared.finish.Ran.TheVariants as ran
+use Rattle.run_finishes.specs.declared.finish.Scripted.{Scripted}
+use Rattle.run_finishes.specs.declared.finish.Scripted.TheVariants.{Ran}
 use Rattle.cf_run.specs.Made.{Made, all_shown}
 use Rattle.cf_run.specs.Moving.{RunPlace}
 
@@ -126,48 +126,74 @@ unfoldable pub Gets : Option (List ℕ) → Option (List ℕ) → Scripted → L
 Gets before after (Ran ran.ReportFault) text = WritesFront before after text
 Gets before after answer text = Writes before after text
 
--- What the report got about these instructions: where retirements alone are shown, their lines; where moves are shown,
--- a group for each move, and the lines of retirement in these groups are theirs.
-abbrev pub ReportsLines : Show → ℕ → List Line → (begin new : RunPlace) → Scripted → Type 0
-ReportsLines show.Retired n written begin new answer =
-    (text : List ℕ) × AreTexts n written text × Gets begin.report new.report answer text
-ReportsLines show.Moves n written begin new answer =
-    (trace : List Made) × AreTexts n written (all_shown show.Retired begin.core.plan 1 trace)
-    × Gets begin.report new.report answer (all_shown show.Moves begin.core.plan 1 trace)
-ReportsLines show.Report n written begin new answer = Unit {0}
+-- What the report got about these instructions: what is shown of each of some moves, whose lines of retirement are
+-- theirs.
+abbrev pub ReportsLines : Reporting → ℕ → List Line → (begin new : RunPlace) → Scripted → Type 0
+ReportsLines reporting n written begin new answer =
+    (trace : List Made) × AreTexts n written (all_shown show.retired begin.core.plan 1 trace)
+    × Gets begin.report new.report answer (all_shown reporting begin.core.plan 1 trace)
 
--- The run is a run of this machine, by these moves: they are right, it stops at the moment to which they lead, and the
--- instructions that it reports are those that the machine retires, numbered by its count.
-pub record RunsAs (shows : Show) (x : Machine) (moves : List Move) (begin new : RunPlace) (answer : Scripted) : Type 0 where
+-- The run is a run of this machine, by these moves: they are right, and so are the moves made up to any moment of the
+-- run; it stops at the moment to which they lead, and the instructions that it reports are those that the machine
+-- retires, numbered by its count.
+pub record RunsAs (shows : Reporting) (x : Machine) (moves : List Move) (begin new : RunPlace) (answer : Scripted) : Type 0 where
   pub right : IsRight begin.core.plan x moves
+  pub throughout : (made more : List Move) → moves ≡ made ++ more → IsRight begin.core.plan x made
   pub stops : StopsAt x (moment_after begin.core.plan x moves) begin new answer
   pub report : ReportsLines shows (x.hart.retired + 1) (lines_after begin.core.plan x moves) begin new answer
 
--- The run is a run of the machine that starts on this hart, over an input whose remaining bytes are unknown: as many
--- steps as instructions have retired, each of which finds some input, lead to a machine, with these lines. With some
--- input left, what the moment where the run stops shows is what that machine does, and from there the processor drains.
-pub record RunsOverUnknownInput (shows : Show) (hart : Hart) (begin new : RunPlace) (answer : Scripted) : Type 0 where
+-- The moves lead from the start of the machine on this hart to the moment, each allowed where it is made and each
+-- finding some input, and these are the lines of the instructions that retire in them.
+pub record IsLed (plan : Plan) (hart : Hart) (moves : List Move) (last : Moment) (written : List Line) : Type 0 where
+  pub found : List ℕ
+  pub left : List ℕ
+  pub leads : LeadsTo plan (start_on plan (machine_on hart found)) moves (finding left last) written
+
+-- The moves are a run of the processor from the machine that starts on this hart, over an input whose remaining bytes
+-- are unknown. As many steps as instructions have retired, each of which finds some input, lead to a machine, with
+-- these lines, which are those of the moves. With some input left, what the moment to which they lead shows is what
+-- that machine does, and from there the processor drains.
+pub record IsRightOverUnknownInput (plan : Plan) (hart : Hart) (moves : List Move) (at : Machine) (written : List Line) (m : Moment) : Type 0 where
+  pub led : IsLed plan hart moves m written
+  pub rises : hart.retired ≤ m.state.retired
+  pub goes : GoesTo (isa_of plan) (machine_on hart []) (gained (machine_on hart []) m.state) at written
+  pub refines : Refines plan at [] m
+  pub settles : Settles plan at m
+  -- whatever input further moves find, without Issue there are at most as many as the weight of the state
+  pub bounded : (more : List Move) (t : Moment) (later : List Line) → LeadsTo plan m more t later → issues more ≡ 0 → length more ≤ weight plan m.state
+
+-- The moves made so far are right over such an input; from the moment to which they lead, with some input left, the
+-- others lead on to the last moment; and the lines are those of the former and then of the latter.
+pub record IsRightOnTheWay (plan : Plan) (hart : Hart) (made more : List Move) (last : Moment) (written : List Line) : Type 0 where
+  pub at : Machine
+  pub earlier : List Line
+  pub moment : Moment
+  pub right : IsRightOverUnknownInput plan hart made at earlier moment
+  pub left : List ℕ
+  pub later : List Line
+  pub leads : LeadsTo plan moment more (finding left last) later
+  pub lines : written ≡ earlier ++ later
+
+-- The run is a run of the machine that starts on this hart, over an input whose remaining bytes are unknown, by these
+-- moves: they are right, and so are the moves made up to any moment of the run; it stops at the moment to which they
+-- lead, and the instructions that it reports are those that retire in them.
+pub record RunsOverUnknownInput (shows : Reporting) (hart : Hart) (moves : List Move) (begin new : RunPlace) (answer : Scripted) : Type 0 where
   pub at : Machine
   pub written : List Line
   pub last : Moment
-  pub rises : hart.retired ≤ last.state.retired
-  pub goes : GoesTo (isa_of begin.core.plan) (machine_on hart []) (gained (machine_on hart []) last.state) at written
-  pub refines : Refines begin.core.plan at [] last
-  pub settles : Settles begin.core.plan at last
-  -- whatever input the moves find, without Issue there are at most as many as the weight of the state
-  pub bounded : (moves : List Move) (t : Moment) (more : List Line) → LeadsTo begin.core.plan last moves t more → issues moves ≡ 0 →
-      length moves ≤ weight begin.core.plan last.state
+  pub right : IsRightOverUnknownInput begin.core.plan hart moves at written last
+  pub throughout : (made more : List Move) → moves ≡ made ++ more → IsRightOnTheWay begin.core.plan hart made more last written
   pub stops : StopsAt at last begin new answer
   pub report : ReportsLines shows (hart.retired + 1) written begin new answer
 
 -- The run is a run of the machine that starts on this hart with what the input exposes, by these moves; where the input
--- exposes nothing, a run of the machine each of whose calls finds some input.
-abbrev pub RunsOver : Option (List ℕ) → Show → Hart → List Move → (begin new : RunPlace) → Scripted → Type 0
+-- exposes nothing, a run of the machine each of whose calls finds some input, by these moves too.
+abbrev pub RunsOver : Option (List ℕ) → Reporting → Hart → List Move → (begin new : RunPlace) → Scripted → Type 0
 RunsOver (Some rest) shows hart moves begin new answer = RunsAs shows (machine_on hart rest) moves begin new answer
-RunsOver None shows hart moves begin new answer = RunsOverUnknownInput shows hart begin new answer
+RunsOver None shows hart moves begin new answer = RunsOverUnknownInput shows hart moves begin new answer
 
 -- The headline, of a run that made these moves, whatever chose them: on whatever hart the processor was opened, and
--- whatever the input exposes, the run is a run of the machine that starts on that hart.
-unfoldable pub RunsSequentially : Show → List Move → (begin new : RunPlace) → Scripted → Type 0
+-- whatever the input exposes, the run is a run of the machine that starts on that hart, at each of its moments.
+unfoldable pub RunsSequentially : Reporting → List Move → (begin new : RunPlace) → Scripted → Type 0
 RunsSequentially shows moves begin new answer =
     (plan : Plan) (hart : Hart) → begin.core ≡ opened plan hart → RunsOver begin.streams.input shows hart moves begin new answer

@@ -1,7 +1,8 @@
 -- Moves that were made: the counts, and what a report shows.
-use Rattle.std.specs.Prelude.{ℕ, ◌+◌, ◌<◌, ◌^◌, List, [], ◌∷◌, ◌++◌, length, map, count_by, Bool, true, false, if◌then◌else◌}
+use Rattle.std.specs.Prelude.{ℕ, ◌+◌, ◌<◌, ◌^◌, List, [], ◌∷◌, ◌++◌, length, map, count_by, Bool, true, false, Option, Some, None, if◌then◌else◌}
+use Rattle.run_options.specs.declared.reporting.Reporting.{Reporting}
 use Rattle.run_options.specs.declared.show.Show.{Show}
-use Rattle.run_options.specs.declared.show.Show.TheVariants as show
+use Rattle.run_options.specs.declared.show.Show.TheVariants as shows
 use Rattle.cf_layout.specs.Layout.{Plan}
 use Rattle.cf_bind.specs.declared.moves.Move.{Move}
 use Rattle.cf_bind.specs.declared.moves.Move.TheVariants.{Meet}
@@ -12,6 +13,7 @@ use Rattle.cf_core.specs.Processors.{Processor}
 use Rattle.cf_report.specs.declared.tally.Tally.{Tally}
 use Rattle.cf_report.specs.Lines.{retired_line, numbered_move}
 use Rattle.cf_report.specs.Picture.{picture}
+use Rattle.cf_report.specs.Progress.{is_step, moves_line}
 
 -- a move that was made, its event, and the state that it left
 pub record Made : Type 0 where
@@ -75,18 +77,36 @@ retirement n event.Killed = []
 retirement n event.Died = []
 retirement n (event.Ended e) = []
 
+-- how far the run has come with the move of this number, where it is said: an instruction retired with the move, and the
+-- retired ones are then a multiple of the step
+abbrev pub progress : (every : Option ℕ) → (retired n : ℕ) → Event → List ℕ
+progress None retired n e = []
+progress (Some every) retired n (event.Retired line) = if is_step (Some every) retired then moves_line retired n else []
+progress (Some every) retired n event.Plain = []
+progress (Some every) retired n event.Killed = []
+progress (Some every) retired n event.Died = []
+progress (Some every) retired n (event.Ended e) = []
+
+-- the line of the instruction that retired, and after it how far the run has come
+abbrev pub retirement_and_progress : (every : Option ℕ) → (retired n : ℕ) → Event → List ℕ
+retirement_and_progress None retired n e = retirement retired e
+retirement_and_progress (Some every) retired n e = retirement retired e ++ progress (Some every) retired n e
+
 -- what is shown of the move of this number
-unfoldable pub shown : Show → Plan → ℕ → Made → List ℕ
-shown show.Report plan n made = []
-shown show.Retired plan n made = retirement made.state.retired made.event
-shown show.Moves plan n made =
-    numbered_move n made.move ++ retirement made.state.retired made.event ++ picture plan made.state
+abbrev pub shown_by : Show → (every : Option ℕ) → Plan → ℕ → Made → List ℕ
+shown_by shows.Report every plan n made = progress every made.state.retired n made.event
+shown_by shows.Retired every plan n made = retirement_and_progress every made.state.retired n made.event
+shown_by shows.Moves every plan n made =
+    numbered_move n made.move ++ retirement_and_progress every made.state.retired n made.event ++ picture plan made.state
+
+unfoldable pub shown : Reporting → Plan → ℕ → Made → List ℕ
+shown reporting plan n made = shown_by reporting.show reporting.every plan n made
 
 -- what is shown of the move of this number, with its event, that left this processor
-abbrev pub shown_after : Show → Processor → ℕ → Move → Event → List ℕ
+abbrev pub shown_after : Reporting → Processor → ℕ → Move → Event → List ℕ
 shown_after show core n mv event = shown show core.plan n (record { move = mv; event = event; state = core.state })
 
 -- what is shown of some moves, the first of which has this number
-unfoldable pub all_shown : Show → Plan → ℕ → List Made → List ℕ
+unfoldable pub all_shown : Reporting → Plan → ℕ → List Made → List ℕ
 all_shown show plan n [] = []
 all_shown show plan n (made ∷ trace) = shown show plan n made ++ all_shown show plan (n + 1) trace

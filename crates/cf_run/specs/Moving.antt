@@ -1,6 +1,6 @@
 -- One move of a run: it is made, counted and shown, or the answer says why the run stops there.
 use Rattle.std.specs.Prelude.{◌≡◌, ℕ, List, Option, None, Result, Ok, Err}
-use Rattle.run_options.specs.declared.show.Show.{Show}
+use Rattle.run_options.specs.declared.reporting.Reporting.{Reporting}
 use Rattle.cf_io.specs.Puts.{Writes, WritesFront}
 use Rattle.rv_machine.specs.Streams.{Streams, streams_of}
 use Rattle.cf_bind.specs.declared.moves.Move.{Move}
@@ -11,8 +11,8 @@ use Rattle.cf_semantics.specs.moves.Events.{IsEvent}
 use Rattle.cf_core.specs.Processors.{Processor}
 use Rattle.cf_core.specs.Stepping.{Makes, FailsToRead, FailsToWrite}
 use Rattle.cf_report.specs.declared.tally.Tally.{Tally}
-use Rattle.cf_run.specs.declared.answer.Ran.{Ran as Answer}
-use Rattle.cf_run.specs.declared.answer.Ran.TheVariants as ran
+use Rattle.run_finishes.specs.declared.finish.Ran.{Ran as Answer}
+use Rattle.run_finishes.specs.declared.finish.Ran.TheVariants as ran
 use Rattle.cf_run.specs.Made.{counted, shown}
 
 -- where a run has arrived: the processor, what input and output expose, what the report exposes, and what was counted
@@ -40,17 +40,17 @@ pub record MakesMove (mv : Move) (event : Event) (now new : RunPlace) : Type 0 w
   pub tally : new.tally ≡ counted now.tally mv event
 
 -- what a report shows of it
-abbrev pub shown_of : Show → (mv : Move) → Event → (now new : RunPlace) → List ℕ
+abbrev pub shown_of : Reporting → (mv : Move) → Event → (now new : RunPlace) → List ℕ
 shown_of show mv e now new =
     shown show now.core.plan new.tally.moves (record { move = mv; event = e; state = new.core.state })
 
 -- it was made and shown
-pub record MakesAndShows (show : Show) (mv : Move) (event : Event) (now new : RunPlace) : Type 0 where
+pub record MakesAndShows (show : Reporting) (mv : Move) (event : Event) (now new : RunPlace) : Type 0 where
   pub makes : MakesMove mv event now new
   pub report : Writes now.report new.report (shown_of show mv event now new)
 
 -- it was made, and the report failed after a prefix of what is shown of it, before it had all
-pub record MakesUnshown (show : Show) (mv : Move) (event : Event) (now new : RunPlace) : Type 0 where
+pub record MakesUnshown (show : Reporting) (mv : Move) (event : Event) (now new : RunPlace) : Type 0 where
   pub makes : MakesMove mv event now new
   pub report : WritesFront now.report new.report (shown_of show mv event now new)
 
@@ -63,7 +63,7 @@ pub record FailsOutside (mv : Move) (now new : RunPlace) : Type 0 where
   pub tally : new.tally ≡ now.tally
 
 -- what the move does: it is made with this event, or the answer of the run says why it stops
-unfoldable pub MoveDoes : Show → Move → (now new : RunPlace) → Result Event Answer → Type 0
+unfoldable pub MoveDoes : Reporting → Move → (now new : RunPlace) → Result Event Answer → Type 0
 MoveDoes show mv now new (Ok event) = MakesAndShows show mv event now new
 MoveDoes show mv now new (Err ran.ReadFault) =
     FailsOutside mv now new × FailsToRead now.core new.core now.streams new.streams

@@ -2,21 +2,22 @@
 -- leaves ("Counterflow Pipeline Processor Architecture", 1994: any schedule of local actions is a run).
 use Rattle.std.specs.Prelude.{◌≡◌, ◌≤◌, ◌⊎◌, ℕ, ◌+◌, ◌*◌, List, [], ◌∷◌, ◌++◌, slice_get, drop, Option, Some, None, Result, Ok, Err}
 use Rattle.run_options.specs.Limits.{most_limit}
-use Rattle.run_options.specs.declared.show.Show.{Show}
+use Rattle.run_options.specs.declared.guess_rule.GuessRule.{GuessRule}
+use Rattle.run_options.specs.declared.reporting.Reporting.{Reporting}
 use Rattle.rv_machine.specs.Hart.{Hart}
 use Rattle.cf_layout.specs.Layout.{Plan}
 use Rattle.cf_bind.specs.declared.moves.Move.{Move}
 use Rattle.cf_semantics.specs.declared.event.Event.{Event}
 use Rattle.cf_semantics.specs.state.Drained.{is_drained}
-use Rattle.cf_semantics.specs.moves.Holding.{offered, paced}
+use Rattle.cf_semantics.specs.moves.Holding.{paced}
 use Rattle.cf_semantics.specs.state.State.{State}
 use Rattle.cf_semantics.specs.claims.Weight.{moves_per_issue}
 use Rattle.cf_core.specs.Asking.{AsksInput, AsksOutput}
 use Rattle.cf_core.specs.Processors.{Processor, opened}
-use Rattle.cf_sched.specs.Paces.{stopped}
-use Rattle.cf_run.specs.declared.answer.Ran.{Ran as Answer}
-use Rattle.cf_run.specs.declared.answer.Ran.TheVariants as ran
-use Rattle.cf_run.specs.declared.answer.Scripted.TheVariants.{Ran}
+use Rattle.cf_sched.specs.Paces.{offered_by, stopped}
+use Rattle.run_finishes.specs.declared.finish.Ran.{Ran as Answer}
+use Rattle.run_finishes.specs.declared.finish.Ran.TheVariants as ran
+use Rattle.run_finishes.specs.declared.finish.Scripted.TheVariants.{Ran}
 use Rattle.cf_run.specs.Asking.{SomeAsks}
 use Rattle.cf_run.specs.Headline.{RunsSequentially}
 use Rattle.cf_run.specs.Made.{Made, moves_of}
@@ -35,22 +36,23 @@ pub record CanRun (limit : ℕ) (core : Processor) : Type 0 where
   pub within : core.state.retired ≤ limit
   pub is_opened : IsOpened core
 
--- a policy in a run: its state, and how many Issue moves the hold rule has counted
+-- a policy in a run: the guess rule, its state, and how many Issue moves the hold rule has counted
 pub record Chooser (P : Type 0) : Type 0 where
+  pub rule : GuessRule
   pub policy : P
   pub count : ℕ
 
 -- the policy with this many counted
-abbrev pub chooser : {P : Type 0} → P → ℕ → Chooser P
-chooser policy count = record { policy = policy; count = count }
+abbrev pub chooser : {P : Type 0} → GuessRule → P → ℕ → Chooser P
+chooser rule policy count = record { rule = rule; policy = policy; count = count }
 
 -- a policy before its first pick
-abbrev pub fresh : {P : Type 0} → P → Chooser P
-fresh policy = chooser policy 0
+abbrev pub fresh : {P : Type 0} → GuessRule → P → Chooser P
+fresh rule policy = chooser rule policy 0
 
 -- the moves that it is offered in a state
 abbrev pub offered_to : {P : Type 0} → Plan → Chooser P → State → List Move
-offered_to plan at s = offered plan at.count s
+offered_to plan at s = offered_by at.rule plan at.count s
 
 -- the move that it picks there, by its index among them
 abbrev pub choice : {P : Type 0} → (picked : P → List Move → ℕ) → Plan → Chooser P → State → Option Move
@@ -59,6 +61,7 @@ choice picked plan at s = slice_get (offered_to plan at s) (picked at.policy (of
 -- the policy after that pick, with the move counted
 abbrev pub after_choice : {P : Type 0} → (onward : P → List Move → P) → Plan → Chooser P → State → Made → Chooser P
 after_choice onward plan at s made = record {
+  rule = at.rule;
   policy = onward at.policy (offered_to plan at s);
   count = paced at.count made.move made.event (is_drained made.state);
 }
@@ -80,7 +83,7 @@ abbrev pub later_picks : List ℕ → List Move → List ℕ
 later_picks places moves = drop 1 places
 
 -- the run goes on to the move that the policy picks, and it is made
-pub record TakesPick {P : Type 0} (picked : P → List Move → ℕ) (limit : ℕ) (show : Show) (at : Chooser P) (now new : RunPlace) : Type 0 where
+pub record TakesPick {P : Type 0} (picked : P → List Move → ℕ) (limit : ℕ) (show : Reporting) (at : Chooser P) (now new : RunPlace) : Type 0 where
   pub goes : GoesOn limit now.core.state
   pub move : Move
   pub choice_is : choice picked now.core.plan at now.core.state ≡ Some move
@@ -89,7 +92,7 @@ pub record TakesPick {P : Type 0} (picked : P → List Move → ℕ) (limit : �
 
 -- the run goes on to the move that the policy picks, which stops it with this answer
 pub record StopsAtPick {P : Type 0} (picked : P → List Move → ℕ) (onward : P → List Move →
-    P) (limit : ℕ) (show : Show) (at : Chooser P) (now new : RunPlace) (later : P) (answer : Answer) : Type 0 where
+    P) (limit : ℕ) (show : Reporting) (at : Chooser P) (now new : RunPlace) (later : P) (answer : Answer) : Type 0 where
   pub goes : GoesOn limit now.core.state
   pub move : Move
   pub choice_is : choice picked now.core.plan at now.core.state ≡ Some move
@@ -97,7 +100,7 @@ pub record StopsAtPick {P : Type 0} (picked : P → List Move → ℕ) (onward :
   pub does : MoveDoes show move now new (Err answer)
 
 -- the run stops here: it is over, and nothing changes; or the next move that the policy picks is the last that it tries
-abbrev pub StopsPolicy : {P : Type 0} → (picked : P → List Move → ℕ) → (onward : P → List Move → P) → ℕ → Show → Chooser P → (now new : RunPlace) → P → Answer →
+abbrev pub StopsPolicy : {P : Type 0} → (picked : P → List Move → ℕ) → (onward : P → List Move → P) → ℕ → Reporting → Chooser P → (now new : RunPlace) → P → Answer →
     Type 0
 StopsPolicy picked onward limit show at now new later (ran.Exit status) = IsOver limit now.core.state (ran.Exit status) × (new ≡ now) × (later ≡ at.policy)
 StopsPolicy picked onward limit show at now new later (ran.Trap cause pc detail) = IsOver limit now.core.state (ran.Trap cause pc detail) × (new ≡ now)
@@ -109,20 +112,20 @@ StopsPolicy picked onward limit show at now new later ran.ReportFault = StopsAtP
 
 -- one turn of the run, by a pace that stops counting once the candidates are held: the policy picks a move and it is
 -- made
-pub record Turned {P : Type 0} (picked : P → List Move → ℕ) (onward : P → List Move → P) (limit : ℕ) (show : Show) (now new : RunPlace)
+pub record Turned {P : Type 0} (picked : P → List Move → ℕ) (onward : P → List Move → P) (limit : ℕ) (show : Reporting) (now new : RunPlace)
     (at later : Chooser P) : Type 0 where
   pub takes : TakesPick picked limit show at now new
   pub policy_is : later.policy ≡ onward at.policy (offered_to now.core.plan at now.core.state)
   pub count_is : later.count ≡ stopped now.core.plan.stages (paced at.count takes.move takes.event (is_drained new.core.state))
 
 -- or the run stops
-abbrev pub PolicyTurns : {P : Type 0} → (picked : P → List Move → ℕ) → (onward : P → List Move → P) → ℕ → Show → (now new : RunPlace) → (at later : Chooser P) →
+abbrev pub PolicyTurns : {P : Type 0} → (picked : P → List Move → ℕ) → (onward : P → List Move → P) → ℕ → Reporting → (now new : RunPlace) → (at later : Chooser P) →
     Option Answer → Type 0
 PolicyTurns picked onward limit show now new at later None = Turned picked onward limit show now new at later
 PolicyTurns picked onward limit show now new at later (Some answer) = StopsPolicy picked onward limit show at now new later.policy answer
 
 -- the last move, where the report failed after it
-abbrev pub made_last : {P : Type 0} → (picked : P → List Move → ℕ) → (onward : P → List Move → P) → (limit : ℕ) → (show : Show) → (at : Chooser P) →
+abbrev pub made_last : {P : Type 0} → (picked : P → List Move → ℕ) → (onward : P → List Move → P) → (limit : ℕ) → (show : Reporting) → (at : Chooser P) →
     (now new : RunPlace) → (later : P) → (answer : Answer) → StopsPolicy picked onward limit show at now new later answer → List Move
 made_last picked onward limit show at now new later (ran.Exit status) stops = []
 made_last picked onward limit show at now new later (ran.Trap cause pc detail) stops = []
@@ -132,36 +135,23 @@ made_last picked onward limit show at now new later ran.WriteFault stops = []
 made_last picked onward limit show at now new later ran.ReportFault stops = stops.move ∷ []
 
 -- the run makes these moves, the picks of the policy, and stops after them with this answer
-pub record RunsPolicy {P : Type 0} (picked : P → List Move → ℕ) (onward : P → List Move → P) (limit : ℕ) (show : Show) (start new : RunPlace) (policy later : P)
+pub record RunsPolicy {P : Type 0} (rule : GuessRule) (picked : P → List Move → ℕ) (onward : P → List Move → P) (limit : ℕ) (show : Reporting)
+    (start new : RunPlace) (policy later : P)
     (moves : List Move) (answer : Answer) : Type 0 where
   pub now : RunPlace
   pub reaches : Reaches limit show start now
   pub at : Chooser P
-  pub picks : Picks picked onward start.core.plan (fresh policy) start.core.state reaches.trace at
+  pub picks : Picks picked onward start.core.plan (fresh rule policy) start.core.state reaches.trace at
   pub stops : StopsPolicy picked onward limit show at now new later answer
   pub made : moves ≡ moves_of reaches.trace ++ made_last picked onward limit show at now new later answer stops
 
 -- and by these moves it is a run of the sequential machine
-pub record RunsRight {P : Type 0} (picked : P → List Move → ℕ) (onward : P → List Move → P) (limit : ℕ) (show : Show) (start new : RunPlace) (policy later : P)
+pub record RunsRight {P : Type 0} (rule : GuessRule) (picked : P → List Move → ℕ) (onward : P → List Move → P) (limit : ℕ) (show : Reporting)
+    (start new : RunPlace) (policy later : P)
     (answer : Answer) : Type 0 where
   pub moves : List Move
-  pub runs : RunsPolicy picked onward limit show start new policy later moves answer
+  pub runs : RunsPolicy rule picked onward limit show start new policy later moves answer
   pub sequential : RunsSequentially show moves start new (Ran answer)
-
--- an error where the input failed the run
-abbrev pub input_stopped : Option Answer → Result (Unit {0}) (Unit {0})
-input_stopped (Some ran.ReadFault) = Err tt
-input_stopped answer = Ok tt
-
--- an error where the output did
-abbrev pub output_stopped : Option Answer → Result (Unit {0}) (Unit {0})
-output_stopped (Some ran.WriteFault) = Err tt
-output_stopped answer = Ok tt
-
--- an error where the report did
-abbrev pub report_stopped : Option Answer → Result (Unit {0}) (Unit {0})
-report_stopped (Some ran.ReportFault) = Err tt
-report_stopped answer = Ok tt
 
 -- the most moves of a run under the hold rule in which r instructions retire: 4 N K (r + 1)
 abbrev pub most_moves : Plan → ℕ → ℕ
@@ -176,17 +166,17 @@ pub record ChoiceAsks {P : Type 0} (asks : Processor → Move → Type 0) (picke
   pub asked : asks core move
 
 -- a move of the run uses the stream: one of those that lead to where it stops, or the next one there
-abbrev pub PolicyAsks : {P : Type 0} (asks : Processor → Move → Type 0) (picked : P → List Move → ℕ) (onward : P → List Move →
-    P) (limit : ℕ) (show : Show) (start new : RunPlace) (policy later : P) (moves : List Move) (answer : Answer) →
-    RunsPolicy picked onward limit show start new policy later moves answer → Type 0
-PolicyAsks asks picked onward limit show start new policy later moves answer runs =
+abbrev pub PolicyAsks : {P : Type 0} (asks : Processor → Move → Type 0) (rule : GuessRule) (picked : P → List Move → ℕ) (onward : P → List Move →
+    P) (limit : ℕ) (show : Reporting) (start new : RunPlace) (policy later : P) (moves : List Move) (answer : Answer) →
+    RunsPolicy rule picked onward limit show start new policy later moves answer → Type 0
+PolicyAsks asks rule picked onward limit show start new policy later moves answer runs =
     SomeAsks asks start.core.plan start.core.state runs.reaches.trace
     ⊎ ChoiceAsks asks picked limit runs.at runs.now.core
 
 -- a run, with a claim about the input that holds unless a move of the run uses it, and one about the output
-pub record PolicyUnasked {P : Type 0} (picked : P → List Move → ℕ) (onward : P → List Move →
-    P) (limit : ℕ) (show : Show) (start new : RunPlace) (policy later : P) (answer : Answer) (input output : Type 0) : Type 0 where
+pub record PolicyUnasked {P : Type 0} (rule : GuessRule) (picked : P → List Move → ℕ) (onward : P → List Move →
+    P) (limit : ℕ) (show : Reporting) (start new : RunPlace) (policy later : P) (answer : Answer) (input output : Type 0) : Type 0 where
   pub moves : List Move
-  pub runs : RunsPolicy picked onward limit show start new policy later moves answer
-  pub input_asked : (PolicyAsks AsksInput picked onward limit show start new policy later moves answer runs → ⊥) → input
-  pub output_asked : (PolicyAsks AsksOutput picked onward limit show start new policy later moves answer runs → ⊥) → output
+  pub runs : RunsPolicy rule picked onward limit show start new policy later moves answer
+  pub input_asked : (PolicyAsks AsksInput rule picked onward limit show start new policy later moves answer runs → ⊥) → input
+  pub output_asked : (PolicyAsks AsksOutput rule picked onward limit show start new policy later moves answer runs → ⊥) → output

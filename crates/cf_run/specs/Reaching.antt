@@ -1,14 +1,14 @@
 -- Where a run has arrived: the moves that it made were counted and shown, and it goes on or is over.
 use Rattle.std.specs.Prelude.{◌≡◌, ℕ, ◌<◌, List, Some, None}
-use Rattle.run_options.specs.declared.show.Show.{Show}
+use Rattle.run_options.specs.declared.reporting.Reporting.{Reporting}
 use Rattle.cf_io.specs.Puts.{Writes}
 use Rattle.rv_machine.specs.Streams.{IsTold, Leaves}
 use Rattle.cf_bind.specs.declared.passenger.End.TheVariants as ending
 use Rattle.cf_semantics.specs.state.State.{State, Moment}
 use Rattle.cf_core.specs.Processors.{in_state}
 use Rattle.cf_report.specs.declared.tally.Tally.{Tally}
-use Rattle.cf_run.specs.declared.answer.Ran.{Ran as Answer}
-use Rattle.cf_run.specs.declared.answer.Ran.TheVariants as ran
+use Rattle.run_finishes.specs.declared.finish.Ran.{Ran as Answer}
+use Rattle.run_finishes.specs.declared.finish.Ran.TheVariants as ran
 use Rattle.cf_run.specs.Made.{Made, tally_of, all_shown}
 use Rattle.cf_run.specs.Going.{moment_of, Leads, RunsTo}
 use Rattle.cf_run.specs.Moving.{RunPlace}
@@ -18,7 +18,7 @@ abbrev pub no_tally : Tally
 no_tally = record { moves = 0; meets = 0; kills = 0; dead = 0 }
 
 -- moves lead from one RunPlace to another: they were counted, and shown after what the report had
-pub record Reaches (limit : ℕ) (show : Show) (start now : RunPlace) : Type 0 where
+pub record Reaches (limit : ℕ) (show : Reporting) (start now : RunPlace) : Type 0 where
   -- these moves were made, from a moment whose input agrees with what is known to another
   pub trace : List Made
   pub rest : List ℕ

@@ -1,14 +1,14 @@
 -- What the run of a script does: the moves that it makes, why it stops after them, and what it leaves.
 use Rattle.std.specs.Prelude.{◌≡◌, ℕ, List, map, take, drop, length, Option, Some, None, Result, Ok, Err}
-use Rattle.run_options.specs.declared.show.Show.{Show}
+use Rattle.run_options.specs.declared.reporting.Reporting.{Reporting}
 use Rattle.cf_bind.specs.declared.moves.Move.{Move}
 use Rattle.cf_semantics.specs.declared.event.Event.{Event}
 use Rattle.cf_semantics.specs.moves.Bars.{bar as first_bar}
 use Rattle.cf_report.specs.declared.tally.Tally.{Tally}
 use Rattle.run_scripts.specs.Scripts.{ScriptLines, next_of, after_next}
-use Rattle.cf_run.specs.declared.answer.Ran.TheVariants as ran
-use Rattle.cf_run.specs.declared.answer.Scripted.{Scripted}
-use Rattle.cf_run.specs.declared.answer.Scripted.TheVariants.{Ran, ScriptEnd, BadScript, BarredAt}
+use Rattle.run_finishes.specs.declared.finish.Ran.TheVariants as ran
+use Rattle.run_finishes.specs.declared.finish.Scripted.{Scripted}
+use Rattle.run_finishes.specs.declared.finish.Scripted.TheVariants.{Ran, ScriptEnd, BadScript, BarredAt}
 use Rattle.cf_run.specs.Made.{moves_of}
 use Rattle.cf_run.specs.Moving.{RunPlace, MoveDoes}
 use Rattle.cf_run.specs.Reaching.{Reaches, GoesOn, IsOver}
@@ -27,14 +27,14 @@ abbrev pub first_moves : ScriptLines → Tally → List Move
 first_moves script tally = map (λ line. line.1) (take tally.moves script.moves)
 
 -- the run has followed the script from one ScriptRun to another
-pub record Follows (limit : ℕ) (show : Show) (start now : ScriptRun) : Type 0 where
+pub record Follows (limit : ℕ) (show : Reporting) (start now : ScriptRun) : Type 0 where
   pub reaches : Reaches limit show start.place now.place
   -- its moves are the first of the script, and the others are left of it
   pub moves : moves_of reaches.trace ≡ map (λ line. line.1) (take (length reaches.trace) start.script.moves)
   pub script : now.script ≡ record start.script { moves = drop (length reaches.trace) start.script.moves }
 
 -- the effect of the move of this line: it is made, or its first bar or another answer says why the run stops
-unfoldable pub DoesLine : Show → ℕ → Move → (now new : RunPlace) → Option Scripted → Type 0
+unfoldable pub DoesLine : Reporting → ℕ → Move → (now new : RunPlace) → Option Scripted → Type 0
 DoesLine show line mv now new None = (event : Event) × MoveDoes show mv now new (Ok event)
 DoesLine show line mv now new (Some (Ran answer)) = MoveDoes show mv now new (Err answer)
 DoesLine show line mv now new (Some (BarredAt at bar)) =
@@ -43,7 +43,7 @@ DoesLine show line mv now new (Some ScriptEnd) = ⊥
 DoesLine show line mv now new (Some (BadScript refusal)) = ⊥
 
 -- the run goes on to the next move of the script, which does this
-pub record ScriptTries (limit : ℕ) (show : Show) (now new : ScriptRun) (answer : Option Scripted) : Type 0 where
+pub record ScriptTries (limit : ℕ) (show : Reporting) (now new : ScriptRun) (answer : Option Scripted) : Type 0 where
   pub goes : GoesOn limit now.place.core.state
   pub line : ℕ
   pub move : Move
@@ -53,7 +53,7 @@ pub record ScriptTries (limit : ℕ) (show : Show) (now new : ScriptRun) (answer
 
 -- the run stops here: it is over, or the script has no further move or a line that is not a move, and nothing changes;
 -- or its next move is the last that it tries
-unfoldable pub ScriptStops : ℕ → Show → (now new : ScriptRun) → Scripted → Type 0
+unfoldable pub ScriptStops : ℕ → Reporting → (now new : ScriptRun) → Scripted → Type 0
 ScriptStops limit show now new ScriptEnd =
     GoesOn limit now.place.core.state × (next_of now.script ≡ Ok None) × (new ≡ now)
 ScriptStops limit show now new (BadScript refusal) =
@@ -65,13 +65,13 @@ ScriptStops limit show now new (Ran ran.ReportFault) = ScriptTries limit show no
 ScriptStops limit show now new (Ran answer) = IsOver limit now.place.core.state answer × (new ≡ now)
 
 -- the run makes the first moves of the script, and stops after them with this answer
-pub record RunsScript (limit : ℕ) (show : Show) (start new : ScriptRun) (answer : Scripted) : Type 0 where
+pub record RunsScript (limit : ℕ) (show : Reporting) (start new : ScriptRun) (answer : Scripted) : Type 0 where
   pub now : ScriptRun
   pub follows : Follows limit show start now
   pub stops : ScriptStops limit show now new answer
 
 -- one turn of a run: the next move of the script is made, or the run stops
-abbrev pub ScriptTurns : ℕ → Show → (now new : ScriptRun) → Option Scripted → Type 0
+abbrev pub ScriptTurns : ℕ → Reporting → (now new : ScriptRun) → Option Scripted → Type 0
 ScriptTurns limit show now new None = ScriptTries limit show now new None
 ScriptTurns limit show now new (Some answer) = ScriptStops limit show now new answer
 

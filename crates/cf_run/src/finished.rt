@@ -3,9 +3,9 @@
 ghost use Rattle.std.specs.Prelude.{◌≤◌, MatchOption};
 ghost use Rattle.cf_run.specs.Reaching.{GoesOn, IsOver};
 
-use crate::answer::Ran;
 use cf_bind::End;
 use cf_core::Core;
+use run_finishes::Ran;
 
 /// Why the run is over, if it is.
 #[inline(always)]

@@ -2,7 +2,8 @@
 //! nothing; docs/PROMISES.md states each in words.
 
 ghost use Rattle.std.specs.Prelude.{◌≡◌, ◌≤◌, ◌<◌, ◌-◌, ℕ, List, None, Some, length, slice_get};
-ghost use Rattle.run_options.specs.declared.show.Show.{Show};
+ghost use Rattle.run_options.specs.declared.guess_rule.GuessRule.{GuessRule};
+ghost use Rattle.run_options.specs.declared.reporting.Reporting.{Reporting};
 ghost use Rattle.rv_machine.specs.Hart.{Hart};
 ghost use Rattle.cf_bind.specs.declared.moves.Move.{Move};
 ghost use Rattle.cf_layout.specs.Accepted.{IsAccepted};
@@ -10,9 +11,9 @@ ghost use Rattle.cf_layout.specs.Layout.{Plan};
 ghost use Rattle.cf_semantics.specs.moves.Bars.{bar};
 ghost use Rattle.cf_semantics.specs.state.State.{State};
 ghost use Rattle.cf_core.specs.Processors.{opened};
-ghost use Rattle.cf_run.specs.declared.answer.Ran.{Ran as Answer};
-ghost use Rattle.cf_run.specs.declared.answer.Scripted.{Scripted};
-ghost use Rattle.cf_run.specs.declared.answer.Scripted.TheVariants.{Ran};
+ghost use Rattle.run_finishes.specs.declared.finish.Ran.{Ran as Answer};
+ghost use Rattle.run_finishes.specs.declared.finish.Scripted.{Scripted};
+ghost use Rattle.run_finishes.specs.declared.finish.Scripted.TheVariants.{Ran};
 ghost use Rattle.cf_run.specs.Ending.{EndsAlike};
 ghost use Rattle.cf_run.specs.Headline.{RunsSequentially};
 ghost use Rattle.cf_run.specs.Moving.{RunPlace};
@@ -24,38 +25,38 @@ ghost use Rattle.cf_run.specs.Scripts.{ScriptRun, RunsScript, first_moves};
 /// registers and ending are those after as many instructions. Input, output and memory are those after the instructions
 /// that were served or have passed the memory port.
 pub fn t4_2()
-    ensures scripts { (limit : ℕ) (show : Show) (start new : ScriptRun) (answer : Scripted) → IsAccepted start.place.core.plan →
+    ensures scripts { (limit : ℕ) (show : Reporting) (start new : ScriptRun) (answer : Scripted) → IsAccepted start.place.core.plan →
         length start.place.core.state.regs ≡ 32 → RunsScript limit show start new answer →
         RunsSequentially show (first_moves start.script new.place.tally) start.place new.place answer }
-    ensures policies { (limit : ℕ) (show : Show) (start new : RunPlace) (picks later : List ℕ) (moves : List Move) (answer : Answer) →
+    ensures policies { (rule : GuessRule) (limit : ℕ) (show : Reporting) (start new : RunPlace) (picks later : List ℕ) (moves : List Move) (answer : Answer) →
         IsAccepted start.core.plan → length start.core.state.regs ≡ 32 →
-        RunsPolicy first_pick later_picks limit show start new picks later moves answer →
+        RunsPolicy rule first_pick later_picks limit show start new picks later moves answer →
         RunsSequentially show moves start new (Ran answer) }
 {}
 
 /// Where the run of a script or of a policy ends with Exit, Trap or Limit, its ending, the retired count, the registers
 /// and what was taken of the input and written to the output are those of the sequential machine under the same limit.
 pub fn t4_5()
-    ensures scripts { (limit : ℕ) (show : Show) (start new : ScriptRun) (hart : Hart) (answer : Scripted) →
+    ensures scripts { (limit : ℕ) (show : Reporting) (start new : ScriptRun) (hart : Hart) (answer : Scripted) →
         IsAccepted start.place.core.plan → length hart.regs ≡ 32 → start.place.core ≡ opened start.place.core.plan hart →
         RunsScript limit show start new answer → EndsAlike limit hart start.place new.place answer }
-    ensures policies { (limit : ℕ) (show : Show) (start new : RunPlace) (picks later : List ℕ) (moves : List Move) (hart : Hart)
+    ensures policies { (rule : GuessRule) (limit : ℕ) (show : Reporting) (start new : RunPlace) (picks later : List ℕ) (moves : List Move) (hart : Hart)
         (answer : Answer) → IsAccepted start.core.plan → length hart.regs ≡ 32 → start.core ≡ opened start.core.plan hart →
-        RunsPolicy first_pick later_picks limit show start new picks later moves answer →
+        RunsPolicy rule first_pick later_picks limit show start new picks later moves answer →
         EndsAlike limit hart start new (Ran answer) }
 {}
 
 /// The run of a policy on an opened processor has at most 4 N K (r + 1) moves, where r instructions retire in it,
-/// whatever the policy picks and whatever the input exposes. Until the run is over a move is offered, so it ends.
+/// whatever the policy picks, under each guess rule and whatever the input exposes. Until the run is over a move is offered, so it ends.
 pub fn t5_6()
-    ensures bounded { (limit : ℕ) (show : Show) (start new : RunPlace) (picks later : List ℕ) (moves : List Move)
+    ensures bounded { (rule : GuessRule) (limit : ℕ) (show : Reporting) (start new : RunPlace) (picks later : List ℕ) (moves : List Move)
         (answer : Answer) → IsAccepted start.core.plan → length start.core.state.regs ≡ 32 → IsOpened start.core →
-        RunsPolicy first_pick later_picks limit show start new picks later moves answer →
+        RunsPolicy rule first_pick later_picks limit show start new picks later moves answer →
         new.tally.moves ≤ most_moves start.core.plan (new.core.state.retired - start.core.state.retired) }
-    ensures offered { (limit : ℕ) (show : Show) (start now : RunPlace) (picks : List ℕ) (at : Chooser (List ℕ)) →
+    ensures offered { (rule : GuessRule) (limit : ℕ) (show : Reporting) (start now : RunPlace) (picks : List ℕ) (at : Chooser (List ℕ)) →
         IsAccepted start.core.plan → length start.core.state.regs ≡ 32 → IsOpened start.core →
         (reached : Reaches limit show start now) →
-        Picks first_pick later_picks start.core.plan (fresh picks) start.core.state reached.trace at →
+        Picks first_pick later_picks start.core.plan (fresh rule picks) start.core.state reached.trace at →
         GoesOn limit now.core.state → 0 < length (offered_to now.core.plan at now.core.state) }
     ensures allowed { (plan : Plan) (at : Chooser (List ℕ)) (s : State) (place : ℕ) (mv : Move) →
         slice_get (offered_to plan at s) place ≡ Some mv → bar plan s mv ≡ None }

@@ -8,21 +8,21 @@ ghost use Rattle.cf_core.specs.Asking.{AsksInput, AsksOutput};
 ghost use Rattle.cf_run.specs.Made.{CanCount};
 ghost use Rattle.cf_run.specs.Moving.{place_by, MoveDoes, input_done, output_done, report_done};
 
-use crate::answer::Ran;
 use crate::counting::count;
 use crate::showing::put_shown;
 use cf_bind::Move;
 use cf_core::{Core, Event, Fault};
 use cf_io::{Sink, Source};
 use cf_report::Tally;
-use run_options::Show;
+use run_finishes::Ran;
+use run_options::Reporting;
 
 /// Makes an allowed move, counts it, shows it and returns its event; or returns why the run stops there.
 #[inline(always)]
 pub fn make_and_show<S: Source, K: Sink, R: Sink>(
     core: &mut Core,
     mv: Move,
-    show: Show,
+    reporting: Reporting,
     input: &mut S,
     output: &mut K,
     report: &mut R,
@@ -31,7 +31,7 @@ pub fn make_and_show<S: Source, K: Sink, R: Sink>(
     requires allowed { bar core.old.plan core.old.state mv ≡ None }
     requires retired { core.old.state.retired + 1 < 2 ^ 64 }
     requires counts { CanCount tally.old }
-    ensures does { MoveDoes show mv
+    ensures does { MoveDoes reporting mv
         (place_by S.left K.written R.written core.old input.old output.old report.old tally.old)
         (place_by S.left K.written R.written core.new input.new output.new report.new tally.new)
         result }
@@ -44,7 +44,7 @@ pub fn make_and_show<S: Source, K: Sink, R: Sink>(
     match core.make(mv, input, output) {
         Ok(event) => {
             count(tally, mv, &event);
-            match put_shown(core, show, tally.moves, mv, &event, report) {
+            match put_shown(core, reporting, tally.moves, mv, &event, report) {
                 Ok(()) => Ok(event),
                 Err(_) => Err(Ran::ReportFault),
             }

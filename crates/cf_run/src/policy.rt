@@ -3,16 +3,16 @@
 
 ghost use Rattle.std.specs.Prelude.{◌≡◌, ◌+◌, ◌-◌, ◌<◌, ◌≤◌, ◌^◌, None, Some, false, length, slice_get};
 ghost use Rattle.cf_io.specs.Causes.{HasCause};
-ghost use Rattle.cf_semantics.specs.moves.Holding.{offered};
 ghost use Rattle.cf_core.specs.Asking.{AsksInput, AsksOutput};
-ghost use Rattle.cf_run.specs.declared.answer.Scripted.TheVariants as scripted;
+ghost use Rattle.cf_sched.specs.Paces.{offered_by};
+ghost use Rattle.run_finishes.specs.declared.finish.Scripted.TheVariants as scripted;
 ghost use Rattle.cf_run.specs.Ending.{EndsSequentially};
 ghost use Rattle.cf_run.specs.Made.{CanCount};
 ghost use Rattle.cf_run.specs.Moving.{place_by};
-ghost use Rattle.cf_run.specs.Policies.{chooser, input_stopped, output_stopped, report_stopped, CanRun, ChoiceAsks, PolicyTurns, PolicyUnasked, RunsRight, most_moves};
+ghost use Rattle.cf_run.specs.Policies.{chooser, CanRun, ChoiceAsks, PolicyTurns, PolicyUnasked, RunsRight, most_moves};
+ghost use Rattle.run_finishes.specs.Stopped.{input_stopped, output_stopped, report_stopped};
 ghost use Rattle.cf_run.specs.Reaching.{no_tally};
 
-use crate::answer::Ran;
 use crate::facts::known;
 use crate::finished::over;
 use crate::making::make_and_show;
@@ -22,17 +22,18 @@ use cf_index::Candidates;
 use cf_io::{Sink, Source};
 use cf_report::Tally;
 use cf_sched::{Pace, Policy};
-use run_options::Show;
+use run_finishes::Ran;
+use run_options::{GuessRule, Reporting};
 
 /// The move that the policy picks from what it is offered.
 #[inline(always)]
 #[tactic(auto, using(crate::proofs::Stopped::offering))]
 fn choose<P: Policy>(core: &Core, candidates: &mut Candidates, policy: &mut P, pace: &Pace) -> Move
     requires stages { pace.now.stages ≡ core.now.plan.stages }
-    requires some { 0 < length (offered core.now.plan pace.now.count core.now.state) }
-    ensures choice { Some result ≡ slice_get (offered core.now.plan pace.now.count core.now.state)
-        (P.picked policy.old (offered core.now.plan pace.now.count core.now.state)) }
-    ensures onward { policy.new ≡ P.onward policy.old (offered core.now.plan pace.now.count core.now.state) }
+    requires some { 0 < length (offered_by pace.now.rule core.now.plan pace.now.count core.now.state) }
+    ensures choice { Some result ≡ slice_get (offered_by pace.now.rule core.now.plan pace.now.count core.now.state)
+        (P.picked policy.old (offered_by pace.now.rule core.now.plan pace.now.count core.now.state)) }
+    ensures onward { policy.new ≡ P.onward policy.old (offered_by pace.now.rule core.now.plan pace.now.count core.now.state) }
 {
     policy.choose(core, candidates, pace)
 }
@@ -45,7 +46,7 @@ fn advance<P: Policy, S: Source, K: Sink, R: Sink>(
     policy: &mut P,
     pace: &mut Pace,
     limit: u64,
-    show: Show,
+    reporting: Reporting,
     input: &mut S,
     output: &mut K,
     report: &mut R,
@@ -54,26 +55,27 @@ fn advance<P: Policy, S: Source, K: Sink, R: Sink>(
     requires limit { limit + 1 < 2 ^ 64 }
     requires retired { core.old.state.retired ≤ limit }
     requires stages { pace.old.stages ≡ core.old.plan.stages }
-    requires some { core.old.state.ending ≡ None → 0 < length (offered core.old.plan pace.old.count core.old.state) }
+    requires some { core.old.state.ending ≡ None → 0 < length (offered_by pace.old.rule core.old.plan pace.old.count core.old.state) }
     requires counts { CanCount tally.old }
-    ensures turns { PolicyTurns P.picked P.onward limit show
+    ensures turns { PolicyTurns P.picked P.onward limit reporting
         (place_by S.left K.written R.written core.old input.old output.old report.old tally.old)
         (place_by S.left K.written R.written core.new input.new output.new report.new tally.new)
-        (chooser policy.old pace.old.count) (chooser policy.new pace.new.count) result }
+        (chooser pace.old.rule policy.old pace.old.count) (chooser pace.new.rule policy.new pace.new.count) result }
+    ensures rule { pace.new.rule ≡ pace.old.rule }
     ensures stages { pace.new.stages ≡ pace.old.stages }
     ensures input { HasCause (S.faults input.old) (S.faults input.new) (input_stopped result) }
     ensures output { HasCause (K.faults output.old) (K.faults output.new) (output_stopped result) }
     ensures report { HasCause (R.faults report.old) (R.faults report.new) (report_stopped result) }
-    ensures input_asked { (ChoiceAsks AsksInput P.picked limit (chooser policy.old pace.old.count) core.old → ⊥) →
+    ensures input_asked { (ChoiceAsks AsksInput P.picked limit (chooser pace.old.rule policy.old pace.old.count) core.old → ⊥) →
         input.new ≡ input.old }
-    ensures output_asked { (ChoiceAsks AsksOutput P.picked limit (chooser policy.old pace.old.count) core.old → ⊥) →
+    ensures output_asked { (ChoiceAsks AsksOutput P.picked limit (chooser pace.old.rule policy.old pace.old.count) core.old → ⊥) →
         output.new ≡ output.old }
 {
     if let Some(ran) = over(core, limit) {
         return Some(ran);
     }
     let mv = choose(core, candidates, policy, pace);
-    match make_and_show(core, mv, show, input, output, report, tally) {
+    match make_and_show(core, mv, reporting, input, output, report, tally) {
         Ok(event) => {
             pace.saw(mv, &event, core.drained());
             None
@@ -84,8 +86,8 @@ fn advance<P: Policy, S: Source, K: Sink, R: Sink>(
 
 /// Runs a policy on an opened processor: makes the moves that it picks, one after another, until the program ends, as
 /// many instructions have retired as the limit allows, or a fault occurs. These are tested in this order before each
-/// move. The policy is offered the allowed moves in the order of all moves, except an issue with an address; where the
-/// hold rule holds Issue back, without Issue. What `show` selects is written to the report during the run. It allocates
+/// move. The policy is offered the allowed moves in the order of all moves, except an issue with an address, and of the other
+/// issues those that the guess rule keeps; where the hold rule holds Issue back, without Issue. What `reporting` selects is written to the report during the run. It allocates
 /// no memory and always terminates.
 ///
 /// `ReadFault` and `WriteFault` come only where the input or the output failed a call of the environment; that move is
@@ -97,8 +99,9 @@ pub fn run_policy<P: Policy, S: Source, K: Sink, R: Sink>(
     core: &mut Core,
     candidates: &mut Candidates,
     policy: &mut P,
+    rule: GuessRule,
     limit: u64,
-    show: Show,
+    reporting: Reporting,
     input: &mut S,
     output: &mut K,
     report: &mut R,
@@ -106,7 +109,7 @@ pub fn run_policy<P: Policy, S: Source, K: Sink, R: Sink>(
 ) -> Ran
     requires begins { CanRun limit core.old }
     requires tally { tally.old ≡ no_tally }
-    ensures run { RunsRight P.picked P.onward limit show
+    ensures run { RunsRight rule P.picked P.onward limit reporting
         (place_by S.left K.written R.written core.old input.old output.old report.old tally.old)
         (place_by S.left K.written R.written core.new input.new output.new report.new tally.new)
         policy.old policy.new result }
@@ -118,16 +121,16 @@ pub fn run_policy<P: Policy, S: Source, K: Sink, R: Sink>(
     ensures input { HasCause (S.faults input.old) (S.faults input.new) (input_stopped (Some result)) }
     ensures output { HasCause (K.faults output.old) (K.faults output.new) (output_stopped (Some result)) }
     ensures report { HasCause (R.faults report.old) (R.faults report.new) (report_stopped (Some result)) }
-    ensures asked { PolicyUnasked P.picked P.onward limit show
+    ensures asked { PolicyUnasked rule P.picked P.onward limit reporting
         (place_by S.left K.written R.written core.old input.old output.old report.old tally.old)
         (place_by S.left K.written R.written core.new input.new output.new report.new tally.new)
         policy.old policy.new result (input.new ≡ input.old) (output.new ≡ output.old) }
 {
     known(core);
-    let mut pace = Pace::new(core.layout().stages());
+    let mut pace = Pace::new(rule, core.layout().stages());
     loop {
         let end = advance(
-            core, candidates, policy, &mut pace, limit, show, input, output, report, tally,
+            core, candidates, policy, &mut pace, limit, reporting, input, output, report, tally,
         );
         if let Some(ran) = end {
             return ran;

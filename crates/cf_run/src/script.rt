@@ -13,14 +13,14 @@ ghost use Rattle.cf_run.specs.Headline.{RunsSequentially};
 ghost use Rattle.cf_run.specs.Reaching.{no_tally};
 ghost use Rattle.cf_run.specs.Scripts.{stand_of, first_moves, RunsScript, ScriptTurns, input_scripted, output_scripted, report_scripted};
 
-use crate::answer::Scripted;
 use crate::facts::known;
 use crate::finished::over;
 use crate::making::make_and_show;
 use cf_core::Core;
 use cf_io::{Sink, Source};
 use cf_report::Tally;
-use run_options::Show;
+use run_finishes::Scripted;
+use run_options::Reporting;
 use run_scripts::Script;
 
 /// Makes the next move of the script, counts it and shows it; or returns why the run stops.
@@ -29,7 +29,7 @@ fn advance<S: Source, K: Sink, R: Sink>(
     core: &mut Core,
     script: &mut Script<'_>,
     limit: u64,
-    show: Show,
+    reporting: Reporting,
     input: &mut S,
     output: &mut K,
     report: &mut R,
@@ -38,7 +38,7 @@ fn advance<S: Source, K: Sink, R: Sink>(
     requires limit { limit + 1 < 2 ^ 64 }
     requires retired { core.old.state.retired ≤ limit }
     requires counts { CanCount tally.old }
-    ensures turns { ScriptTurns limit show
+    ensures turns { ScriptTurns limit reporting
         (stand_of (place_by S.left K.written R.written core.old input.old output.old report.old tally.old) script.old)
         (stand_of (place_by S.left K.written R.written core.new input.new output.new report.new tally.new) script.new)
         result }
@@ -62,7 +62,7 @@ fn advance<S: Source, K: Sink, R: Sink>(
     if let Some(bar) = core.allowed(mv) {
         return Some(Scripted::BarredAt { line, bar });
     }
-    match make_and_show(core, mv, show, input, output, report, tally) {
+    match make_and_show(core, mv, reporting, input, output, report, tally) {
         Ok(_) => None,
         Err(ran) => Some(Scripted::Ran(ran)),
     }
@@ -70,7 +70,7 @@ fn advance<S: Source, K: Sink, R: Sink>(
 
 /// Runs a script: makes its moves one after another until the program ends, as many instructions have retired as the
 /// limit allows, or the next move cannot be read or made. These are tested in this order before each move, and no line
-/// after that point is read. What `show` selects is written to the report during the run.
+/// after that point is read. What `reporting` selects is written to the report during the run.
 ///
 /// `ReadFault` and `WriteFault` come only where the input or the output failed a call of the environment; that move is
 /// not counted. `ReportFault` comes only where the report failed, after a move that was made and counted. In each case
@@ -87,7 +87,7 @@ pub fn run_script<S: Source, K: Sink, R: Sink>(
     core: &mut Core,
     script: &mut Script<'_>,
     limit: u64,
-    show: Show,
+    reporting: Reporting,
     input: &mut S,
     output: &mut K,
     report: &mut R,
@@ -97,11 +97,11 @@ pub fn run_script<S: Source, K: Sink, R: Sink>(
     requires retired { core.old.state.retired ≤ limit }
     requires works { core.old.state.failed ≡ false }
     requires tally { tally.old ≡ no_tally }
-    ensures run { RunsScript limit show
+    ensures run { RunsScript limit reporting
         (stand_of (place_by S.left K.written R.written core.old input.old output.old report.old tally.old) script.old)
         (stand_of (place_by S.left K.written R.written core.new input.new output.new report.new tally.new) script.new)
         result }
-    ensures sequential { RunsSequentially show (first_moves script.old tally.new)
+    ensures sequential { RunsSequentially reporting (first_moves script.old tally.new)
         (place_by S.left K.written R.written core.old input.old output.old report.old tally.old)
         (place_by S.left K.written R.written core.new input.new output.new report.new tally.new)
         result }
@@ -112,14 +112,14 @@ pub fn run_script<S: Source, K: Sink, R: Sink>(
     ensures input { HasCause (S.faults input.old) (S.faults input.new) (input_scripted (Some result)) }
     ensures output { HasCause (K.faults output.old) (K.faults output.new) (output_scripted (Some result)) }
     ensures report { HasCause (R.faults report.old) (R.faults report.new) (report_scripted (Some result)) }
-    ensures asked { RunsUnasked limit show
+    ensures asked { RunsUnasked limit reporting
         (stand_of (place_by S.left K.written R.written core.old input.old output.old report.old tally.old) script.old)
         (stand_of (place_by S.left K.written R.written core.new input.new output.new report.new tally.new) script.new)
         result (input.new ≡ input.old) (output.new ≡ output.old) }
 {
     known(core);
     loop {
-        if let Some(end) = advance(core, script, limit, show, input, output, report, tally) {
+        if let Some(end) = advance(core, script, limit, reporting, input, output, report, tally) {
             return end;
         }
     }

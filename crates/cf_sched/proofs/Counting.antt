@@ -1,10 +1,11 @@
 -- A count that stops at twice as many as there are stages answers as the whole count does.
 use Rattle.std.proofs.Common.{◌≡◌, ℕ, arith}
 use Rattle.std.proofs.lemmas.Bool.Decides.{nat_tests}
+use Rattle.run_options.specs.declared.guess_rule.GuessRule.{GuessRule}
 use Rattle.cf_layout.specs.Layout.{Plan}
 use Rattle.cf_semantics.specs.moves.Holding.{is_held}
 use Rattle.cf_sched.specs.Paces.{PaceCount, HasCounted, holds}
 
 -- whether Issue is held back
-pub held_by : (c : PaceCount) (plan : Plan) (count : ℕ) → HasCounted plan.stages count c → holds c ≡ is_held plan count
-held_by c plan count has = rw (has.0, has.1) (grind (arith, nat_tests))
+pub held_by : (c : PaceCount) (r : GuessRule) (plan : Plan) (count : ℕ) → HasCounted r plan.stages count c → holds c ≡ is_held plan count
+held_by c r plan count has = rw (has.1, has.2) (grind (arith, nat_tests))

@@ -1,7 +1,8 @@
-//! The schedules of a run: scripts, policies, and the rule by which Issue is held back.
+//! The schedules of a run: scripts, policies, and the rules by which Issue is offered.
 #![tactic(auto)]
 
 mod drawn;
+pub mod laws;
 mod offer;
 mod pace;
 mod policy;

@@ -1,19 +1,22 @@
-//! The rule by which Issue is held back.
+//! The rules by which Issue is offered: with which guess, and when it is held back.
 
 ghost use Rattle.std.specs.Prelude.{◌≡◌, ℕ};
 ghost use Rattle.cf_semantics.specs.moves.Holding.{is_held, is_retirement, paced};
+ghost use Rattle.run_options.specs.declared.guess_rule.GuessRule.{GuessRule as Rule};
 ghost use Rattle.cf_layout.specs.Layout.{Plan};
 ghost use Rattle.cf_semantics.specs.claims.Weight.{is_issue};
 ghost use Rattle.cf_sched.specs.Paces.{HasCounted, holds, saw};
 
 use cf_bind::Move;
 use cf_semantics::Event;
+use run_options::GuessRule;
 use std::marker::Model;
 
-/// Counts the Issue moves since the start, the last retirement, or the last drained state, whichever is latest. Once
+/// Keeps the guess rule, and counts the Issue moves since the start, the last retirement, or the last drained state, whichever is latest. Once
 /// there are twice as many as stages, Issue is held back. The count stops there, so it cannot overflow.
 #[derive(Drop)]
 pub struct Pace {
+    rule: GuessRule,
     stages: u32,
     count: u64,
 }
@@ -24,7 +27,7 @@ impl Model for Pace {
 
     ghost Value = { PaceCount };
 
-    ghost view = { λ p. record { stages = p.stages; count = p.count } };
+    ghost view = { λ p. record { rule = p.rule; stages = p.stages; count = p.count } };
 
     ghost invariant = { λ p. p.count ≤ 2 * p.stages };
 }
@@ -47,17 +50,29 @@ fn is_issue(mv: Move) -> bool
 
 impl Pace {
     /// A pace that has counted no Issue.
-    pub fn new(stages: u32) -> Pace
-        ensures { HasCounted stages 0 result }
+    pub fn new(rule: GuessRule, stages: u32) -> Pace
+        ensures { HasCounted rule stages 0 result }
     {
-        Pace { stages, count: 0 }
+        Pace {
+            rule,
+            stages,
+            count: 0,
+        }
+    }
+
+    /// The guess rule.
+    #[inline(always)]
+    pub fn rule(&self) -> GuessRule
+        ensures { result ≡ self.now.rule }
+    {
+        self.rule
     }
 
     /// Whether Issue is held back.
     #[inline(always)]
     pub fn held(&self) -> bool
         ensures value { result ≡ holds self.now }
-        ensures held { (plan : Plan) (count : ℕ) → HasCounted plan.stages count self.now → result ≡ is_held plan count }
+        ensures held { (r : Rule) (plan : Plan) (count : ℕ) → HasCounted r plan.stages count self.now → result ≡ is_held plan count }
     {
         2 * self.stages as u64 <= self.count
     }
@@ -67,7 +82,7 @@ impl Pace {
     #[tactic(auto, unfolding(cf_semantics::specs::moves::Holding::paced))]
     pub fn saw(&mut self, mv: Move, event: &Event, drained: bool)
         ensures value { self.new ≡ saw self.old mv event.now drained }
-        ensures counted { (stages count : ℕ) → HasCounted stages count self.old → HasCounted stages (paced count mv event.now drained) self.new }
+        ensures counted { (r : Rule) (stages count : ℕ) → HasCounted r stages count self.old → HasCounted r stages (paced count mv event.now drained) self.new }
     {
         if is_retirement(event) || drained {
             self.count = 0;

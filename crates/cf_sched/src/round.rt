@@ -97,7 +97,7 @@ impl Policy for Round {
 
     #[inline(always)]
     fn choose(&mut self, core: &Core, candidates: &mut Candidates, pace: &Pace) -> Move {
-        if let Some(next) = Candidates::soon(core, self.rank, pace.held()) {
+        if let Some(next) = Candidates::soon(core, self.rank, pace.rule(), pace.held()) {
             self.keep(next);
             return next;
         }

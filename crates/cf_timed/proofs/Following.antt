@@ -1,6 +1,6 @@
 -- A clock that has recorded some moves of a run has for each site the greatest time of those that use it.
 use Rattle.std.proofs.Common.{◌≡◌, ◌∙◌, refl, sym, ap, subst, ℕ, zero, suc, ◌+◌, ◌<◌, ◌≤◌, List, [], ◌∷◌, length, map, max, Bool, true, false, cond, nat_eq, arith}
-use Rattle.std.specs.Prelude.{replicate, slice_set, ◌&&◌, ◌||◌}
+use Rattle.std.specs.Prelude.{Option, Some, None, replicate, slice_set, ◌&&◌, ◌||◌}
 use Rattle.std.specs.List.{AllByRecursion}
 use Rattle.std.proofs.lemmas.Bool.Decides.{nat_tests}
 use Rattle.cf_layout.specs.Layout.{Plan}
@@ -10,10 +10,18 @@ use Rattle.cf_semantics.specs.moves.Sites.{Site, Stage, SidingCell, Lane, Fetchi
 use Rattle.cf_index.specs.Sites.{HasSites, LayoutHasSite, shares, used, uses_place}
 use Rattle.cf_index.proofs.SharedSites.{IsOne, is_other, same_site_is, used_ones}
 use Rattle.cf_index.proofs.SiteWords.{siding_within}
-use Rattle.cf_timed.specs.Delays.{delay}
-use Rattle.cf_timed.specs.Times.{Done, done_at, done_after, greatest, greatest_time, time_after, times, times_after}
-use Rattle.cf_timed.specs.Clocks.{SiteTimes, ClockKnows, allowed, finish, made, made_all, number_at, put_time, put_times, row_at, stamped, started, time_at}
-use Rattle.cf_timed.proofs.SiteTimes.{at_start, put_delays, put_latest, put_same, same_times}
+use Rattle.cf_bind.specs.declared.moves.Move.TheVariants.{Issue, Emit, Climb, Fall, Meet, Execute, Send, Launch, Slide, Access, Recover, Leave, Exit, Serve}
+use Rattle.cf_semantics.specs.state.State.{State}
+use Rattle.cf_timed.specs.declared.draws.DelayDraws.{DelayDraws}
+use Rattle.cf_timed.specs.declared.timed_move.TimedMove.{TimedMove}
+use Rattle.cf_timed.specs.Delays.{span_of}
+use Rattle.cf_timed.specs.DelayedRuns.{DelayRule, Visit, class_at, delay_at, delayed_at, timed_after, word_of}
+use Rattle.cf_timed.specs.Drawing.{after_word, drawn_from, stream_count, stream_of, ticks_in}
+use Rattle.cf_timed.specs.Numbers.{number_at}
+use Rattle.cf_timed.specs.Times.{DelayedMove, done_at, done_after, greatest, greatest_time, time_after}
+use Rattle.cf_timed.specs.Clocks.{SiteTimes, ClockKnows, allowed, clocked, delay_by, drawing, finish, made, made_all, put_time, put_times, row_at, rule_of, stamped, started, time_at}
+use Rattle.cf_timed.proofs.Drawn.{HasDrawn, drawn_start, number_put, word_drawn, word_taken}
+use Rattle.cf_timed.proofs.SiteTimes.{at_start, put_delays, put_draws, put_latest, put_same, same_drawn, same_times}
 use Rattle.cf_timed.proofs.Greatest.{greatest_where, where_any, where_more, where_none}
 
 -- a site for which the clock has room
@@ -37,13 +45,14 @@ pub record HasRoom (c : SiteTimes) : Type 0 where
   pub cells : (k : ℕ) → k < 8 → length (row_at c.cells k) ≡ 8
 
 -- the greatest time of the moves that use the site
-abbrev pub last_at : Plan → List Done → Site → ℕ
-last_at plan moves x = greatest_where (λ done. uses_place plan done.move x) moves
+abbrev pub last_at : Plan → List TimedMove → Site → ℕ
+last_at plan moves x = greatest_where (λ done. uses_place plan done.mv x) moves
 
 -- the clock has recorded the moves
-pub record Follows (plan : Plan) (delays : List ℕ) (moves : List Done) (c : SiteTimes) : Type 0 where
+pub record Follows (plan : Plan) (rule : DelayRule) (moves : List TimedMove) (c : SiteTimes) : Type 0 where
   pub plan_is : c.plan ≡ plan
-  pub delays_are : c.delays ≡ delays
+  pub rule_is : rule_of c ≡ rule
+  pub drawn : HasDrawn rule.seed moves c.draws
   pub room : HasRoom c
   pub latest_is : c.latest ≡ greatest_time moves
   pub times_are : (x : Site) → IsKept x → time_at c x ≡ last_at plan moves x
@@ -56,25 +65,43 @@ map_same f g (x ∷ xs) kept same =
     let r = map_same f g xs kept.1 same in
     rw (h, r) refl
 
--- when a further move finishes
-pub finish_follows : (plan : Plan) (delays : List ℕ) (moves : List Done) (c : SiteTimes) (mv : Move) → Follows plan delays moves c → AreKept plan mv →
-    finish c mv ≡ time_after plan delays moves mv
-unfolding finish time_after shares
-finish_follows plan delays moves c mv h kept =
-    let p = h.plan_is in
-    let d = h.delays_are in
-    rw (p, d) (ap (λ (n : ℕ). n + delay delays mv)
-    (ap greatest (map_same (time_at c) (last_at plan moves) (used plan mv) kept h.times_are)
-    ∙ where_any (λ x done. uses_place plan done.move x) (used plan mv) moves))
+-- the stream of a move is one of the clock's
+pub stream_kept : (plan : Plan) (mv : Move) → AreKept plan mv → stream_of mv < stream_count
+unfolding stream_of
+stream_kept plan (Issue g) kept = omega arith
+stream_kept plan Emit kept = omega arith
+stream_kept plan (Climb i) kept = let k = kept.0 in omega (arith, k)
+stream_kept plan (Fall i) kept = let k = kept.0 in omega (arith, k)
+stream_kept plan (Meet i) kept = let k = kept.0 in omega (arith, k)
+stream_kept plan (Execute i) kept = let k = kept.0 in omega (arith, k)
+stream_kept plan (Send i) kept = let k = kept.0 in omega (arith, k)
+stream_kept plan (Launch i) kept = let k = kept.0 in omega (arith, k)
+stream_kept plan (Slide k c) kept = let a = kept.0.0 in let b = kept.0.1 in omega (arith, a, b)
+stream_kept plan Access kept = omega arith
+stream_kept plan (Recover i) kept = let k = kept.0 in omega (arith, k)
+stream_kept plan Leave kept = omega arith
+stream_kept plan Exit kept = omega arith
+stream_kept plan Serve kept = omega arith
 
--- a number that was put, and the others
-number_put : (xs : List ℕ) (i j t : ℕ) → i < length xs → number_at (slice_set xs i t) j ≡ cond (nat_eq j i) t (number_at xs j)
-number_put [] i j t within = absurd (omega arith)
-number_put (x ∷ xs) zero zero t within = refl
-number_put (x ∷ xs) zero (suc j) t within = let e : nat_eq (suc j) 0 ≡ false = grind (arith, nat_tests) in rw e refl
-number_put (x ∷ xs) (suc i) zero t within = let e : nat_eq 0 (suc i) ≡ false = grind (arith, nat_tests) in rw e refl
-number_put (x ∷ xs) (suc i) (suc j) t within = let e : nat_eq (suc j) (suc i) ≡ nat_eq j i = grind (arith, nat_tests) in
-    rw e (number_put xs i j t (omega arith))
+-- how long a further move takes
+pub delay_follows : (plan : Plan) (rule : DelayRule) (moves : List TimedMove) (c : SiteTimes) (s : State) (mv : Move) → Follows plan rule moves c →
+    AreKept plan mv → delay_by (clocked c s) mv ≡ delay_at rule s moves mv
+unfolding delay_by delay_at
+delay_follows plan rule moves c s mv h kept =
+    let w = word_drawn rule.seed moves c.draws mv h.drawn (stream_kept plan mv kept) in
+    ap (ticks_in (span_of c.delays mv (class_at s mv))) w
+    ∙ ap (λ (r : DelayRule). ticks_in (span_of r.spans mv (class_at s mv)) (word_of rule.seed moves mv)) h.rule_is
+
+-- when a further move finishes
+pub finish_follows : (plan : Plan) (rule : DelayRule) (moves : List TimedMove) (c : SiteTimes) (s : State) (mv : Move) → Follows plan rule moves c →
+    AreKept plan mv → finish (clocked c s) mv ≡ time_after plan moves (delayed_at rule s moves mv)
+unfolding finish time_after shares delay_by greatest_time
+finish_follows plan rule moves c s mv h kept =
+    let p = h.plan_is in
+    let d = delay_follows plan rule moves c s mv h kept in
+    rw (p, d) (ap (λ (n : ℕ). n + delay_at rule s moves mv)
+    (ap greatest (map_same (time_at c) (last_at plan moves) (used plan mv) kept h.times_are)
+    ∙ where_any (λ x done. uses_place plan done.mv x) (used plan mv) moves))
 
 row_put : (rows : List (List ℕ)) (k m : ℕ) (row : List ℕ) → k < length rows → row_at (slice_set rows k row) m ≡ cond (nat_eq m k) row (row_at rows m)
 row_put [] k m row within = absurd (omega arith)
@@ -196,46 +223,65 @@ reaches f x (y ∷ ys) e = by (same_site x y) refl (reaches f x ys)
     by false s rest = let r = rest (rw s at e) in omega (arith, r)
 
 -- the time of a site after one more move
-place_more : (plan : Plan) (moves : List Done) (c : SiteTimes) (mv : Move) (t : ℕ) (x : Site) → HasRoom c → AreKept plan mv → IsKept x →
-    time_at c x ≡ last_at plan moves x → (uses_place plan mv x ≡ true → last_at plan moves x ≤ t) →
-    time_at (put_times (allowed c t) t (used plan mv)) x ≡ last_at plan (done_at mv t ∷ moves) x
+place_more : (plan : Plan) (moves : List TimedMove) (c : SiteTimes) (d : DelayedMove) (t : ℕ) (x : Site) → HasRoom c → AreKept plan d.mv → IsKept x →
+    time_at c x ≡ last_at plan moves x → (uses_place plan d.mv x ≡ true → last_at plan moves x ≤ t) →
+    time_at (put_times (allowed c t) t (used plan d.mv)) x ≡ last_at plan (done_at d t ∷ moves) x
 unfolding uses_place
-place_more plan moves c mv t x room kept here before_is late =
-    times_put (allowed c t) t (used plan mv) x (record { stages = room.stages; sidings = room.sidings; cells = room.cells }) kept here
-    ∙ ap (λ (n : ℕ). cond (among x (used plan mv)) t n) (same_times c t x ∙ before_is)
-    ∙ by (among x (used plan mv)) refl
-    ∙ sym (where_more (λ done. uses_place plan done.move x) (done_at mv t) moves)
+place_more plan moves c d t x room kept here before_is late =
+    times_put (allowed c t) t (used plan d.mv) x (record { stages = room.stages; sidings = room.sidings; cells = room.cells }) kept here
+    ∙ ap (λ (n : ℕ). cond (among x (used plan d.mv)) t n) (same_times c t x ∙ before_is)
+    ∙ by (among x (used plan d.mv)) refl
+    ∙ sym (where_more (λ done. uses_place plan done.mv x) (done_at d t) moves)
   where
-    by : (b : Bool) → among x (used plan mv) ≡ b → cond b t (last_at plan moves x) ≡ max (cond b t 0) (last_at plan moves x)
+    by : (b : Bool) → among x (used plan d.mv) ≡ b → cond b t (last_at plan moves x) ≡ max (cond b t 0) (last_at plan moves x)
     by true e = let g = late e in omega (arith, g)
     by false e = omega arith
 
 -- one more move has the latest time, or not
-latest_more : (moves : List Done) (mv : Move) (t : ℕ) → max (greatest_time moves) t ≡ greatest_time (done_at mv t ∷ moves)
+latest_more : (moves : List TimedMove) (d : DelayedMove) (t : ℕ) → max (greatest_time moves) t ≡ greatest_time (done_at d t ∷ moves)
 unfolding greatest_time
-latest_more moves mv t = omega arith
+latest_more moves d t = omega arith
 
 -- no site that a move uses has a later time than the move
-pub no_later : (plan : Plan) (delays : List ℕ) (moves : List Done) (mv : Move) (x : Site) → uses_place plan mv x ≡ true →
-    last_at plan moves x ≤ time_after plan delays moves mv
+pub no_later : (plan : Plan) (moves : List TimedMove) (d : DelayedMove) (x : Site) → uses_place plan d.mv x ≡ true →
+    last_at plan moves x ≤ time_after plan moves d
 unfolding time_after shares uses_place
-no_later plan delays moves mv x e =
-    let r = reaches (last_at plan moves) x (used plan mv) e in
-    let a = where_any (λ y done. uses_place plan done.move y) (used plan mv) moves in
+no_later plan moves d x e =
+    let r = reaches (last_at plan moves) x (used plan d.mv) e in
+    let a = where_any (λ y done. uses_place plan done.mv y) (used plan d.mv) moves in
     omega (arith, r, a)
 
+-- the seed stays
+seed_kept : (c : SiteTimes) (mv : Move) → (drawing c mv).draws.seed ≡ c.draws.seed
+unfolding after_word
+seed_kept c mv = by c.draws.seed refl
+  where
+    by : (seed : Option ℕ) → c.draws.seed ≡ seed → (drawing c mv).draws.seed ≡ c.draws.seed
+    by None e = rw e refl
+    by (Some n) e = rw e refl
+
 -- a clock that records one more move
-pub follows_more : (plan : Plan) (delays : List ℕ) (moves : List Done) (c : SiteTimes) (mv : Move) → Follows plan delays moves c → AreKept plan mv →
-    Follows plan delays (done_after plan delays moves mv ∷ moves) (stamped c mv (time_after plan delays moves mv))
-follows_more plan delays moves c mv h kept =
-    let t : ℕ = time_after plan delays moves mv in
-    subst (λ (l : Plan). Follows plan delays (done_after plan delays moves mv ∷ moves) (put_times (allowed c t) t (used l mv))) (sym h.plan_is) (record {
-      plan_is = put_same (allowed c t) t (used plan mv) ∙ h.plan_is;
-      delays_are = put_delays (allowed c t) t (used plan mv) ∙ h.delays_are;
-      room = room_times (allowed c t) t (used plan mv) (record { stages = h.room.stages; sidings = h.room.sidings; cells = h.room.cells }) kept;
-      latest_is = put_latest (allowed c t) t (used plan mv) ∙ ap (λ (n : ℕ). max n t) h.latest_is ∙ latest_more moves mv t;
-      times_are = λ x here. place_more plan moves c mv t x h.room kept here (h.times_are x here) (no_later plan delays moves mv x);
+pub follows_more : (plan : Plan) (rule : DelayRule) (moves : List TimedMove) (c : SiteTimes) (d : DelayedMove) → Follows plan rule moves c →
+    AreKept plan d.mv → Follows plan rule (done_after plan moves d ∷ moves) (stamped c d.mv (time_after plan moves d))
+follows_more plan rule moves c d h kept =
+    let t : ℕ = time_after plan moves d in
+    let put : SiteTimes = put_times (allowed c t) t (used plan d.mv) in
+    let draws_are : put.draws ≡ c.draws = put_draws (allowed c t) t (used plan d.mv) in
+    let spans_are : put.delays ≡ c.delays = put_delays (allowed c t) t (used plan d.mv) in
+    let room_is = room_times (allowed c t) t (used plan d.mv)
+    (record { stages = h.room.stages; sidings = h.room.sidings; cells = h.room.cells }) kept in
+    subst (λ (l : Plan). Follows plan rule (done_after plan moves d ∷ moves) (drawing (put_times (allowed c t) t (used l d.mv)) d.mv)) (sym h.plan_is) (record {
+      plan_is = put_same (allowed c t) t (used plan d.mv) ∙ h.plan_is;
+      rule_is = same_rule (drawing put d.mv) c spans_are (seed_kept put d.mv ∙ ap (λ (w : DelayDraws). w.seed) draws_are) ∙ h.rule_is;
+      drawn = subst (λ (w : DelayDraws). HasDrawn rule.seed (done_after plan moves d ∷ moves) (after_word w (stream_of d.mv))) (sym draws_are)
+          (word_taken rule.seed moves c.draws (done_after plan moves d) h.drawn (stream_kept plan d.mv kept));
+      room = record { stages = room_is.stages; sidings = room_is.sidings; cells = room_is.cells };
+      latest_is = put_latest (allowed c t) t (used plan d.mv) ∙ ap (λ (n : ℕ). max n t) h.latest_is ∙ latest_more moves d t;
+      times_are = λ x here. same_drawn put d.mv x ∙ place_more plan moves c d t x h.room kept here (h.times_are x here) (no_later plan moves d x);
     })
+  where
+    same_rule : (a b : SiteTimes) → a.delays ≡ b.delays → a.draws.seed ≡ b.draws.seed → rule_of a ≡ rule_of b
+    same_rule a b e f = rw (e, f) refl
 
 -- the clock at the start
 zero_row : (m n k : ℕ) → k < m → length (row_at (replicate m (replicate n 0)) k) ≡ n
@@ -247,17 +293,18 @@ zero_row (suc m) n zero within = size n
     size (suc n) = ap suc (size n)
 zero_row (suc m) n (suc k) within = zero_row m n k (omega arith)
 
-started_at : (plan : Plan) (delays : List ℕ) (x : Site) → IsKept x → time_at (started plan delays) x ≡ last_at plan [] x
-started_at plan delays x here = let a = at_start plan delays x in let b = where_none (λ done. uses_place plan done.move x) in omega (arith, a, b)
+started_at : (plan : Plan) (rule : DelayRule) (x : Site) → IsKept x → time_at (started plan rule) x ≡ last_at plan [] x
+started_at plan rule x here = let a = at_start plan rule x in let b = where_none (λ done. uses_place plan done.mv x) in omega (arith, a, b)
 
-pub follows_start : (plan : Plan) (delays : List ℕ) → Follows plan delays [] (started plan delays)
-unfolding started greatest_time
-follows_start plan delays = record {
+pub follows_start : (plan : Plan) (rule : DelayRule) → Follows plan rule [] (started plan rule)
+unfolding started greatest_time drawn_from
+follows_start plan rule = record {
   plan_is = refl;
-  delays_are = refl;
+  rule_is = refl;
+  drawn = drawn_start rule.seed;
   room = record { stages = refl; sidings = refl; cells = zero_row 8 8 };
   latest_is = refl;
-  times_are = started_at plan delays;
+  times_are = started_at plan rule;
 }
 
 -- what the layout has, the clock has room for
@@ -278,29 +325,30 @@ pub moves_kept : (plan : Plan) (mv : Move) → IsAccepted plan → HasSites plan
 moves_kept plan mv a there = all_kept plan (used plan mv) a (used_ones plan mv) there
 
 -- so it knows when a further move finishes
-pub follows_tells : (plan : Plan) (delays : List ℕ) (moves : List Done) (c : SiteTimes) → IsAccepted plan → Follows plan delays moves c →
-    ClockKnows plan delays moves c
-follows_tells plan delays moves c a h = record {
+pub follows_tells : (plan : Plan) (rule : DelayRule) (moves : List TimedMove) (c : SiteTimes) → IsAccepted plan → Follows plan rule moves c →
+    ClockKnows plan rule moves c
+follows_tells plan rule moves c a h = record {
   plan_is = h.plan_is;
-  delays_are = h.delays_are;
+  rule_is = h.rule_is;
   latest_is = h.latest_is;
-  finishes = λ mv there. finish_follows plan delays moves c mv h (moves_kept plan mv a there);
+  delays = λ s mv there. delay_follows plan rule moves c s mv h (moves_kept plan mv a there);
+  finishes = λ s mv there. finish_follows plan rule moves c s mv h (moves_kept plan mv a there);
 }
 
 -- and so does a clock that records the moves of a run
-pub follows_all : (plan : Plan) (delays : List ℕ) (earlier : List Done) (c : SiteTimes) (moves : List Move) → IsAccepted plan →
-    AllByRecursion (HasSites plan) moves → Follows plan delays earlier c → Follows plan delays (times_after plan delays earlier moves) (made_all c moves)
-unfolding made
-follows_all plan delays earlier c [] a there h = h
-follows_all plan delays earlier c (mv ∷ moves) a there h =
-    let kept = moves_kept plan mv a there.0 in
-    let e = finish_follows plan delays earlier c mv h kept in
-    let next : Follows plan delays (done_after plan delays earlier mv ∷ earlier) (stamped c mv (finish c mv)) =
-    rw e (follows_more plan delays earlier c mv h kept) in
-    follows_all plan delays (done_after plan delays earlier mv ∷ earlier) (stamped c mv (finish c mv)) moves a there.1 next
+pub follows_all : (plan : Plan) (rule : DelayRule) (earlier : List TimedMove) (c : SiteTimes) (visits : List Visit) → IsAccepted plan →
+    AllByRecursion (λ v. HasSites plan v.mv) visits → Follows plan rule earlier c → Follows plan rule (timed_after plan rule earlier visits) (made_all c visits)
+unfolding made timed_after
+follows_all plan rule earlier c [] a there h = h
+follows_all plan rule earlier c (v ∷ visits) a there h =
+    let d : DelayedMove = delayed_at rule v.state earlier v.mv in
+    let kept = moves_kept plan v.mv a there.0 in
+    let e = finish_follows plan rule earlier c v.state v.mv h kept in
+    let next : Follows plan rule (done_after plan earlier d ∷ earlier) (stamped c v.mv (finish (clocked c v.state) v.mv)) =
+    rw e (follows_more plan rule earlier c d h kept) in
+    follows_all plan rule (done_after plan earlier d ∷ earlier) (stamped c v.mv (finish (clocked c v.state) v.mv)) visits a there.1 next
 
-pub run_told : (plan : Plan) (delays : List ℕ) (moves : List Move) → IsAccepted plan → AllByRecursion (HasSites plan) moves →
-    ClockKnows plan delays (times plan delays moves) (made_all (started plan delays) moves)
-unfolding times
-run_told plan delays moves a there = follows_tells plan delays (times_after plan delays [] moves) (made_all (started plan delays) moves) a
-    (follows_all plan delays [] (started plan delays) moves a there (follows_start plan delays))
+pub run_told : (plan : Plan) (rule : DelayRule) (visits : List Visit) → IsAccepted plan → AllByRecursion (λ v. HasSites plan v.mv) visits →
+    ClockKnows plan rule (timed_after plan rule [] visits) (made_all (started plan rule) visits)
+run_told plan rule visits a there = follows_tells plan rule (timed_after plan rule [] visits) (made_all (started plan rule) visits) a
+    (follows_all plan rule [] (started plan rule) visits a there (follows_start plan rule))

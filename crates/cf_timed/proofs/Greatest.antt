@@ -2,14 +2,15 @@
 use Rattle.std.proofs.Common.{◌≡◌, ◌∙◌, refl, sym, ap, ℕ, List, [], ◌∷◌, map, max, Bool, true, false, cond, arith}
 use Rattle.std.specs.Prelude.{filter, ◌||◌}
 use Rattle.std.specs.List.{list_any}
-use Rattle.cf_timed.specs.Times.{Done, greatest, greatest_time}
+use Rattle.cf_timed.specs.declared.timed_move.TimedMove.{TimedMove}
+use Rattle.cf_timed.specs.Times.{greatest, greatest_time}
 
 -- the greatest time of the moves that pass a test
-abbrev pub greatest_where : (Done → Bool) → List Done → ℕ
+abbrev pub greatest_where : (TimedMove → Bool) → List TimedMove → ℕ
 greatest_where test moves = greatest_time (filter test moves)
 
 -- one more move
-pub where_more : (test : Done → Bool) (done : Done) (moves : List Done) → greatest_where test (done ∷ moves)
+pub where_more : (test : TimedMove → Bool) (done : TimedMove) (moves : List TimedMove) → greatest_where test (done ∷ moves)
     ≡ max (cond (test done) done.time 0) (greatest_where test moves)
 unfolding greatest_time
 where_more test done moves = by (test done)
@@ -18,17 +19,17 @@ where_more test done moves = by (test done)
     by true = refl
     by false = omega arith
 
-pub where_none : (test : Done → Bool) → greatest_where test [] ≡ 0
+pub where_none : (test : TimedMove → Bool) → greatest_where test [] ≡ 0
 unfolding greatest_time
 where_none test = refl
 
 -- a test that nothing passes
-pub where_never : (moves : List Done) → greatest_where (λ done. false) moves ≡ 0
+pub where_never : (moves : List TimedMove) → greatest_where (λ done. false) moves ≡ 0
 where_never [] = where_none (λ done. false)
 where_never (done ∷ moves) = let r = where_never moves in where_more (λ d. false) done moves ∙ omega (arith, r)
 
 -- one test or another
-pub where_either : (p q : Done → Bool) (moves : List Done) → greatest_where (λ done. p done || q done) moves
+pub where_either : (p q : TimedMove → Bool) (moves : List TimedMove) → greatest_where (λ done. p done || q done) moves
     ≡ max (greatest_where p moves) (greatest_where q moves)
 where_either p q [] = let a = where_none (λ done. p done || q done) in let b = where_none p in let c = where_none q in omega (arith, a, b, c)
 where_either p q (done ∷ moves) =
@@ -46,7 +47,7 @@ where_either p q (done ∷ moves) =
     one false false t = refl
 
 -- the tests of a list, one after the other
-pub where_any : {X : Type 0} (test : X → Done → Bool) (xs : List X) (moves : List Done) → greatest (map (λ x. greatest_where (test x) moves) xs)
+pub where_any : {X : Type 0} (test : X → TimedMove → Bool) (xs : List X) (moves : List TimedMove) → greatest (map (λ x. greatest_where (test x) moves) xs)
     ≡ greatest_where (λ done. list_any (λ x. test x done) xs) moves
 where_any test [] moves = sym (where_never moves)
 where_any {X} test (x ∷ xs) moves =

@@ -3,6 +3,7 @@ use Rattle.std.proofs.Common.{◌≡◌, subst, ℕ, zero, suc, ◌+◌, ◌-◌
 use Rattle.std.specs.Prelude.{filter, slice_get, not, ◌==◌}
 use Rattle.std.specs.List.{AllByRecursion}
 use Rattle.rv_inst.specs.declared.classes.Class.TheVariants.{Memory as MemoryClass}
+use Rattle.run_options.specs.declared.guess_rule.GuessRule.{GuessRule}
 use Rattle.cf_layout.specs.Layout.{Plan, SidingPlan, launch_stage, recover_stage}
 use Rattle.cf_layout.specs.Accepted.{IsAccepted, IsSiding}
 use Rattle.cf_layout.proofs.Facts.{memory_siding, siding_found}
@@ -12,7 +13,9 @@ use Rattle.cf_bind.specs.declared.moves.Move.TheVariants.{Issue, Emit, Climb, Fa
 use Rattle.cf_semantics.specs.moves.Bars.{bar}
 use Rattle.cf_semantics.specs.state.Options.{is_some}
 use Rattle.cf_semantics.specs.moves.Candidates.{all_moves, at_stages, candidates, counted_from, held_back, other_moves, slides_from}
-use Rattle.cf_semantics.specs.moves.Holding.{is_held, offered}
+use Rattle.cf_semantics.specs.moves.Holding.{is_held}
+use Rattle.cf_index.specs.GuessRules.{guided, keeps}
+use Rattle.cf_sched.specs.Paces.{offered_by}
 use Rattle.cf_semantics.specs.state.Layouts.{port}
 use Rattle.cf_semantics.specs.moves.Sites.{Site}
 use Rattle.cf_semantics.specs.state.State.{State}
@@ -134,20 +137,23 @@ all_moves_kept plan a =
     all_both K first F entering falls) meets) executes) sends) launches) slides) access) leaving
 
 -- what is offered
-pub offered_kept : (plan : Plan) (count : ℕ) (s : State) → IsAccepted plan → AllByRecursion (AreKept plan) (offered plan count s)
-unfolding offered candidates held_back
-offered_kept plan count s a = by (is_held plan count)
+pub offered_kept : (r : GuessRule) (plan : Plan) (count : ℕ) (s : State) → IsAccepted plan → AllByRecursion (AreKept plan) (offered_by r plan count s)
+unfolding offered_by guided candidates held_back
+offered_kept r plan count s a = by (is_held plan count)
   where
-    there : AllByRecursion (AreKept plan) (candidates plan s)
-    there = all_passed (AreKept plan) (λ mv. not (is_some (bar plan s mv))) (all_moves plan) (all_moves_kept plan a)
+    all : AllByRecursion (AreKept plan) (candidates plan s)
+    all = all_passed (AreKept plan) (λ mv. not (is_some (bar plan s mv))) (all_moves plan) (all_moves_kept plan a)
 
-    others : AllByRecursion (AreKept plan) (other_moves (candidates plan s))
-    others = all_passed (AreKept plan) (λ mv. not (is_issue mv)) (candidates plan s) there
+    there : AllByRecursion (AreKept plan) (guided r plan s)
+    there = all_passed (AreKept plan) (keeps r plan s) (candidates plan s) all
 
-    held : (b : Bool) → AllByRecursion (AreKept plan) (cond b (other_moves (candidates plan s)) (candidates plan s))
+    others : AllByRecursion (AreKept plan) (other_moves (guided r plan s))
+    others = all_passed (AreKept plan) (λ mv. not (is_issue mv)) (guided r plan s) there
+
+    held : (b : Bool) → AllByRecursion (AreKept plan) (cond b (other_moves (guided r plan s)) (guided r plan s))
     held true = others
     held false = there
 
-    by : (b : Bool) → AllByRecursion (AreKept plan) (cond b (held_back (candidates plan s)) (candidates plan s))
-    by true = held (nat_lt 0 (length (other_moves (candidates plan s))))
+    by : (b : Bool) → AllByRecursion (AreKept plan) (cond b (held_back (guided r plan s)) (guided r plan s))
+    by true = held (nat_lt 0 (length (other_moves (guided r plan s))))
     by false = there

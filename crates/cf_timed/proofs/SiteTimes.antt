@@ -5,11 +5,14 @@ use Rattle.cf_layout.specs.Layout.{Plan}
 use Rattle.std.proofs.lemmas.Option.{unwrap_or-slice_get}
 use Rattle.std.proofs.lemmas.List.{map-append}
 use Rattle.std.proofs.lemmas.List.Elements.{filter-append}
+use Rattle.cf_bind.specs.declared.moves.Move.{Move}
 use Rattle.cf_semantics.specs.moves.Candidates.{counted_from}
 use Rattle.cf_semantics.specs.moves.Sites.{Site, Stage, SidingCell, Lane, Fetching, Memory, Code}
 use Rattle.cf_index.proofs.Counted.{counted_split}
 use Rattle.cf_timed.specs.Times.{greatest}
-use Rattle.cf_timed.specs.Clocks.{NoneLater, SiteTimes, allowed, number_at, put_time, put_times, row_at, started, time_at}
+use Rattle.cf_timed.specs.DelayedRuns.{DelayRule}
+use Rattle.cf_timed.specs.Numbers.{number_at}
+use Rattle.cf_timed.specs.Clocks.{NoneLater, SiteTimes, allowed, drawing, put_time, put_times, row_at, started, time_at}
 
 -- a row of cells
 pub row-read : (rows : List (List ℕ)) (k : ℕ) → row_at rows k ≡ get_or rows k []
@@ -88,6 +91,19 @@ put_delays c t [] = refl
 put_delays c t (x ∷ xs) = put_delays (put_time c t x) t xs ∙ one c t x
   where
     one : (c : SiteTimes) (t : ℕ) (x : Site) → (put_time c t x).delays ≡ c.delays
+    one c t (Stage i) = refl
+    one c t (SidingCell k i) = refl
+    one c t Lane = refl
+    one c t Fetching = refl
+    one c t Memory = refl
+    one c t Code = refl
+    one c t _ = refl
+
+pub put_draws : (c : SiteTimes) (t : ℕ) (xs : List Site) → (put_times c t xs).draws ≡ c.draws
+put_draws c t [] = refl
+put_draws c t (x ∷ xs) = put_draws (put_time c t x) t xs ∙ one c t x
+  where
+    one : (c : SiteTimes) (t : ℕ) (x : Site) → (put_time c t x).draws ≡ c.draws
     one c t (Stage i) = refl
     one c t (SidingCell k i) = refl
     one c t Lane = refl
@@ -187,6 +203,19 @@ same_times c t _ = refl
 pub allowed_within : (c : SiteTimes) (t : ℕ) → NoneLater c → NoneLater (allowed c t)
 allowed_within c t h = record { each = λ x. let e = same_times c t x in let g = h.each x in omega (arith, e, g) }
 
+-- what is drawn changes no time
+pub same_drawn : (c : SiteTimes) (mv : Move) (x : Site) → time_at (drawing c mv) x ≡ time_at c x
+same_drawn c mv (Stage j) = refl
+same_drawn c mv (SidingCell k j) = refl
+same_drawn c mv Lane = refl
+same_drawn c mv Fetching = refl
+same_drawn c mv Memory = refl
+same_drawn c mv Code = refl
+same_drawn c mv _ = refl
+
+pub drawn_within : (c : SiteTimes) (mv : Move) → NoneLater c → NoneLater (drawing c mv)
+drawn_within c mv h = record { each = λ x. let e = same_drawn c mv x in let g = h.each x in omega (arith, e, g) }
+
 -- at the start all times are 0
 zeros : (n i : ℕ) → number_at (replicate n 0) i ≤ 0
 zeros zero i = omega arith
@@ -198,19 +227,19 @@ zero_rows zero n k i = omega arith
 zero_rows (suc m) n zero i = zeros n i
 zero_rows (suc m) n (suc k) i = zero_rows m n k i
 
-pub at_start : (plan : Plan) (delays : List ℕ) (x : Site) → time_at (started plan delays) x ≤ 0
+pub at_start : (plan : Plan) (rule : DelayRule) (x : Site) → time_at (started plan rule) x ≤ 0
 unfolding started
-at_start plan delays (Stage i) = zeros 34 i
-at_start plan delays (SidingCell k i) = zero_rows 8 8 k i
-at_start plan delays Lane = omega arith
-at_start plan delays Fetching = omega arith
-at_start plan delays Memory = omega arith
-at_start plan delays Code = omega arith
-at_start plan delays _ = omega arith
+at_start plan rule (Stage i) = zeros 34 i
+at_start plan rule (SidingCell k i) = zero_rows 8 8 k i
+at_start plan rule Lane = omega arith
+at_start plan rule Fetching = omega arith
+at_start plan rule Memory = omega arith
+at_start plan rule Code = omega arith
+at_start plan rule _ = omega arith
 
-pub started_within : (plan : Plan) (delays : List ℕ) → NoneLater (started plan delays)
+pub started_within : (plan : Plan) (rule : DelayRule) → NoneLater (started plan rule)
 unfolding started
-started_within plan delays = record { each = at_start plan delays }
+started_within plan rule = record { each = at_start plan rule }
 
 -- no site that a move uses has a later time
 pub reach_within : (c : SiteTimes) (xs : List Site) → NoneLater c → greatest (map (time_at c) xs) ≤ c.latest

@@ -4,19 +4,23 @@ use Rattle.std.specs.Prelude.{IfSome, slice_get}
 use Rattle.std.proofs.lemmas.Bool.Decides.{nat_tests}
 use Rattle.std.proofs.lemmas.List.Elements.{All-filter}
 use Rattle.std.proofs.lemmas.Option.{get_or_from_slice_get, slice_get_within}
+use Rattle.run_options.specs.declared.guess_rule.GuessRule.{GuessRule}
 use Rattle.cf_layout.specs.Layout.{Plan}
 use Rattle.cf_bind.specs.declared.moves.Move.{Move}
 use Rattle.cf_bind.specs.declared.moves.Move.TheVariants.{Issue}
 use Rattle.cf_bind.specs.declared.passenger.Guess.{Guess}
 use Rattle.cf_bind.specs.declared.passenger.Guess.TheVariants.{Next, Taken, Wait}
-use Rattle.cf_semantics.specs.moves.Candidates.{candidates}
 use Rattle.cf_semantics.specs.state.State.{State}
-use Rattle.cf_index.specs.Allowed.{allowed_issues, allowed_others, is_allowed, unheld_issues, withheld}
-use Rattle.cf_index.proofs.Others.{candidates_parts, withheld_others}
+use Rattle.cf_index.specs.Allowed.{allowed_issues, allowed_others, is_allowed, kept_issues, unheld_issues, withheld}
+use Rattle.cf_index.specs.GuessRules.{guided, keeps}
+use Rattle.cf_index.proofs.Firsts.{guided_parts}
+use Rattle.cf_index.proofs.Others.{withheld_others}
 use Rattle.cf_index.proofs.Parts.{beyond}
 use Rattle.cf_sched.specs.Paces.{PaceCount, holds, offers}
-use Rattle.cf_timed.specs.Clocks.{SiteTimes, capped, finish}
-use Rattle.cf_timed.specs.Delays.{delay}
+use Rattle.cf_timed.specs.Clocks.{ClockedState, capped, delay_by, finish}
+use Rattle.cf_timed.specs.Delays.{span_of}
+use Rattle.cf_timed.specs.DelayedRuns.{class_at}
+use Rattle.cf_timed.specs.Drawing.{stream_of}
 use Rattle.cf_timed.specs.Earliest.{first_least}
 use Rattle.cf_timed.specs.Seeking.{Seeking, nothing, shown}
 use Rattle.cf_timed.specs.Soonest.{AreLater, IsIssueBy, IsSoonest, due_of}
@@ -25,105 +29,110 @@ use Rattle.cf_timed.proofs.Leasts.{least-after, least-front, least-of_all}
 use Rattle.cf_timed.proofs.Sought.{found-bound, found-least}
 
 -- all Issues use the same sites, and are of one kind
-issue_time : (c : SiteTimes) (g : Guess) → capped c (Issue g) ≡ capped c (Issue Next)
-unfolding finish delay
+issue_time : (c : ClockedState) (g : Guess) → capped c (Issue g) ≡ capped c (Issue Next)
+unfolding finish delay_by span_of class_at stream_of
 issue_time c g = refl
 
-all_issues : (c : SiteTimes) → All (λ mv. capped c mv ≡ capped c (Issue Next)) (Issue Next ∷ Issue Taken ∷ Issue Wait ∷ [])
+all_issues : (c : ClockedState) → All (λ mv. capped c mv ≡ capped c (Issue Next)) (Issue Next ∷ Issue Taken ∷ Issue Wait ∷ [])
 all_issues c zero d below = issue_time c Next
 all_issues c (suc zero) d below = issue_time c Taken
 all_issues c (suc (suc zero)) d below = issue_time c Wait
 all_issues c (suc (suc (suc k))) d below = absurd (omega arith)
 
-each_issue : (c : SiteTimes) (plan : Plan) (s : State) → All (λ mv. capped c mv ≡ capped c (Issue Next)) (allowed_issues plan s)
-each_issue c plan s = All-filter (is_allowed plan s) (λ mv. capped c mv ≡ capped c (Issue Next)) (Issue Next ∷ Issue Taken ∷ Issue Wait ∷ []) (all_issues c)
+each_issue : (c : ClockedState) (r : GuessRule) (plan : Plan) (s : State) → All (λ mv. capped c mv ≡ capped c (Issue Next)) (kept_issues r plan s)
+each_issue c r plan s =
+    let P : Move → Type 0 = λ mv. capped c mv ≡ capped c (Issue Next) in
+    All-filter (keeps r plan s) P (allowed_issues plan s) (All-filter (is_allowed plan s) P (Issue Next ∷ Issue Taken ∷ Issue Wait ∷ []) (all_issues c))
 
 -- no Issue finishes by the time
-pub none_held : (c : SiteTimes) (plan : Plan) (s : State) (held : Bool) (by : ℕ) → held ≡ true → AreLater c (unheld_issues held plan s) by
-none_held c plan s true by e = λ k d below. absurd (omega arith)
-none_held c plan s false by e = absurd (cc)
+pub none_held : (c : ClockedState) (r : GuessRule) (plan : Plan) (s : State) (held : Bool) (by : ℕ) → held ≡ true → AreLater c (unheld_issues held r plan s) by
+none_held c r plan s true by e = λ k d below. absurd (omega arith)
+none_held c r plan s false by e = absurd (cc)
 
-pub none_sooner : (c : SiteTimes) (plan : Plan) (s : State) (held : Bool) (by time : ℕ) → time ≡ capped c (Issue Next) → by < time →
-    AreLater c (unheld_issues held plan s) by
-none_sooner c plan s true by time e less = λ k d below. absurd (omega arith)
-none_sooner c plan s false by time e less = λ k d below. let same = each_issue c plan s k d below in omega (arith, same, e, less)
+pub none_sooner : (c : ClockedState) (r : GuessRule) (plan : Plan) (s : State) (held : Bool) (by time : ℕ) → time ≡ capped c (Issue Next) → by < time →
+    AreLater c (unheld_issues held r plan s) by
+none_sooner c r plan s true by time e less = λ k d below. absurd (omega arith)
+none_sooner c r plan s false by time e less = λ k d below. let same = each_issue c r plan s k d below in omega (arith, same, e, less)
 
-pub none_there : (c : SiteTimes) (plan : Plan) (s : State) (held : Bool) (by : ℕ) → None ≡ slice_get (allowed_issues plan s) 0 →
-    AreLater c (unheld_issues held plan s) by
-none_there c plan s true by e = λ k d below. absurd (omega arith)
-none_there c plan s false by e = none (allowed_issues plan s) e
+pub none_there : (c : ClockedState) (r : GuessRule) (plan : Plan) (s : State) (held : Bool) (by : ℕ) → None ≡ slice_get (kept_issues r plan s) 0 →
+    AreLater c (unheld_issues held r plan s) by
+none_there c r plan s true by e = λ k d below. absurd (omega arith)
+none_there c r plan s false by e = none (kept_issues r plan s) e
   where
     none : (xs : List Move) → None ≡ slice_get xs 0 → AreLater c xs by
     none [] e = λ k d below. absurd (omega arith)
     none (x ∷ xs) e = absurd (cc)
 
 -- one of them is
-pub issue_there : (c : SiteTimes) (plan : Plan) (s : State) (held : Bool) (by time : ℕ) (mv : Move) → time ≡ capped c (Issue Next) → held ≡ false → time ≤ by →
-    Some mv ≡ slice_get (allowed_issues plan s) 0 → IsIssueBy c (unheld_issues held plan s) by (record { mv = mv; time = time })
-issue_there c plan s true by time mv e free soon at = absurd (cc)
-issue_there c plan s false by time mv e free soon at =
-    let within = slice_get_within (allowed_issues plan s) 0 mv (sym at) in
-    let is = get_or_from_slice_get (allowed_issues plan s) 0 mv mv (sym at) in
+pub issue_there : (c : ClockedState) (r : GuessRule) (plan : Plan) (s : State) (held : Bool) (by time : ℕ) (mv : Move) → time ≡ capped c (Issue Next) →
+    held ≡ false → time ≤ by →
+    Some mv ≡ slice_get (kept_issues r plan s) 0 → IsIssueBy c (unheld_issues held r plan s) by (record { mv = mv; time = time })
+issue_there c r plan s true by time mv e free soon at = absurd (cc)
+issue_there c r plan s false by time mv e free soon at =
+    let within = slice_get_within (kept_issues r plan s) 0 mv (sym at) in
+    let is = get_or_from_slice_get (kept_issues r plan s) 0 mv mv (sym at) in
     record {
       mv = at;
-      time = e ∙ sym (ap (capped c) (sym is) ∙ each_issue c plan s 0 mv within);
+      time = e ∙ sym (ap (capped c) (sym is) ∙ each_issue c r plan s 0 mv within);
       soon = soon;
     }
 
 -- an Issue is first where none of the others finishes before it
-front : (c : SiteTimes) (xs ys : List Move) (mv : Move) → Some mv ≡ slice_get xs 0 → All (λ x. capped c x ≡ capped c mv) xs →
+front : (c : ClockedState) (xs ys : List Move) (mv : Move) → Some mv ≡ slice_get xs 0 → All (λ x. capped c x ≡ capped c mv) xs →
     ((k : ℕ) (d : Move) → k < length ys → capped c mv ≤ capped c (get_or ys k d)) → Some mv ≡ slice_get (xs ++ ys) (first_least (capped c) (xs ++ ys))
 front c [] ys mv at same later = absurd (cc)
 front c (x ∷ xs) ys mv at same later =
     let e = least-of_all (capped c) (x ∷ xs ++ ys) 0 (capped c mv) mv (least-front (capped c) (x ∷ xs) ys (capped c mv) (omega arith) same later) in
     rw (← e) at
 
-pub issue_soonest : (c : SiteTimes) (plan : Plan) (s : State) (held : Bool) (seek : Seeking) (due : Due) → length (allowed_others plan s) ≤ 517 →
+pub issue_soonest : (c : ClockedState) (r : GuessRule) (plan : Plan) (s : State) (held : Bool) (seek : Seeking) (due : Due) → length
+    (allowed_others plan s) ≤ 517 →
     seek ≡ fold shown (nothing c) (allowed_others plan s) →
-    IsIssueBy c (unheld_issues held plan s) seek.time due → IsSoonest c (withheld held (candidates plan s)) due
-issue_soonest c plan s true seek due few e h = let at = h.mv in absurd (cc)
-issue_soonest c plan s false seek due few e h =
-    let issues = allowed_issues plan s in
+    IsIssueBy c (unheld_issues held r plan s) seek.time due → IsSoonest c (withheld held (guided r plan s)) due
+issue_soonest c r plan s true seek due few e h = let at = h.mv in absurd (cc)
+issue_soonest c r plan s false seek due few e h =
+    let issues = kept_issues r plan s in
     let at = h.mv in
     let time = h.time in
     let soon = h.soon in
     let within = slice_get_within issues 0 due.mv (sym at) in
     let is = get_or_from_slice_get issues 0 due.mv due.mv (sym at) in
-    let one : capped c due.mv ≡ capped c (Issue Next) = ap (capped c) (sym is) ∙ each_issue c plan s 0 due.mv within in
-    let first = front c issues (allowed_others plan s) due.mv at (λ k d below. each_issue c plan s k d below ∙ sym one)
+    let one : capped c due.mv ≡ capped c (Issue Next) = ap (capped c) (sym is) ∙ each_issue c r plan s 0 due.mv within in
+    let first = front c issues (allowed_others plan s) due.mv at (λ k d below. each_issue c r plan s k d below ∙ sym one)
     (λ k d below. let b = found-bound c (allowed_others plan s) seek (omega (arith, few)) e k d below in omega (arith, b, time, soon)) in
-    record { mv = rw (candidates_parts plan s) first; time = time }
+    record { mv = rw (guided_parts r plan s) first; time = time }
 
 -- and else the first of the others is
-pub other_soonest : (c : SiteTimes) (plan : Plan) (s : State) (held : Bool) (seek : Seeking) → length (allowed_others plan s) ≤ 517 →
+pub other_soonest : (c : ClockedState) (r : GuessRule) (plan : Plan) (s : State) (held : Bool) (seek : Seeking) → length (allowed_others plan s) ≤ 517 →
     seek ≡ fold shown (nothing c) (allowed_others plan s) →
-    AreLater c (unheld_issues held plan s) seek.time → IfSome (due_of seek) (λ due. IsSoonest c (withheld held (candidates plan s)) due)
-other_soonest c plan s held seek few e later = by (nat_lt seek.time (2 ^ 64 - 1)) refl
+    AreLater c (unheld_issues held r plan s) seek.time → IfSome (due_of seek) (λ due. IsSoonest c (withheld held (guided r plan s)) due)
+other_soonest c r plan s held seek few e later = by (nat_lt seek.time (2 ^ 64 - 1)) refl
   where
-    found : seek.time < 2 ^ 64 - 1 → IsSoonest c (withheld held (candidates plan s)) (record { mv = seek.move; time = seek.time })
+    found : seek.time < 2 ^ 64 - 1 → IsSoonest c (withheld held (guided r plan s)) (record { mv = seek.move; time = seek.time })
     found below =
         let others = allowed_others plan s in
-        let issues = unheld_issues held plan s in
-        let r = found-least c others seek (omega (arith, few)) e below in
-        let w = r.least.within in
-        let parts = withheld_others plan s held (omega (arith, w)) in
+        let issues = unheld_issues held r plan s in
+        let least = found-least c others seek (omega (arith, few)) e below in
+        let w = least.least.within in
+        let parts = withheld_others r plan s held (omega (arith, w)) in
         let place = least-of_all (capped c) (issues ++ others) (length issues + seek.place) seek.time seek.move
-        (least-after (capped c) issues others seek.place seek.time later r.least) in
+        (least-after (capped c) issues others seek.place seek.time later least.least) in
         let at = beyond issues others (length issues) (length issues + seek.place) seek.move refl (omega arith)
-        (rw (past (length issues) seek.place) (sym r.move)) in
-        record { mv = rw (parts, ← place) at; time = sym r.time }
+        (rw (past (length issues) seek.place) (sym least.move)) in
+        record { mv = rw (parts, ← place) at; time = sym least.time }
       where
         past : (n k : ℕ) → n + k - n ≡ k
         past n k = omega arith
 
-    by : (b : Bool) → nat_lt seek.time (2 ^ 64 - 1) ≡ b → IfSome (due_of seek) (λ due. IsSoonest c (withheld held (candidates plan s)) due)
+    by : (b : Bool) → nat_lt seek.time (2 ^ 64 - 1) ≡ b → IfSome (due_of seek) (λ due. IsSoonest c (withheld held (guided r plan s)) due)
     by true t = rw t (found (grind (arith, nat_tests)))
     by false t = rw t tt
 
 -- what is offered, with Issue held back or not
-pub soonest_offered : (c : SiteTimes) (count : PaceCount) (plan : Plan) (s : State) (held : Bool) (due : Due) → held ≡ holds count →
-    IsSoonest c (withheld held (candidates plan s)) due → IsSoonest c (offers count plan s) due
+pub soonest_offered : (c : ClockedState) (count : PaceCount) (r : GuessRule) (plan : Plan) (s : State) (held : Bool) (due : Due) → r ≡ count.rule →
+    held ≡ holds count →
+    IsSoonest c (withheld held (guided r plan s)) due → IsSoonest c (offers count plan s) due
 unfolding offers
-soonest_offered c count plan s held due is h = rw is at h
+soonest_offered c count r plan s held due same is h = rw (same, is) at h
 
 pub ruleset issue_due = (none_held, none_sooner, none_there)

@@ -4,13 +4,13 @@ use Rattle.std.specs.Prelude.{slice_get}
 use Rattle.std.proofs.lemmas.Bool.Decides.{nat_tests}
 use Rattle.std.proofs.lemmas.Option.{get_or_from_slice_get}
 use Rattle.cf_bind.specs.declared.moves.Move.{Move}
-use Rattle.cf_timed.specs.Clocks.{SiteTimes, capped}
+use Rattle.cf_timed.specs.Clocks.{ClockedState, capped}
 use Rattle.cf_timed.specs.Earliest.{first_least}
 use Rattle.cf_timed.specs.Seeking.{Seeking, counted, nothing, shown}
 use Rattle.cf_timed.proofs.Leasts.{IsLeast, least-of_all}
 
 -- of the moves that were shown the first with the least time is known, or none has a time below the greatest number
-record Found (clock : SiteTimes) (moves : List Move) (s : Seeking) : Type 0 where
+record Found (clock : ClockedState) (moves : List Move) (s : Seeking) : Type 0 where
   same : s.clock ≡ clock
   least : (k : ℕ) (d : Move) → k < s.shown → s.time ≤ capped clock (get_or moves k d)
   first : (k : ℕ) (d : Move) → k < s.place → s.time < capped clock (get_or moves k d)
@@ -19,7 +19,7 @@ record Found (clock : SiteTimes) (moves : List Move) (s : Seeking) : Type 0 wher
   within : s.time ≤ 2 ^ 64 - 1
 
 -- one more move
-found-next : (clock : SiteTimes) (moves : List Move) (s : Seeking) (mv : Move) → s.shown < 2 ^ 64 - 1 → slice_get moves s.shown ≡ Some mv →
+found-next : (clock : ClockedState) (moves : List Move) (s : Seeking) (mv : Move) → s.shown < 2 ^ 64 - 1 → slice_get moves s.shown ≡ Some mv →
     Found clock moves s → Found clock moves (shown s mv)
 found-next clock moves s mv few at h = by (nat_lt (capped s.clock mv) s.time) refl
   where
@@ -38,7 +38,7 @@ found-next clock moves s mv few at h = by (nat_lt (capped s.clock mv) s.time) re
           same = e;
           least = λ k d below. more k d (rw one at below) less (nat_eq k s.shown) refl;
           first = λ k d before. let g = h.least k d before in omega (arith, g, less);
-          some = λ below. (omega (arith, one), at, ap (λ (c : SiteTimes). capped c mv) (sym e));
+          some = λ below. (omega (arith, one), at, ap (λ (c : ClockedState). capped c mv) (sym e));
           none = λ above. let w = h.within in absurd (omega (arith, above, less, w));
           within = let w = h.within in omega (arith, less, w);
         }
@@ -72,7 +72,7 @@ next_at (suc n) [] rest mv e = absurd (cc)
 next_at (suc n) (x ∷ moves) rest mv e = next_at n moves rest mv e
 
 -- all that are left
-found-rest : (clock : SiteTimes) (moves : List Move) (s : Seeking) (rest : List Move) → length moves ≤ 2 ^ 64 - 1 → s.shown + length rest ≡ length moves →
+found-rest : (clock : ClockedState) (moves : List Move) (s : Seeking) (rest : List Move) → length moves ≤ 2 ^ 64 - 1 → s.shown + length rest ≡ length moves →
     drop s.shown moves ≡ rest → Found clock moves s → Found clock moves (fold shown s rest) × ((fold shown s rest).shown ≡ length moves)
 found-rest clock moves s [] few count left h = (h, omega (arith, count))
 found-rest clock moves s (mv ∷ rest) few count left h =
@@ -88,7 +88,7 @@ found-rest clock moves s (mv ∷ rest) few count left h =
     counts false below = grind arith
 
 -- nothing was shown
-found-nothing : (clock : SiteTimes) (moves : List Move) → Found clock moves (nothing clock)
+found-nothing : (clock : ClockedState) (moves : List Move) → Found clock moves (nothing clock)
 found-nothing clock moves = record {
   same = refl;
   least = λ k d below. absurd (omega arith);
@@ -99,14 +99,14 @@ found-nothing clock moves = record {
 }
 
 -- what was found once all were shown
-found-all : (clock : SiteTimes) (moves : List Move) (s : Seeking) → length moves ≤ 2 ^ 64 - 1 → s ≡ fold shown (nothing clock) moves →
+found-all : (clock : ClockedState) (moves : List Move) (s : Seeking) → length moves ≤ 2 ^ 64 - 1 → s ≡ fold shown (nothing clock) moves →
     Found clock moves s × (s.shown ≡ length moves)
 found-all clock moves s few e =
     let f = found-rest clock moves (nothing clock) moves few (omega arith) refl (found-nothing clock moves) in
     (rw e (f.0), rw e (f.1))
 
 -- no move has a lesser time
-pub found-bound : (clock : SiteTimes) (moves : List Move) (s : Seeking) → length moves ≤ 2 ^ 64 - 1 → s ≡ fold shown (nothing clock) moves →
+pub found-bound : (clock : ClockedState) (moves : List Move) (s : Seeking) → length moves ≤ 2 ^ 64 - 1 → s ≡ fold shown (nothing clock) moves →
     (k : ℕ) (d : Move) → k < length moves → s.time ≤ capped clock (get_or moves k d)
 found-bound clock moves s few e k d below =
     let f = found-all clock moves s few e in
@@ -114,12 +114,12 @@ found-bound clock moves s few e k d below =
     (f.0).least k d (rw all below)
 
 -- where a move has a time below the greatest number, the first of the least is found
-pub record Reached (clock : SiteTimes) (moves : List Move) (s : Seeking) : Type 0 where
+pub record Reached (clock : ClockedState) (moves : List Move) (s : Seeking) : Type 0 where
   pub least : IsLeast (capped clock) moves s.place s.time
   pub move : slice_get moves s.place ≡ Some s.move
   pub time : capped clock s.move ≡ s.time
 
-pub found-least : (clock : SiteTimes) (moves : List Move) (s : Seeking) → length moves ≤ 2 ^ 64 - 1 → s ≡ fold shown (nothing clock) moves →
+pub found-least : (clock : ClockedState) (moves : List Move) (s : Seeking) → length moves ≤ 2 ^ 64 - 1 → s ≡ fold shown (nothing clock) moves →
     s.time < 2 ^ 64 - 1 → Reached clock moves s
 found-least clock moves s few e below =
     let f = found-all clock moves s few e in
@@ -137,7 +137,7 @@ found-least clock moves s few e below =
       time = g.2;
     }
 
-pub found-first : (clock : SiteTimes) (moves : List Move) (s : Seeking) → length moves ≤ 2 ^ 64 - 1 → s ≡ fold shown (nothing clock) moves →
+pub found-first : (clock : ClockedState) (moves : List Move) (s : Seeking) → length moves ≤ 2 ^ 64 - 1 → s ≡ fold shown (nothing clock) moves →
     s.time < 2 ^ 64 - 1 →
     (s.place ≡ first_least (capped clock) moves) × (s.place < length moves) × (Some s.move ≡ slice_get moves s.place)
 found-first clock moves s few e below =
@@ -145,7 +145,7 @@ found-first clock moves s few e below =
     (least-of_all (capped clock) moves s.place s.time s.move r.least, r.least.within, sym r.move)
 
 -- and where no move has, it is the first of all
-pub first-found : (clock : SiteTimes) (moves : List Move) (s : Seeking) → length moves ≤ 2 ^ 64 - 1 → 0 < length moves → s ≡ fold shown (nothing clock) moves →
+pub first-found : (clock : ClockedState) (moves : List Move) (s : Seeking) → length moves ≤ 2 ^ 64 - 1 → 0 < length moves → s ≡ fold shown (nothing clock) moves →
     2 ^ 64 - 1 ≤ s.time →
     0 ≡ first_least (capped clock) moves
 first-found clock moves s few some e above =

@@ -1,95 +1,160 @@
--- Two neighbouring moves that share no site, exchanged: each move keeps its time.
-use Rattle.std.proofs.Common.{◌≡◌, ◌∙◌, refl, sym, ap, ℕ, ◌+◌, List, [], ◌∷◌, ◌++◌, max, false, cond, arith}
+-- Two neighbouring moves that share no site, exchanged: each move keeps its delay and its time.
+use Rattle.std.proofs.Common.{◌≡◌, ◌≢◌, ◌∙◌, refl, sym, ap, ℕ, ◌+◌, List, [], ◌∷◌, ◌++◌, length, max, Bool, true, false, cond, arith}
+use Rattle.std.specs.Prelude.{Option, Some, None, ◌==◌, filter}
+use Rattle.std.proofs.lemmas.Bool.Decides.{nat_tests}
 use Rattle.cf_layout.specs.Layout.{Plan}
 use Rattle.cf_bind.specs.declared.moves.Move.{Move}
+use Rattle.cf_semantics.specs.state.State.{State}
 use Rattle.cf_index.specs.Sites.{shares}
 use Rattle.cf_index.proofs.Independence.{unshared_back}
-use Rattle.cf_timed.specs.Delays.{delay}
-use Rattle.cf_timed.specs.Times.{Done, before, done_at, done_after, greatest_time, time_after, times, times_after}
-use Rattle.cf_timed.specs.Exchanges.{KeepsTimes}
+use Rattle.rv_inst.specs.declared.classes.Class.{Class}
+use Rattle.cf_timed.specs.declared.timed_move.TimedMove.{TimedMove}
+use Rattle.cf_timed.specs.Delays.{span_of}
+use Rattle.cf_timed.specs.DelayedRuns.{DelayRule, Visit, class_at, delay_at, delayed_at, drawn_before, timed_after, visit, word_of}
+use Rattle.cf_timed.specs.Drawing.{stream_of, ticks_in, word_after}
+use Rattle.cf_timed.specs.Times.{DelayedMove, before, delayed, done_at, done_after, greatest_time, time_after}
 use Rattle.cf_timed.proofs.Greatest.{where_more}
 
--- what moves wait for after one list and after another is the same
-abbrev AreAlike : Plan → List Done → List Done → Type 0
-AreAlike plan xs ys = (mv : Move) → greatest_time (before plan mv xs) ≡ greatest_time (before plan mv ys)
+-- what moves wait for after one list and after another is the same, and from each stream as many have drawn
+record AreAlike (plan : Plan) (xs ys : List TimedMove) : Type 0 where
+  waits : (mv : Move) → greatest_time (before plan mv xs) ≡ greatest_time (before plan mv ys)
+  drawn : (stream : ℕ) → drawn_before stream xs ≡ drawn_before stream ys
 
-alike_more : (plan : Plan) (done : Done) (xs ys : List Done) → AreAlike plan xs ys → AreAlike plan (done ∷ xs) (done ∷ ys)
-alike_more plan done xs ys h = λ mv.
-    where_more (λ d. shares plan mv d.move) done xs
-    ∙ ap (λ (n : ℕ). max (cond (shares plan mv done.move) done.time 0) n) (h mv)
-    ∙ sym (where_more (λ d. shares plan mv d.move) done ys)
+-- one more that has drawn, or not
+drawn_one : (stream : ℕ) (done : TimedMove) (xs : List TimedMove) →
+    drawn_before stream (done ∷ xs) ≡ cond (stream_of done.mv == stream) 1 0 + drawn_before stream xs
+unfolding drawn_before
+drawn_one stream done xs = by (stream_of done.mv == stream)
+  where
+    among : List TimedMove
+    among = filter (λ d. stream_of d.mv == stream) xs
 
--- so the times after them are the same
-time_alike : (plan : Plan) (delays : List ℕ) (xs ys : List Done) (mv : Move) → AreAlike plan xs ys → time_after plan delays xs mv ≡ time_after plan delays ys mv
+    by : (b : Bool) → length (cond b (done ∷ among) among) ≡ cond b 1 0 + length among
+    by true = omega arith
+    by false = omega arith
+
+alike_more : (plan : Plan) (done : TimedMove) (xs ys : List TimedMove) → AreAlike plan xs ys → AreAlike plan (done ∷ xs) (done ∷ ys)
+alike_more plan done xs ys h = record {
+  waits = λ mv.
+      where_more (λ d. shares plan mv d.mv) done xs
+      ∙ ap (λ (n : ℕ). max (cond (shares plan mv done.mv) done.time 0) n) (h.waits mv)
+      ∙ sym (where_more (λ d. shares plan mv d.mv) done ys);
+  drawn = λ stream.
+      drawn_one stream done xs
+      ∙ ap (λ (n : ℕ). cond (stream_of done.mv == stream) 1 0 + n) (h.drawn stream)
+      ∙ sym (drawn_one stream done ys);
+}
+
+-- so the delays and the times after them are the same
+word_alike : (seed : Option ℕ) (xs ys : List TimedMove) (mv : Move) → drawn_before (stream_of mv) xs ≡ drawn_before (stream_of mv) ys →
+    word_of seed xs mv ≡ word_of seed ys mv
+unfolding word_of
+word_alike None xs ys mv e = refl
+word_alike (Some seed) xs ys mv e = ap (λ (n : ℕ). Some (word_after seed (stream_of mv) n)) e
+
+delay_alike : (rule : DelayRule) (s t : State) (xs ys : List TimedMove) (mv : Move) → class_at s mv ≡ class_at t mv →
+    drawn_before (stream_of mv) xs ≡ drawn_before (stream_of mv) ys → delay_at rule s xs mv ≡ delay_at rule t ys mv
+unfolding delay_at
+delay_alike rule s t xs ys mv c e =
+    ap (λ (k : Class). ticks_in (span_of rule.spans mv k) (word_of rule.seed xs mv)) c
+    ∙ ap (ticks_in (span_of rule.spans mv (class_at t mv))) (word_alike rule.seed xs ys mv e)
+
+time_alike : (plan : Plan) (xs ys : List TimedMove) (d : DelayedMove) → greatest_time (before plan d.mv xs) ≡ greatest_time (before plan d.mv ys) →
+    time_after plan xs d ≡ time_after plan ys d
 unfolding time_after
-time_alike plan delays xs ys mv h = ap (λ (n : ℕ). n + delay delays mv) (h mv)
+time_alike plan xs ys d h = ap (λ (n : ℕ). n + d.delay) h
 
--- and moves after them keep their times: they come before both
-rest_alike : (plan : Plan) (delays : List ℕ) (xs ys : List Done) (rest : List Move) → AreAlike plan xs ys →
-    (late : List Done) × (times_after plan delays xs rest ≡ late ++ xs) × (times_after plan delays ys rest ≡ late ++ ys)
-rest_alike plan delays xs ys [] h = ([], refl, refl)
-rest_alike plan delays xs ys (mv ∷ rest) h =
-    let e = time_alike plan delays xs ys mv h in
-    let done = done_after plan delays xs mv in
-    let same : done_after plan delays ys mv ≡ done = ap (done_at mv) (sym e) in
-    let r = rest_alike plan delays (done ∷ xs) (done ∷ ys) rest (alike_more plan done xs ys h) in (
+done_alike : (plan : Plan) (rule : DelayRule) (s t : State) (xs ys : List TimedMove) (mv : Move) → class_at s mv ≡ class_at t mv →
+    drawn_before (stream_of mv) xs ≡ drawn_before (stream_of mv) ys → greatest_time (before plan mv xs) ≡ greatest_time (before plan mv ys) →
+    done_after plan xs (delayed_at rule s xs mv) ≡ done_after plan ys (delayed_at rule t ys mv)
+done_alike plan rule s t xs ys mv c e h =
+    ap (λ (n : ℕ). done_after plan xs (delayed mv n)) (delay_alike rule s t xs ys mv c e)
+    ∙ ap (done_at (delayed_at rule t ys mv)) (time_alike plan xs ys (delayed_at rule t ys mv) h)
+
+-- and moves after them keep theirs: they come before both
+rest_alike : (plan : Plan) (rule : DelayRule) (xs ys : List TimedMove) (rest : List Visit) → AreAlike plan xs ys →
+    (late : List TimedMove) × (timed_after plan rule xs rest ≡ late ++ xs) × (timed_after plan rule ys rest ≡ late ++ ys)
+unfolding timed_after
+rest_alike plan rule xs ys [] h = ([], refl, refl)
+rest_alike plan rule xs ys (v ∷ rest) h =
+    let done = done_after plan xs (delayed_at rule v.state xs v.mv) in
+    let same : done_after plan ys (delayed_at rule v.state ys v.mv) ≡ done =
+    sym (done_alike plan rule v.state v.state xs ys v.mv refl (h.drawn (stream_of v.mv)) (h.waits v.mv)) in
+    let r = rest_alike plan rule (done ∷ xs) (done ∷ ys) rest (alike_more plan done xs ys h) in (
       r.0 ++ done ∷ [],
       r.1 ∙ apart r.0 done xs,
-      ap (λ (d : Done). times_after plan delays (d ∷ ys) rest) same ∙ r.2 ∙ apart r.0 done ys,
+      ap (λ (d : TimedMove). timed_after plan rule (d ∷ ys) rest) same ∙ r.2 ∙ apart r.0 done ys,
     )
   where
-    apart : (late : List Done) (done : Done) (xs : List Done) → late ++ done ∷ xs ≡ (late ++ done ∷ []) ++ xs
+    apart : (late : List TimedMove) (done : TimedMove) (xs : List TimedMove) → late ++ done ∷ xs ≡ (late ++ done ∷ []) ++ xs
     apart [] done xs = refl
-    apart (d ∷ late) done xs = ap (λ (l : List Done). d ∷ l) (apart late done xs)
+    apart (d ∷ late) done xs = ap (λ (l : List TimedMove). d ∷ l) (apart late done xs)
 
 -- two moves in either order
-alike_turned : (plan : Plan) (a b : Done) (xs : List Done) → AreAlike plan (b ∷ a ∷ xs) (a ∷ b ∷ xs)
-alike_turned plan a b xs = λ mv.
-    let t = λ (d : Done). shares plan mv d.move in
-    let p = where_more t b (a ∷ xs) in
-    let q = where_more t a xs in
-    let r = where_more t a (b ∷ xs) in
-    let s = where_more t b xs in
-    omega (arith, p, q, r, s)
+alike_turned : (plan : Plan) (a b : TimedMove) (xs : List TimedMove) → AreAlike plan (b ∷ a ∷ xs) (a ∷ b ∷ xs)
+alike_turned plan a b xs = record {
+  waits = λ mv.
+      let t = λ (d : TimedMove). shares plan mv d.mv in
+      let p = where_more t b (a ∷ xs) in
+      let q = where_more t a xs in
+      let r = where_more t a (b ∷ xs) in
+      let s = where_more t b xs in
+      omega (arith, p, q, r, s);
+  drawn = λ stream.
+      let p = drawn_one stream b (a ∷ xs) in
+      let q = drawn_one stream a xs in
+      let r = drawn_one stream a (b ∷ xs) in
+      let s = drawn_one stream b xs in
+      omega (arith, p, q, r, s);
+}
 
--- a move keeps its time after one with which it shares no site
-time_apart : (plan : Plan) (delays : List ℕ) (done : Done) (xs : List Done) (mv : Move) → shares plan mv done.move ≡ false →
-    time_after plan delays (done ∷ xs) mv ≡ time_after plan delays xs mv
-unfolding time_after
-time_apart plan delays done xs mv e = ap (λ (n : ℕ). n + delay delays mv) (where_more (λ d. shares plan mv d.move) done xs
-    ∙ (let z : cond (shares plan mv done.move) done.time 0 ≡ 0 = rw e refl in omega (arith, z)))
+-- a move waits for no move with which it shares no site, and draws from another stream
+waits_apart : (plan : Plan) (done : TimedMove) (xs : List TimedMove) (mv : Move) → shares plan mv done.mv ≡ false →
+    greatest_time (before plan mv (done ∷ xs)) ≡ greatest_time (before plan mv xs)
+waits_apart plan done xs mv e = where_more (λ d. shares plan mv d.mv) done xs
+    ∙ (let z : cond (shares plan mv done.mv) done.time 0 ≡ 0 = rw e refl in omega (arith, z))
 
-swapped : (plan : Plan) (delays : List ℕ) (earlier : List Done) (a b : Move) (rest : List Move) → shares plan a b ≡ false →
-    (late : List Done) × (times_after plan delays earlier (a ∷ b ∷ rest) ≡ late ++ (done_after plan delays earlier b ∷ done_after plan delays earlier a
-    ∷ earlier)) × (times_after plan delays earlier (b ∷ a ∷ rest) ≡ late ++ (done_after plan delays earlier a ∷ done_after plan delays earlier b ∷ earlier))
-swapped plan delays earlier a b rest e =
-    let x = done_after plan delays earlier a in
-    let y = done_after plan delays earlier b in
-    let first : done_after plan delays (x ∷ earlier) b ≡ y = ap (done_at b) (time_apart plan delays x earlier b (unshared_back plan a b e)) in
-    let second : done_after plan delays (y ∷ earlier) a ≡ x = ap (done_at a) (time_apart plan delays y earlier a e) in
-    let r = rest_alike plan delays (y ∷ x ∷ earlier) (x ∷ y ∷ earlier) rest (alike_turned plan x y earlier) in (
+drawn_apart : (done : TimedMove) (xs : List TimedMove) (mv : Move) → stream_of done.mv ≢ stream_of mv →
+    drawn_before (stream_of mv) (done ∷ xs) ≡ drawn_before (stream_of mv) xs
+drawn_apart done xs mv other = drawn_one (stream_of mv) done xs ∙ by (stream_of done.mv == stream_of mv) refl
+  where
+    by : (b : Bool) → (stream_of done.mv == stream_of mv) ≡ b → cond b 1 0 + drawn_before (stream_of mv) xs ≡ drawn_before (stream_of mv) xs
+    by true e = let same : stream_of done.mv ≡ stream_of mv = grind (arith, nat_tests) in absurd (other same)
+    by false e = omega arith
+
+-- what holds of two moves that can be exchanged, made in either order from states in which each keeps its class
+pub record CanSwap (plan : Plan) (s after_a after_b : State) (a b : Move) : Type 0 where
+  pub apart : shares plan a b ≡ false
+  pub streams : stream_of a ≢ stream_of b
+  pub class_a : class_at after_b a ≡ class_at s a
+  pub class_b : class_at after_a b ≡ class_at s b
+
+pub swapped : (plan : Plan) (rule : DelayRule) (earlier : List TimedMove) (s after_a after_b : State) (a b : Move) (rest : List Visit) →
+    CanSwap plan s after_a after_b a b →
+    (late : List TimedMove)
+    × (timed_after plan rule earlier (visit s a ∷ visit after_a b ∷ rest)
+    ≡ late ++ (done_after plan earlier (delayed_at rule s earlier b) ∷ done_after plan earlier (delayed_at rule s earlier a) ∷ earlier))
+    × (timed_after plan rule earlier (visit s b ∷ visit after_b a ∷ rest)
+    ≡ late ++ (done_after plan earlier (delayed_at rule s earlier a) ∷ done_after plan earlier (delayed_at rule s earlier b) ∷ earlier))
+unfolding timed_after
+swapped plan rule earlier s after_a after_b a b rest h =
+    let x = done_after plan earlier (delayed_at rule s earlier a) in
+    let y = done_after plan earlier (delayed_at rule s earlier b) in
+    let first : done_after plan (x ∷ earlier) (delayed_at rule after_a (x ∷ earlier) b) ≡ y =
+    done_alike plan rule after_a s (x ∷ earlier) earlier b h.class_b (drawn_apart x earlier b h.streams)
+    (waits_apart plan x earlier b (unshared_back plan a b h.apart)) in
+    let second : done_after plan (y ∷ earlier) (delayed_at rule after_b (y ∷ earlier) a) ≡ x =
+    done_alike plan rule after_b s (y ∷ earlier) earlier a h.class_a (drawn_apart y earlier a (λ e. h.streams (sym e)))
+    (waits_apart plan y earlier a h.apart) in
+    let r = rest_alike plan rule (y ∷ x ∷ earlier) (x ∷ y ∷ earlier) rest (alike_turned plan x y earlier) in (
       r.0,
-      ap (λ (d : Done). times_after plan delays (d ∷ x ∷ earlier) rest) first ∙ r.1,
-      ap (λ (d : Done). times_after plan delays (d ∷ y ∷ earlier) rest) second ∙ r.2,
+      ap (λ (d : TimedMove). timed_after plan rule (d ∷ x ∷ earlier) rest) first ∙ r.1,
+      ap (λ (d : TimedMove). timed_after plan rule (d ∷ y ∷ earlier) rest) second ∙ r.2,
     )
 
 -- the moves before them come first
-times_front : (plan : Plan) (delays : List ℕ) (earlier : List Done) (front rest : List Move) →
-    times_after plan delays earlier (front ++ rest) ≡ times_after plan delays (times_after plan delays earlier front) rest
-times_front plan delays earlier [] rest = refl
-times_front plan delays earlier (mv ∷ front) rest = times_front plan delays (done_after plan delays earlier mv ∷ earlier) front rest
-
-pub keeps_times : (plan : Plan) (delays : List ℕ) (front : List Move) (a b : Move) (rest : List Move) → shares plan a b ≡ false →
-    KeepsTimes plan delays front a b rest
-unfolding times
-keeps_times plan delays front a b rest e =
-    let earlier = times_after plan delays [] front in
-    let s = swapped plan delays earlier a b rest e in
-    record {
-      late = s.0;
-      early = earlier;
-      first = time_after plan delays earlier a;
-      second = time_after plan delays earlier b;
-      one = times_front plan delays [] front (a ∷ b ∷ rest) ∙ s.1;
-      other = times_front plan delays [] front (b ∷ a ∷ rest) ∙ s.2;
-    }
+pub timed-front : (plan : Plan) (rule : DelayRule) (earlier : List TimedMove) (front rest : List Visit) →
+    timed_after plan rule earlier (front ++ rest) ≡ timed_after plan rule (timed_after plan rule earlier front) rest
+unfolding timed_after
+timed-front plan rule earlier [] rest = refl
+timed-front plan rule earlier (v ∷ front) rest = timed-front plan rule (done_after plan earlier (delayed_at rule v.state earlier v.mv) ∷ earlier) front rest

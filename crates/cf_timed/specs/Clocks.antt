@@ -4,14 +4,22 @@ use Rattle.cf_layout.specs.Layout.{Plan}
 use Rattle.cf_bind.specs.declared.moves.Move.{Move}
 use Rattle.cf_semantics.specs.moves.Sites.{Site, Stage, SidingCell, Lane, Fetching, Memory, Code}
 use Rattle.cf_index.specs.Sites.{HasSites, used}
-use Rattle.cf_timed.specs.Delays.{delay}
-use Rattle.cf_timed.specs.Times.{Done, greatest, greatest_time, time_after}
+use Rattle.cf_semantics.specs.state.State.{State}
+use Rattle.cf_timed.specs.declared.draws.DelayDraws.{DelayDraws}
+use Rattle.cf_timed.specs.declared.span.Span.{Span}
+use Rattle.cf_timed.specs.declared.timed_move.TimedMove.{TimedMove}
+use Rattle.cf_timed.specs.Delays.{span_of}
+use Rattle.cf_timed.specs.DelayedRuns.{DelayRule, Visit, class_at, delayed_at}
+use Rattle.cf_timed.specs.Drawing.{after_word, drawn_from, next_word, stream_of, ticks_in}
+use Rattle.cf_timed.specs.Numbers.{number_at}
+use Rattle.cf_timed.specs.Times.{done_after, greatest, greatest_time}
 
--- the layout and the delays; the times of the stages, by number; of the cells, by the numbers of siding and cell; of
--- the lane, of fetch, of the memory and of the code; and the greatest of all
+-- the layout, the delays and what they are drawn from; the times of the stages, by number; of the cells, by the numbers
+-- of siding and cell; of the lane, of fetch, of the memory and of the code; and the greatest of all
 pub record SiteTimes : Type 0 where
   pub plan : Plan
-  pub delays : List ℕ
+  pub delays : List Span
+  pub draws : DelayDraws
   pub stages : List ℕ
   pub cells : List (List ℕ)
   pub lane : ℕ
@@ -21,10 +29,11 @@ pub record SiteTimes : Type 0 where
   pub latest : ℕ
 
 -- the clock before the first move
-unfoldable pub started : Plan → List ℕ → SiteTimes
-started plan delays = record {
+unfoldable pub started : Plan → DelayRule → SiteTimes
+started plan rule = record {
   plan = plan;
-  delays = delays;
+  delays = rule.spans;
+  draws = drawn_from rule.seed;
   stages = replicate 34 0;
   cells = replicate 8 (replicate 8 0);
   lane = 0;
@@ -33,10 +42,6 @@ started plan delays = record {
   code = 0;
   latest = 0;
 }
-
--- the number at an index of a list, and 0 where the list is shorter
-abbrev pub number_at : List ℕ → ℕ → ℕ
-number_at numbers i = unwrap_or (slice_get numbers i) 0
 
 -- the cells of a siding
 abbrev pub row_at : List (List ℕ) → ℕ → List ℕ
@@ -71,37 +76,59 @@ abbrev pub put_times : SiteTimes → ℕ → List Site → SiteTimes
 put_times c t [] = c
 put_times c t (x ∷ xs) = put_times (put_time c t x) t xs
 
--- when a move that is made now finishes: the greatest time of the sites that it uses, plus its delay
-unfoldable pub finish : SiteTimes → Move → ℕ
-finish c mv = greatest (map (time_at c) (used c.plan mv)) + delay c.delays mv
+-- a clock, and the state of the processor that it is at
+pub record ClockedState : Type 0 where
+  pub clock : SiteTimes
+  pub state : State
+
+-- the clock in that state
+abbrev pub clocked : SiteTimes → State → ClockedState
+clocked clock state = record { clock = clock; state = state }
+
+-- how long a move takes that is made now
+unfoldable pub delay_by : ClockedState → Move → ℕ
+delay_by c mv = ticks_in (span_of c.clock.delays mv (class_at c.state mv)) (next_word c.clock.draws (stream_of mv))
+
+-- the delays by which a clock goes, and the seed from which they are drawn
+abbrev pub rule_of : SiteTimes → DelayRule
+rule_of c = record { spans = c.delays; seed = c.draws.seed }
+
+-- when it finishes: at the greatest time of the sites that it uses, plus its delay
+unfoldable pub finish : ClockedState → Move → ℕ
+finish c mv = greatest (map (time_at c.clock) (used c.clock.plan mv)) + delay_by c mv
 
 -- the same, capped at the greatest number of 64 bits
-abbrev pub capped : SiteTimes → Move → ℕ
+abbrev pub capped : ClockedState → Move → ℕ
 capped c mv = min (finish c mv) (2 ^ 64 - 1)
 
 -- the clock with this greatest time, if it is later
 abbrev pub allowed : SiteTimes → ℕ → SiteTimes
 allowed c t = record c { latest = max c.latest t }
 
+-- the clock once the move has drawn its delay
+abbrev pub drawing : SiteTimes → Move → SiteTimes
+drawing c mv = record c { draws = after_word c.draws (stream_of mv) }
+
 -- the clock after a move that finishes at this time
 abbrev pub stamped : SiteTimes → Move → ℕ → SiteTimes
-stamped c mv t = put_times (allowed c t) t (used c.plan mv)
+stamped c mv t = drawing (put_times (allowed c t) t (used c.plan mv)) mv
 
 -- the clock after a move
-unfoldable pub made : SiteTimes → Move → SiteTimes
-made c mv = stamped c mv (finish c mv)
+unfoldable pub made : ClockedState → Move → SiteTimes
+made c mv = stamped c.clock mv (finish c mv)
 
 -- and after some moves
-abbrev pub made_all : SiteTimes → List Move → SiteTimes
+abbrev pub made_all : SiteTimes → List Visit → SiteTimes
 made_all c [] = c
-made_all c (mv ∷ moves) = made_all (made c mv) moves
+made_all c (v ∷ visits) = made_all (made (clocked c v.state) v.mv) visits
 
--- the clock has recorded these moves of a run, each with its time, in any order
-pub record ClockKnows (plan : Plan) (delays : List ℕ) (moves : List Done) (c : SiteTimes) : Type 0 where
+-- the clock has recorded these moves of a run, each with its time, the last first
+pub record ClockKnows (plan : Plan) (rule : DelayRule) (moves : List TimedMove) (c : SiteTimes) : Type 0 where
   -- it is a clock of this layout and of these delays
   pub plan_is : c.plan ≡ plan
-  pub delays_are : c.delays ≡ delays
+  pub rule_is : rule_of c ≡ rule
   -- its greatest time is theirs
   pub latest_is : c.latest ≡ greatest_time moves
-  -- it knows when a further move finishes
-  pub finishes : (mv : Move) → HasSites plan mv → finish c mv ≡ time_after plan delays moves mv
+  -- it knows how long a further move takes in any state, and when it finishes
+  pub delays : (s : State) (mv : Move) → HasSites plan mv → delay_by (clocked c s) mv ≡ (delayed_at rule s moves mv).delay
+  pub finishes : (s : State) (mv : Move) → HasSites plan mv → finish (clocked c s) mv ≡ (done_after plan moves (delayed_at rule s moves mv)).time

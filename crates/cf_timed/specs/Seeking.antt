@@ -2,11 +2,11 @@
 use Rattle.std.specs.Prelude.{ℕ, ◌+◌, ◌-◌, ◌^◌, min, nat_lt, if◌then◌else◌}
 use Rattle.cf_bind.specs.declared.moves.Move.{Move}
 use Rattle.cf_bind.specs.declared.moves.Move.TheVariants.{Exit}
-use Rattle.cf_timed.specs.Clocks.{SiteTimes, capped}
+use Rattle.cf_timed.specs.Clocks.{ClockedState, capped}
 
 -- how many moves were shown, and the first of those with the least time: its index, its time and the move itself
 pub record Seeking : Type 0 where
-  pub clock : SiteTimes
+  pub clock : ClockedState
   pub shown : ℕ
   pub place : ℕ
   pub time : ℕ
@@ -21,5 +21,5 @@ abbrev pub shown : Seeking → Move → Seeking
 shown s mv = counted (if nat_lt (capped s.clock mv) s.time then record s { place = s.shown; time = capped s.clock mv; move = mv } else s)
 
 -- before the first move
-abbrev pub nothing : SiteTimes → Seeking
+abbrev pub nothing : ClockedState → Seeking
 nothing clock = record { clock = clock; shown = 0; place = 0; time = 2 ^ 64 - 1; move = Exit }

@@ -1,23 +1,32 @@
 -- A timed run: the moves that finish earliest, one after another, and what the clock knows about them.
-use Rattle.std.specs.Prelude.{◌≡◌, ◌≢◌, ℕ, List, [], Some, None}
-use Rattle.run_options.specs.declared.show.Show.TheVariants as show
+use Rattle.std.specs.Prelude.{◌≡◌, ◌≤◌, ℕ, List, [], Option, Some, None, Result, Ok, Err}
+use Rattle.run_options.specs.declared.guess_rule.GuessRule.{GuessRule}
+use Rattle.run_options.specs.Limits.{most_timed_limit}
+use Rattle.run_options.specs.Reportings as show
 use Rattle.cf_io.specs.Causes.{HasCause}
+use Rattle.cf_io.specs.Puts.{Writes, WritesFront}
+use Rattle.cf_io.specs.declared.failed.Failed.{Failed}
 use Rattle.rv_machine.specs.Streams.{Streams}
-use Rattle.cf_bind.specs.declared.moves.Move.{Move}
+use Rattle.cf_semantics.specs.state.State.{State}
 use Rattle.cf_core.specs.Processors.{Processor}
 use Rattle.cf_report.specs.declared.tally.Tally.{Tally}
-use Rattle.cf_run.specs.declared.answer.Ran.{Ran as Answer}
-use Rattle.cf_run.specs.declared.answer.Ran.TheVariants as ran
-use Rattle.cf_run.specs.declared.answer.Scripted.TheVariants.{Ran}
+use Rattle.run_finishes.specs.declared.finish.Ran.{Ran as Answer}
+use Rattle.run_finishes.specs.declared.finish.Ran.TheVariants as ran
+use Rattle.run_finishes.specs.declared.finish.Scripted.TheVariants.{Ran}
+use Rattle.run_finishes.specs.Stopped.{input_stopped, output_stopped}
 use Rattle.cf_run.specs.Ending.{EndsSequentially}
+use Rattle.cf_run.specs.Made.{Made}
 use Rattle.cf_run.specs.Moving.{RunPlace, place_of}
-use Rattle.cf_run.specs.Policies.{CanRun, RunsRight, input_stopped, output_stopped}
-use Rattle.cf_run.specs.Reaching.{no_tally}
+use Rattle.cf_run.specs.Policies.{CanRun, Chooser, Picks, RunsRight, first_pick, fresh, later_picks}
+use Rattle.cf_run.specs.Reaching.{Reaches, no_tally}
 use Rattle.cf_timed.specs.declared.answer.Timed.{Timed}
 use Rattle.cf_timed.specs.declared.answer.Timed.TheVariants.{Exit, Trap, Limit, ReadFault, WriteFault}
-use Rattle.cf_timed.specs.Clocks.{SiteTimes, ClockKnows, started}
-use Rattle.cf_timed.specs.Earliest.{after_earliest, earliest}
-use Rattle.cf_timed.specs.Times.{Done, times}
+use Rattle.cf_timed.specs.declared.timed_move.TimedMove.{TimedMove}
+use Rattle.cf_timed.specs.Clocks.{SiteTimes, ClockKnows, rule_of, started}
+use Rattle.cf_timed.specs.DelayedRuns.{DelayRule, timed, visits_of}
+use Rattle.cf_timed.specs.Earliest.{AreEarliest, TimedTurn}
+use Rattle.cf_timed.specs.MoveLines.{move_lines}
+use Rattle.cf_timed.specs.Watching.{watched, watched_text}
 
 -- the answer of a timed run as that of any run
 abbrev pub answer_of : Timed → Answer
@@ -27,39 +36,94 @@ answer_of Limit = ran.Limit
 answer_of ReadFault = ran.ReadFault
 answer_of WriteFault = ran.WriteFault
 
+-- a run may begin, with so small a limit that no time leaves 62 bits
+pub record CanRunTimed (limit : ℕ) (core : Processor) : Type 0 where
+  pub can_run : CanRun limit core
+  pub few : limit ≤ most_timed_limit
+
 -- a timed run may begin: a run may, and no move has been recorded by the clock or counted
 pub record CanBegin (limit : ℕ) (core : Processor) (clock : SiteTimes) (moves : ℕ) : Type 0 where
-  pub can_run : CanRun limit core
-  pub clock_is : clock ≡ started core.plan clock.delays
+  pub can_run : CanRunTimed limit core
+  pub clock_is : clock ≡ started core.plan (rule_of clock)
   pub none_made : moves ≡ 0
 
--- the counts of the faults of the input and of the output, before and after: that of whichever failed the run rose
-pub record HasCauses (input input_after output output_after : ℕ) (answer : Answer) : Type 0 where
-  pub of_input : HasCause input input_after (input_stopped (Some answer))
-  pub of_output : HasCause output output_after (output_stopped (Some answer))
+-- the counts of the faults of the input and of the output, before and after: that of whichever failed the run
+-- rose
+pub record HasCauses (input input_after output output_after : ℕ) (answer : Option Answer) : Type 0 where
+  pub of_input : HasCause input input_after (input_stopped answer)
+  pub of_output : HasCause output output_after (output_stopped answer)
 
 -- where a timed run begins, which reports nothing
 abbrev pub begins : Processor → Streams → RunPlace
 begins core streams = place_of core streams None no_tally
 
--- from there it is a run of a policy, which reports nothing and whose report does not fail; this many moves were made
-pub record RunsUnreported {P : Type 0} (picked : P → List Move → ℕ) (onward : P → List Move →
-    P) (limit : ℕ) (begin : RunPlace) (core : Processor) (streams : Streams) (policy later : P) (moves : ℕ) (answer : Answer) : Type 0 where
-  pub tally : Tally
-  pub counted : tally.moves ≡ moves
-  pub right : RunsRight picked onward limit show.Report begin (place_of core streams None tally) policy later answer
-  pub ends : EndsSequentially limit begin (place_of core streams None tally) (Ran answer)
-  pub reports : answer ≢ ran.ReportFault
+-- no move was made yet
+abbrev pub first_turn : State → TimedTurn
+first_turn s = record { count = 0; state = s; earlier = [] }
 
--- from there it is a run of the policy that picks the move that finishes earliest, and a run of the sequential machine;
--- this many moves were made, and the clock has recorded exactly these
-pub record RunsTimed (delays : List ℕ) (limit : ℕ) (begin : RunPlace) (core : Processor) (streams : Streams) (clock : SiteTimes) (moves : ℕ)
-    (answer : Timed) : Type 0 where
+-- from there it is a run that makes, of what its guess rule offers, the move that finishes earliest, and a run of the
+-- sequential machine; this many moves were made, and the clock has recorded exactly these
+pub record RunsTimed (r : GuessRule) (rule : DelayRule) (limit : ℕ) (begin : RunPlace) (core : Processor) (streams : Streams) (clock : SiteTimes)
+    (moves : ℕ) (answer : Timed) : Type 0 where
   pub tally : Tally
   pub counted : tally.moves ≡ moves
-  pub picked : List Done
-  pub right : RunsRight (earliest begin.core.plan delays) (after_earliest begin.core.plan delays) limit show.Report begin (place_of core streams None tally)
-      [] picked (answer_of answer)
-  pub told : ClockKnows begin.core.plan delays (times begin.core.plan delays right.moves) clock
+  -- its picks, each by its place among what was offered
+  pub picks : List ℕ
+  pub right : RunsRight r first_pick later_picks limit show.report begin (place_of core streams None tally) picks [] (answer_of answer)
+  pub are_earliest : AreEarliest r begin.core.plan rule (first_turn begin.core.state) picks right.runs.reaches.trace
+  pub told : ClockKnows begin.core.plan rule (timed begin.core.plan rule (visits_of begin.core.state right.runs.reaches.trace)) clock
   -- it ends as the sequential machine does under the same limit
   pub ends : EndsSequentially limit begin (place_of core streams None tally) (Ran (answer_of answer))
+
+-- it is such a run, and a watcher has noted each move of it and written about each, given how it notes a move and what it
+-- writes about it; this is what the report exposed before and after
+pub record RunsWatched {W : Type 0} (noted : W → Made → TimedMove → W) (text : W → Made → TimedMove → List ℕ) (r : GuessRule) (rule : DelayRule) (limit : ℕ)
+    (begin : RunPlace) (core : Processor) (streams : Streams) (clock : SiteTimes) (first later : W) (blank full : Option (List ℕ)) (moves : ℕ)
+    (answer : Timed) : Type 0 where
+  pub run : RunsTimed r rule limit begin core streams clock moves answer
+  pub noted_all : later ≡ watched noted begin.core.plan rule (first_turn begin.core.state) first run.right.runs.reaches.trace
+  pub put : Writes blank full (watched_text noted text begin.core.plan rule (first_turn begin.core.state) first run.right.runs.reaches.trace)
+
+-- the report failed after a move of such a run: a part of this text about its moves so far was written
+pub record BreaksTimed (text : List Made → List ℕ) (r : GuessRule) (rule : DelayRule) (limit : ℕ) (begin : RunPlace) (blank full : Option (List ℕ)) : Type 0 where
+  pub now : RunPlace
+  pub reached : Reaches limit show.report begin now
+  pub picks : List ℕ
+  pub last : Chooser (List ℕ)
+  pub picked : Picks first_pick later_picks begin.core.plan (fresh r picks) begin.core.state reached.trace last
+  pub are_earliest : AreEarliest r begin.core.plan rule (first_turn begin.core.state) picks reached.trace
+  pub front : WritesFront blank full (text reached.trace)
+
+-- the text is what a watcher writes
+abbrev pub BreaksWatched : {W : Type 0} → (noted : W → Made → TimedMove → W) → (text : W → Made → TimedMove → List ℕ) → GuessRule → DelayRule → ℕ →
+    RunPlace → W → (blank full : Option (List ℕ)) → Type 0
+BreaksWatched noted text r rule limit begin first blank full =
+    BreaksTimed (watched_text noted text begin.core.plan rule (first_turn begin.core.state) first) r rule limit begin blank full
+
+-- a watched run comes to its end, or its report fails
+abbrev pub GoesWatched : {W : Type 0} → (noted : W → Made → TimedMove → W) → (text : W → Made → TimedMove → List ℕ) → GuessRule → DelayRule → ℕ →
+    RunPlace → Processor → Streams → SiteTimes → (first later : W) → (blank full : Option (List ℕ)) → ℕ → Result Timed Failed → Type 0
+GoesWatched noted text r rule limit begin core streams clock first later blank full moves (Ok answer) =
+    RunsWatched noted text r rule limit begin core streams clock first later blank full moves answer
+GoesWatched noted text r rule limit begin core streams clock first later blank full moves (Err failed) =
+    BreaksWatched noted text r rule limit begin first blank full
+
+-- the lines of the moves of a run from its start
+abbrev pub lines_from : RunPlace → DelayRule → List Made → List ℕ
+lines_from begin rule trace = move_lines 1 begin.core.plan rule (first_turn begin.core.state) trace
+
+-- a timed run whose moves have their lines
+pub record RunsShown (r : GuessRule) (rule : DelayRule) (limit : ℕ) (begin : RunPlace) (core : Processor) (streams : Streams) (clock : SiteTimes)
+    (blank full : Option (List ℕ)) (moves : ℕ) (answer : Timed) : Type 0 where
+  pub run : RunsTimed r rule limit begin core streams clock moves answer
+  pub put : Writes blank full (lines_from begin rule run.right.runs.reaches.trace)
+
+-- it comes to its end, or its report fails
+abbrev pub GoesShown : GuessRule → DelayRule → ℕ → RunPlace → Processor → Streams → SiteTimes → (blank full : Option (List ℕ)) → ℕ → Result Timed Failed → Type 0
+GoesShown r rule limit begin core streams clock blank full moves (Ok answer) = RunsShown r rule limit begin core streams clock blank full moves answer
+GoesShown r rule limit begin core streams clock blank full moves (Err failed) = BreaksTimed (lines_from begin rule) r rule limit begin blank full
+
+-- its answer, if it came to its end
+abbrev pub answered : Result Timed Failed → Option Answer
+answered (Ok answer) = Some (answer_of answer)
+answered (Err failed) = None

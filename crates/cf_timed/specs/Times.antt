@@ -3,16 +3,20 @@ use Rattle.std.specs.Prelude.{ℕ, ◌+◌, List, [], ◌∷◌, map, filter, ma
 use Rattle.cf_layout.specs.Layout.{Plan}
 use Rattle.cf_bind.specs.declared.moves.Move.{Move}
 use Rattle.cf_index.specs.Sites.{shares}
-use Rattle.cf_timed.specs.Delays.{delay}
+use Rattle.cf_timed.specs.declared.timed_move.TimedMove.{TimedMove}
 
--- a move that was made, and when it finishes
-pub record Done : Type 0 where
-  pub move : Move
-  pub time : ℕ
+-- a move, and how long it takes
+pub record DelayedMove : Type 0 where
+  pub mv : Move
+  pub delay : ℕ
 
--- the move with that time
-abbrev pub done_at : Move → ℕ → Done
-done_at mv time = record { move = mv; time = time }
+-- the move with that delay
+abbrev pub delayed : Move → ℕ → DelayedMove
+delayed mv delay = record { mv = mv; delay = delay }
+
+-- the move with that delay, which finishes at this time
+abbrev pub done_at : DelayedMove → ℕ → TimedMove
+done_at d time = record { mv = d.mv; delay = d.delay; time = time }
 
 -- the greatest of some numbers, and 0 where there are none
 abbrev pub greatest : List ℕ → ℕ
@@ -20,26 +24,27 @@ greatest [] = 0
 greatest (t ∷ ts) = max t (greatest ts)
 
 -- the greatest time of some moves
-unfoldable pub greatest_time : List Done → ℕ
+unfoldable pub greatest_time : List TimedMove → ℕ
 greatest_time moves = greatest (map (λ done. done.time) moves)
 
 -- those of the earlier moves that share a site with the move
-abbrev pub before : Plan → Move → List Done → List Done
-before plan mv earlier = filter (λ done. shares plan mv done.move) earlier
+abbrev pub before : Plan → Move → List TimedMove → List TimedMove
+before plan mv earlier = filter (λ done. shares plan mv done.mv) earlier
 
--- the time of a move after earlier ones: the greatest time of those that share a site with it, plus its delay
-unfoldable pub time_after : Plan → List ℕ → List Done → Move → ℕ
-time_after plan delays earlier mv = greatest_time (before plan mv earlier) + delay delays mv
+-- when a move that takes so long finishes after earlier ones: at the greatest time of those that share a site with it,
+-- plus its delay
+unfoldable pub time_after : Plan → List TimedMove → DelayedMove → ℕ
+time_after plan earlier d = greatest_time (before plan d.mv earlier) + d.delay
 
 -- the move after earlier ones, with its time
-abbrev pub done_after : Plan → List ℕ → List Done → Move → Done
-done_after plan delays earlier mv = done_at mv (time_after plan delays earlier mv)
+abbrev pub done_after : Plan → List TimedMove → DelayedMove → TimedMove
+done_after plan earlier d = done_at d (time_after plan earlier d)
 
--- the moves of a run after earlier ones, each with its time; the last comes first
-abbrev pub times_after : Plan → List ℕ → List Done → List Move → List Done
-times_after plan delays earlier [] = earlier
-times_after plan delays earlier (mv ∷ moves) = times_after plan delays (done_after plan delays earlier mv ∷ earlier) moves
+-- moves after earlier ones, each with its time; the last comes first
+abbrev pub times_after : Plan → List TimedMove → List DelayedMove → List TimedMove
+times_after plan earlier [] = earlier
+times_after plan earlier (d ∷ moves) = times_after plan (done_after plan earlier d ∷ earlier) moves
 
 -- the moves of a run, each with its time; the last comes first
-unfoldable pub times : Plan → List ℕ → List Move → List Done
-times plan delays moves = times_after plan delays [] moves
+unfoldable pub times : Plan → List DelayedMove → List TimedMove
+times plan moves = times_after plan [] moves

@@ -2,20 +2,24 @@
 
 ghost use Rattle.std.specs.Prelude.{◌≡◌, ℕ, ◌+◌, ◌-◌, ◌<◌, ◌≤◌, ◌^◌, min};
 ghost use Rattle.cf_index.specs.Sites.{HasSites};
-ghost use Rattle.cf_timed.specs.Delays.{AreDelays, delay};
-ghost use Rattle.cf_timed.specs.Clocks.{NoneLater, allowed, capped, finish, made, stamped, started};
+ghost use Rattle.cf_timed.specs.Delays.{AreDelays};
+ghost use Rattle.cf_timed.specs.Clocks.{NoneLater, allowed, capped, clocked, delay_by, drawing, finish, made, stamped, started};
 
+use crate::class_at::class_at;
 use crate::delays::Delays;
+use crate::draws::{DelayDraws, stream_of};
 use cf_bind::Move;
+use cf_core::Core;
 use cf_layout::Layout;
 use std::marker::Model;
 
 /// For each site of a processor the time of the last move that used it: the stages by their numbers, the cells of the
-/// sidings, the lane, fetch, the memory and the code.
+/// sidings, the lane, fetch, the memory and the code; and what the delays of further moves are drawn from.
 #[derive(Clone, Copy)]
 pub struct Clock {
     pub(crate) layout: Layout,
     pub(crate) delays: Delays,
+    pub(crate) draws: DelayDraws,
     pub(crate) stages: [u64; 34],
     pub(crate) cells: [[u64; 8]; 8],
     pub(crate) lane: u64,
@@ -30,22 +34,23 @@ impl Model for Clock {
 
     ghost Value = { SiteTimes };
 
-    ghost view = { λ c. record { plan = c.layout; delays = c.delays; stages = c.stages; cells = c.cells; lane = c.lane; fetch = c.fetch; memory = c.memory; code = c.code; latest = c.latest } };
+    ghost view = { λ c. record { plan = c.layout; delays = c.delays; draws = c.draws; stages = c.stages; cells = c.cells; lane = c.lane; fetch = c.fetch; memory = c.memory; code = c.code; latest = c.latest } };
 
-    ghost invariant = { λ c. NoneLater (record { plan = c.layout; delays = c.delays; stages = c.stages; cells = c.cells; lane = c.lane; fetch = c.fetch; memory = c.memory; code = c.code; latest = c.latest }) };
+    ghost invariant = { λ c. NoneLater (record { plan = c.layout; delays = c.delays; draws = c.draws; stages = c.stages; cells = c.cells; lane = c.lane; fetch = c.fetch; memory = c.memory; code = c.code; latest = c.latest }) };
 
-    ghost inverse = { λ c. record { layout = c.plan; delays = c.delays; stages = c.stages; cells = c.cells; lane = c.lane; fetch = c.fetch; memory = c.memory; code = c.code; latest = c.latest } };
+    ghost inverse = { λ c. record { layout = c.plan; delays = c.delays; draws = c.draws; stages = c.stages; cells = c.cells; lane = c.lane; fetch = c.fetch; memory = c.memory; code = c.code; latest = c.latest } };
 }
 
 impl Clock {
-    /// A clock before the first move: all times are 0.
+    /// A clock before the first move, whose delays are drawn from the seed if there is one: all times are 0.
     #[tactic(auto, unfolding(crate::specs::Clocks::started))]
-    pub fn new(layout: &Layout, delays: Delays) -> Clock
-        ensures { result ≡ started layout.now delays }
+    pub fn new(layout: &Layout, delays: Delays, seed: Option<u64>) -> Clock
+        ensures { result ≡ started layout.now (record { spans = delays; seed = seed }) }
     {
         Clock {
             layout: *layout,
             delays,
+            draws: DelayDraws::new(seed),
             stages: [0; 34],
             cells: [[0; 8]; 8],
             lane: 0,
@@ -79,31 +84,43 @@ impl Clock {
         &self.layout
     }
 
-    /// How many ticks the move takes.
+    /// How many ticks the move takes if it is made now: as many as its kind and the class of its instruction give, drawn
+    /// by the next word of its stream or taken from the middle.
     #[inline(always)]
-    fn delay(&self, mv: Move) -> u64
-        ensures delay { result ≡ delay self.now.delays mv }
+    #[tactic(auto, unfolding(crate::specs::Clocks::delay_by))]
+    pub fn delay(&self, core: &Core, mv: Move) -> u64
+        ensures delay { result ≡ delay_by (clocked self.now core.now.state) mv }
         ensures few { result ≤ 1000 }
     {
-        u64::from(self.delays.of(mv))
+        let span = self.delays.of(mv, class_at(core, mv));
+        u64::from(span.ticks(self.draws.next_word(stream_of(mv))))
     }
 
     /// When the move finishes if it is made now, capped at the greatest `u64`.
     #[inline(always)]
     #[tactic(auto, unfolding(crate::specs::Clocks::finish))]
-    pub(crate) fn capped(&self, mv: Move) -> u64
-        ensures { result ≡ capped self.now mv }
+    pub(crate) fn capped(&self, core: &Core, mv: Move) -> u64
+        ensures { result ≡ capped (clocked self.now core.now.state) mv }
     {
-        self.reach(mv).saturating_add(self.delay(mv))
+        self.reach(mv).saturating_add(self.delay(core, mv))
     }
 
-    /// Records a move that finishes at this time.
+    /// Records a move that finishes at this time, and takes the word that its delay was drawn by.
     #[inline(always)]
     pub(crate) fn stamp(&mut self, mv: Move, time: u64)
         ensures { self.new ≡ stamped self.old mv time }
     {
         self.allow(time);
         self.put(mv, time);
+        self.draw(mv);
+    }
+
+    /// Takes the next word of the move's stream.
+    #[inline(always)]
+    fn draw(&mut self, mv: Move)
+        ensures { self.new ≡ drawing self.old mv }
+    {
+        self.draws.take_word(stream_of(mv));
     }
 
     /// Raises the greatest time to this one, if it is later.
@@ -117,23 +134,23 @@ impl Clock {
     /// When the move finishes if it is made now: the greatest time of the sites that it uses, plus its delay. The
     /// layout has each stage and each cell that the move uses.
     #[tactic(auto, using(crate::proofs::SiteTimes::reach_within), unfolding(crate::specs::Clocks::finish))]
-    pub fn finish(&self, mv: Move) -> u64
+    pub fn finish(&self, core: &Core, mv: Move) -> u64
         requires sites { HasSites self.now.plan mv }
         requires early { self.now.latest < 2 ^ 62 }
-        ensures { result ≡ finish self.now mv }
+        ensures { result ≡ finish (clocked self.now core.now.state) mv }
     {
         let _latest = self.greatest();
-        self.reach(mv) + self.delay(mv)
+        self.reach(mv) + self.delay(core, mv)
     }
 
     /// Records a move that is made now. The layout has each stage and each cell that it uses.
     #[tactic(auto, unfolding(crate::specs::Clocks::made))]
-    pub fn made(&mut self, mv: Move)
+    pub fn made(&mut self, core: &Core, mv: Move)
         requires sites { HasSites self.old.plan mv }
         requires early { self.old.latest < 2 ^ 62 }
-        ensures { self.new ≡ made self.old mv }
+        ensures { self.new ≡ made (clocked self.old core.now.state) mv }
     {
-        let time = self.finish(mv);
+        let time = self.finish(core, mv);
         self.stamp(mv, time);
     }
 }

@@ -2,30 +2,33 @@
 
 ghost use Rattle.std.specs.Prelude.{◌≡◌, ◌<◌, ◌≤◌, All, IfSome};
 ghost use Rattle.cf_index.specs.Order.{kind_place};
-ghost use Rattle.cf_timed.specs.Delays.{AreDelays, IsDelay, delay};
-ghost use Rattle.cf_timed.specs.DelayLines.{filled};
+ghost use Rattle.cf_timed.specs.Delays.{AreDelays, IsSpan, class_slot, slot_of, span_count, span_of};
+ghost use Rattle.cf_timed.specs.DelayLines.{filled, kind_of_slot, span_told};
 
+use crate::span::Span;
 use cf_bind::Move;
+use rv_inst::Class;
 use std::marker::Model;
 
-/// The delays of a timed run: for each kind of move, in the order of `Move`, from 1 to 1,000 ticks. Contracts see them
-/// as the list of these.
+/// The delays of a timed run: for each kind of move, and for each class of what is executed, launched or recovered, a
+/// range of ticks. Contracts see them as a function from a move and a class to its range, `span_of`.
 #[derive(Clone, Copy)]
 pub struct Delays {
-    ticks: [u32; 14],
+    spans: [Span; 41],
 }
 
 impl Model for Delays {
-    ghost use Rattle.std.specs.Prelude.{ℕ, List};
+    ghost use Rattle.std.specs.Prelude.{List};
     ghost use Rattle.cf_timed.specs.Delays.{AreDelays};
+    ghost use Rattle.cf_timed.specs.declared.span.Span.{Span};
 
-    ghost Value = { List ℕ };
+    ghost Value = { List Span };
 
-    ghost view = { λ d. d.ticks };
+    ghost view = { λ d. d.spans };
 
-    ghost invariant = { λ d. AreDelays d.ticks };
+    ghost invariant = { λ d. AreDelays d.spans };
 
-    ghost inverse = { λ ticks. record { ticks = ticks } };
+    ghost inverse = { λ spans. record { spans = spans } };
 }
 
 /// The index of the move's kind among the kinds.
@@ -52,33 +55,112 @@ pub fn kind_place(mv: Move) -> usize
     }
 }
 
+/// The index of the range of a class: behind the first of its kind, and that of the kind for a class that is not
+/// computed.
+#[inline(always)]
+pub(crate) fn class_slot(kind: usize, first: usize, class: Class) -> usize
+    requires { first ≤ 32 }
+    ensures slot { result ≡ class_slot kind first class }
+    ensures within { kind < 14 → result < span_count }
+{
+    match class {
+        Class::Add => first,
+        Class::Logic => first + 1,
+        Class::Shift => first + 2,
+        Class::Compare => first + 3,
+        Class::Branch => first + 4,
+        Class::Jump => first + 5,
+        Class::Memory => first + 6,
+        Class::Mul => first + 7,
+        Class::Div => first + 8,
+        Class::Serial | Class::Free => kind,
+    }
+}
+
+/// The index of the range of the move.
+#[inline(always)]
+fn slot_of(mv: Move, class: Class) -> usize
+    ensures slot { result ≡ slot_of mv class }
+    ensures within { result < span_count }
+{
+    match mv {
+        Move::Execute(_) => class_slot(5, 14, class),
+        Move::Launch(_) => class_slot(7, 23, class),
+        Move::Recover(_) => class_slot(10, 32, class),
+        Move::Issue(_)
+        | Move::Emit
+        | Move::Climb(_)
+        | Move::Fall(_)
+        | Move::Meet(_)
+        | Move::Send(_)
+        | Move::Slide(_, _)
+        | Move::Access
+        | Move::Leave
+        | Move::Exit
+        | Move::Serve => kind_place(mv),
+    }
+}
+
+/// The kind to which the range of an index belongs.
+fn kind_of_slot(slot: usize) -> usize
+    requires { slot < span_count }
+    ensures kind { result ≡ kind_of_slot slot }
+    ensures within { result < 14 }
+{
+    if slot < 14 {
+        slot
+    } else if slot < 23 {
+        5
+    } else if slot < 32 {
+        7
+    } else {
+        10
+    }
+}
+
+/// The range of an index: what was told of it, else what was told of its kind, else one tick.
+#[tactic(auto, unfolding(crate::specs::DelayLines::span_told))]
+fn span_told(told: &[Option<Span>; 41], slot: usize) -> Span
+    requires within { slot < span_count }
+    requires spans { All (λ span. IfSome span IsSpan) told.now }
+    ensures span { result ≡ span_told told.now slot }
+    ensures is_span { IsSpan result }
+{
+    match told[slot] {
+        Some(span) => span,
+        None => told[kind_of_slot(slot)].unwrap_or(Span::one_tick()),
+    }
+}
+
 impl Delays {
-    /// The delays that were given; the other kinds have delay 1.
-    pub(crate) fn filled(told: &[Option<u32>; 14]) -> Delays
-        requires { All (λ ticks. IfSome ticks IsDelay) told.now }
+    /// The delays that were given; a class of which none was given has that of its kind, and another kind takes one
+    /// tick.
+    #[tactic(auto, unfolding(crate::specs::DelayLines::filled))]
+    pub(crate) fn filled(told: &[Option<Span>; 41]) -> Delays
+        requires { All (λ span. IfSome span IsSpan) told.now }
         ensures { result ≡ filled told.now }
     {
-        let mut ticks = [1; 14];
-        for i in 0..14 {
-            ticks[i] = told[i].unwrap_or(1);
+        let mut spans = [Span::one_tick(); 41];
+        for slot in 0..41 {
+            spans[slot] = span_told(told, slot);
         }
-        Delays { ticks }
+        Delays { spans }
     }
 
-    /// Invariant: one delay for each kind, from 1 to 1,000. The function does nothing.
+    /// Invariant: each range is within 1 to 1,000 ticks. The function does nothing.
     pub fn known(&self)
         ensures { AreDelays self.now }
     {
-        let _ = &self.ticks;
+        let _ = &self.spans;
     }
 
-    /// How many ticks the move takes: 1 to 1,000.
+    /// How many ticks the move takes, where the instruction that it executes, launches or recovers has this class.
     #[inline(always)]
-    #[tactic(auto, unfolding(crate::specs::Delays::delay))]
-    pub fn of(&self, mv: Move) -> u32
-        ensures delay { result ≡ delay self.now mv }
-        ensures few { result ≤ 1000 }
+    #[tactic(auto, unfolding(crate::specs::Delays::span_of))]
+    pub fn of(&self, mv: Move, class: Class) -> Span
+        ensures span { result ≡ span_of self.now mv class }
+        ensures is_span { IsSpan result }
     {
-        self.ticks[kind_place(mv)]
+        self.spans[slot_of(mv, class)]
     }
 }

@@ -1,12 +1,14 @@
 //! The first of the moves that finish earliest, found while the moves are shown one by one.
 
 ghost use Rattle.std.specs.Prelude.{◌≡◌};
+ghost use Rattle.cf_timed.specs.Clocks.{clocked};
 ghost use Rattle.cf_timed.specs.Seeking.{nothing, shown};
 ghost use Rattle.cf_timed.specs.Soonest.{due_of};
 
 use crate::clock::Clock;
 use crate::soonest::Due;
 use cf_bind::Move;
+use cf_core::Core;
 use cf_index::Visitor;
 use std::marker::Model;
 
@@ -14,6 +16,7 @@ use std::marker::Model;
 #[derive(Drop)]
 pub(crate) struct Least<'a> {
     pub(crate) clock: &'a Clock,
+    pub(crate) core: &'a Core,
     pub(crate) shown: usize,
     pub(crate) place: usize,
     pub(crate) time: u64,
@@ -25,7 +28,7 @@ impl<'a> Model for Least<'a> {
 
     ghost Value = { Seeking };
 
-    ghost view = { λ l. record { clock = l.clock.now; shown = l.shown; place = l.place; time = l.time; move = l.mv } };
+    ghost view = { λ l. record { clock = record { clock = l.clock.now; state = l.core.now.state }; shown = l.shown; place = l.place; time = l.time; move = l.mv } };
 }
 
 impl<'a> Visitor for Least<'a> {
@@ -33,7 +36,7 @@ impl<'a> Visitor for Least<'a> {
 
     #[inline(always)]
     fn visit(&mut self, mv: Move) {
-        let time = self.clock.capped(mv);
+        let time = self.clock.capped(self.core, mv);
         if time < self.time {
             self.time = time;
             self.place = self.shown;
@@ -46,11 +49,12 @@ impl<'a> Visitor for Least<'a> {
 impl<'a> Least<'a> {
     /// The state before the first move.
     #[inline(always)]
-    pub(crate) fn new(clock: &'a Clock) -> Least<'a>
-        ensures { result ≡ nothing clock.now }
+    pub(crate) fn new(clock: &'a Clock, core: &'a Core) -> Least<'a>
+        ensures { result ≡ nothing (clocked clock.now core.now.state) }
     {
         Least {
             clock,
+            core,
             shown: 0,
             place: 0,
             time: u64::MAX,

@@ -1,23 +1,35 @@
-//! Timed schedules: each kind of move takes a number of ticks, and the move that finishes earliest is made next.
+//! Timed schedules: each move takes a number of ticks, by its kind and the class of its instruction, and the move that
+//! finishes earliest is made next.
 #![tactic(auto)]
 
 mod answer;
+mod class_at;
 mod clock;
 mod delays;
+mod draws;
 pub mod laws;
 mod least;
+mod move_lines;
+mod picking;
 mod putting;
 mod reaching;
 mod reading;
 mod run;
 mod soonest;
-mod timing;
+mod span;
+mod step;
+mod timed_move;
+mod watcher;
 
 pub use answer::Timed;
 pub use clock::Clock;
 pub use delays::{Delays, kind_place};
+pub use draws::DelayDraws;
+pub use move_lines::MoveLines;
 pub use reaching::port;
 pub use reading::{MOST_DELAYS, read_delays};
-pub use run::{clock_after, run_timed, run_unreported, timed};
+pub use run::{run_shown, run_timed, run_watched};
 pub use run_scripts::{DelayErr, DelayKind};
-pub use timing::Timing;
+pub use span::Span;
+pub use timed_move::TimedMove;
+pub use watcher::{Unwatched, Watcher};

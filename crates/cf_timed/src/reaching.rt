@@ -5,7 +5,8 @@ ghost use Rattle.cf_semantics.specs.moves.Sites.{SidingCell, Stage};
 ghost use Rattle.cf_semantics.specs.state.Layouts.{port as port_of};
 ghost use Rattle.cf_index.specs.Sites.{used, way_out, ways_in, ways_out};
 ghost use Rattle.cf_timed.specs.Times.{greatest};
-ghost use Rattle.cf_timed.specs.Clocks.{number_at, time_at};
+ghost use Rattle.cf_timed.specs.Clocks.{time_at};
+ghost use Rattle.cf_timed.specs.Numbers.{number_at};
 
 use crate::clock::Clock;
 use cf_bind::Move;

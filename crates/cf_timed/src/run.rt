@@ -1,110 +1,90 @@
 //! The timed run.
 
-ghost use Rattle.std.specs.Prelude.{◌≡◌, ◌≢◌, ◌+◌, ◌-◌, ◌<◌, ◌≤◌, ◌^◌, length};
+ghost use Rattle.std.specs.Prelude.{◌≡◌, ◌≢◌, ◌+◌, ◌-◌, ◌<◌, ◌≤◌, ◌^◌, IfOk, None, Some, length};
 ghost use Rattle.rv_machine.specs.Streams.{streams_of};
-ghost use Rattle.cf_layout.specs.Accepted.{IsAccepted};
-ghost use Rattle.cf_run.specs.declared.answer.Ran.TheVariants as answers;
-ghost use Rattle.cf_run.specs.Policies.{CanRun, most_moves};
-ghost use Rattle.cf_timed.specs.Delays.{AreDelays};
-ghost use Rattle.cf_timed.specs.TimedRuns.{CanBegin, HasCauses, RunsTimed, RunsUnreported, answer_of, begins};
-ghost use Rattle.cf_timed.specs.Timings.{clock_after};
+ghost use Rattle.cf_io.specs.Causes.{HasCause};
+ghost use Rattle.cf_sched.specs.Paces.{offered_by};
+ghost use Rattle.run_finishes.specs.declared.finish.Ran.TheVariants as answers;
+ghost use Rattle.run_finishes.specs.Stopped.{input_stopped, output_stopped};
+ghost use Rattle.cf_run.specs.Made.{CanCount};
+ghost use Rattle.cf_run.specs.Moving.{place_of};
+ghost use Rattle.cf_run.specs.Policies.{most_moves};
+ghost use Rattle.cf_timed.specs.Clocks.{rule_of};
+ghost use Rattle.cf_timed.specs.TimedRuns.{CanBegin, GoesShown, GoesWatched, HasCauses, RunsTimed, answer_of, answered, begins};
+ghost use Rattle.cf_timed.specs.Turns.{TurnsTimed, stop_of};
 
 use crate::answer::Timed;
 use crate::clock::Clock;
-use crate::timing::Timing;
+use crate::move_lines::MoveLines;
+use crate::step::TimedStep;
+use crate::timed_move::TimedMove;
+use crate::watcher::{Unwatched, Watcher};
 use cf_core::Core;
 use cf_index::Candidates;
-use cf_io::{Nowhere, Sink, Source};
+use cf_io::{Failed, Nowhere, Sink, Source};
 use cf_report::Tally;
-use cf_run::{Ran, Show, known, run_policy};
-use cf_sched::Policy;
+use cf_run::{Ran, Reporting, Show, known, make_and_show, over};
+use cf_sched::Pace;
+use run_options::GuessRule;
 
-/// Runs an opened processor under a policy as `run_policy` of cf_run does, without a report. It also returns the number
-/// of moves. It allocates no memory and always terminates.
+/// Makes the move that finishes earliest, or returns why the run stops.
 #[inline(always)]
-pub fn run_unreported<P: Policy, S: Source, K: Sink>(
-    core: &mut Core,
-    candidates: &mut Candidates,
-    policy: &mut P,
-    limit: u64,
-    input: &mut S,
-    output: &mut K,
-    moves: &mut u64,
-) -> Ran
-    requires begins { CanRun limit core.old }
-    ensures run { RunsUnreported P.picked P.onward limit
-        (begins core.old (streams_of (S.left input.old) (K.written output.old)))
-        core.new (streams_of (S.left input.new) (K.written output.new)) policy.old policy.new moves.new result }
-    ensures bounded { moves.new ≤ most_moves core.old.plan (core.new.state.retired - core.old.state.retired) }
-    ensures causes { HasCauses (S.faults input.old) (S.faults input.new) (K.faults output.old) (K.faults output.new) result }
-{
-    let mut nowhere = Nowhere;
-    let mut tally = Tally {
-        moves: 0,
-        meets: 0,
-        kills: 0,
-        dead: 0,
-    };
-    let ran = run_policy(
-        core,
-        candidates,
-        policy,
-        limit,
-        Show::Report,
-        input,
-        output,
-        &mut nowhere,
-        &mut tally,
-    );
-    *moves = tally.moves;
-    ran
-}
-
-/// Runs an opened processor by a clock that has recorded no move: of the candidates that any policy would be offered,
-/// it makes the one that finishes earliest, and of several the first in the order of all moves. It runs until the
-/// program ends, as many instructions have retired as the limit allows, or a fault occurs; these are tested in this
-/// order before each move. The clock records the moves that were made, and their number is returned. It allocates no
-/// memory and always terminates.
-///
-/// `ReadFault` and `WriteFault` come only where the input or the output failed a call of the environment; the count of
-/// its faults rose, and that move is neither counted nor recorded by the clock.
-pub fn run_timed<S: Source, K: Sink>(
+fn advance<S: Source, K: Sink>(
     core: &mut Core,
     candidates: &mut Candidates,
     clock: &mut Clock,
+    pace: &mut Pace,
     limit: u64,
     input: &mut S,
     output: &mut K,
-    moves: &mut u64,
-) -> Timed
-    requires begins { CanBegin limit core.old clock.old moves.old }
-    ensures run { RunsTimed clock.old.delays limit
-        (begins core.old (streams_of (S.left input.old) (K.written output.old)))
-        core.new (streams_of (S.left input.new) (K.written output.new)) clock.new moves.new result }
-    ensures bounded { moves.new ≤ most_moves core.old.plan (core.new.state.retired - core.old.state.retired) }
-    ensures causes { HasCauses (S.faults input.old) (S.faults input.new) (K.faults output.old) (K.faults output.new) (answer_of result) }
+    tally: &mut Tally,
+) -> Result<TimedStep, Ran>
+    requires limit { limit + 1 < 2 ^ 64 }
+    requires retired { core.old.state.retired ≤ limit }
+    requires stages { pace.old.stages ≡ core.old.plan.stages }
+    requires some { core.old.state.ending ≡ None → 0 < length (offered_by pace.old.rule core.old.plan pace.old.count core.old.state) }
+    requires counts { CanCount tally.old }
+    ensures turns { TurnsTimed limit pace.old.rule
+        (place_of core.old (streams_of (S.left input.old) (K.written output.old)) None tally.old)
+        (place_of core.new (streams_of (S.left input.new) (K.written output.new)) None tally.new)
+        pace.old.count pace.new.count clock.old clock.new result }
+    ensures rule { pace.new.rule ≡ pace.old.rule }
+    ensures stages { pace.new.stages ≡ pace.old.stages }
+    ensures input { HasCause (S.faults input.old) (S.faults input.new) (input_stopped (stop_of result)) }
+    ensures output { HasCause (K.faults output.old) (K.faults output.new) (output_stopped (stop_of result)) }
 {
-    known(core);
-    clock.known();
-    let mut timing = Timing::new(*clock);
-    let ran = run_unreported(core, candidates, &mut timing, limit, input, output, moves);
-    *clock = clock_after(&timing, ran);
-    timed(ran)
-}
-
-/// The clock after the moves that were made: after a fault the last pick was not made.
-#[tactic(auto, unfolding(crate::specs::Timings::clock_after))]
-pub fn clock_after(timing: &Timing, ran: Ran) -> Clock
-    ensures { result ≡ clock_after timing.now ran }
-{
-    match ran {
-        Ran::ReadFault | Ran::WriteFault | Ran::ReportFault => timing.clock(),
-        Ran::Exit(_) | Ran::Trap { .. } | Ran::Limit => timing.told(),
+    if let Some(ran) = over(core, limit) {
+        return Err(ran);
+    }
+    let due = clock.earliest(core, candidates, pace);
+    let done = TimedMove {
+        mv: due.mv,
+        delay: clock.delay(core, due.mv),
+        time: due.time,
+    };
+    match make_and_show(
+        core,
+        due.mv,
+        Reporting {
+            show: Show::Report,
+            every: None,
+        },
+        input,
+        output,
+        &mut Nowhere,
+        tally,
+    ) {
+        Ok(event) => {
+            pace.saw(due.mv, &event, core.drained());
+            clock.stamp(due.mv, due.time);
+            Ok(TimedStep { event, done })
+        }
+        Err(ran) => Err(ran),
     }
 }
 
 /// The answer of a run whose report never fails.
-pub fn timed(ran: Ran) -> Timed
+fn timed(ran: Ran) -> Timed
     ensures { ran ≢ answers.ReportFault → answer_of result ≡ ran }
 {
     match ran {
@@ -114,4 +94,131 @@ pub fn timed(ran: Ran) -> Timed
         Ran::ReadFault => Timed::ReadFault,
         Ran::WriteFault | Ran::ReportFault => Timed::WriteFault,
     }
+}
+
+/// Runs an opened processor by a clock that has recorded no move, and shows each move to a watcher once it was made: of
+/// the candidates that any policy would be offered under the guess rule, it makes the one that finishes earliest, and of
+/// several the first in the order of all moves. It runs until the program ends, as many instructions have retired as the
+/// limit allows, or a fault occurs; these are tested in this order before each move. The clock records the moves that were
+/// made, and their number is returned. It allocates no memory and always terminates.
+///
+/// `ReadFault` and `WriteFault` come only where the input or the output failed a call of the environment; the count of
+/// its faults rose, and that move is neither counted nor recorded by the clock nor shown. `Failed` comes only where the
+/// report failed when the watcher wrote about a move; the run stops there.
+pub fn run_watched<W: Watcher, S: Source, K: Sink, R: Sink>(
+    core: &mut Core,
+    candidates: &mut Candidates,
+    clock: &mut Clock,
+    watcher: &mut W,
+    rule: GuessRule,
+    limit: u64,
+    input: &mut S,
+    output: &mut K,
+    report: &mut R,
+    moves: &mut u64,
+) -> Result<Timed, Failed>
+    requires begins { CanBegin limit core.old clock.old moves.old }
+    ensures run { GoesWatched W.noted W.text rule (rule_of clock.old) limit
+        (begins core.old (streams_of (S.left input.old) (K.written output.old)))
+        core.new (streams_of (S.left input.new) (K.written output.new)) clock.new watcher.old watcher.new
+        (R.written report.old) (R.written report.new) moves.new result }
+    ensures bounded { IfOk result (λ answer. moves.new ≤ most_moves core.old.plan (core.new.state.retired - core.old.state.retired)) }
+    ensures causes { HasCauses (S.faults input.old) (S.faults input.new) (K.faults output.old) (K.faults output.new) (answered result) }
+    ensures report { HasCause (R.faults report.old) (R.faults report.new) result }
+{
+    known(core);
+    clock.known();
+    let mut pace = Pace::new(rule, core.layout().stages());
+    let mut tally = Tally {
+        moves: 0,
+        meets: 0,
+        kills: 0,
+        dead: 0,
+    };
+    loop {
+        let step = match advance(
+            core, candidates, clock, &mut pace, limit, input, output, &mut tally,
+        ) {
+            Ok(step) => step,
+            Err(ran) => {
+                *moves = tally.moves;
+                return Ok(timed(ran));
+            }
+        };
+        watcher.note(core, &step.event, &step.done, report)?;
+    }
+}
+
+/// Runs an opened processor as `run_watched` does, without a watcher.
+pub fn run_timed<S: Source, K: Sink>(
+    core: &mut Core,
+    candidates: &mut Candidates,
+    clock: &mut Clock,
+    rule: GuessRule,
+    limit: u64,
+    input: &mut S,
+    output: &mut K,
+    moves: &mut u64,
+) -> Timed
+    requires begins { CanBegin limit core.old clock.old moves.old }
+    ensures run { RunsTimed rule (rule_of clock.old) limit
+        (begins core.old (streams_of (S.left input.old) (K.written output.old)))
+        core.new (streams_of (S.left input.new) (K.written output.new)) clock.new moves.new result }
+    ensures bounded { moves.new ≤ most_moves core.old.plan (core.new.state.retired - core.old.state.retired) }
+    ensures causes { HasCauses (S.faults input.old) (S.faults input.new) (K.faults output.old) (K.faults output.new) (Some (answer_of result)) }
+{
+    let ran = run_watched(
+        core,
+        candidates,
+        clock,
+        &mut Unwatched,
+        rule,
+        limit,
+        input,
+        output,
+        &mut Nowhere,
+        moves,
+    );
+    match ran {
+        Ok(answer) => answer,
+        // A sink that keeps nothing never fails.
+        Err(Failed) => Timed::Limit,
+    }
+}
+
+/// Runs an opened processor as `run_timed` does, and writes the line of each move to the report once it was made: its
+/// number, when it starts and finishes, and the move. `Failed` comes only where the report failed; the run stops there.
+pub fn run_shown<S: Source, K: Sink, R: Sink>(
+    core: &mut Core,
+    candidates: &mut Candidates,
+    clock: &mut Clock,
+    rule: GuessRule,
+    limit: u64,
+    input: &mut S,
+    output: &mut K,
+    report: &mut R,
+    moves: &mut u64,
+) -> Result<Timed, Failed>
+    requires begins { CanBegin limit core.old clock.old moves.old }
+    ensures run { GoesShown rule (rule_of clock.old) limit
+        (begins core.old (streams_of (S.left input.old) (K.written output.old)))
+        core.new (streams_of (S.left input.new) (K.written output.new)) clock.new
+        (R.written report.old) (R.written report.new) moves.new result }
+    ensures bounded { IfOk result (λ answer. moves.new ≤ most_moves core.old.plan (core.new.state.retired - core.old.state.retired)) }
+    ensures causes { HasCauses (S.faults input.old) (S.faults input.new) (K.faults output.old) (K.faults output.new) (answered result) }
+    ensures report { HasCause (R.faults report.old) (R.faults report.new) result }
+{
+    known(core);
+    run_watched(
+        core,
+        candidates,
+        clock,
+        &mut MoveLines::new(),
+        rule,
+        limit,
+        input,
+        output,
+        report,
+        moves,
+    )
 }

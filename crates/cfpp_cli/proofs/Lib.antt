@@ -1,3 +1,4 @@
 pub mod Beside
 pub mod FilesRead
+pub mod Overviews
 pub mod Tops

@@ -1,24 +1,24 @@
 -- What was decided from the arguments is what the top call does.
-use Rattle.std.proofs.Common.{◌≡◌, ◌≤◌, ◌⊎◌, ℕ, List, false, Result, Ok, Err, refl, inl, inr}
+use Rattle.std.proofs.Common.{◌≡◌, ◌⊎◌, ℕ, List, Bool, true, false, Result, Ok, Err, refl, inl, inr, arith}
 use Rattle.cf_io.specs.Causes.{HasCause, Rose}
 use Rattle.cf_io.specs.Puts.{Writes, WritesFront}
 use Rattle.cf_io.specs.declared.failed.Failed.{Failed}
 use Rattle.cli_arguments.specs.Words.{Asked}
-use Rattle.cli_files.specs.Causes.{files_answered, input_answered, output_answered}
-use Rattle.cfpp_cli.specs.Deciding.{Decided}
+use Rattle.cli_files.specs.Causes.{files_answered, input_answered, output_answered, reading_answered}
+use Rattle.cfpp_cli.specs.Deciding.{Decided, InputTold, files_told}
 use Rattle.cli_files.specs.Outside.{Outside, Report}
 use Rattle.cli_reports.specs.Reporting.{PutsReport}
 use Rattle.cli_reports.specs.OutsideChanges.{OutsideChange}
-use Rattle.cfpp_cli.specs.Top.{Completes, IsTop, NoneRose, Reports, says_fault}
+use Rattle.cfpp_cli.specs.Top.{Completes, IsTop, NoneRose, Reports, files_failed, input_failed, input_is_file, says_fault}
 use Rattle.cli_reports.specs.declared.reporting.Reported.{Reported}
 use Rattle.cfpp_cli.proofs.FilesRead.{answers-read, breaks-read}
 use Rattle.cli_files.specs.declared.status.Status.{Status}
 use Rattle.cli_files.specs.declared.status.Status.TheVariants as status
 
--- counts of faults rose exactly where the status says so
-pub record HasCauses (before after : Outside) (answer : Status) : Type 0 where
-  pub files : HasCause before.file_faults after.file_faults (files_answered answer)
-  pub input : HasCause before.input_faults after.input_faults (input_answered answer)
+-- counts of faults rose exactly where the status says so; is_file: the program's input is in a file
+pub record HasCauses (is_file : Bool) (before after : Outside) (answer : Status) : Type 0 where
+  pub files : HasCause before.file_faults after.file_faults (files_failed is_file answer)
+  pub input : HasCause before.input_faults after.input_faults (input_failed is_file answer)
   pub output : HasCause before.output_faults after.output_faults (output_answered answer)
 
 -- the lines that close the report were put, and the status is the answer; or the report failed at them
@@ -27,12 +27,27 @@ Ends answer said half full closing =
     ((said ≡ answer) × Writes half.written full.written closing × (full.faults ≡ half.faults))
     ⊎ ((said ≡ status.WriteFault) × WritesFront half.written full.written closing × Rose half.faults full.faults)
 
+-- the count of the faults of the input
+input-counts : (is_file : Bool) (before now : ℕ) (reported : Reported) → InputTold is_file before now (Ok reported) →
+    HasCause before now (input_failed is_file reported.status)
+input-counts true before now reported same = record { never_falls = omega (arith, same); rose = tt; still = same }
+input-counts false before now reported h = h
+
+-- and where the report failed, no count but its own rose
+input-stays : (is_file : Bool) (before now : ℕ) (failed : Failed) → InputTold is_file before now (Err failed) → now ≡ before
+input-stays true before now failed same = same
+input-stays false before now failed same = same
+
+files-stay : (is_file : Bool) (before now : ℕ) (failed : Failed) → HasCause before now (files_told is_file (Err failed)) → now ≡ before
+files-stay true before now failed h = h.still
+files-stay false before now failed h = h.still
+
 -- the command was carried out, and its report ends in this way
 carried-out : (words : List (List ℕ)) (s : OutsideChange) (reported : Reported) (said : Status) →
-    (d : Decided words s (Ok reported)) → HasCauses s.before s.after reported.status →
+    (d : Decided words s (Ok reported)) → HasCause s.before.output_faults s.after.output_faults (output_answered reported.status) →
     Ends reported.status said (record s.blank { written = d.comes.3.told }) s.full d.comes.1 →
     IsTop words s.before s.after s.blank s.full said
-carried-out words s reported said d causes ends =
+carried-out words s reported said d output ends =
     let carried = d.comes in
     record {
       reading = d.reading;
@@ -43,34 +58,33 @@ carried-out words s reported said d causes ends =
         shown = carried.0;
         closing = carried.1;
         answers = carried.2;
-        files = causes.files;
-        input = causes.input;
-        output = causes.output;
+        files = d.files;
+        input = input-counts (input_is_file d.reading) _ _ reported d.input;
+        output = output;
         reports = record { told = carried.3.told; shows = carried.3.shows; closes = ends };
       });
     }
 
 -- its report was put
 pub top-put : (words : List (List ℕ)) (s : OutsideChange) (reported : Reported) → Decided words s (Ok reported) →
-    HasCauses s.before s.after reported.status → reported.put ≡ Ok tt →
+    HasCause s.before.output_faults s.after.output_faults (output_answered reported.status) → reported.put ≡ Ok tt →
     IsTop words s.before s.after s.blank s.full reported.status
-top-put words s reported d causes put =
+top-put words s reported d output put =
     let closes : PutsReport (record s.blank { written = d.comes.3.told }) s.full d.comes.1 (Ok tt) = rw put at d.comes.3.closes in
-    carried-out words s reported reported.status d causes (inl (refl, closes.all, closes.cause.still))
+    carried-out words s reported reported.status d output (inl (refl, closes.all, closes.cause.still))
 
 -- the report failed at the lines that close it
 pub top-failed : {failed : Failed} (words : List (List ℕ)) (s : OutsideChange) (reported : Reported) → Decided words s (Ok reported) →
-    HasCauses s.before s.after reported.status → reported.put ≡ Err failed →
+    HasCause s.before.output_faults s.after.output_faults (output_answered reported.status) → reported.put ≡ Err failed →
     IsTop words s.before s.after s.blank s.full status.WriteFault
-top-failed {failed = failed} words s reported d causes put =
+top-failed {failed = failed} words s reported d output put =
     let closes : PutsReport (record s.blank { written = d.comes.3.told }) s.full d.comes.1 (Err failed) = rw put at d.comes.3.closes in
-    carried-out words s reported status.WriteFault d causes (inr (refl, closes.front, closes.cause.rose))
+    carried-out words s reported status.WriteFault d output (inr (refl, closes.front, closes.cause.rose))
 
 -- the report failed before these lines
 pub top-cut : {failed : Failed} (words : List (List ℕ)) (s : OutsideChange) → Decided words s (Err failed) →
-    s.after.file_faults ≡ s.before.file_faults → s.before.input_faults ≤ s.after.input_faults →
-    s.before.output_faults ≤ s.after.output_faults → IsTop words s.before s.after s.blank s.full status.WriteFault
-top-cut words s d files input output = record {
+    s.after.output_faults ≡ s.before.output_faults → IsTop words s.before s.after s.blank s.full status.WriteFault
+top-cut {failed = failed} words s d output = record {
   reading = d.reading;
   reads = d.reads;
   read = breaks-read d.reading s.before s.after s.blank.written s.full.written d.comes.0;
@@ -78,8 +92,8 @@ top-cut words s d files input output = record {
     status_is = refl;
     breaks = d.comes.0;
     rose = d.comes.1;
-    files = files;
-    input = input;
+    files = files-stay (input_is_file d.reading) _ _ failed d.files;
+    input = input-stays (input_is_file d.reading) _ _ failed d.input;
     output = output;
   });
 }
@@ -87,26 +101,41 @@ top-cut words s d files input output = record {
 -- a status that says of nothing that it failed says so of neither the files nor the streams
 record SaysNone (answer : Status) : Type 0 where
   files : files_answered answer ≡ Ok tt
+  reading : reading_answered answer ≡ Ok tt
   input : input_answered answer ≡ Ok tt
   output : output_answered answer ≡ Ok tt
 
 says-none : (answer : Status) → says_fault answer ≡ false → SaysNone answer
 says-none (status.ReadFault kind) h = absurd (cc)
 says-none status.WriteFault h = absurd (cc)
-says-none (status.Exit code) h = record { files = refl; input = refl; output = refl }
-says-none (status.Trap cause pc detail) h = record { files = refl; input = refl; output = refl }
-says-none (status.Limit limit) h = record { files = refl; input = refl; output = refl }
-says-none (status.ScriptEnd moves) h = record { files = refl; input = refl; output = refl }
-says-none status.Done h = record { files = refl; input = refl; output = refl }
-says-none (status.BadWords index) h = record { files = refl; input = refl; output = refl }
-says-none (status.BadLayout error) h = record { files = refl; input = refl; output = refl }
-says-none (status.BadProgram error) h = record { files = refl; input = refl; output = refl }
-says-none (status.BadScript fault) h = record { files = refl; input = refl; output = refl }
-says-none (status.BarredAt line bar) h = record { files = refl; input = refl; output = refl }
-says-none (status.BadSource error) h = record { files = refl; input = refl; output = refl }
-says-none (status.BadDelays fault) h = record { files = refl; input = refl; output = refl }
-says-none (status.BadTrace fault) h = record { files = refl; input = refl; output = refl }
-says-none status.NoMemory h = record { files = refl; input = refl; output = refl }
+says-none (status.Exit code) h = record { files = refl; reading = refl; input = refl; output = refl }
+says-none (status.Trap cause pc detail) h = record { files = refl; reading = refl; input = refl; output = refl }
+says-none (status.Limit limit) h = record { files = refl; reading = refl; input = refl; output = refl }
+says-none (status.ScriptEnd moves) h = record { files = refl; reading = refl; input = refl; output = refl }
+says-none status.Done h = record { files = refl; reading = refl; input = refl; output = refl }
+says-none (status.BadWords index) h = record { files = refl; reading = refl; input = refl; output = refl }
+says-none (status.BadLayout error) h = record { files = refl; reading = refl; input = refl; output = refl }
+says-none (status.BadProgram error) h = record { files = refl; reading = refl; input = refl; output = refl }
+says-none (status.BadScript fault) h = record { files = refl; reading = refl; input = refl; output = refl }
+says-none (status.BarredAt line bar) h = record { files = refl; reading = refl; input = refl; output = refl }
+says-none (status.BadSource error) h = record { files = refl; reading = refl; input = refl; output = refl }
+says-none (status.BadDelays fault) h = record { files = refl; reading = refl; input = refl; output = refl }
+says-none (status.BadTrace fault) h = record { files = refl; reading = refl; input = refl; output = refl }
+says-none (status.BadLog refusal) h = record { files = refl; reading = refl; input = refl; output = refl }
+says-none (status.LogEnd moves) h = record { files = refl; reading = refl; input = refl; output = refl }
+says-none status.Wrong h = record { files = refl; reading = refl; input = refl; output = refl }
+says-none (status.TooMany most) h = record { files = refl; reading = refl; input = refl; output = refl }
+says-none status.BadInput h = record { files = refl; reading = refl; input = refl; output = refl }
+says-none status.NoMemory h = record { files = refl; reading = refl; input = refl; output = refl }
+
+-- the same, whether the program's input is in a file or not
+no-file-failed : (is_file : Bool) (answer : Status) → SaysNone answer → files_failed is_file answer ≡ Ok tt
+no-file-failed true answer none = none.reading
+no-file-failed false answer none = none.files
+
+no-input-failed : (is_file : Bool) (answer : Status) → SaysNone answer → input_failed is_file answer ≡ Ok tt
+no-input-failed true answer none = refl
+no-input-failed false answer none = none.input
 
 -- where there is no error a count stays
 stays : (before now : ℕ) (r : Result (Unit {0}) (Unit {0})) → r ≡ Ok tt → HasCause before now r → now ≡ before
@@ -114,20 +143,20 @@ stays before now (Ok u) e h = h.still
 stays before now (Err u) e h = absurd (cc)
 
 -- so where the whole report was put too, no count rose
-completed-rose : (before after : Outside) (blank full : Report) (answer : Status) →
-    HasCauses before after answer → says_fault answer ≡ false → full.faults ≡ blank.faults →
+completed-rose : (is_file : Bool) (before after : Outside) (blank full : Report) (answer : Status) →
+    HasCauses is_file before after answer → says_fault answer ≡ false → full.faults ≡ blank.faults →
     NoneRose before after blank full
-completed-rose before after blank full answer causes h put =
+completed-rose is_file before after blank full answer causes h put =
     let none = says-none answer h in
     record {
-      files = stays _ _ (files_answered answer) none.files causes.files;
-      input = stays _ _ (input_answered answer) none.input causes.input;
+      files = stays _ _ (files_failed is_file answer) (no-file-failed is_file answer none) causes.files;
+      input = stays _ _ (input_failed is_file answer) (no-input-failed is_file answer none) causes.input;
       output = stays _ _ (output_answered answer) none.output causes.output;
       report = put;
     }
 
 causes-of : (reading : Result Asked ℕ) (before after : Outside) (blank full : Report) (result : Status)
-    (c : Completes reading before after blank full result) → HasCauses before after c.answer
+    (c : Completes reading before after blank full result) → HasCauses (input_is_file reading) before after c.answer
 causes-of reading before after blank full result c =
     record { files = c.files; input = c.input; output = c.output }
 
@@ -135,11 +164,11 @@ causes-of reading before after blank full result c =
 write-says : (result : Status) → result ≡ status.WriteFault → says_fault result ≡ false → ⊥
 write-says result is h = cc (is, h)
 
-ended-rose : (before after : Outside) (blank full : Report) (result answer : Status)
-    (shown closing : List ℕ) → HasCauses before after answer → Reports blank full shown closing answer result →
+ended-rose : (is_file : Bool) (before after : Outside) (blank full : Report) (result answer : Status)
+    (shown closing : List ℕ) → HasCauses is_file before after answer → Reports blank full shown closing answer result →
     says_fault result ≡ false → NoneRose before after blank full
-ended-rose before after blank full result answer shown closing causes reports h = elim reports.closes [
-  | inl (same, put, faults) ↦ completed-rose before after blank full answer causes (rw same at h) faults
+ended-rose is_file before after blank full result answer shown closing causes reports h = elim reports.closes [
+  | inl (same, put, faults) ↦ completed-rose is_file before after blank full answer causes (rw same at h) faults
   | inr (is, front, rose) ↦ absurd (write-says result is h)
 ]
 
@@ -147,7 +176,7 @@ pub none-rose : (words : List (List ℕ)) (before after : Outside) (blank full :
     IsTop words before after blank full result → says_fault result ≡ false →
     NoneRose before after blank full
 none-rose words before after blank full result top h = elim top.ends [
-  | inl c ↦ ended-rose before after blank full result c.answer c.shown c.closing
+  | inl c ↦ ended-rose (input_is_file top.reading) before after blank full result c.answer c.shown c.closing
       (causes-of top.reading before after blank full result c) c.reports h
   | inr cut ↦ absurd (write-says result cut.status_is h)
 ]

@@ -1,14 +1,32 @@
 -- What is decided from the arguments.
-use Rattle.std.specs.Prelude.{ℕ, List, Result}
+use Rattle.std.specs.Prelude.{◌≡◌, ℕ, List, Bool, true, false, if◌then◌else◌, Result, Ok, Err}
+use Rattle.cf_io.specs.Causes.{HasCause}
 use Rattle.cf_io.specs.declared.failed.Failed.{Failed}
 use Rattle.cli_arguments.specs.Words.{Asked}
-use Rattle.cli_reports.specs.Reporting.{CarriesOut}
-use Rattle.cfpp_cli.specs.Top.{ReadsArguments, Answers, Breaks}
+use Rattle.cli_files.specs.Causes.{input_answered, reading_answered}
+use Rattle.cli_reports.specs.Reporting.{CarriesOut, FaultsReported, files_reported}
+use Rattle.cfpp_cli.specs.Top.{ReadsArguments, Answers, Breaks, input_is_file}
 use Rattle.cli_reports.specs.OutsideChanges.{OutsideChange}
 use Rattle.cli_reports.specs.declared.reporting.Reported.{Reported}
+
+-- an error where it was answered that a file, or the program's input, could not be read; where the report failed before, neither failed
+abbrev pub reading_reported : Result Reported Failed → Result (Unit {0}) (Unit {0})
+reading_reported (Ok reported) = reading_answered reported.status
+reading_reported (Err failed) = Ok tt
+
+-- the same of files alone, unless the program's input is in a file too
+abbrev pub files_told : (is_file : Bool) → Result Reported Failed → Result (Unit {0}) (Unit {0})
+files_told is_file result = if is_file then reading_reported result else files_reported result
+
+-- the count of the faults of the input rose exactly where the answer says so; it stays where the program's input is in a file
+abbrev pub InputTold : (is_file : Bool) → (before now : ℕ) → Result Reported Failed → Type 0
+InputTold true before now result = now ≡ before
+InputTold false before now result = FaultsReported input_answered before now result
 
 -- what the arguments ask for was carried out, or the report failed while it was
 pub record Decided (words : List (List ℕ)) (s : OutsideChange) (result : Result Reported Failed) : Type 0 where
   pub reading : Result Asked ℕ
   pub reads : ReadsArguments words reading
   pub comes : CarriesOut (Answers reading) (Breaks reading) s result
+  pub files : HasCause s.before.file_faults s.after.file_faults (files_told (input_is_file reading) result)
+  pub input : InputTold (input_is_file reading) s.before.input_faults s.after.input_faults result

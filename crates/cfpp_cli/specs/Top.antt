@@ -1,30 +1,35 @@
 -- What the top call answers, and what it leaves of the outside.
-use Rattle.std.specs.Prelude.{◌≡◌, ◌≤◌, ◌⊎◌, ℕ, List, ◌++◌, codes, Bool, true, false, Option, Result, Ok, Err}
+use Rattle.std.specs.Prelude.{◌≡◌, ◌≤◌, ◌⊎◌, ℕ, List, ◌++◌, codes, Bool, true, false, if◌then◌else◌, Option, Result, Ok, Err}
+use Rattle.run_options.specs.declared.reporting.Reporting.{Reporting}
 use Rattle.run_options.specs.declared.show.Show.TheVariants as shows
 use Rattle.cf_io.specs.Causes.{Rose, HasCause}
 use Rattle.cf_io.specs.Puts.{Writes, WritesFront}
 use Rattle.cf_gen.specs.Program.{program_text}
 use Rattle.texts.specs.Lines.{counted_line}
-use Rattle.cli_arguments.specs.Words.{Asks, IsBadAt, Asked, machine, run, moves, rounds, debug, time, audit, check, asm, listing, gen, help, version}
+use Rattle.cli_arguments.specs.Words.{Asks, IsBadAt, Asked, machine, run, moves, rounds, orders, conform, debug, time, audit, check, asm, listing, gen, help, version, help_on}
 use Rattle.cli_machine.specs.Options.{chosen_of}
-use Rattle.cli_audit.specs.Audit.{AnswersAudit, audit_asked, side_of as audit_side}
+use Rattle.cli_audit.specs.Audit.{AnswersAudit, audit_asked, audit_side}
+use Rattle.cli_conform.specs.Conform.{AnswersConform, conform_asked}
 use Rattle.cli_debug.specs.Debug.{AnswersDebug, BreaksDebug}
 use Rattle.cli_time.specs.Asked.{time_asked}
 use Rattle.cli_time.specs.Times.{AnswersTime, BreaksTime}
-use Rattle.cli_files.specs.Causes.{files_answered, input_answered, output_answered}
+use Rattle.cli_files.specs.Causes.{files_answered, input_answered, output_answered, reading_answered}
 use Rattle.cli_files.specs.Outside.{Outside, Report}
 use Rattle.cli_files.specs.Reads.{WereRead}
 use Rattle.cli_machine.specs.Machine.{AnswersMachine, BreaksProgram}
 use Rattle.cli_check.specs.Check.{AnswersCheck}
 use Rattle.cli_gen.specs.Drawn.{AnswersDrawn, BreaksDrawn}
+use Rattle.cli_help.specs.Table.{help_text}
 use Rattle.cli_reports.specs.FileCommands.{PutsOrFails, side_of}
 use Rattle.cli_list.specs.Listings.{AnswersList}
+use Rattle.cli_orders.specs.Orders.{AnswersOrders, orders_asked}
 use Rattle.cfpp_cli.specs.NamedFiles.{files_named}
 use Rattle.cli_asm.specs.Sources.{AnswersAsm}
 use Rattle.cli_files.specs.RunFiles.{run_asked}
-use Rattle.cli_rounds.specs.Rounds.{rounds_asked, AnswersRounds}
+use Rattle.cli_rounds.specs.Rounds.{rounds_asked, AnswersRounds, BreaksRounds}
 use Rattle.cli_run.specs.Run.{AnswersRun, BreaksRun}
-use Rattle.cfpp_cli.specs.declared.help.TheConstants.{HELP, VERSION}
+use Rattle.cfpp_cli.specs.Version.{version_line}
+use Rattle.cfpp_cli.specs.declared.help.TheConstants.{HELP}
 use Rattle.cli_run.specs.declared.tail.Tail.TheVariants.{Nothing, Moves}
 use Rattle.cli_files.specs.declared.status.Status.{Status}
 use Rattle.cli_files.specs.declared.status.Status.TheVariants as status
@@ -48,21 +53,29 @@ pub record PutsAlone (text : List ℕ) (before after : Outside) (answer : Status
   pub files : after.files ≡ before.files
   pub input : after.streams.input ≡ before.streams.input
 
+-- `moves` shows nothing of a run but how far it has come
+abbrev pub closing_and : (every : Option ℕ) → Reporting
+closing_and every = record { show = shows.Report; every = every }
+
 -- by what the arguments ask for: the answer, what is shown of a run, and the lines that close the report, after what the
 -- report told before; what is shown and these lines together are the whole report
 abbrev pub Answers : Result Asked ℕ → Outside → Outside → Option (List ℕ) → Status → (shown closing : List ℕ) → Type 0
-Answers (Ok (machine program limit retired mul)) before after blank answer shown closing =
-    AnswersMachine program (chosen_of limit retired mul) before after answer shown closing
-Answers (Ok (run layout program schedule limit lines)) before after blank answer shown closing =
-    AnswersRun Nothing (run_asked layout program schedule limit lines) before after blank answer shown closing
-Answers (Ok (moves layout program schedule limit)) before after blank answer shown closing =
-    AnswersRun Moves (run_asked layout program schedule limit shows.Report) before after blank answer shown closing
-Answers (Ok (rounds layout program limit)) before after blank answer shown closing =
-    AnswersRounds (rounds_asked layout program limit) before after answer (shown ++ closing)
+Answers (Ok (machine program limit retired mul every)) before after blank answer shown closing =
+    AnswersMachine program (chosen_of limit retired mul every) before after answer shown closing
+Answers (Ok (run layout program schedule limit reporting)) before after blank answer shown closing =
+    AnswersRun Nothing (run_asked layout program schedule limit reporting) before after blank answer shown closing
+Answers (Ok (moves layout program schedule limit every)) before after blank answer shown closing =
+    AnswersRun Moves (run_asked layout program schedule limit (closing_and every)) before after blank answer shown closing
+Answers (Ok (rounds layout program limit every rule)) before after blank answer shown closing =
+    AnswersRounds (rounds_asked layout program limit every rule) before after blank answer shown closing
+Answers (Ok (conform layout program limit)) before after blank answer shown closing =
+    AnswersConform (conform_asked layout program limit) before after answer (shown ++ closing)
 Answers (Ok (debug layout program)) before after blank answer shown closing = AnswersDebug layout program before after answer (shown ++ closing)
-Answers (Ok (time delays program layouts limit sites)) before after blank answer shown closing =
-    AnswersTime (time_asked delays program layouts (record { limit = limit; sites = sites })) before.files after.files answer (shown ++ closing)
+Answers (Ok (time delays program layouts chosen)) before after blank answer shown closing =
+    AnswersTime (time_asked delays program layouts chosen) before.files after.files answer (shown ++ closing)
     × (after.streams ≡ before.streams)
+Answers (Ok (orders layout program chosen)) before after blank answer shown closing =
+    AnswersOrders (orders_asked layout program chosen) before after answer (shown ++ closing)
 Answers (Ok (audit layout program trace)) before after blank answer shown closing =
     AnswersAudit (audit_asked layout program trace) (audit_side before) (audit_side after) answer (shown ++ closing)
     × (after.streams.output ≡ before.streams.output)
@@ -80,22 +93,25 @@ Answers (Ok (gen number true)) before after blank answer shown closing =
 Answers (Ok (gen number false)) before after blank answer shown closing =
     PutsAlone (program_text number) before after answer (shown ++ closing)
 Answers (Ok help) before after blank answer shown closing = PutsAlone HELP.now before after answer (shown ++ closing)
-Answers (Ok version) before after blank answer shown closing = PutsAlone VERSION.now before after answer (shown ++ closing)
+Answers (Ok (help_on name)) before after blank answer shown closing = PutsAlone (help_text name) before after answer (shown ++ closing)
+Answers (Ok version) before after blank answer shown closing = PutsAlone version_line before after answer (shown ++ closing)
 Answers (Err index) before after blank answer shown closing = RefusesWords index before after answer (shown ++ closing)
 
 -- the report failed while the command was carried out
 abbrev pub Breaks : Result Asked ℕ → Outside → Outside → Option (List ℕ) → Option (List ℕ) → Type 0
-Breaks (Ok (machine program limit retired mul)) before after blank full =
-    BreaksProgram program (chosen_of limit retired mul) before after blank full
-Breaks (Ok (run layout program schedule limit lines)) before after blank full =
-    BreaksRun (run_asked layout program schedule limit lines) before after blank full
-Breaks (Ok (moves layout program schedule limit)) before after blank full =
-    BreaksRun (run_asked layout program schedule limit shows.Report) before after blank full
+Breaks (Ok (machine program limit retired mul every)) before after blank full =
+    BreaksProgram program (chosen_of limit retired mul every) before after blank full
+Breaks (Ok (run layout program schedule limit reporting)) before after blank full =
+    BreaksRun (run_asked layout program schedule limit reporting) before after blank full
+Breaks (Ok (moves layout program schedule limit every)) before after blank full =
+    BreaksRun (run_asked layout program schedule limit (closing_and every)) before after blank full
+Breaks (Ok (rounds layout program limit every rule)) before after blank full =
+    BreaksRounds (rounds_asked layout program limit every rule) before after blank full
 Breaks (Ok (debug layout program)) before after blank full = BreaksDebug layout program before after blank full
 Breaks (Ok (gen number true)) before after blank full =
     BreaksDrawn number before.streams after.streams blank full × (after.files ≡ before.files)
-Breaks (Ok (time delays program layouts limit sites)) before after blank full =
-    BreaksTime (time_asked delays program layouts (record { limit = limit; sites = sites })) before.files after.files blank full
+Breaks (Ok (time delays program layouts chosen)) before after blank full =
+    BreaksTime (time_asked delays program layouts chosen) before.files after.files blank full
     × (after.streams ≡ before.streams)
 Breaks (Ok asked) before after blank full = ⊥
 Breaks (Err index) before after blank full = ⊥
@@ -108,6 +124,19 @@ pub record Reports (before after : Report) (shown closing : List ℕ) (answer re
   pub closes : ((result ≡ answer) × Writes told after.written closing × (after.faults ≡ before.faults))
       ⊎ ((result ≡ status.WriteFault) × WritesFront told after.written closing × Rose before.faults after.faults)
 
+-- the program's input is in a file that the arguments name
+abbrev pub input_is_file : Result Asked ℕ → Bool
+input_is_file (Ok (time delays program layouts chosen)) = true
+input_is_file _ = false
+
+-- an error where the answer is that a file could not be read, and where it is that the program's input could not be; an input that is
+-- in a file counts as a file
+abbrev pub files_failed : (is_file : Bool) → Status → Result (Unit {0}) (Unit {0})
+files_failed is_file answer = if is_file then reading_answered answer else files_answered answer
+
+abbrev pub input_failed : (is_file : Bool) → Status → Result (Unit {0}) (Unit {0})
+input_failed is_file answer = if is_file then Ok tt else input_answered answer
+
 -- the command was carried out, with this answer and this report; a count of faults rose exactly where the answer says so
 pub record Completes (reading : Result Asked ℕ) (before after : Outside) (blank full : Report)
     (result : Status) : Type 0 where
@@ -115,20 +144,20 @@ pub record Completes (reading : Result Asked ℕ) (before after : Outside) (blan
   pub shown : List ℕ
   pub closing : List ℕ
   pub answers : Answers reading before after blank.written answer shown closing
-  pub files : HasCause before.file_faults after.file_faults (files_answered answer)
-  pub input : HasCause before.input_faults after.input_faults (input_answered answer)
+  pub files : HasCause before.file_faults after.file_faults (files_failed (input_is_file reading) answer)
+  pub input : HasCause before.input_faults after.input_faults (input_failed (input_is_file reading) answer)
   pub output : HasCause before.output_faults after.output_faults (output_answered answer)
   pub reports : Reports blank full shown closing answer result
 
--- the report failed while the command was carried out, and no file did; the status is WriteFault
+-- the report failed while the command was carried out, and nothing else did; the status is WriteFault
 pub record ReportFailsFirst (reading : Result Asked ℕ) (before after : Outside) (blank full : Report)
     (result : Status) : Type 0 where
   pub status_is : result ≡ status.WriteFault
   pub breaks : Breaks reading before after blank.written full.written
   pub rose : Rose blank.faults full.faults
   pub files : after.file_faults ≡ before.file_faults
-  pub input : before.input_faults ≤ after.input_faults
-  pub output : before.output_faults ≤ after.output_faults
+  pub input : after.input_faults ≡ before.input_faults
+  pub output : after.output_faults ≡ before.output_faults
 
 -- the top call: its arguments, the outside and the report before and after it, and its status; of the files that the arguments
 -- name it read the first ones, in their order and each once

@@ -1,25 +1,27 @@
 //! The top call.
 
 ghost use Rattle.std.specs.Prelude.{◌≡◌, false, map, string_bytes};
-ghost use Rattle.cf_io.specs.Causes.{HasCause};
-ghost use Rattle.cli_files.specs.Causes.{input_answered, output_answered};
+ghost use Rattle.cli_files.specs.Causes.{output_answered};
 ghost use Rattle.cli_files.specs.Outside.{outside_of, report_of};
 ghost use Rattle.cfpp_cli.specs.Deciding.{Decided};
-ghost use Rattle.cli_reports.specs.Reporting.{FaultsReported, files_reported};
+ghost use Rattle.cli_reports.specs.Reporting.{FaultsReported};
 ghost use Rattle.cfpp_cli.specs.Top.{IsTop, NoneRose, says_fault};
-ghost use Rattle.cli_reports.specs.OutsideChanges.{outside_change, input_left, output_left};
+ghost use Rattle.cli_reports.specs.OutsideChanges.{outside_change, output_left};
 
-use crate::help::{HELP, VERSION};
+use crate::help::{overview, version};
 use cf_io::{Failed, Files, Sink, Source};
-use cli_arguments::{Command, RunOptions, Show, read_words};
+use cli_arguments::{Command, Reporting, RunOptions, Show, read_words};
 use cli_asm::assemble_program;
 use cli_audit::audit_trace;
 use cli_check::check_layout;
+use cli_conform::conform_log;
 use cli_debug::debug_program;
 use cli_files::{Answer, Status, bad_words};
 use cli_gen::{put_drawn, run_drawn};
+use cli_help::help_on;
 use cli_list::list_program;
 use cli_machine::run_program;
+use cli_orders::search_program;
 use cli_reports::{Reported, RunStreams, put_answer, put_decided, put_text};
 use cli_rounds::run_in_rounds;
 use cli_run::{Tail, run_processor};
@@ -35,8 +37,6 @@ fn decide<F: Files, S: Source, K: Sink, R: Sink>(
 ) -> Result<Reported, Failed>
     ensures decided { Decided (map string_bytes words.now)
         (outside_change F.told F.faults S.left S.faults K.written K.faults R.written R.faults files.old files.new streams.entry streams.exit) result }
-    ensures files { HasCause (F.faults files.old) (F.faults files.new) (files_reported result) }
-    ensures input { FaultsReported input_answered (S.faults streams.entry.input.now) (S.faults (input_left streams.exit)) result }
     ensures output { FaultsReported output_answered (K.faults streams.entry.output.now) (K.faults (output_left streams.exit)) result }
 {
     match read_words(words) {
@@ -64,12 +64,16 @@ fn decide<F: Files, S: Source, K: Sink, R: Sink>(
                 program,
                 schedule,
                 limit,
+                every,
             },
         ) => {
             let options = RunOptions {
                 schedule,
                 limit,
-                show: Show::Report,
+                reporting: Reporting {
+                    show: Show::Report,
+                    every,
+                },
             };
             run_processor(alloc, layout, program, options, Tail::Moves, files, streams)
         }
@@ -91,11 +95,15 @@ fn decide<F: Files, S: Source, K: Sink, R: Sink>(
             Ok(put_answer(answer, streams.report))
         }
         Ok(Command::Help) => {
-            let answer = put_text(HELP, streams.output);
+            let answer = put_text(overview(), streams.output);
+            Ok(put_answer(answer, streams.report))
+        }
+        Ok(Command::HelpOn(name)) => {
+            let answer = put_text(help_on(name), streams.output);
             Ok(put_answer(answer, streams.report))
         }
         Ok(Command::Version) => {
-            let answer = put_text(VERSION, streams.output);
+            let answer = put_text(version(), streams.output);
             Ok(put_answer(answer, streams.report))
         }
         Ok(
@@ -103,8 +111,17 @@ fn decide<F: Files, S: Source, K: Sink, R: Sink>(
                 layout,
                 program,
                 limit,
+                every,
+                rule,
             },
-        ) => Ok(run_in_rounds(alloc, layout, program, limit, files, streams)),
+        ) => run_in_rounds(alloc, layout, program, rule, limit, every, files, streams),
+        Ok(
+            Command::Conform {
+                layout,
+                program,
+                limit,
+            },
+        ) => Ok(conform_log(alloc, layout, program, limit, files, streams)),
         Ok(
             Command::Audit {
                 layout,
@@ -143,6 +160,13 @@ fn decide<F: Files, S: Source, K: Sink, R: Sink>(
             );
             put_decided(decided, streams.report)
         }
+        Ok(
+            Command::Orders {
+                layout,
+                program,
+                options,
+            },
+        ) => Ok(search_program(alloc, layout, program, options, files, streams)),
         Err(index) => {
             let answer = Answer {
                 status: Status::BadWords(index),
@@ -157,23 +181,28 @@ fn decide<F: Files, S: Source, K: Sink, R: Sink>(
 /// the processor of a layout, by the moves of a script with `--script FILE`, by moves drawn from a seed with `--seed
 /// N`, and by a fixed rule without either; `moves LAYOUT PROGRAM --script FILE` does the same and then says which
 /// moves can be made where the script ends. `rounds LAYOUT PROGRAM` runs the processor in rounds of moves that share no
-/// place, as a clocked one would, `debug LAYOUT PROGRAM` answers commands from the input, which make moves, show the
-/// processor and take moves back, `audit LAYOUT PROGRAM TRACE` says whether a recorded trace is that of a run, and
-/// `time DELAYS PROGRAM LAYOUT ..` compares how long the program takes on up to eight layouts, and with `--show sites` says what
-/// each of these times is made of.
-/// `check LAYOUT` writes a layout to the output in its canonical form, `asm SOURCE` the ELF file that an assembly source stands
-/// for, `list PROGRAM` a program's listing, and `gen N` the text of a program that is drawn from a number, which `gen N
-/// --run` assembles and runs. `help`, `--help` and `--version` write what their names say.
+/// place, as a clocked one would; with `--guess R`, it and a run without a script keep to the guesses of a rule.
+/// `debug LAYOUT PROGRAM` answers commands from the input, which make moves, show the processor and take moves back,
+/// `audit LAYOUT PROGRAM TRACE` says whether a recorded trace is that of a run, `conform LAYOUT PROGRAM` goes through the
+/// log of a circuit on the input, makes its moves and compares its observations, and `time DELAYS PROGRAM LAYOUT ..`
+/// compares how long the program takes on up to eight layouts, with the bytes of a file as its input on each where `--input`
+/// names one, and with `--show sites` says what each of these times is made of. `orders LAYOUT PROGRAM` goes through all orders of
+/// the first moves of a program, and puts the first wrong one to the output, where one of the processor's rules is taken away.
+/// `check LAYOUT` writes a layout to the output in its canonical form, `asm SOURCE` the ELF file of an assembly source,
+/// `list PROGRAM` a program's listing, and `gen N` the text of a program that is drawn from a number, which `gen N
+/// --run` assembles and runs. `help COMMAND` writes the help text of a command; `help`, `--help`, `-h`, `--version` and
+/// `-V` write what their names say.
 ///
 /// The file is an ELF executable for RISC-V, whose segments are loaded, or else a flat image, which stands at
 /// 0x00010000 in one region that may be read, written and executed, and begins there; a zeroed stack of 1 MiB stands at
 /// 0x7f000000. `--limit N` sets the number of retired instructions at which the run stops, 10,000,000 without it;
 /// `--show retired` puts a line to the report for each instruction as it retires, and `--show report`, which is the
-/// default, no line; under `run`, `--show moves` puts each move with the picture after it; with `--mul` the machine
-/// multiplies and divides. `input` and `output` are the program's own.
+/// default, no line; under `run`, `--show moves` puts each move with the picture after it; `--every N` puts how far a run has
+/// come after each N retired instructions; with `--mul` the machine multiplies and divides. `input` and `output` are the program's own.
 ///
 /// The report closes with how the run finished, how many instructions retired, and what the registers hold; after a run
-/// of the processor the counts of its moves and the picture stand there too, and after a run in rounds the number of rounds.
+/// of the processor the counts of its moves and the picture stand there too, after a run in rounds the number of rounds, and
+/// after a log the number of observations that agreed.
 /// Where nothing was run it is one line that says why. After `audit` it gives the number of moves of the trace, after `time`
 /// it has the lines of each layout and names the first with the least time, after `debug` it has the answers to the
 /// commands, and after any other command that was carried out it is empty. After a report that failed nothing more is

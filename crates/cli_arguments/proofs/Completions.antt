@@ -1,24 +1,31 @@
 -- Each state that is reached can be completed to a command.
-use Rattle.std.proofs.Common.{◌≡◌, ◌≤◌, ◌<◌, ◌+◌, ◌⊎◌, ◌&&◌, ℕ, zero, suc, List, [], ◌∷◌, ◌++◌, codes, length, map, take, drop, Bool, true, false, refl, arith, Option, Some, None, inl, inr, sym, ◌∙◌, ap, append-nil, append_assoc}
+use Rattle.std.proofs.Common.{◌≡◌, ◌≤◌, ◌<◌, ◌+◌, ◌⊎◌, ◌&&◌, ℕ, zero, suc, List, [], ◌∷◌, ◌++◌, codes, length, map, take, drop, Bool, true, false, refl, arith, Option, Some, None, inl, inr, sym, subst, ◌∙◌, ap, append-nil, append_assoc}
 use Rattle.std.specs.List.{list_all}
-use Rattle.std.specs.Prelude.{is_some, if◌then◌else◌}
+use Rattle.std.specs.Prelude.{is_some}
 use Rattle.std.proofs.lemmas.Bool.{cases_lt}
+use Rattle.std.proofs.lemmas.Bool.Decides.{nat_tests}
 use Rattle.std.proofs.lemmas.List.{length-append, take-append-le, take-map, drop-map}
-use Rattle.run_options.specs.declared.show.Show.TheVariants as shows
+use Rattle.run_options.specs.declared.guess_rule.GuessRule.TheVariants as rules
+use Rattle.run_options.specs.Limits.{most_limit}
+use Rattle.order_rules.specs.declared.rule.Rule.TheVariants.{MeetDie}
 use Rattle.cli_arguments.specs.declared.names.CommandName.{CommandName}
 use Rattle.cli_arguments.specs.declared.names.CommandName.TheVariants as names
+use Rattle.cli_arguments.specs.declared.names.PlaceKind.{PlaceKind}
+use Rattle.cli_arguments.specs.declared.names.PlaceKind.TheVariants.{Files, Numbers, Topics}
 use Rattle.cli_arguments.specs.declared.options.Key.{Key}
 use Rattle.cli_arguments.specs.declared.options.Key.TheVariants as keys
 use Rattle.cli_arguments.specs.declared.reading.Subject.{Subject}
-use Rattle.cli_arguments.specs.Values.{is_file_name, count_in}
-use Rattle.cli_arguments.specs.Commands.{word_of, fewest, most, counts, is_positional}
-use Rattle.cli_arguments.specs.Options.{key_word, takes_key, has_lines, has_sites, script_from, Given, Schedule}
-use Rattle.cli_arguments.specs.Words.{Asked, gen, moves, layout_in, limit_of, asked_by}
+use Rattle.cli_arguments.specs.declared.shown.Shown.{Shown}
+use Rattle.cli_arguments.specs.declared.shown.Shown.TheVariants as shows
+use Rattle.cli_arguments.specs.Values.{amount_of, count_in, digits_in, is_amount, is_within, positive_in, unit_of}
+use Rattle.cli_arguments.specs.Commands.{word_of, fewest, most, is_of, is_positional, name_in, places, topic_in}
+use Rattle.cli_arguments.specs.Options.{key_word, key_of, takes_key, can_show, is_value, most_limit_of, Setting, limit_to, say_every, show_of, script_from, seed_from, guess_by, input_from, issue_at_most, reach_at_most, do_without, Given, by_script}
+use Rattle.cli_arguments.specs.Words.{Asked, gen, help_on, moves, layout_in, limit_of, asked_by}
 use Rattle.cli_arguments.specs.Reading.{ReadingState, start, placed, options, valued, bare, one_more, follow, has_key, nothing_given, positional_in, completed}
 use Rattle.cli_arguments.proofs.InTurn.{after, reads, reads-step, reads-append}
 use Rattle.cli_arguments.proofs.Grammar.{positional-read}
-use Rattle.cli_arguments.proofs.Reached.{Reached, HasPlaces, Stands, has_value, reached-last, words-read, stands}
-use Rattle.cli_arguments.proofs.Steps.{put, start-follows, tests-place, placed-follows, first-option, option-follows, limit-follows, lines-follow, sites-follow, script-follows, seed-follows}
+use Rattle.cli_arguments.proofs.Reached.{Reached, HasPlaces, IsGuessed, Stands, reached-last, words-read, stands}
+use Rattle.cli_arguments.proofs.Steps.{put, has_value, value_of, start-follows, tests-place, placed-follows, first-option, option-follows, value-follows}
 
 -- words that were read can be completed
 pub record Completion (words : List (List ℕ)) : Type 0 where
@@ -62,11 +69,11 @@ abbrev AsksOrLacks : CommandName → List (List ℕ) → Given → Type 0
 AsksOrLacks name words given =
     ((asked : Asked) × (asked_by name words given ≡ Some asked)) ⊎ LacksScript name words given
 
-moves-lacks : (schedule : Option Schedule) (layout program : List ℕ) (given : Given) → given.schedule ≡ schedule →
+moves-lacks : (script : Option (List ℕ)) (layout program : List ℕ) (given : Given) → given.script ≡ script → IsGuessed names.Moves given →
     AsksOrLacks names.Moves (layout ∷ program ∷ []) given
-moves-lacks None layout program given e = inr (record { takes = refl; fresh = rw e refl; asked = _; asks = refl })
-moves-lacks (Some schedule) layout program given e =
-    inl (moves (layout_in layout) program schedule (limit_of given), rw e refl)
+moves-lacks None layout program given e guessed = inr (record { takes = refl; fresh = rw (e, guessed.0 refl, guessed.1 refl) refl; asked = _; asks = refl })
+moves-lacks (Some file) layout program given e guessed =
+    inl (moves (layout_in layout) program (by_script file) (limit_of given) given.every, rw e refl)
 
 drawn-asks : (count : Option ℕ) (word : List ℕ) (given : Given) → count_in word ≡ count → is_some count ≡ true →
     AsksOrLacks names.Gen (word ∷ []) given
@@ -82,55 +89,79 @@ first-counted : (word : List ℕ) → list_all (is_positional names.Gen) (word �
 unfolding is_positional
 first-counted word h = one-true (is_some (count_in word)) h
 
+topic-asks : (topic : Option CommandName) (word : List ℕ) (given : Given) → topic_in word ≡ topic → is_some topic ≡ true →
+    AsksOrLacks names.Help (word ∷ []) given
+topic-asks None word given e h = absurd (cc)
+topic-asks (Some name) word given e h = inl (help_on name, rw e refl)
+
+first-topic : (word : List ℕ) → list_all (is_positional names.Help) (word ∷ []) ≡ true → is_some (topic_in word) ≡ true
+unfolding is_positional
+first-topic word h = one-true (is_some (topic_in word)) h
+
 enough-ask : (name : CommandName) (words : List (List ℕ)) (given : Given) → fewest name ≤ length words →
-    length words ≤ most name → list_all (is_positional name) words ≡ true → AsksOrLacks name words given
-enough-ask names.Machine [] given enough few each = absurd (omega (arith, enough, few))
-enough-ask names.Machine (w ∷ []) given enough few each = inl (_, refl)
-enough-ask names.Machine (w ∷ v ∷ ws) given enough few each = absurd (omega (arith, enough, few))
-enough-ask names.Check [] given enough few each = absurd (omega (arith, enough, few))
-enough-ask names.Check (w ∷ []) given enough few each = inl (_, refl)
-enough-ask names.Check (w ∷ v ∷ ws) given enough few each = absurd (omega (arith, enough, few))
-enough-ask names.Asm [] given enough few each = absurd (omega (arith, enough, few))
-enough-ask names.Asm (w ∷ []) given enough few each = inl (_, refl)
-enough-ask names.Asm (w ∷ v ∷ ws) given enough few each = absurd (omega (arith, enough, few))
-enough-ask names.List [] given enough few each = absurd (omega (arith, enough, few))
-enough-ask names.List (w ∷ []) given enough few each = inl (_, refl)
-enough-ask names.List (w ∷ v ∷ ws) given enough few each = absurd (omega (arith, enough, few))
-enough-ask names.Gen [] given enough few each = absurd (omega (arith, enough, few))
-enough-ask names.Gen (w ∷ []) given enough few each =
+    length words ≤ most name → list_all (is_positional name) words ≡ true →
+    IsGuessed name given → AsksOrLacks name words given
+enough-ask names.Machine [] given enough few each guessed = absurd (omega (arith, enough, few))
+enough-ask names.Machine (w ∷ []) given enough few each guessed = inl (_, refl)
+enough-ask names.Machine (w ∷ v ∷ ws) given enough few each guessed = absurd (omega (arith, enough, few))
+enough-ask names.Check [] given enough few each guessed = absurd (omega (arith, enough, few))
+enough-ask names.Check (w ∷ []) given enough few each guessed = inl (_, refl)
+enough-ask names.Check (w ∷ v ∷ ws) given enough few each guessed = absurd (omega (arith, enough, few))
+enough-ask names.Asm [] given enough few each guessed = absurd (omega (arith, enough, few))
+enough-ask names.Asm (w ∷ []) given enough few each guessed = inl (_, refl)
+enough-ask names.Asm (w ∷ v ∷ ws) given enough few each guessed = absurd (omega (arith, enough, few))
+enough-ask names.List [] given enough few each guessed = absurd (omega (arith, enough, few))
+enough-ask names.List (w ∷ []) given enough few each guessed = inl (_, refl)
+enough-ask names.List (w ∷ v ∷ ws) given enough few each guessed = absurd (omega (arith, enough, few))
+enough-ask names.Gen [] given enough few each guessed = absurd (omega (arith, enough, few))
+enough-ask names.Gen (w ∷ []) given enough few each guessed =
     drawn-asks (count_in w) w given refl (first-counted w each)
-enough-ask names.Gen (w ∷ v ∷ ws) given enough few each = absurd (omega (arith, enough, few))
-enough-ask names.Run [] given enough few each = absurd (omega (arith, enough, few))
-enough-ask names.Run (w ∷ []) given enough few each = absurd (omega (arith, enough, few))
-enough-ask names.Run (w ∷ v ∷ []) given enough few each = inl (_, refl)
-enough-ask names.Run (w ∷ v ∷ u ∷ ws) given enough few each = absurd (omega (arith, enough, few))
-enough-ask names.Moves [] given enough few each = absurd (omega (arith, enough, few))
-enough-ask names.Moves (w ∷ []) given enough few each = absurd (omega (arith, enough, few))
-enough-ask names.Moves (w ∷ v ∷ []) given enough few each = moves-lacks given.schedule w v given refl
-enough-ask names.Moves (w ∷ v ∷ u ∷ ws) given enough few each = absurd (omega (arith, enough, few))
-enough-ask names.Rounds [] given enough few each = absurd (omega (arith, enough, few))
-enough-ask names.Rounds (w ∷ []) given enough few each = absurd (omega (arith, enough, few))
-enough-ask names.Rounds (w ∷ v ∷ []) given enough few each = inl (_, refl)
-enough-ask names.Rounds (w ∷ v ∷ u ∷ ws) given enough few each = absurd (omega (arith, enough, few))
-enough-ask names.Debug [] given enough few each = absurd (omega (arith, enough, few))
-enough-ask names.Debug (w ∷ []) given enough few each = absurd (omega (arith, enough, few))
-enough-ask names.Debug (w ∷ v ∷ []) given enough few each = inl (_, refl)
-enough-ask names.Debug (w ∷ v ∷ u ∷ ws) given enough few each = absurd (omega (arith, enough, few))
-enough-ask names.Time [] given enough few each = absurd (omega (arith, enough, few))
-enough-ask names.Time (w ∷ []) given enough few each = absurd (omega (arith, enough, few))
-enough-ask names.Time (w ∷ v ∷ []) given enough few each = absurd (omega (arith, enough, few))
-enough-ask names.Time (w ∷ v ∷ u ∷ ws) given enough few each = inl (_, refl)
-enough-ask names.Audit [] given enough few each = absurd (omega (arith, enough, few))
-enough-ask names.Audit (w ∷ []) given enough few each = absurd (omega (arith, enough, few))
-enough-ask names.Audit (w ∷ v ∷ []) given enough few each = absurd (omega (arith, enough, few))
-enough-ask names.Audit (w ∷ v ∷ u ∷ []) given enough few each = inl (_, refl)
-enough-ask names.Audit (w ∷ v ∷ u ∷ t ∷ ws) given enough few each = absurd (omega (arith, enough, few))
-enough-ask names.Help [] given enough few each = inl (_, refl)
-enough-ask names.Help (w ∷ ws) given enough few each = absurd (omega (arith, enough, few))
-enough-ask names.HelpOption [] given enough few each = inl (_, refl)
-enough-ask names.HelpOption (w ∷ ws) given enough few each = absurd (omega (arith, enough, few))
-enough-ask names.Version [] given enough few each = inl (_, refl)
-enough-ask names.Version (w ∷ ws) given enough few each = absurd (omega (arith, enough, few))
+enough-ask names.Gen (w ∷ v ∷ ws) given enough few each guessed = absurd (omega (arith, enough, few))
+enough-ask names.Run [] given enough few each guessed = absurd (omega (arith, enough, few))
+enough-ask names.Run (w ∷ []) given enough few each guessed = absurd (omega (arith, enough, few))
+enough-ask names.Run (w ∷ v ∷ []) given enough few each guessed = inl (_, refl)
+enough-ask names.Run (w ∷ v ∷ u ∷ ws) given enough few each guessed = absurd (omega (arith, enough, few))
+enough-ask names.Moves [] given enough few each guessed = absurd (omega (arith, enough, few))
+enough-ask names.Moves (w ∷ []) given enough few each guessed = absurd (omega (arith, enough, few))
+enough-ask names.Moves (w ∷ v ∷ []) given enough few each guessed = moves-lacks given.script w v given refl guessed
+enough-ask names.Moves (w ∷ v ∷ u ∷ ws) given enough few each guessed = absurd (omega (arith, enough, few))
+enough-ask names.Rounds [] given enough few each guessed = absurd (omega (arith, enough, few))
+enough-ask names.Rounds (w ∷ []) given enough few each guessed = absurd (omega (arith, enough, few))
+enough-ask names.Rounds (w ∷ v ∷ []) given enough few each guessed = inl (_, refl)
+enough-ask names.Rounds (w ∷ v ∷ u ∷ ws) given enough few each guessed = absurd (omega (arith, enough, few))
+enough-ask names.Orders [] given enough few each guessed = absurd (omega (arith, enough, few))
+enough-ask names.Orders (w ∷ []) given enough few each guessed = absurd (omega (arith, enough, few))
+enough-ask names.Orders (w ∷ v ∷ []) given enough few each guessed = inl (_, refl)
+enough-ask names.Orders (w ∷ v ∷ u ∷ ws) given enough few each guessed = absurd (omega (arith, enough, few))
+enough-ask names.Conform [] given enough few each guessed = absurd (omega (arith, enough, few))
+enough-ask names.Conform (w ∷ []) given enough few each guessed = absurd (omega (arith, enough, few))
+enough-ask names.Conform (w ∷ v ∷ []) given enough few each guessed = inl (_, refl)
+enough-ask names.Conform (w ∷ v ∷ u ∷ ws) given enough few each guessed = absurd (omega (arith, enough, few))
+enough-ask names.Debug [] given enough few each guessed = absurd (omega (arith, enough, few))
+enough-ask names.Debug (w ∷ []) given enough few each guessed = absurd (omega (arith, enough, few))
+enough-ask names.Debug (w ∷ v ∷ []) given enough few each guessed = inl (_, refl)
+enough-ask names.Debug (w ∷ v ∷ u ∷ ws) given enough few each guessed = absurd (omega (arith, enough, few))
+enough-ask names.Time [] given enough few each guessed = absurd (omega (arith, enough, few))
+enough-ask names.Time (w ∷ []) given enough few each guessed = absurd (omega (arith, enough, few))
+enough-ask names.Time (w ∷ v ∷ []) given enough few each guessed = absurd (omega (arith, enough, few))
+enough-ask names.Time (w ∷ v ∷ u ∷ ws) given enough few each guessed = inl (_, refl)
+enough-ask names.Audit [] given enough few each guessed = absurd (omega (arith, enough, few))
+enough-ask names.Audit (w ∷ []) given enough few each guessed = absurd (omega (arith, enough, few))
+enough-ask names.Audit (w ∷ v ∷ []) given enough few each guessed = absurd (omega (arith, enough, few))
+enough-ask names.Audit (w ∷ v ∷ u ∷ []) given enough few each guessed = inl (_, refl)
+enough-ask names.Audit (w ∷ v ∷ u ∷ t ∷ ws) given enough few each guessed = absurd (omega (arith, enough, few))
+enough-ask names.Help [] given enough few each guessed = inl (_, refl)
+enough-ask names.Help (w ∷ []) given enough few each guessed =
+    topic-asks (topic_in w) w given refl (first-topic w each)
+enough-ask names.Help (w ∷ v ∷ ws) given enough few each guessed = absurd (omega (arith, enough, few))
+enough-ask names.HelpOption [] given enough few each guessed = inl (_, refl)
+enough-ask names.HelpOption (w ∷ ws) given enough few each guessed = absurd (omega (arith, enough, few))
+enough-ask names.HelpLetter [] given enough few each guessed = inl (_, refl)
+enough-ask names.HelpLetter (w ∷ ws) given enough few each guessed = absurd (omega (arith, enough, few))
+enough-ask names.Version [] given enough few each guessed = inl (_, refl)
+enough-ask names.Version (w ∷ ws) given enough few each guessed = absurd (omega (arith, enough, few))
+enough-ask names.VersionLetter [] given enough few each guessed = inl (_, refl)
+enough-ask names.VersionLetter (w ∷ ws) given enough few each guessed = absurd (omega (arith, enough, few))
 
 -- more words leave the positional ones as they are
 positional-more : (count : ℕ) (words more : List (List ℕ)) → 1 + count ≤ length words →
@@ -154,7 +185,7 @@ scripted words subject given state stands h same lacks =
           ∙ (reads-step state (key_word keys.Script) (codes "s" ∷ []) (valued subject given keys.Script)
           (same ∙ option-follows subject given keys.Script lacks.takes lacks.fresh)
           ∙ reads-step (valued subject given keys.Script) (codes "s") [] last
-          (script-follows subject given (codes "s") refl));
+          (value-follows (script_from (codes "s")) subject given refl refl));
       done = ap (λ (ws : List (List ℕ)). asked_by subject.name ws (put given (script_from (codes "s"))))
           (positional-more subject.count words (key_word keys.Script ∷ codes "s" ∷ []) stands)
           ∙ lacks.asks;
@@ -174,13 +205,13 @@ asked-now words state asked h done = record {
   done = ap (λ (ws : List (List ℕ)). completed ws state) (words-nil words) ∙ done;
 }
 
-complete-options : (words : List (List ℕ)) (subject : Subject) (given : Given) → HasPlaces subject →
+complete-options : (words : List (List ℕ)) (subject : Subject) (given : Given) → HasPlaces subject → IsGuessed subject.name given →
     1 + subject.count ≤ length words → reads start words ≡ Some (options subject given) → Completion words
 unfolding completed
-complete-options words subject given places stands h =
+complete-options words subject given places guessed stands h =
     let p = positional-read words (options subject given) subject h tt refl in
     elim (enough-ask subject.name (positional_in subject.count words) given
-    (omega (arith, p.count, places.enough)) (omega (arith, p.count, places.few)) p.each) [
+    (omega (arith, p.count, places.enough)) (omega (arith, p.count, places.few)) p.each guessed) [
       | inl (asked, asks) ↦ asked-now words (options subject given) asked h asks
       | inr lacks ↦ scripted words subject given (options subject given) stands h refl lacks
     ]
@@ -191,32 +222,35 @@ unfolding completed
 complete-placed words subject places stands h =
     let p = positional-read words (placed subject) subject h tt refl in
     elim (enough-ask subject.name (positional_in subject.count words) nothing_given
-    (omega (arith, p.count, places.enough)) (omega (arith, p.count, places.few)) p.each) [
+    (omega (arith, p.count, places.enough)) (omega (arith, p.count, places.few)) p.each (λ untaken. refl, λ untaken. refl)) [
       | inl (asked, asks) ↦ asked-now words (placed subject) asked h asks
       | inr lacks ↦ scripted words subject nothing_given (placed subject) stands h
           (first-option subject keys.Script places.enough) lacks
     ]
 
 -- a positional word of any command
-abbrev filler-of : Bool → List ℕ
-filler-of true = codes "1"
-filler-of false = codes "p"
+abbrev filler-of : PlaceKind → List ℕ
+filler-of Files = codes "p"
+filler-of Numbers = codes "1"
+filler-of Topics = codes "run"
 
-filler-tried : (numbers : Bool) →
-    (if numbers then is_some (count_in (filler-of numbers)) else is_file_name (filler-of numbers)) ≡ true
-unfolding count_in
-filler-tried true = refl
-filler-tried false = refl
+filler-tried : (kind : PlaceKind) → is_of kind (filler-of kind) ≡ true
+unfolding positive_in topic_in name_in
+filler-tried Files = refl
+filler-tried Numbers = refl
+filler-tried Topics = refl
 
-filler-fits : (name : CommandName) → is_positional name (filler-of (counts name)) ≡ true
+filler-fits : (name : CommandName) → is_positional name (filler-of (places name)) ≡ true
 unfolding is_positional
-filler-fits name = filler-tried (counts name)
+filler-fits name = filler-tried (places name)
 
 fewest-most : (name : CommandName) → fewest name ≤ most name
 fewest-most names.Machine = omega arith
 fewest-most names.Run = omega arith
 fewest-most names.Moves = omega arith
 fewest-most names.Rounds = omega arith
+fewest-most names.Orders = omega arith
+fewest-most names.Conform = omega arith
 fewest-most names.Debug = omega arith
 fewest-most names.Time = omega arith
 fewest-most names.Audit = omega arith
@@ -226,7 +260,9 @@ fewest-most names.List = omega arith
 fewest-most names.Gen = omega arith
 fewest-most names.Help = omega arith
 fewest-most names.HelpOption = omega arith
+fewest-most names.HelpLetter = omega arith
 fewest-most names.Version = omega arith
+fewest-most names.VersionLetter = omega arith
 
 -- that many more
 complete-places : (missing : ℕ) (words : List (List ℕ)) (subject : Subject) →
@@ -238,7 +274,7 @@ complete-places (suc missing) words subject few enough stands h =
     elim (cases_lt subject.count (fewest subject.name)) [
       | inr here ↦ complete-placed words subject (record { enough = here; few = few }) stands h
       | inl below ↦
-          let word = filler-of (counts subject.name) in
+          let word = filler-of (places subject.name) in
           let room : subject.count < most subject.name =
           omega (arith, below, fewest-most subject.name) in
           complete-word words word
@@ -249,13 +285,14 @@ complete-places (suc missing) words subject few enough stands h =
     ]
 
 -- what a command that has the option for it can show
-shown-some : (name : CommandName) → takes_key name keys.Show ≡ true →
-    (has_lines name shows.Report ≡ true) ⊎ (has_sites name ≡ true)
-shown-some names.Machine h = inl refl
-shown-some names.Run h = inl refl
-shown-some names.Time h = inr refl
+shown-some : (name : CommandName) → takes_key name keys.Show ≡ true → (shown : Shown) × (can_show name shown ≡ true)
+shown-some names.Machine h = (shows.Report, refl)
+shown-some names.Run h = (shows.Report, refl)
+shown-some names.Orders h = (shows.Edges, refl)
+shown-some names.Time h = (shows.Sites, refl)
 shown-some names.Moves h = absurd (cc)
 shown-some names.Rounds h = absurd (cc)
+shown-some names.Conform h = absurd (cc)
 shown-some names.Debug h = absurd (cc)
 shown-some names.Audit h = absurd (cc)
 shown-some names.Check h = absurd (cc)
@@ -264,39 +301,62 @@ shown-some names.List h = absurd (cc)
 shown-some names.Gen h = absurd (cc)
 shown-some names.Help h = absurd (cc)
 shown-some names.HelpOption h = absurd (cc)
+shown-some names.HelpLetter h = absurd (cc)
 shown-some names.Version h = absurd (cc)
+shown-some names.VersionLetter h = absurd (cc)
 
--- a value of an option, and what is given with it
-record HasValue (subject : Subject) (given : Given) (key : Key) : Type 0 where
-  word : List ℕ
-  more : Given
-  followed : follow (valued subject given key) word ≡ Some (options subject more)
+-- any command that has a limit may have the least
+least-limit : (name : CommandName) → is_within 0 (most_limit_of name) (codes "0") ≡ true
+unfolding is_amount amount_of digits_in unit_of
+least-limit name = grind (arith, nat_tests)
 
-some-value : (key : Key) (subject : Subject) (given : Given) → takes_key subject.name key ≡ true →
-    has_value key ≡ true → HasValue subject given key
-some-value keys.Limit subject given taken h =
-    record { word = codes "0"; more = _; followed = limit-follows subject given (codes "0") refl }
-some-value keys.Show subject given taken h = elim (shown-some subject.name taken) [
-  | inl lines ↦
-      record { word = codes "report"; more = _; followed = lines-follow subject given shows.Report lines }
-  | inr sites ↦ record { word = codes "sites"; more = _; followed = sites-follow subject given sites }
-]
-some-value keys.Script subject given taken h =
-    record { word = codes "s"; more = _; followed = script-follows subject given (codes "s") refl }
-some-value keys.Seed subject given taken h =
-    record { word = codes "0"; more = _; followed = seed-follows subject given (codes "0") refl }
-some-value keys.Mul subject given taken h = absurd (cc)
-some-value keys.Run subject given taken h = absurd (cc)
+least-step : is_within 1 most_limit (codes "1") ≡ true
+unfolding is_amount amount_of digits_in unit_of
+least-step = refl
+
+-- a value that an option may have
+record HasValue (name : CommandName) (key : Key) : Type 0 where
+  setting : Setting
+  key_is : key_of setting ≡ key
+  allowed : is_value name setting ≡ true
+
+some-value : (key : Key) (name : CommandName) → takes_key name key ≡ true → has_value key ≡ true → HasValue name key
+some-value keys.Limit name taken h = record { setting = limit_to (codes "0"); key_is = refl; allowed = least-limit name }
+some-value keys.Every name taken h = record { setting = say_every (codes "1"); key_is = refl; allowed = least-step }
+some-value keys.Show name taken h =
+    let some = shown-some name taken in record { setting = show_of some.0; key_is = refl; allowed = some.1 }
+some-value keys.Script name taken h = record { setting = script_from (codes "s"); key_is = refl; allowed = refl }
+some-value keys.Seed name taken h = record { setting = seed_from (codes "0"); key_is = refl; allowed = refl }
+some-value keys.Guess name taken h = record { setting = guess_by rules.Any; key_is = refl; allowed = refl }
+some-value keys.Input name taken h = record { setting = input_from (codes "s"); key_is = refl; allowed = refl }
+some-value keys.Issues name taken h = record { setting = issue_at_most (codes "1"); key_is = refl; allowed = refl }
+some-value keys.States name taken h = record { setting = reach_at_most (codes "1"); key_is = refl; allowed = refl }
+some-value keys.Without name taken h = record { setting = do_without MeetDie; key_is = refl; allowed = refl }
+some-value keys.Mul name taken h = absurd (cc)
+some-value keys.Run name taken h = absurd (cc)
+
+some-follows : (key : Key) (subject : Subject) (given : Given) (v : HasValue subject.name key) → has_value key ≡ true →
+    follow (valued subject given key) (value_of v.setting) ≡ Some (options subject (put given v.setting))
+some-follows key subject given v h =
+    let has : has_value (key_of v.setting) ≡ true = subst (λ k. has_value k ≡ true) (sym v.key_is) h in
+    subst (λ k. follow (valued subject given k) (value_of v.setting) ≡ Some (options subject (put given v.setting))) v.key_is
+    (value-follows v.setting subject given has v.allowed)
 
 complete-value : (words : List (List ℕ)) (subject : Subject) (given : Given) (key : Key) →
     Reached (valued subject given key) → 1 + subject.count ≤ length words →
     reads start words ≡ Some (valued subject given key) → Completion words
 complete-value words subject given key reached stands h =
-    let v = some-value key subject given reached.1 reached.2 in
-    complete-word words v.word
-    (complete-options (words ++ v.word ∷ []) subject v.more reached.0
-    (omega (arith, stands, length-append words (v.word ∷ [])))
-    (reads-word words v.word (valued subject given key) (options subject v.more) h v.followed))
+    let v = some-value key subject.name reached.1 reached.2 in
+    let word : List ℕ = value_of v.setting in
+    let more : Given = put given v.setting in
+    let followed : follow (valued subject given key) word ≡ Some (options subject more) =
+    some-follows key subject given v reached.2 in
+    let now : Reached (options subject more) = reached-last (word ∷ []) (valued subject given key) (options subject more) reached
+    (reads-step (valued subject given key) word [] (options subject more) followed) in
+    complete-word words word
+    (complete-options (words ++ word ∷ []) subject more now.0 now.1
+    (omega (arith, stands, length-append words (word ∷ [])))
+    (reads-word words word (valued subject given key) (options subject more) h followed))
 
 complete-start : (words : List (List ℕ)) → reads start words ≡ Some start → Completion words
 complete-start words h =
@@ -312,7 +372,7 @@ complete-state words start reached stands h = complete-start words h
 complete-state words (placed subject) reached stands h =
     complete-places (fewest subject.name) words subject reached (omega arith) stands h
 complete-state words (options subject given) reached stands h =
-    complete-options words subject given reached stands h
+    complete-options words subject given reached.0 reached.1 stands h
 complete-state words (valued subject given key) reached stands h =
     complete-value words subject given key reached stands h
 

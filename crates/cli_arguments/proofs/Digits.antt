@@ -22,33 +22,49 @@ digits-all (byte ∷ word) h =
     (digit-small byte a, digits-all word b)
 
 -- a word of digits has no leading plus
-no-plus : (word : List ℕ) → is_numeral word ≡ true → without_leading_plus word ≡ word
-no-plus [] h = refl
-no-plus (byte ∷ word) h = grind (arith, nat_tests)
+no-plus : (longest : ℕ) (word : List ℕ) → is_numeral longest word ≡ true → without_leading_plus word ≡ word
+no-plus longest [] h = refl
+no-plus longest (byte ∷ word) h = grind (arith, nat_tests)
 
--- its value fits 64 bits
-value-fits : (word : List ℕ) → length word ≤ 10 → AllDigits 10 word → digits_value 10 word < 2 ^ 64
-value-fits word short digits =
+-- its value has at most as many digits
+value-fits : (longest : ℕ) (word : List ℕ) → length word ≤ longest → AllDigits 10 word → digits_value 10 word < 10 ^ longest
+value-fits longest word short digits =
     let a : digits_value 10 word < 10 ^ length word = digits_value-lt 10 word digits in
-    let b : 10 ^ length word ≤ 10 ^ 10 = pow-le-pow_right (omega arith) short in
+    let b : 10 ^ length word ≤ 10 ^ longest = pow-le-pow_right (omega arith) short in
     omega arith
 
-numeral-parsed : {E : Type 0} → (word : List ℕ) (r : Result ℕ E) → is_numeral word ≡ true →
+-- what a word of digits is
+record IsSpelt (longest : ℕ) (word : List ℕ) : Type 0 where
+  digits : AllDigits 10 word
+  short : length word ≤ longest
+  some : 0 < length word
+
+spelt : (longest : ℕ) (word : List ℕ) → is_numeral longest word ≡ true → IsSpelt longest word
+spelt longest word h = record {
+  digits = digits-all word (grind (arith, nat_tests));
+  short = grind (arith, nat_tests);
+  some = grind (arith, nat_tests);
+}
+
+-- its value is below the first number with one digit more
+pub digits-below : (longest : ℕ) (word : List ℕ) → is_numeral longest word ≡ true → digits_value 10 word < 10 ^ longest
+digits-below longest word h = let s = spelt longest word h in value-fits longest word s.short s.digits
+
+numeral-parsed : {E : Type 0} → (longest : ℕ) (word : List ℕ) (r : Result ℕ E) → longest ≤ 10 → is_numeral longest word ≡ true →
     OkIff r (IsNumeral 10 word × (digits_value 10 word < 2 ^ 64)) (digits_value 10 word) →
     r ≡ Ok (digits_value 10 word)
-numeral-parsed word (Ok number) h parsed = cc
-numeral-parsed word (Err error) h parsed =
-    let digits : AllDigits 10 word = digits-all word (grind (arith, nat_tests)) in
-    let short : length word ≤ 10 = grind (arith, nat_tests) in
-    let some : 0 < length word = grind (arith, nat_tests) in
-    absurd (parsed ((some, digits), value-fits word short digits))
+numeral-parsed longest word (Ok number) few h parsed = cc
+numeral-parsed longest word (Err error) few h parsed =
+    let s = spelt longest word h in
+    let below : digits_value 10 word < 10 ^ 10 = value-fits 10 word (omega (arith, s.short, few)) s.digits in
+    absurd (parsed ((s.some, s.digits), omega (arith, below)))
 
 -- what is parsed of such a word
-pub digits-parsed : {E : Type 0} → (word : List ℕ) (r : Result ℕ E) → is_numeral word ≡ true →
+pub digits-parsed : {E : Type 0} → (longest : ℕ) (word : List ℕ) (r : Result ℕ E) → longest ≤ 10 → is_numeral longest word ≡ true →
     ParsesUnsigned 64 10 word r → r ≡ Ok (digits_value 10 word)
-digits-parsed {E} word r h parsed =
-    numeral-parsed word r h
+digits-parsed {E} longest word r few h parsed =
+    numeral-parsed longest word r few h
     (subst (λ (w : List ℕ). OkIff r (IsNumeral 10 w × (digits_value 10 w < 2 ^ 64))
-    (digits_value 10 w)) (no-plus word h) parsed)
+    (digits_value 10 w)) (no-plus longest word h) parsed)
 
-pub ruleset digits = (digits-parsed)
+pub ruleset digits = (digits-parsed, digits-below)

@@ -140,6 +140,12 @@ asked-enough names.Moves (w ∷ v ∷ ws) given asked h = omega arith
 asked-enough names.Rounds [] given asked h = absurd (cc)
 asked-enough names.Rounds (w ∷ []) given asked h = absurd (cc)
 asked-enough names.Rounds (w ∷ v ∷ ws) given asked h = omega arith
+asked-enough names.Orders [] given asked h = absurd (cc)
+asked-enough names.Orders (w ∷ []) given asked h = absurd (cc)
+asked-enough names.Orders (w ∷ v ∷ ws) given asked h = omega arith
+asked-enough names.Conform [] given asked h = absurd (cc)
+asked-enough names.Conform (w ∷ []) given asked h = absurd (cc)
+asked-enough names.Conform (w ∷ v ∷ ws) given asked h = omega arith
 asked-enough names.Debug [] given asked h = absurd (cc)
 asked-enough names.Debug (w ∷ []) given asked h = absurd (cc)
 asked-enough names.Debug (w ∷ v ∷ ws) given asked h = omega arith
@@ -161,7 +167,9 @@ asked-enough names.Gen [] given asked h = absurd (cc)
 asked-enough names.Gen (w ∷ ws) given asked h = omega arith
 asked-enough names.Help words given asked h = omega arith
 asked-enough names.HelpOption words given asked h = omega arith
+asked-enough names.HelpLetter words given asked h = omega arith
 asked-enough names.Version words given asked h = omega arith
+asked-enough names.VersionLetter words given asked h = omega arith
 
 -- the positional words of a command are those after its first word
 positional-are : (first : List ℕ) (more later : List (List ℕ)) →

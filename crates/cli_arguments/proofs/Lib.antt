@@ -1,3 +1,4 @@
+pub mod Letters
 pub mod BadWords
 pub mod Bounds
 pub mod Completions
@@ -6,6 +7,7 @@ pub mod Grammar
 pub mod Loop
 pub mod Reached
 pub mod InTurn
+pub mod Scaling
 pub mod Settings
 pub mod Steps
 pub mod Texts

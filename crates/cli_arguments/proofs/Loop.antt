@@ -52,9 +52,9 @@ goes-on bytes items index count item state later word inside at counted h word-i
 
 -- the count of words stays small
 pub count-few : {X : Type 0} → (bytes : X → List ℕ) (items : List X) (count : ℕ) (state : ReadingState) →
-    count ≤ length items → reads start (take count (map bytes items)) ≡ Some state → count ≤ 22
+    count ≤ length items → reads start (take count (map bytes items)) ≡ Some state → count ≤ 34
 count-few bytes items count state inside h =
-    let f : length (take count (map bytes items)) ≤ 22 = few-read (take count (map bytes items)) state
+    let f : length (take count (map bytes items)) ≤ 34 = few-read (take count (map bytes items)) state
     h in
     omega (arith, length-take-le count (map bytes items) (omega (arith, length-map items bytes)))
 

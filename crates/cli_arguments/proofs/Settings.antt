@@ -1,16 +1,16 @@
 -- The options after the positional words: read in turn they are a list in which none occurs twice, and give what is in it.
-use Rattle.std.proofs.Common.{◌≡◌, ◌≢◌, ℕ, List, [], ◌∷◌, ◌++◌, codes, Bool, true, false, refl, Option, Some, None, ◌&&◌, ◌||◌, sym, ◌∙◌, subst, ap}
+use Rattle.std.proofs.Common.{◌≡◌, ℕ, List, [], ◌∷◌, ◌++◌, Bool, true, false, refl, Option, Some, None, ◌&&◌, ◌||◌, sym, ◌∙◌, subst, ap}
 use Rattle.std.specs.Option.{option_or}
 use Rattle.std.specs.List.{list_all}
 use Rattle.cli_arguments.specs.declared.options.Key.{Key}
 use Rattle.cli_arguments.specs.declared.options.Key.TheVariants as keys
 use Rattle.cli_arguments.specs.declared.reading.Subject.{Subject}
-use Rattle.cli_arguments.specs.Options.{key_word, show_word, key_of, value_words, written, takes_key, is_value, takes, Matter, limits, showing, schedules, multiplies, running, matter_of, Without, NoneTwice, Setting, limit_to, show_lines, show_sites, script_from, seed_from, with_mul, with_run, Given, given_in}
-use Rattle.cli_arguments.specs.Reading.{ReadingState, start, placed, options, valued, after_key, has_key, is_settled, is_there, nothing_given}
+use Rattle.cli_arguments.specs.Options.{key_word, key_of, value_words, written, takes_key, is_value, takes, excludes, Without, NoneTwice, Setting, limit_to, say_every, show_of, script_from, seed_from, guess_by, input_from, issue_at_most, reach_at_most, do_without, with_mul, with_run, Given, given_in}
+use Rattle.cli_arguments.specs.Reading.{ReadingState, start, placed, options, valued, after_key, has_key, is_there, nothing_given}
 use Rattle.cli_arguments.proofs.InTurn.{reads, reads-split, reads-step, none-left}
-use Rattle.cli_arguments.proofs.Steps.{put, option-read, value-read, option-follows, limit-follows, lines-follow, sites-follow, script-follows, seed-follows}
+use Rattle.cli_arguments.proofs.Steps.{put, has_value, value_of, option-read, value-read, option-follows, value-follows}
 
--- none of the options settles what is settled already
+-- no option is excluded by one before it
 abbrev pub Fresh : Given → List Setting → Type 0
 Fresh given [] = Unit {0}
 Fresh given (setting ∷ settings) = (has_key given (key_of setting) ≡ false) × Fresh (put given setting)
@@ -24,120 +24,80 @@ or-true : (b : Bool) → (b || true) ≡ true
 or-true true = refl
 or-true false = refl
 
-put-has : (given : Given) (setting : Setting) → has_key (put given setting) (key_of setting) ≡ true
-put-has given show_sites = or-true (is_there given.show)
-put-has given (limit_to digits) = refl
-put-has given (show_lines lines) = refl
-put-has given (script_from file) = refl
-put-has given (seed_from digits) = refl
-put-has given with_mul = refl
-put-has given with_run = refl
+-- an option that is given with the others excludes what it excludes
+put-key : (given : Given) (setting : Setting) (key : Key) →
+    has_key (put given setting) key ≡ (excludes (key_of setting) key || has_key given key)
+put-key given (limit_to amount) keys.Limit = refl
+put-key given (limit_to amount) key = refl
+put-key given (say_every amount) keys.Every = refl
+put-key given (say_every amount) key = refl
+put-key given (show_of shown) keys.Show = refl
+put-key given (show_of shown) key = refl
+put-key given (input_from file) keys.Input = refl
+put-key given (input_from file) key = refl
+put-key given (issue_at_most digits) keys.Issues = refl
+put-key given (issue_at_most digits) key = refl
+put-key given (reach_at_most digits) keys.States = refl
+put-key given (reach_at_most digits) key = refl
+put-key given (do_without rule) keys.Without = refl
+put-key given (do_without rule) key = refl
+put-key given (script_from file) keys.Script = refl
+put-key given (script_from file) keys.Seed = or-true (is_there given.seed)
+put-key given (script_from file) keys.Guess = or-true (is_there given.guess)
+put-key given (script_from file) key = refl
+put-key given (seed_from digits) keys.Script = or-true (is_there given.script)
+put-key given (seed_from digits) keys.Seed = refl
+put-key given (seed_from digits) key = refl
+put-key given (guess_by rule) keys.Script = rw (or-true (is_there given.seed)) (or-true (is_there given.script))
+put-key given (guess_by rule) keys.Guess = refl
+put-key given (guess_by rule) key = refl
+put-key given with_mul keys.Mul = refl
+put-key given with_mul key = refl
+put-key given with_run keys.Run = refl
+put-key given with_run key = refl
 
-put-keeps : (given : Given) (setting : Setting) (matter : Matter) → is_settled given matter ≡ true →
-    is_settled (put given setting) matter ≡ true
-put-keeps given (limit_to digits) limits h = refl
-put-keeps given (limit_to digits) showing h = h
-put-keeps given (limit_to digits) schedules h = h
-put-keeps given (limit_to digits) multiplies h = h
-put-keeps given (limit_to digits) running h = h
-put-keeps given (show_lines lines) limits h = h
-put-keeps given (show_lines lines) showing h = refl
-put-keeps given (show_lines lines) schedules h = h
-put-keeps given (show_lines lines) multiplies h = h
-put-keeps given (show_lines lines) running h = h
-put-keeps given show_sites limits h = h
-put-keeps given show_sites showing h = or-true (is_there given.show)
-put-keeps given show_sites schedules h = h
-put-keeps given show_sites multiplies h = h
-put-keeps given show_sites running h = h
-put-keeps given (script_from file) limits h = h
-put-keeps given (script_from file) showing h = h
-put-keeps given (script_from file) schedules h = refl
-put-keeps given (script_from file) multiplies h = h
-put-keeps given (script_from file) running h = h
-put-keeps given (seed_from digits) limits h = h
-put-keeps given (seed_from digits) showing h = h
-put-keeps given (seed_from digits) schedules h = refl
-put-keeps given (seed_from digits) multiplies h = h
-put-keeps given (seed_from digits) running h = h
-put-keeps given with_mul limits h = h
-put-keeps given with_mul showing h = h
-put-keeps given with_mul schedules h = h
-put-keeps given with_mul multiplies h = refl
-put-keeps given with_mul running h = h
-put-keeps given with_run limits h = h
-put-keeps given with_run showing h = h
-put-keeps given with_run schedules h = h
-put-keeps given with_run multiplies h = h
-put-keeps given with_run running h = refl
+-- each option that a given one excludes is recorded as excluded
+abbrev IsGiven : Given → Key → Type 0
+IsGiven given key = (other : Key) → excludes key other ≡ true → has_key given other ≡ true
 
-put-other : (given : Given) (setting : Setting) (matter : Matter) → is_settled given matter ≡ false →
-    matter_of (key_of setting) ≢ matter → is_settled (put given setting) matter ≡ false
-put-other given (limit_to digits) limits h other = absurd (other refl)
-put-other given (limit_to digits) showing h other = h
-put-other given (limit_to digits) schedules h other = h
-put-other given (limit_to digits) multiplies h other = h
-put-other given (limit_to digits) running h other = h
-put-other given (show_lines lines) limits h other = h
-put-other given (show_lines lines) showing h other = absurd (other refl)
-put-other given (show_lines lines) schedules h other = h
-put-other given (show_lines lines) multiplies h other = h
-put-other given (show_lines lines) running h other = h
-put-other given show_sites limits h other = h
-put-other given show_sites showing h other = absurd (other refl)
-put-other given show_sites schedules h other = h
-put-other given show_sites multiplies h other = h
-put-other given show_sites running h other = h
-put-other given (script_from file) limits h other = h
-put-other given (script_from file) showing h other = h
-put-other given (script_from file) schedules h other = absurd (other refl)
-put-other given (script_from file) multiplies h other = h
-put-other given (script_from file) running h other = h
-put-other given (seed_from digits) limits h other = h
-put-other given (seed_from digits) showing h other = h
-put-other given (seed_from digits) schedules h other = absurd (other refl)
-put-other given (seed_from digits) multiplies h other = h
-put-other given (seed_from digits) running h other = h
-put-other given with_mul limits h other = h
-put-other given with_mul showing h other = h
-put-other given with_mul schedules h other = h
-put-other given with_mul multiplies h other = absurd (other refl)
-put-other given with_mul running h other = h
-put-other given with_run limits h other = h
-put-other given with_run showing h other = h
-put-other given with_run schedules h other = h
-put-other given with_run multiplies h other = h
-put-other given with_run running h other = absurd (other refl)
+put-given-one : (given : Given) (setting : Setting) → IsGiven (put given setting) (key_of setting)
+put-given-one given setting other e = put-key given setting other ∙ rw e refl
 
--- fresh options settle nothing twice
-fresh-without : (settings : List Setting) (given : Given) (matter : Matter) →
-    is_settled given matter ≡ true → Fresh given settings → Without matter settings
-fresh-without [] given matter h fresh = tt
-fresh-without (setting ∷ settings) given matter h fresh = (
-  λ same. let f : is_settled given (matter_of (key_of setting)) ≡ false = fresh.0 in
-      let g : is_settled given (matter_of (key_of setting)) ≡ true =
-      subst (λ m. is_settled given m ≡ true) (sym same) h
-      in cc,
-  fresh-without settings (put given setting) matter (put-keeps given setting matter h) fresh.1,
+put-keeps : (given : Given) (setting : Setting) (key : Key) → IsGiven given key →
+    IsGiven (put given setting) key
+put-keeps given setting key is other e =
+    put-key given setting other ∙ rw (is other e) (or-true (excludes (key_of setting) other))
+
+-- fresh options exclude none of each other
+fresh-without : (settings : List Setting) (given : Given) (key : Key) →
+    IsGiven given key → Fresh given settings → Without key settings
+fresh-without [] given key is fresh = tt
+fresh-without (setting ∷ settings) given key is fresh = (
+  free (excludes key (key_of setting)) refl,
+  fresh-without settings (put given setting) key (put-keeps given setting key is) fresh.1,
 )
+  where
+    free : (b : Bool) → excludes key (key_of setting) ≡ b → b ≡ false
+    free false e = refl
+    free true e = let g : has_key given (key_of setting) ≡ true = is (key_of setting) e in let f = fresh.0 in absurd (cc)
 
 pub fresh-once : (settings : List Setting) (given : Given) → Fresh given settings → NoneTwice settings
 fresh-once [] given fresh = tt
 fresh-once (setting ∷ settings) given fresh = (
-  fresh-without settings (put given setting) (matter_of (key_of setting)) (put-has given setting) fresh.1,
+  fresh-without settings (put given setting) (key_of setting) (put-given-one given setting) fresh.1,
   fresh-once settings (put given setting) fresh.1,
 )
 
--- and options that settle nothing twice are fresh
+-- and options that exclude none of each other are fresh
 abbrev Clear : Given → List Setting → Type 0
 Clear given [] = Unit {0}
 Clear given (setting ∷ settings) = (has_key given (key_of setting) ≡ false) × Clear given settings
 
 clear-put : (settings : List Setting) (given : Given) (setting : Setting) → Clear given settings →
-    Without (matter_of (key_of setting)) settings → Clear (put given setting) settings
+    Without (key_of setting) settings → Clear (put given setting) settings
 clear-put [] given setting clear without = tt
 clear-put (next ∷ settings) given setting clear without = (
-  put-other given setting (matter_of (key_of next)) clear.0 (λ same. without.0 (sym same)),
+  put-key given setting (key_of next) ∙ rw (without.0, clear.0) refl,
   clear-put settings given setting clear.1 without.1,
 )
 
@@ -152,9 +112,15 @@ clear-fresh (setting ∷ settings) given clear once = (
 
 nothing-has : (key : Key) → has_key nothing_given key ≡ false
 nothing-has keys.Limit = refl
+nothing-has keys.Every = refl
 nothing-has keys.Show = refl
 nothing-has keys.Script = refl
 nothing-has keys.Seed = refl
+nothing-has keys.Guess = refl
+nothing-has keys.Input = refl
+nothing-has keys.Issues = refl
+nothing-has keys.States = refl
+nothing-has keys.Without = refl
 nothing-has keys.Mul = refl
 nothing-has keys.Run = refl
 
@@ -169,9 +135,15 @@ once-fresh settings once = clear-fresh settings nothing_given (clear-nothing set
 abbrev joined : Given → Given → Given
 joined given more = record {
   limit = option_or given.limit more.limit;
+  every = option_or given.every more.every;
   show = option_or given.show more.show;
-  sites = given.sites || more.sites;
-  schedule = option_or given.schedule more.schedule;
+  script = option_or given.script more.script;
+  seed = option_or given.seed more.seed;
+  guess = option_or given.guess more.guess;
+  input = option_or given.input more.input;
+  issues = option_or given.issues more.issues;
+  states = option_or given.states more.states;
+  without = option_or given.without more.without;
   mul = given.mul || more.mul;
   run = given.run || more.run;
 }
@@ -187,12 +159,16 @@ neither false b h = (refl, h)
 joined-put : (given : Given) (setting : Setting) (settings : List Setting) →
     has_key given (key_of setting) ≡ false →
     joined (put given setting) (given_in settings) ≡ joined given (given_in (setting ∷ settings))
-joined-put given (limit_to digits) settings h = let e = not-there given.limit h in rw e
-joined-put given (show_lines lines) settings h =
-    let e = not-there given.show (neither (is_there given.show) given.sites h).0 in rw e
-joined-put given show_sites settings h = rw (neither (is_there given.show) given.sites h).1
-joined-put given (script_from file) settings h = let e = not-there given.schedule h in rw e
-joined-put given (seed_from digits) settings h = let e = not-there given.schedule h in rw e
+joined-put given (limit_to amount) settings h = let e = not-there given.limit h in rw e
+joined-put given (say_every amount) settings h = let e = not-there given.every h in rw e
+joined-put given (show_of shown) settings h = let e = not-there given.show h in rw e
+joined-put given (script_from file) settings h = let e = not-there given.script (neither (is_there given.script) (is_there given.seed || is_there given.guess) h).0 in rw e
+joined-put given (seed_from digits) settings h = let e = not-there given.seed (neither (is_there given.seed) (is_there given.script) h).0 in rw e
+joined-put given (guess_by rule) settings h = let e = not-there given.guess (neither (is_there given.guess) (is_there given.script) h).0 in rw e
+joined-put given (input_from file) settings h = let e = not-there given.input h in rw e
+joined-put given (issue_at_most digits) settings h = let e = not-there given.issues h in rw e
+joined-put given (reach_at_most digits) settings h = let e = not-there given.states h in rw e
+joined-put given (do_without rule) settings h = let e = not-there given.without h in rw e
 joined-put given with_mul settings h = rw h
 joined-put given with_run settings h = rw h
 
@@ -209,9 +185,15 @@ put-joined : (settings : List Setting) (given : Given) → Fresh given settings 
 put-joined [] given fresh =
     sym (rw (
       or-none given.limit,
+      or-none given.every,
       or-none given.show,
-      or-false given.sites,
-      or-none given.schedule,
+      or-none given.script,
+      or-none given.seed,
+      or-none given.guess,
+      or-none given.input,
+      or-none given.issues,
+      or-none given.states,
+      or-none given.without,
       or-false given.mul,
       or-false given.run,
     ))
@@ -291,12 +273,24 @@ tail-keyed : (key : Key) (subject : Subject) (given : Given) (words : List (List
     Tail subject given (key_word key ∷ words) last
 tail-keyed keys.Limit subject given words last taken fresh h whole next later =
     tail-valued keys.Limit subject given words last taken fresh h whole later
+tail-keyed keys.Every subject given words last taken fresh h whole next later =
+    tail-valued keys.Every subject given words last taken fresh h whole later
 tail-keyed keys.Show subject given words last taken fresh h whole next later =
     tail-valued keys.Show subject given words last taken fresh h whole later
 tail-keyed keys.Script subject given words last taken fresh h whole next later =
     tail-valued keys.Script subject given words last taken fresh h whole later
 tail-keyed keys.Seed subject given words last taken fresh h whole next later =
     tail-valued keys.Seed subject given words last taken fresh h whole later
+tail-keyed keys.Guess subject given words last taken fresh h whole next later =
+    tail-valued keys.Guess subject given words last taken fresh h whole later
+tail-keyed keys.Input subject given words last taken fresh h whole next later =
+    tail-valued keys.Input subject given words last taken fresh h whole later
+tail-keyed keys.Issues subject given words last taken fresh h whole next later =
+    tail-valued keys.Issues subject given words last taken fresh h whole later
+tail-keyed keys.States subject given words last taken fresh h whole next later =
+    tail-valued keys.States subject given words last taken fresh h whole later
+tail-keyed keys.Without subject given words last taken fresh h whole next later =
+    tail-valued keys.Without subject given words last taken fresh h whole later
 tail-keyed keys.Mul subject given words last taken fresh h whole next later =
     tail-more subject given with_mul words last taken refl fresh (next (put given with_mul) h)
 tail-keyed keys.Run subject given words last taken fresh h whole next later =
@@ -334,47 +328,47 @@ tail-read (word ∷ value ∷ words) subject given last h whole =
     subst (λ (ws : List (List ℕ)). Tail subject more ws last) l
     (tail-read words subject more last r1 whole))
 
+-- an option with a value is read as it is written
+valued-setting : (setting : Setting) (subject : Subject) (given : Given) (words : List (List ℕ)) →
+    value_words setting ≡ value_of setting ∷ [] → after_key subject given (key_of setting) ≡ valued subject given (key_of setting) →
+    has_value (key_of setting) ≡ true → takes_key subject.name (key_of setting) ≡ true → is_value subject.name setting ≡ true →
+    has_key given (key_of setting) ≡ false →
+    reads (options subject given) (key_word (key_of setting) ∷ (value_words setting ++ words))
+    ≡ reads (options subject (put given setting)) words
+valued-setting setting subject given words one after value taken allowed fresh =
+    ap (λ (vs : List (List ℕ)). reads (options subject given) (key_word (key_of setting) ∷ (vs ++ words))) one
+    ∙ (reads-step (options subject given) (key_word (key_of setting)) (value_of setting ∷ words)
+    (valued subject given (key_of setting))
+    (option-follows subject given (key_of setting) taken fresh ∙ ap (λ (s : ReadingState). Some s) after)
+    ∙ reads-step (valued subject given (key_of setting)) (value_of setting) words (options subject (put given setting))
+    (value-follows setting subject given value allowed))
+
 -- one option is read as it is written
 setting-read : (setting : Setting) (subject : Subject) (given : Given) (words : List (List ℕ)) →
     takes_key subject.name (key_of setting) ≡ true → is_value subject.name setting ≡ true →
     has_key given (key_of setting) ≡ false →
     reads (options subject given) (key_word (key_of setting) ∷ (value_words setting ++ words))
     ≡ reads (options subject (put given setting)) words
-setting-read (limit_to digits) subject given words taken allowed fresh =
-    reads-step (options subject given) (key_word keys.Limit) (digits ∷ words)
-    (valued subject given keys.Limit)
-    (option-follows subject given keys.Limit taken fresh)
-    ∙ reads-step (valued subject given keys.Limit) digits words
-    (options subject (put given (limit_to digits)))
-    (limit-follows subject given digits allowed)
-setting-read (show_lines lines) subject given words taken allowed fresh =
-    reads-step (options subject given) (key_word keys.Show) (show_word lines ∷ words)
-    (valued subject given keys.Show)
-    (option-follows subject given keys.Show taken fresh)
-    ∙ reads-step (valued subject given keys.Show) (show_word lines) words
-    (options subject (put given (show_lines lines)))
-    (lines-follow subject given lines allowed)
-setting-read show_sites subject given words taken allowed fresh =
-    reads-step (options subject given) (key_word keys.Show) (codes "sites" ∷ words)
-    (valued subject given keys.Show)
-    (option-follows subject given keys.Show taken fresh)
-    ∙ reads-step (valued subject given keys.Show) (codes "sites") words
-    (options subject (put given show_sites))
-    (sites-follow subject given allowed)
+setting-read (limit_to amount) subject given words taken allowed fresh =
+    valued-setting (limit_to amount) subject given words refl refl refl taken allowed fresh
+setting-read (say_every amount) subject given words taken allowed fresh =
+    valued-setting (say_every amount) subject given words refl refl refl taken allowed fresh
+setting-read (show_of shown) subject given words taken allowed fresh =
+    valued-setting (show_of shown) subject given words refl refl refl taken allowed fresh
 setting-read (script_from file) subject given words taken allowed fresh =
-    reads-step (options subject given) (key_word keys.Script) (file ∷ words)
-    (valued subject given keys.Script)
-    (option-follows subject given keys.Script taken fresh)
-    ∙ reads-step (valued subject given keys.Script) file words
-    (options subject (put given (script_from file)))
-    (script-follows subject given file allowed)
+    valued-setting (script_from file) subject given words refl refl refl taken allowed fresh
 setting-read (seed_from digits) subject given words taken allowed fresh =
-    reads-step (options subject given) (key_word keys.Seed) (digits ∷ words)
-    (valued subject given keys.Seed)
-    (option-follows subject given keys.Seed taken fresh)
-    ∙ reads-step (valued subject given keys.Seed) digits words
-    (options subject (put given (seed_from digits)))
-    (seed-follows subject given digits allowed)
+    valued-setting (seed_from digits) subject given words refl refl refl taken allowed fresh
+setting-read (guess_by rule) subject given words taken allowed fresh =
+    valued-setting (guess_by rule) subject given words refl refl refl taken allowed fresh
+setting-read (input_from file) subject given words taken allowed fresh =
+    valued-setting (input_from file) subject given words refl refl refl taken allowed fresh
+setting-read (issue_at_most digits) subject given words taken allowed fresh =
+    valued-setting (issue_at_most digits) subject given words refl refl refl taken allowed fresh
+setting-read (reach_at_most digits) subject given words taken allowed fresh =
+    valued-setting (reach_at_most digits) subject given words refl refl refl taken allowed fresh
+setting-read (do_without rule) subject given words taken allowed fresh =
+    valued-setting (do_without rule) subject given words refl refl refl taken allowed fresh
 setting-read with_mul subject given words taken allowed fresh =
     reads-step (options subject given) (key_word keys.Mul) words (options subject (put given with_mul))
     (option-follows subject given keys.Mul taken fresh)

@@ -1,27 +1,36 @@
 -- What one more word says: which words may follow in each state, and what is known after them.
-use Rattle.std.proofs.Common.{◌≡◌, ◌≤◌, ◌<◌, ◌⊎◌, ℕ, List, [], ◌∷◌, codes, Bool, true, false, refl, arith, if◌then◌else◌, Option, Some, None, inl, inr, not, ◌&&◌, sym, ap}
+use Rattle.std.proofs.Common.{◌≡◌, ◌≤◌, ◌<◌, ◌⊎◌, ℕ, List, [], ◌∷◌, Bool, true, false, refl, arith, if◌then◌else◌, Option, Some, None, option_map, inl, inr, not, ◌&&◌, sym, ap}
 use Rattle.std.specs.Prelude.{is_some, nat_le, nat_lt}
 use Rattle.std.specs.Str.Parse.{digits_value}
 use Rattle.std.proofs.lemmas.Bool.Decides.{nat_tests}
-use Rattle.run_options.specs.Limits.{most_limit}
-use Rattle.run_options.specs.declared.show.Show.{Show}
+use Rattle.run_options.specs.Limits.{most_issues, most_limit, most_states}
+use Rattle.order_rules.specs.Rules.{name_of, rule_named}
+use Rattle.order_rules.proofs.Named.{named, named_once}
 use Rattle.cli_arguments.specs.declared.names.CommandName.{CommandName}
+use Rattle.cli_arguments.specs.declared.names.PlaceKind.{PlaceKind}
+use Rattle.cli_arguments.specs.declared.names.PlaceKind.TheVariants.{Files, Numbers, Topics}
 use Rattle.cli_arguments.specs.declared.options.Key.{Key}
 use Rattle.cli_arguments.specs.declared.options.Key.TheVariants as keys
 use Rattle.cli_arguments.specs.declared.reading.Subject.{Subject}
-use Rattle.cli_arguments.specs.Values.{is_file_name, is_number, count_in}
-use Rattle.cli_arguments.specs.Commands.{word_of, fewest, most, counts, is_positional}
-use Rattle.cli_arguments.specs.Options.{key_word, show_word, key_of, value_words, takes_key, has_lines, has_sites, is_value, most_seed, Setting, limit_to, show_lines, show_sites, script_from, seed_from, with_mul, with_run, by_script, by_seed, Given}
-use Rattle.cli_arguments.specs.Reading.{ReadingState, start, placed, options, valued, bare, one_more, follow, when, after_name, after_key, after_option, after_value, has_place, has_key, is_text, with_value, with_limit, with_seed, with_lines, name_in, key_in, lines_in, number_in, nothing_given}
-use Rattle.cli_arguments.proofs.Texts.{is-text, name-read, name-written, key-read, key-written, lines-read, lines-written, lines-no-sites}
+use Rattle.cli_arguments.specs.declared.shown.Shown.{Shown}
+use Rattle.cli_arguments.specs.Values.{amount_in, amount_of, is_file_name, is_number, is_positive, is_within, count_in, number_in, positive_in}
+use Rattle.cli_arguments.specs.Commands.{word_of, fewest, most, is_of, is_positional, name_in, places, topic_in}
+use Rattle.cli_arguments.specs.Options.{key_word, show_word, key_of, value_words, takes_key, can_show, is_value, most_limit_of, most_seed, Setting, limit_to, say_every, show_of, script_from, seed_from, guess_by, input_from, issue_at_most, reach_at_most, do_without, with_mul, with_run, Given, rule_word}
+use Rattle.cli_arguments.specs.Reading.{ReadingState, start, placed, options, valued, bare, one_more, follow, when, after_name, after_key, after_option, after_value, has_place, has_key, with_value, key_in, shown_in, shown_by, nothing_given, rule_in}
+use Rattle.cli_arguments.proofs.Texts.{name-read, name-written, key-read, key-written, shown-read, shown-written, rule-read, rule-written}
 
 -- what is given with one more option
 abbrev pub put : Given → Setting → Given
-put given (limit_to digits) = record given { limit = Some (digits_value 10 digits) }
-put given (show_lines lines) = record given { show = Some lines }
-put given show_sites = record given { sites = true }
-put given (script_from file) = record given { schedule = Some (by_script file) }
-put given (seed_from digits) = record given { schedule = Some (by_seed (digits_value 10 digits)) }
+put given (limit_to amount) = record given { limit = Some (amount_of amount) }
+put given (say_every amount) = record given { every = Some (amount_of amount) }
+put given (show_of shown) = record given { show = Some shown }
+put given (script_from file) = record given { script = Some file }
+put given (seed_from digits) = record given { seed = Some (digits_value 10 digits) }
+put given (guess_by rule) = record given { guess = Some rule }
+put given (input_from file) = record given { input = Some file }
+put given (issue_at_most digits) = record given { issues = Some (digits_value 10 digits) }
+put given (reach_at_most digits) = record given { states = Some (digits_value 10 digits) }
+put given (do_without rule) = record given { without = Some rule }
 put given with_mul = record given { mul = true }
 put given with_run = record given { run = true }
 
@@ -110,29 +119,56 @@ placed-follows subject word h = rw h refl
 -- the word of an option has no place among positional words
 key-no-file : (key : Key) → is_file_name (key_word key) ≡ false
 key-no-file keys.Limit = refl
+key-no-file keys.Every = refl
 key-no-file keys.Show = refl
 key-no-file keys.Script = refl
 key-no-file keys.Seed = refl
+key-no-file keys.Guess = refl
+key-no-file keys.Input = refl
+key-no-file keys.Issues = refl
+key-no-file keys.States = refl
+key-no-file keys.Without = refl
 key-no-file keys.Mul = refl
 key-no-file keys.Run = refl
 
 key-no-count : (key : Key) → is_some (count_in (key_word key)) ≡ false
-unfolding count_in
+unfolding positive_in
 key-no-count keys.Limit = refl
+key-no-count keys.Every = refl
 key-no-count keys.Show = refl
 key-no-count keys.Script = refl
 key-no-count keys.Seed = refl
+key-no-count keys.Guess = refl
+key-no-count keys.Input = refl
+key-no-count keys.Issues = refl
+key-no-count keys.States = refl
+key-no-count keys.Without = refl
 key-no-count keys.Mul = refl
 key-no-count keys.Run = refl
 
-key-tried : (numbers : Bool) (key : Key) →
-    (if numbers then is_some (count_in (key_word key)) else is_file_name (key_word key)) ≡ false
-key-tried true key = key-no-count key
-key-tried false key = key-no-file key
+key-no-topic : (key : Key) → is_some (topic_in (key_word key)) ≡ false
+unfolding topic_in name_in
+key-no-topic keys.Limit = refl
+key-no-topic keys.Every = refl
+key-no-topic keys.Show = refl
+key-no-topic keys.Script = refl
+key-no-topic keys.Seed = refl
+key-no-topic keys.Guess = refl
+key-no-topic keys.Input = refl
+key-no-topic keys.Issues = refl
+key-no-topic keys.States = refl
+key-no-topic keys.Without = refl
+key-no-topic keys.Mul = refl
+key-no-topic keys.Run = refl
+
+key-tried : (kind : PlaceKind) (key : Key) → is_of kind (key_word key) ≡ false
+key-tried Files key = key-no-file key
+key-tried Numbers key = key-no-count key
+key-tried Topics key = key-no-topic key
 
 key-no-positional : (name : CommandName) (key : Key) → is_positional name (key_word key) ≡ false
 unfolding is_positional
-key-no-positional name key = key-tried (counts name) key
+key-no-positional name key = key-tried (places name) key
 
 and-false : (a : Bool) → (a && false) ≡ false
 and-false true = refl
@@ -201,89 +237,102 @@ number-test : (most : ℕ) (word : List ℕ) (number : ℕ) → number_in most w
 unfolding number_in
 number-test most word number h = if-some (is_number most word) (digits_value 10 word) number h
 
-limit-found : (found : Option ℕ) (subject : Subject) (given : Given) (word : List ℕ) (later : ReadingState) →
-    number_in most_limit word ≡ found → after_value subject (with_limit given found) ≡ Some later →
-    ValueRead subject given keys.Limit word later
-limit-found None subject given word later e h = absurd (cc)
-limit-found (Some number) subject given word later e h =
-    let n = number-test most_limit word number e in
-    record { setting = limit_to word; key_is = refl; word_is = refl; allowed = n.0; after_is = cc (n.1) }
+positive-test : (most : ℕ) (word : List ℕ) (number : ℕ) → positive_in most word ≡ Some number →
+    (is_positive most word ≡ true) × (number ≡ digits_value 10 word)
+unfolding positive_in
+positive-test most word number h = if-some (is_positive most word) (digits_value 10 word) number h
 
-lines-tested : (b : Bool) (subject : Subject) (given : Given) (word : List ℕ) (later : ReadingState)
-    (lines : Show) →
-    lines_in word ≡ Some lines → has_lines subject.name lines ≡ b →
-    after_value subject (when b (record given { show = Some lines })) ≡ Some later →
-    ValueRead subject given keys.Show word later
-lines-tested true subject given word later lines e t h =
+amount-test : (least most : ℕ) (word : List ℕ) (amount : ℕ) → amount_in least most word ≡ Some amount →
+    (is_within least most word ≡ true) × (amount ≡ amount_of word)
+unfolding amount_in
+amount-test least most word amount h = if-some (is_within least most word) (amount_of word) amount h
+
+shown-test : (name : CommandName) (found : Option Shown) (shown : Shown) → shown_by name found ≡ Some shown →
+    (found ≡ Some shown) × (can_show name shown ≡ true)
+shown-test name None shown h = absurd (cc)
+shown-test name (Some other) shown h =
+    let w = when-some (can_show name other) other shown h in
+    let same : other ≡ shown = sym w.1 in
+    (ap Some same, rw (← same) w.0)
+
+-- the word is the value of an option, with which this much more is given
+record IsSetting (subject : Subject) (given more : Given) (key : Key) (word : List ℕ) (setting : Setting) : Type 0 where
+  key_is : key_of setting ≡ key
+  word_is : value_words setting ≡ word ∷ []
+  allowed : is_value subject.name setting ≡ true
+  more_is : more ≡ put given setting
+
+value-found : {A : Type 0} (found : Option A) (with : A → Given) (setting : A → Setting) (subject : Subject) (given : Given) (key : Key)
+    (word : List ℕ) (later : ReadingState) →
+    ((x : A) → found ≡ Some x → IsSetting subject given (with x) key word (setting x)) →
+    after_value subject (option_map with found) ≡ Some later → ValueRead subject given key word later
+value-found None with setting subject given key word later is h = absurd (cc)
+value-found (Some x) with setting subject given key word later is h =
+    let s = is x refl in
     record {
-      setting = show_lines lines;
-      key_is = refl;
-      word_is = ap (λ (w : List ℕ). w ∷ [])
-          (sym (lines-read word lines e));
-      allowed = t;
-      after_is = cc;
+      setting = setting x;
+      key_is = s.key_is;
+      word_is = s.word_is;
+      allowed = s.allowed;
+      after_is = cc (s.more_is);
     }
-lines-tested false subject given word later lines e t h = absurd (cc)
 
-sites-tested : (b : Bool) (subject : Subject) (given : Given) (word : List ℕ) (later : ReadingState) →
-    is_text word (codes "sites") ≡ true → has_sites subject.name ≡ b →
-    after_value subject (when b (record given { sites = true })) ≡ Some later →
-    ValueRead subject given keys.Show word later
-sites-tested true subject given word later e t h =
-    record {
-      setting = show_sites;
-      key_is = refl;
-      word_is = ap (λ (w : List ℕ). w ∷ []) (sym (is-text word (codes "sites") e));
-      allowed = t;
-      after_is = cc;
-    }
-sites-tested false subject given word later e t h = absurd (cc)
+file-found : (b : Bool) (more : Given) (setting : Setting) (subject : Subject) (given : Given) (key : Key) (word : List ℕ)
+    (later : ReadingState) → (b ≡ true → IsSetting subject given more key word setting) →
+    after_value subject (when b more) ≡ Some later → ValueRead subject given key word later
+file-found true more setting subject given key word later is h =
+    let s = is refl in
+    record { setting = setting; key_is = s.key_is; word_is = s.word_is; allowed = s.allowed; after_is = cc (s.more_is) }
+file-found false more setting subject given key word later is h = absurd (cc)
 
-lines-found : (found : Option Show) (subject : Subject) (given : Given) (word : List ℕ) (later : ReadingState) →
-    lines_in word ≡ found →
-    after_value subject (with_lines subject.name given found) ≡ Some later →
-    ValueRead subject given keys.Show word later
-lines-found None subject given word later e h = absurd (cc)
-lines-found (Some lines) subject given word later e h =
-    lines-tested (has_lines subject.name lines) subject given word later lines e refl h
-
-shown-found : (sites : Bool) (subject : Subject) (given : Given) (word : List ℕ) (later : ReadingState) →
-    is_text word (codes "sites") ≡ sites →
-    after_value subject (if sites then when (has_sites subject.name) (record given { sites = true })
-    else with_lines subject.name given (lines_in word)) ≡ Some later →
-    ValueRead subject given keys.Show word later
-shown-found true subject given word later e h =
-    sites-tested (has_sites subject.name) subject given word later e refl h
-shown-found false subject given word later e h =
-    lines-found (lines_in word) subject given word later refl h
-
-script-tested : (b : Bool) (subject : Subject) (given : Given) (word : List ℕ) (later : ReadingState) →
-    is_file_name word ≡ b →
-    after_value subject (when b (record given { schedule = Some (by_script word) })) ≡ Some later →
-    ValueRead subject given keys.Script word later
-script-tested true subject given word later t h =
-    record { setting = script_from word; key_is = refl; word_is = refl; allowed = t; after_is = cc }
-script-tested false subject given word later t h = absurd (cc)
-
-seed-found : (found : Option ℕ) (subject : Subject) (given : Given) (word : List ℕ) (later : ReadingState) →
-    number_in most_seed word ≡ found → after_value subject (with_seed given found) ≡ Some later →
-    ValueRead subject given keys.Seed word later
-seed-found None subject given word later e h = absurd (cc)
-seed-found (Some number) subject given word later e h =
-    let n = number-test most_seed word number e in
-    record { setting = seed_from word; key_is = refl; word_is = refl; allowed = n.0; after_is = cc (n.1) }
+one-word : (word other : List ℕ) → word ≡ other → other ∷ [] ≡ word ∷ []
+one-word word other same = ap (λ (w : List ℕ). w ∷ []) (sym same)
 
 pub value-read : (key : Key) (subject : Subject) (given : Given) (word : List ℕ) (later : ReadingState) →
     follow (valued subject given key) word ≡ Some later → ValueRead subject given key word later
 unfolding follow with_value
 value-read keys.Limit subject given word later h =
-    limit-found (number_in most_limit word) subject given word later refl h
+    value-found (amount_in 0 (most_limit_of subject.name) word) (λ n. record given { limit = Some n }) (λ n. limit_to word)
+    subject given keys.Limit word later
+    (λ n e. let t = amount-test 0 (most_limit_of subject.name) word n e in
+    record { key_is = refl; word_is = refl; allowed = t.0; more_is = ap (λ (m : ℕ). record given { limit = Some m }) t.1 }) h
+value-read keys.Every subject given word later h =
+    value-found (amount_in 1 most_limit word) (λ n. record given { every = Some n }) (λ n. say_every word)
+    subject given keys.Every word later
+    (λ n e. let t = amount-test 1 most_limit word n e in
+    record { key_is = refl; word_is = refl; allowed = t.0; more_is = ap (λ (m : ℕ). record given { every = Some m }) t.1 }) h
 value-read keys.Show subject given word later h =
-    shown-found (is_text word (codes "sites")) subject given word later refl h
+    value-found (shown_by subject.name (shown_in word)) (λ shown. record given { show = Some shown }) show_of
+    subject given keys.Show word later
+    (λ shown e. let t = shown-test subject.name (shown_in word) shown e in
+    record { key_is = refl; word_is = one-word word (show_word shown) (shown-read word shown t.0); allowed = t.1; more_is = refl }) h
 value-read keys.Script subject given word later h =
-    script-tested (is_file_name word) subject given word later refl h
+    file-found (is_file_name word) (record given { script = Some word }) (script_from word) subject given keys.Script word later
+    (λ t. record { key_is = refl; word_is = refl; allowed = t; more_is = refl }) h
 value-read keys.Seed subject given word later h =
-    seed-found (number_in most_seed word) subject given word later refl h
+    value-found (number_in most_seed word) (λ n. record given { seed = Some n }) (λ n. seed_from word)
+    subject given keys.Seed word later
+    (λ n e. let t = number-test most_seed word n e in
+    record { key_is = refl; word_is = refl; allowed = t.0; more_is = ap (λ (m : ℕ). record given { seed = Some m }) t.1 }) h
+value-read keys.Guess subject given word later h =
+    value-found (rule_in word) (λ rule. record given { guess = Some rule }) guess_by subject given keys.Guess word later
+    (λ rule e. record { key_is = refl; word_is = one-word word (rule_word rule) (rule-read word rule e); allowed = refl; more_is = refl }) h
+value-read keys.Input subject given word later h =
+    file-found (is_file_name word) (record given { input = Some word }) (input_from word) subject given keys.Input word later
+    (λ t. record { key_is = refl; word_is = refl; allowed = t; more_is = refl }) h
+value-read keys.Issues subject given word later h =
+    value-found (positive_in most_issues word) (λ n. record given { issues = Some n }) (λ n. issue_at_most word)
+    subject given keys.Issues word later
+    (λ n e. let t = positive-test most_issues word n e in
+    record { key_is = refl; word_is = refl; allowed = t.0; more_is = ap (λ (m : ℕ). record given { issues = Some m }) t.1 }) h
+value-read keys.States subject given word later h =
+    value-found (positive_in most_states word) (λ n. record given { states = Some n }) (λ n. reach_at_most word)
+    subject given keys.States word later
+    (λ n e. let t = positive-test most_states word n e in
+    record { key_is = refl; word_is = refl; allowed = t.0; more_is = ap (λ (m : ℕ). record given { states = Some m }) t.1 }) h
+value-read keys.Without subject given word later h =
+    value-found (rule_named word) (λ rule. record given { without = Some rule }) do_without subject given keys.Without word later
+    (λ rule e. record { key_is = refl; word_is = one-word word (name_of rule) (sym (named_once word rule e)); allowed = refl; more_is = refl }) h
 value-read keys.Mul subject given word later h = absurd (cc)
 value-read keys.Run subject given word later h = absurd (cc)
 
@@ -292,31 +341,51 @@ number-is : (most : ℕ) (word : List ℕ) → is_number most word ≡ true →
 unfolding number_in
 number-is most word h = rw h
 
-pub limit-follows : (subject : Subject) (given : Given) (word : List ℕ) →
-    is_number most_limit word ≡ true →
-    follow (valued subject given keys.Limit) word ≡ Some (options subject (put given (limit_to word)))
-unfolding follow with_value
-limit-follows subject given word h = rw (number-is most_limit word h)
+positive-is : (most : ℕ) (word : List ℕ) → is_positive most word ≡ true →
+    positive_in most word ≡ Some (digits_value 10 word)
+unfolding positive_in
+positive-is most word h = rw h
 
-pub seed-follows : (subject : Subject) (given : Given) (word : List ℕ) →
-    is_number most_seed word ≡ true →
-    follow (valued subject given keys.Seed) word ≡ Some (options subject (put given (seed_from word)))
-unfolding follow with_value
-seed-follows subject given word h = rw (number-is most_seed word h)
+amount-is : (least most : ℕ) (word : List ℕ) → is_within least most word ≡ true →
+    amount_in least most word ≡ Some (amount_of word)
+unfolding amount_in
+amount-is least most word h = rw h
 
-pub lines-follow : (subject : Subject) (given : Given) (lines : Show) →
-    has_lines subject.name lines ≡ true →
-    follow (valued subject given keys.Show) (show_word lines) ≡ Some
-    (options subject (put given (show_lines lines)))
-unfolding follow with_value
-lines-follow subject given lines h = rw (lines-no-sites lines, lines-written lines, h)
+-- an option that has a value
+abbrev pub has_value : Key → Bool
+has_value keys.Mul = false
+has_value keys.Run = false
+has_value _ = true
 
-pub script-follows : (subject : Subject) (given : Given) (word : List ℕ) → is_file_name word ≡ true →
-    follow (valued subject given keys.Script) word ≡ Some (options subject (put given (script_from word)))
-unfolding follow with_value
-script-follows subject given word h = rw h
+-- the value's word
+abbrev pub value_of : Setting → List ℕ
+value_of (limit_to amount) = amount
+value_of (say_every amount) = amount
+value_of (show_of shown) = show_word shown
+value_of (script_from file) = file
+value_of (seed_from digits) = digits
+value_of (guess_by rule) = rule_word rule
+value_of (input_from file) = file
+value_of (issue_at_most digits) = digits
+value_of (reach_at_most digits) = digits
+value_of (do_without rule) = name_of rule
+value_of with_mul = []
+value_of with_run = []
 
-pub sites-follow : (subject : Subject) (given : Given) → has_sites subject.name ≡ true →
-    follow (valued subject given keys.Show) (codes "sites") ≡ Some (options subject (put given show_sites))
+-- a value that the option may have is read as it is written
+pub value-follows : (setting : Setting) (subject : Subject) (given : Given) → has_value (key_of setting) ≡ true →
+    is_value subject.name setting ≡ true →
+    follow (valued subject given (key_of setting)) (value_of setting) ≡ Some (options subject (put given setting))
 unfolding follow with_value
-sites-follow subject given h = rw h
+value-follows (limit_to amount) subject given value h = rw (amount-is 0 (most_limit_of subject.name) amount h)
+value-follows (say_every amount) subject given value h = rw (amount-is 1 most_limit amount h)
+value-follows (show_of shown) subject given value h = rw (shown-written shown, h)
+value-follows (script_from file) subject given value h = rw h
+value-follows (seed_from digits) subject given value h = rw (number-is most_seed digits h)
+value-follows (guess_by rule) subject given value h = rw (rule-written rule)
+value-follows (input_from file) subject given value h = rw h
+value-follows (issue_at_most digits) subject given value h = rw (positive-is most_issues digits h)
+value-follows (reach_at_most digits) subject given value h = rw (positive-is most_states digits h)
+value-follows (do_without rule) subject given value h = rw (named rule)
+value-follows with_mul subject given value h = absurd (cc)
+value-follows with_run subject given value h = absurd (cc)

@@ -2,15 +2,17 @@
 use Rattle.std.proofs.Common.{◌≡◌, ℕ, List, codes, Bool, true, false, Option, Some, None, refl, sym, ap, ◌∙◌}
 use Rattle.std.specs.Prelude.{if◌then◌else◌}
 use lib.Pointwise.{bytes_decides}
-use Rattle.run_options.specs.declared.show.Show.{Show}
-use Rattle.run_options.specs.declared.show.Show.TheVariants as shows
+use Rattle.run_options.specs.declared.guess_rule.GuessRule.{GuessRule}
+use Rattle.run_options.specs.declared.guess_rule.GuessRule.TheVariants as rules
 use Rattle.cli_arguments.specs.declared.names.CommandName.{CommandName}
 use Rattle.cli_arguments.specs.declared.names.CommandName.TheVariants as names
 use Rattle.cli_arguments.specs.declared.options.Key.{Key}
 use Rattle.cli_arguments.specs.declared.options.Key.TheVariants as keys
-use Rattle.cli_arguments.specs.Commands.{word_of}
-use Rattle.cli_arguments.specs.Options.{key_word, show_word}
-use Rattle.cli_arguments.specs.Reading.{is_text, name_in, key_in, lines_in}
+use Rattle.cli_arguments.specs.declared.shown.Shown.{Shown}
+use Rattle.cli_arguments.specs.declared.shown.Shown.TheVariants as shows
+use Rattle.cli_arguments.specs.Commands.{word_of, is_text, name_in}
+use Rattle.cli_arguments.specs.Options.{key_word, show_word, rule_word}
+use Rattle.cli_arguments.specs.Reading.{key_in, shown_in, rule_in}
 
 -- a word that passes the test is the text
 pub is-text : (word text : List ℕ) → is_text word text ≡ true → word ≡ text
@@ -40,6 +42,8 @@ name-read word =
     (first-named word (codes "run") word_of names.Run _ refl
     (first-named word (codes "moves") word_of names.Moves _ refl
     (first-named word (codes "rounds") word_of names.Rounds _ refl
+    (first-named word (codes "orders") word_of names.Orders _ refl
+    (first-named word (codes "conform") word_of names.Conform _ refl
     (first-named word (codes "debug") word_of names.Debug _ refl
     (first-named word (codes "time") word_of names.Time _ refl
     (first-named word (codes "audit") word_of names.Audit _ refl
@@ -49,8 +53,10 @@ name-read word =
     (first-named word (codes "gen") word_of names.Gen _ refl
     (first-named word (codes "help") word_of names.Help _ refl
     (first-named word (codes "--help") word_of names.HelpOption _ refl
+    (first-named word (codes "-h") word_of names.HelpLetter _ refl
     (first-named word (codes "--version") word_of names.Version _ refl
-    (none-named word word_of))))))))))))))
+    (first-named word (codes "-V") word_of names.VersionLetter _ refl
+    (none-named word word_of))))))))))))))))))
 
 pub name-written : (name : CommandName) → name_in (word_of name) ≡ Some name
 unfolding name_in
@@ -58,6 +64,8 @@ name-written names.Machine = refl
 name-written names.Run = refl
 name-written names.Moves = refl
 name-written names.Rounds = refl
+name-written names.Orders = refl
+name-written names.Conform = refl
 name-written names.Debug = refl
 name-written names.Time = refl
 name-written names.Audit = refl
@@ -67,44 +75,74 @@ name-written names.List = refl
 name-written names.Gen = refl
 name-written names.Help = refl
 name-written names.HelpOption = refl
+name-written names.HelpLetter = refl
 name-written names.Version = refl
+name-written names.VersionLetter = refl
 
 pub key-read : (word : List ℕ) (key : Key) → key_in word ≡ Some key → word ≡ key_word key
 unfolding key_in
 key-read word =
     first-named word (codes "--limit") key_word keys.Limit _ refl
+    (first-named word (codes "--every") key_word keys.Every _ refl
     (first-named word (codes "--show") key_word keys.Show _ refl
     (first-named word (codes "--script") key_word keys.Script _ refl
     (first-named word (codes "--seed") key_word keys.Seed _ refl
+    (first-named word (codes "--guess") key_word keys.Guess _ refl
+    (first-named word (codes "--input") key_word keys.Input _ refl
+    (first-named word (codes "--issues") key_word keys.Issues _ refl
+    (first-named word (codes "--states") key_word keys.States _ refl
+    (first-named word (codes "--without") key_word keys.Without _ refl
     (first-named word (codes "--mul") key_word keys.Mul _ refl
     (first-named word (codes "--run") key_word keys.Run _ refl
-    (none-named word key_word))))))
+    (none-named word key_word))))))))))))
 
 pub key-written : (key : Key) → key_in (key_word key) ≡ Some key
 unfolding key_in
 key-written keys.Limit = refl
+key-written keys.Every = refl
 key-written keys.Show = refl
 key-written keys.Script = refl
 key-written keys.Seed = refl
+key-written keys.Guess = refl
+key-written keys.Input = refl
+key-written keys.Issues = refl
+key-written keys.States = refl
+key-written keys.Without = refl
 key-written keys.Mul = refl
 key-written keys.Run = refl
 
-pub lines-read : (word : List ℕ) (lines : Show) → lines_in word ≡ Some lines → word ≡ show_word lines
-unfolding lines_in
-lines-read word =
+pub shown-read : (word : List ℕ) (shown : Shown) → shown_in word ≡ Some shown → word ≡ show_word shown
+unfolding shown_in
+shown-read word =
     first-named word (codes "report") show_word shows.Report _ refl
     (first-named word (codes "retired") show_word shows.Retired _ refl
     (first-named word (codes "moves") show_word shows.Moves _ refl
-    (none-named word show_word)))
+    (first-named word (codes "sites") show_word shows.Sites _ refl
+    (first-named word (codes "edges") show_word shows.Edges _ refl
+    (none-named word show_word)))))
 
-pub lines-written : (lines : Show) → lines_in (show_word lines) ≡ Some lines
-unfolding lines_in
-lines-written shows.Report = refl
-lines-written shows.Retired = refl
-lines-written shows.Moves = refl
+pub shown-written : (shown : Shown) → shown_in (show_word shown) ≡ Some shown
+unfolding shown_in
+shown-written shows.Report = refl
+shown-written shows.Retired = refl
+shown-written shows.Moves = refl
+shown-written shows.Sites = refl
+shown-written shows.Edges = refl
 
--- none of them asks what a time is made of
-pub lines-no-sites : (lines : Show) → is_text (show_word lines) (codes "sites") ≡ false
-lines-no-sites shows.Report = refl
-lines-no-sites shows.Retired = refl
-lines-no-sites shows.Moves = refl
+pub rule-read : (word : List ℕ) (rule : GuessRule) → rule_in word ≡ Some rule → word ≡ rule_word rule
+unfolding rule_in
+rule-read word =
+    first-named word (codes "any") rule_word rules.Any _ refl
+    (first-named word (codes "next") rule_word rules.Next _ refl
+    (first-named word (codes "taken") rule_word rules.Taken _ refl
+    (first-named word (codes "backward") rule_word rules.Backward _ refl
+    (first-named word (codes "wait") rule_word rules.Wait _ refl
+    (none-named word rule_word)))))
+
+pub rule-written : (rule : GuessRule) → rule_in (rule_word rule) ≡ Some rule
+unfolding rule_in
+rule-written rules.Any = refl
+rule-written rules.Next = refl
+rule-written rules.Taken = refl
+rule-written rules.Backward = refl
+rule-written rules.Wait = refl

@@ -1,57 +1,92 @@
 -- The options of the project's command line: how each is written, which commands have it, and what it gives.
-use Rattle.std.specs.Prelude.{◌≢◌, ℕ, List, [], ◌∷◌, ◌++◌, codes, Bool, true, false, ◌&&◌, Option, Some, None}
+use Rattle.std.specs.Prelude.{◌≡◌, ℕ, List, [], ◌∷◌, ◌++◌, codes, Bool, true, false, ◌&&◌, Option, Some, None}
 use Rattle.std.specs.Str.Parse.{digits_value}
-use Rattle.run_options.specs.Limits.{most_limit}
-use Rattle.run_options.specs.declared.show.Show.{Show}
-use Rattle.run_options.specs.declared.show.Show.TheVariants as shows
+use Rattle.run_options.specs.Limits.{most_issues, most_limit, most_states, most_timed_limit}
+use Rattle.run_options.specs.declared.guess_rule.GuessRule.{GuessRule}
+use Rattle.run_options.specs.declared.guess_rule.GuessRule.TheVariants as rules
+use Rattle.order_rules.specs.declared.rule.Rule.{Rule}
+use Rattle.order_rules.specs.Rules.{name_of}
 use Rattle.cli_arguments.specs.declared.names.CommandName.{CommandName}
 use Rattle.cli_arguments.specs.declared.names.CommandName.TheVariants as names
 use Rattle.cli_arguments.specs.declared.options.Key.{Key}
 use Rattle.cli_arguments.specs.declared.options.Key.TheVariants as keys
-use Rattle.cli_arguments.specs.Values.{is_file_name, is_number}
+use Rattle.cli_arguments.specs.declared.shown.Shown.{Shown}
+use Rattle.cli_arguments.specs.declared.shown.Shown.TheVariants as shows
+use Rattle.cli_arguments.specs.Values.{amount_of, is_file_name, is_number, is_positive, is_within}
 
 -- an option, with the value of those that have one
 pub data Setting : Type 0 where
-  limit_to : (digits : List ℕ) → Setting
-  show_lines : Show → Setting
-  show_sites : Setting
+  limit_to : (amount : List ℕ) → Setting
+  say_every : (amount : List ℕ) → Setting
+  show_of : Shown → Setting
   script_from : (file : List ℕ) → Setting
   seed_from : (digits : List ℕ) → Setting
+  guess_by : GuessRule → Setting
+  input_from : (file : List ℕ) → Setting
+  issue_at_most : (digits : List ℕ) → Setting
+  reach_at_most : (digits : List ℕ) → Setting
+  do_without : Rule → Setting
   with_mul : Setting
   with_run : Setting
 
 -- which option it is
 abbrev pub key_of : Setting → Key
-key_of (limit_to digits) = keys.Limit
-key_of (show_lines lines) = keys.Show
-key_of show_sites = keys.Show
+key_of (limit_to amount) = keys.Limit
+key_of (say_every amount) = keys.Every
+key_of (show_of shown) = keys.Show
 key_of (script_from file) = keys.Script
 key_of (seed_from digits) = keys.Seed
+key_of (guess_by rule) = keys.Guess
+key_of (input_from file) = keys.Input
+key_of (issue_at_most digits) = keys.Issues
+key_of (reach_at_most digits) = keys.States
+key_of (do_without rule) = keys.Without
 key_of with_mul = keys.Mul
 key_of with_run = keys.Run
 
 -- the option's own word
 abbrev pub key_word : Key → List ℕ
 key_word keys.Limit = codes "--limit"
+key_word keys.Every = codes "--every"
 key_word keys.Show = codes "--show"
 key_word keys.Script = codes "--script"
 key_word keys.Seed = codes "--seed"
+key_word keys.Guess = codes "--guess"
+key_word keys.Input = codes "--input"
+key_word keys.Issues = codes "--issues"
+key_word keys.States = codes "--states"
+key_word keys.Without = codes "--without"
 key_word keys.Mul = codes "--mul"
 key_word keys.Run = codes "--run"
 
--- the word for what is shown of a run
-abbrev pub show_word : Show → List ℕ
+-- the word for what is shown
+abbrev pub show_word : Shown → List ℕ
 show_word shows.Report = codes "report"
 show_word shows.Retired = codes "retired"
 show_word shows.Moves = codes "moves"
+show_word shows.Sites = codes "sites"
+show_word shows.Edges = codes "edges"
+
+-- the word for a guess rule
+abbrev pub rule_word : GuessRule → List ℕ
+rule_word rules.Any = codes "any"
+rule_word rules.Next = codes "next"
+rule_word rules.Taken = codes "taken"
+rule_word rules.Backward = codes "backward"
+rule_word rules.Wait = codes "wait"
 
 -- the value is one word after it; `--mul` and `--run` have none
 abbrev pub value_words : Setting → List (List ℕ)
-value_words (limit_to digits) = digits ∷ []
-value_words (show_lines lines) = show_word lines ∷ []
-value_words show_sites = codes "sites" ∷ []
+value_words (limit_to amount) = amount ∷ []
+value_words (say_every amount) = amount ∷ []
+value_words (show_of shown) = show_word shown ∷ []
 value_words (script_from file) = file ∷ []
 value_words (seed_from digits) = digits ∷ []
+value_words (guess_by rule) = rule_word rule ∷ []
+value_words (input_from file) = file ∷ []
+value_words (issue_at_most digits) = digits ∷ []
+value_words (reach_at_most digits) = digits ∷ []
+value_words (do_without rule) = name_of rule ∷ []
 value_words with_mul = []
 value_words with_run = []
 
@@ -63,47 +98,79 @@ written (setting ∷ settings) = key_word (key_of setting) ∷ (value_words sett
 -- the options of each command
 abbrev pub takes_key : CommandName → Key → Bool
 takes_key names.Machine keys.Limit = true
+takes_key names.Machine keys.Every = true
 takes_key names.Machine keys.Show = true
 takes_key names.Machine keys.Mul = true
 takes_key names.Run keys.Limit = true
+takes_key names.Run keys.Every = true
 takes_key names.Run keys.Show = true
 takes_key names.Run keys.Script = true
 takes_key names.Run keys.Seed = true
+takes_key names.Run keys.Guess = true
 takes_key names.Moves keys.Limit = true
+takes_key names.Moves keys.Every = true
 takes_key names.Moves keys.Script = true
 takes_key names.Rounds keys.Limit = true
+takes_key names.Rounds keys.Every = true
+takes_key names.Rounds keys.Guess = true
+takes_key names.Orders keys.Issues = true
+takes_key names.Orders keys.States = true
+takes_key names.Orders keys.Without = true
+takes_key names.Orders keys.Show = true
+takes_key names.Conform keys.Limit = true
 takes_key names.Time keys.Limit = true
 takes_key names.Time keys.Show = true
+takes_key names.Time keys.Seed = true
+takes_key names.Time keys.Guess = true
+takes_key names.Time keys.Input = true
 takes_key names.Gen keys.Run = true
 takes_key _ _ = false
 
--- what each command can show of a run: only a run of the processor has moves
-abbrev pub has_lines : CommandName → Show → Bool
-has_lines names.Run lines = true
-has_lines names.Machine shows.Report = true
-has_lines names.Machine shows.Retired = true
-has_lines _ _ = false
-
--- whether a command can show what a time is made of
-abbrev pub has_sites : CommandName → Bool
-has_sites names.Time = true
-has_sites _ = false
+-- what each command can show: only a run of the processor has moves, only a time is made of parts, and only a search has
+-- edges
+abbrev pub can_show : CommandName → Shown → Bool
+can_show names.Run shows.Report = true
+can_show names.Run shows.Retired = true
+can_show names.Run shows.Moves = true
+can_show names.Machine shows.Report = true
+can_show names.Machine shows.Retired = true
+can_show names.Time shows.Sites = true
+can_show names.Time shows.Moves = true
+can_show names.Orders shows.Edges = true
+can_show _ _ = false
 
 -- the limit where none is given
 abbrev pub default_limit : ℕ
 default_limit = 10000000
 
+-- how many issues and states a search has at most where no numbers are given
+abbrev pub default_issues : ℕ
+default_issues = 3
+
+abbrev pub default_states : ℕ
+default_states = 1000000
+
 -- the greatest seed
 abbrev pub most_seed : ℕ
 most_seed = 4294967295
 
+-- the greatest limit of each command
+abbrev pub most_limit_of : CommandName → ℕ
+most_limit_of names.Time = most_timed_limit
+most_limit_of _ = most_limit
+
 -- a value that the option may have
 abbrev pub is_value : CommandName → Setting → Bool
-is_value name (limit_to digits) = is_number most_limit digits
-is_value name (show_lines lines) = has_lines name lines
-is_value name show_sites = has_sites name
+is_value name (limit_to amount) = is_within 0 (most_limit_of name) amount
+is_value name (say_every amount) = is_within 1 most_limit amount
+is_value name (show_of shown) = can_show name shown
 is_value name (script_from file) = is_file_name file
 is_value name (seed_from digits) = is_number most_seed digits
+is_value name (guess_by rule) = true
+is_value name (input_from file) = is_file_name file
+is_value name (issue_at_most digits) = is_positive most_issues digits
+is_value name (reach_at_most digits) = is_positive most_states digits
+is_value name (do_without rule) = true
 is_value name with_mul = true
 is_value name with_run = true
 
@@ -111,63 +178,102 @@ is_value name with_run = true
 abbrev pub takes : CommandName → Setting → Bool
 takes name setting = takes_key name (key_of setting) && is_value name setting
 
--- what options settle
-pub data Matter : Type 0 where
-  limits : Matter
-  showing : Matter
-  schedules : Matter
-  multiplies : Matter
-  running : Matter
+-- which options exclude each other: each excludes itself, a script excludes a seed, and a script excludes a guess rule
+abbrev pub excludes : Key → Key → Bool
+excludes keys.Limit keys.Limit = true
+excludes keys.Every keys.Every = true
+excludes keys.Show keys.Show = true
+excludes keys.Script keys.Script = true
+excludes keys.Script keys.Seed = true
+excludes keys.Script keys.Guess = true
+excludes keys.Seed keys.Script = true
+excludes keys.Seed keys.Seed = true
+excludes keys.Guess keys.Script = true
+excludes keys.Guess keys.Guess = true
+excludes keys.Input keys.Input = true
+excludes keys.Issues keys.Issues = true
+excludes keys.States keys.States = true
+excludes keys.Without keys.Without = true
+excludes keys.Mul keys.Mul = true
+excludes keys.Run keys.Run = true
+excludes _ _ = false
 
--- each option settles one matter; a script and a seed both settle the schedule
-abbrev pub matter_of : Key → Matter
-matter_of keys.Limit = limits
-matter_of keys.Show = showing
-matter_of keys.Script = schedules
-matter_of keys.Seed = schedules
-matter_of keys.Mul = multiplies
-matter_of keys.Run = running
+-- the option excludes none of these
+abbrev pub Without : Key → List Setting → Type 0
+Without key [] = Unit {0}
+Without key (setting ∷ settings) = (excludes key (key_of setting) ≡ false) × Without key settings
 
--- none of these options settles the matter
-abbrev pub Without : Matter → List Setting → Type 0
-Without matter [] = Unit {0}
-Without matter (setting ∷ settings) = (matter_of (key_of setting) ≢ matter) × Without matter settings
-
--- nothing is settled twice: no option occurs twice, and a script excludes a seed
+-- none of the options excludes a later one
 abbrev pub NoneTwice : List Setting → Type 0
 NoneTwice [] = Unit {0}
-NoneTwice (setting ∷ settings) = Without (matter_of (key_of setting)) settings × NoneTwice settings
+NoneTwice (setting ∷ settings) = Without (key_of setting) settings × NoneTwice settings
 
--- what chooses the moves of a run: the script in a file, a seed from which they are drawn, or the fixed rule
+-- what chooses the moves of a run: the script in a file, a seed from which they are drawn, or the fixed rule; the latter
+-- two of the moves that a guess rule keeps
 pub data Schedule : Type 0 where
   by_script : (file : List ℕ) → Schedule
-  by_seed : (seed : ℕ) → Schedule
-  by_rule : Schedule
+  by_seed : (seed : ℕ) → GuessRule → Schedule
+  by_rule : GuessRule → Schedule
 
 -- the limit among some options
 abbrev pub limit_in : List Setting → Option ℕ
 limit_in [] = None
-limit_in (limit_to digits ∷ settings) = Some (digits_value 10 digits)
+limit_in (limit_to amount ∷ settings) = Some (amount_of amount)
 limit_in (_ ∷ settings) = limit_in settings
 
--- what is shown of a run
-abbrev pub show_in : List Setting → Option Show
+-- after how many retired instructions it is said each time how far the run has come
+abbrev pub every_in : List Setting → Option ℕ
+every_in [] = None
+every_in (say_every amount ∷ settings) = Some (amount_of amount)
+every_in (_ ∷ settings) = every_in settings
+
+-- what is shown
+abbrev pub show_in : List Setting → Option Shown
 show_in [] = None
-show_in (show_lines lines ∷ settings) = Some lines
+show_in (show_of shown ∷ settings) = Some shown
 show_in (_ ∷ settings) = show_in settings
 
--- the schedule
-abbrev pub schedule_in : List Setting → Option Schedule
-schedule_in [] = None
-schedule_in (script_from file ∷ settings) = Some (by_script file)
-schedule_in (seed_from digits ∷ settings) = Some (by_seed (digits_value 10 digits))
-schedule_in (_ ∷ settings) = schedule_in settings
+-- the file of the script
+abbrev pub script_in : List Setting → Option (List ℕ)
+script_in [] = None
+script_in (script_from file ∷ settings) = Some file
+script_in (_ ∷ settings) = script_in settings
 
--- whether it is asked what a time is made of
-abbrev pub sites_in : List Setting → Bool
-sites_in [] = false
-sites_in (show_sites ∷ settings) = true
-sites_in (_ ∷ settings) = sites_in settings
+-- the seed
+abbrev pub seed_in : List Setting → Option ℕ
+seed_in [] = None
+seed_in (seed_from digits ∷ settings) = Some (digits_value 10 digits)
+seed_in (_ ∷ settings) = seed_in settings
+
+-- the guess rule
+abbrev pub guess_in : List Setting → Option GuessRule
+guess_in [] = None
+guess_in (guess_by rule ∷ settings) = Some rule
+guess_in (_ ∷ settings) = guess_in settings
+
+-- the file of the guest's input
+abbrev pub input_in : List Setting → Option (List ℕ)
+input_in [] = None
+input_in (input_from file ∷ settings) = Some file
+input_in (_ ∷ settings) = input_in settings
+
+-- how many issues a search makes at most
+abbrev pub issues_in : List Setting → Option ℕ
+issues_in [] = None
+issues_in (issue_at_most digits ∷ settings) = Some (digits_value 10 digits)
+issues_in (_ ∷ settings) = issues_in settings
+
+-- how many states it reaches at most
+abbrev pub states_in : List Setting → Option ℕ
+states_in [] = None
+states_in (reach_at_most digits ∷ settings) = Some (digits_value 10 digits)
+states_in (_ ∷ settings) = states_in settings
+
+-- the rule that is taken away
+abbrev pub without_in : List Setting → Option Rule
+without_in [] = None
+without_in (do_without rule ∷ settings) = Some rule
+without_in (_ ∷ settings) = without_in settings
 
 -- whether `--mul` is there
 abbrev pub mul_in : List Setting → Bool
@@ -184,9 +290,15 @@ run_in (_ ∷ settings) = run_in settings
 -- all that options give
 pub record Given : Type 0 where
   pub limit : Option ℕ
-  pub show : Option Show
-  pub sites : Bool
-  pub schedule : Option Schedule
+  pub every : Option ℕ
+  pub show : Option Shown
+  pub script : Option (List ℕ)
+  pub seed : Option ℕ
+  pub guess : Option GuessRule
+  pub input : Option (List ℕ)
+  pub issues : Option ℕ
+  pub states : Option ℕ
+  pub without : Option Rule
   pub mul : Bool
   pub run : Bool
 
@@ -194,9 +306,15 @@ pub record Given : Type 0 where
 abbrev pub given_in : List Setting → Given
 given_in settings = record {
   limit = limit_in settings;
+  every = every_in settings;
   show = show_in settings;
-  sites = sites_in settings;
-  schedule = schedule_in settings;
+  script = script_in settings;
+  seed = seed_in settings;
+  guess = guess_in settings;
+  input = input_in settings;
+  issues = issues_in settings;
+  states = states_in settings;
+  without = without_in settings;
   mul = mul_in settings;
   run = run_in settings;
 }

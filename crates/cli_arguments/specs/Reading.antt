@@ -1,87 +1,93 @@
 -- How the words of the command line are read one by one: what is known after each of them, and which words may follow.
-use Rattle.std.specs.Prelude.{ℕ, ◌+◌, List, codes, take, drop, nat_eq, nat_le, nat_lt, Bool, true, false, not, ◌&&◌, ◌||◌, Option, Some, None, if◌then◌else◌}
-use Rattle.std.specs.Str.Parse.{digits_value}
-use lib.Pointwise.{pointwise}
-use Rattle.run_options.specs.Limits.{most_limit}
-use Rattle.run_options.specs.declared.show.Show.{Show}
-use Rattle.run_options.specs.declared.show.Show.TheVariants as shows
+use Rattle.std.specs.Prelude.{ℕ, ◌+◌, List, codes, take, drop, nat_le, nat_lt, Bool, true, false, not, ◌&&◌, ◌||◌, Option, Some, None, option_map, if◌then◌else◌}
+use Rattle.run_options.specs.Limits.{most_issues, most_limit, most_states}
+use Rattle.run_options.specs.declared.guess_rule.GuessRule.{GuessRule}
+use Rattle.run_options.specs.declared.guess_rule.GuessRule.TheVariants as rules
+use Rattle.order_rules.specs.Rules.{rule_named}
 use Rattle.cli_arguments.specs.declared.names.CommandName.{CommandName}
-use Rattle.cli_arguments.specs.declared.names.CommandName.TheVariants as names
 use Rattle.cli_arguments.specs.declared.options.Key.{Key}
 use Rattle.cli_arguments.specs.declared.options.Key.TheVariants as keys
 use Rattle.cli_arguments.specs.declared.reading.Subject.{Subject}
-use Rattle.cli_arguments.specs.Values.{is_file_name, is_number}
-use Rattle.cli_arguments.specs.Commands.{fewest, most, is_positional}
-use Rattle.cli_arguments.specs.Options.{takes_key, has_lines, has_sites, most_seed, Matter, limits, showing, schedules, multiplies, running, matter_of, by_script, by_seed, Given}
+use Rattle.cli_arguments.specs.declared.shown.Shown.{Shown}
+use Rattle.cli_arguments.specs.declared.shown.Shown.TheVariants as shows
+use Rattle.cli_arguments.specs.Values.{amount_in, is_file_name, number_in, positive_in}
+use Rattle.cli_arguments.specs.Commands.{fewest, most, is_positional, is_text, name_in}
+use Rattle.cli_arguments.specs.Options.{takes_key, can_show, most_limit_of, most_seed, Given}
 use Rattle.cli_arguments.specs.Words.{Asked, asked_by}
-
--- a word that is this text
-abbrev pub is_text : List ℕ → List ℕ → Bool
-is_text word text = pointwise nat_eq word text
-
--- the command that a word names
-unfoldable pub name_in : List ℕ → Option CommandName
-name_in word =
-    if is_text word (codes "machine") then Some names.Machine
-    else if is_text word (codes "run") then Some names.Run
-    else if is_text word (codes "moves") then Some names.Moves
-    else if is_text word (codes "rounds") then Some names.Rounds
-    else if is_text word (codes "debug") then Some names.Debug
-    else if is_text word (codes "time") then Some names.Time
-    else if is_text word (codes "audit") then Some names.Audit
-    else if is_text word (codes "check") then Some names.Check
-    else if is_text word (codes "asm") then Some names.Asm
-    else if is_text word (codes "list") then Some names.List
-    else if is_text word (codes "gen") then Some names.Gen
-    else if is_text word (codes "help") then Some names.Help
-    else if is_text word (codes "--help") then Some names.HelpOption
-    else if is_text word (codes "--version") then Some names.Version
-    else None
 
 -- the option whose own word it is
 unfoldable pub key_in : List ℕ → Option Key
 key_in word =
     if is_text word (codes "--limit") then Some keys.Limit
+    else if is_text word (codes "--every") then Some keys.Every
     else if is_text word (codes "--show") then Some keys.Show
     else if is_text word (codes "--script") then Some keys.Script
     else if is_text word (codes "--seed") then Some keys.Seed
+    else if is_text word (codes "--guess") then Some keys.Guess
+    else if is_text word (codes "--input") then Some keys.Input
+    else if is_text word (codes "--issues") then Some keys.Issues
+    else if is_text word (codes "--states") then Some keys.States
+    else if is_text word (codes "--without") then Some keys.Without
     else if is_text word (codes "--mul") then Some keys.Mul
     else if is_text word (codes "--run") then Some keys.Run
     else None
 
--- what a word asks to be shown of a run
-unfoldable pub lines_in : List ℕ → Option Show
-lines_in word =
+-- what a word asks to be shown
+unfoldable pub shown_in : List ℕ → Option Shown
+shown_in word =
     if is_text word (codes "report") then Some shows.Report
     else if is_text word (codes "retired") then Some shows.Retired
     else if is_text word (codes "moves") then Some shows.Moves
+    else if is_text word (codes "sites") then Some shows.Sites
+    else if is_text word (codes "edges") then Some shows.Edges
     else None
 
--- the number that a word writes, which is at most the given one
-unfoldable pub number_in : ℕ → List ℕ → Option ℕ
-number_in most word = if is_number most word then Some (digits_value 10 word) else None
+-- the guess rule that a word names
+unfoldable pub rule_in : List ℕ → Option GuessRule
+rule_in word =
+    if is_text word (codes "any") then Some rules.Any
+    else if is_text word (codes "next") then Some rules.Next
+    else if is_text word (codes "taken") then Some rules.Taken
+    else if is_text word (codes "backward") then Some rules.Backward
+    else if is_text word (codes "wait") then Some rules.Wait
+    else None
 
 -- no option yet
 abbrev pub nothing_given : Given
-nothing_given =
-    record { limit = None; show = None; sites = false; schedule = None; mul = false; run = false }
+nothing_given = record {
+  limit = None;
+  every = None;
+  show = None;
+  script = None;
+  seed = None;
+  guess = None;
+  input = None;
+  issues = None;
+  states = None;
+  without = None;
+  mul = false;
+  run = false;
+}
 
 -- whether there is a value
 abbrev pub is_there : {A : Type 0} → Option A → Bool
 is_there None = false
 is_there (Some x) = true
 
--- whether a matter is settled already
-abbrev pub is_settled : Given → Matter → Bool
-is_settled given limits = is_there given.limit
-is_settled given showing = is_there given.show || given.sites
-is_settled given schedules = is_there given.schedule
-is_settled given multiplies = given.mul
-is_settled given running = given.run
-
--- whether what an option settles is settled already
+-- whether an option that excludes this one has been given
 abbrev pub has_key : Given → Key → Bool
-has_key given key = is_settled given (matter_of key)
+has_key given keys.Limit = is_there given.limit
+has_key given keys.Every = is_there given.every
+has_key given keys.Show = is_there given.show
+has_key given keys.Script = is_there given.script || (is_there given.seed || is_there given.guess)
+has_key given keys.Seed = is_there given.seed || is_there given.script
+has_key given keys.Guess = is_there given.guess || is_there given.script
+has_key given keys.Input = is_there given.input
+has_key given keys.Issues = is_there given.issues
+has_key given keys.States = is_there given.states
+has_key given keys.Without = is_there given.without
+has_key given keys.Mul = given.mul
+has_key given keys.Run = given.run
 
 -- what is known after the words that were read: nothing yet, a command with that many positional words, options after
 -- them, or an option whose value comes next
@@ -110,14 +116,11 @@ after_name (Some name) = Some (placed (bare name))
 
 -- after an option's own word
 abbrev pub after_key : Subject → Given → Key → ReadingState
-after_key subject given keys.Limit = valued subject given keys.Limit
-after_key subject given keys.Show = valued subject given keys.Show
-after_key subject given keys.Script = valued subject given keys.Script
-after_key subject given keys.Seed = valued subject given keys.Seed
 after_key subject given keys.Mul = options subject (record given { mul = true })
 after_key subject given keys.Run = options subject (record given { run = true })
+after_key subject given key = valued subject given key
 
--- the same, where the command has the option and what it settles is not settled yet
+-- the same, where the command has the option and none that excludes it has been given
 abbrev pub after_option : Subject → Given → Option Key → Option ReadingState
 after_option subject given None = None
 after_option subject given (Some key) =
@@ -134,34 +137,29 @@ after_place subject word =
     else if nat_le (fewest subject.name) subject.count then after_option subject nothing_given (key_in word)
     else None
 
--- what is given with one more value: lines that the command can show
-abbrev pub with_lines : CommandName → Given → Option Show → Option Given
-with_lines name given None = None
-with_lines name given (Some lines) = when (has_lines name lines) (record given { show = Some lines })
+-- what the command can show of it
+abbrev pub shown_by : CommandName → Option Shown → Option Shown
+shown_by name None = None
+shown_by name (Some shown) = when (can_show name shown) shown
 
--- or what a time is made of
-abbrev pub with_shown : CommandName → Given → List ℕ → Option Given
-with_shown name given word =
-    if is_text word (codes "sites") then when (has_sites name) (record given { sites = true })
-    else with_lines name given (lines_in word)
-
--- a limit
-abbrev pub with_limit : Given → Option ℕ → Option Given
-with_limit given None = None
-with_limit given (Some limit) = Some (record given { limit = Some limit })
-
--- a seed
-abbrev pub with_seed : Given → Option ℕ → Option Given
-with_seed given None = None
-with_seed given (Some seed) = Some (record given { schedule = Some (by_seed seed) })
-
--- what is given with the value of an option
+-- what is given with one more value
 unfoldable pub with_value : CommandName → Given → Key → List ℕ → Option Given
-with_value name given keys.Limit word = with_limit given (number_in most_limit word)
-with_value name given keys.Show word = with_shown name given word
-with_value name given keys.Script word =
-    when (is_file_name word) (record given { schedule = Some (by_script word) })
-with_value name given keys.Seed word = with_seed given (number_in most_seed word)
+with_value name given keys.Limit word =
+    option_map (λ limit. record given { limit = Some limit }) (amount_in 0 (most_limit_of name) word)
+with_value name given keys.Every word =
+    option_map (λ every. record given { every = Some every }) (amount_in 1 most_limit word)
+with_value name given keys.Show word = option_map (λ shown. record given { show = Some shown }) (shown_by name (shown_in word))
+with_value name given keys.Script word = when (is_file_name word) (record given { script = Some word })
+with_value name given keys.Seed word =
+    option_map (λ seed. record given { seed = Some seed }) (number_in most_seed word)
+with_value name given keys.Guess word = option_map (λ rule. record given { guess = Some rule }) (rule_in word)
+with_value name given keys.Input word = when (is_file_name word) (record given { input = Some word })
+with_value name given keys.Issues word =
+    option_map (λ issues. record given { issues = Some issues }) (positive_in most_issues word)
+with_value name given keys.States word =
+    option_map (λ states. record given { states = Some states }) (positive_in most_states word)
+with_value name given keys.Without word =
+    option_map (λ rule. record given { without = Some rule }) (rule_named word)
 with_value name given keys.Mul word = None
 with_value name given keys.Run word = None
 

@@ -3,18 +3,26 @@
 
 ghost use Rattle.std.specs.Prelude.{◌≡◌, ◌≤◌, [], ◌∷◌, IfOk, MatchResult, drop, length, map, string_bytes, option_map, take};
 ghost use Rattle.cli_arguments.specs.Options.{Given};
-ghost use Rattle.cli_arguments.specs.Words.{Asks, IsBadAt, IsBounded, asked_by, layout_in};
+ghost use Rattle.cli_arguments.specs.Words.{Asks, IsBadAt, IsBounded, asked_by, layout_in, orders_of, times_of};
 ghost use Rattle.cli_arguments.specs.Reading.{completed};
-ghost use Rattle.cli_arguments.specs.Views.{state_of, given_of, asked_of, layout_of};
+ghost use Rattle.cli_arguments.specs.Views.{state_of, given_of, asked_of, layout_of, times_view};
 
 use crate::names::CommandName;
 use crate::numbers::read_count;
 use crate::options::{Options, Schedule};
 use crate::reading::ArgumentReading;
-use run_options::Show;
+use crate::shown::{lines_of, shows_edges, time_show_of};
+use order_rules::Rule;
+use run_options::{GuessRule, Reporting, Show, TimeShow};
 
 /// The limit where `--limit` is not given.
 pub const DEFAULT_LIMIT: u64 = 10_000_000;
+
+/// How many issues a search makes at most where `--issues` is not given.
+pub const DEFAULT_ISSUES: u32 = 3;
+
+/// How many states a search reaches at most where `--states` is not given.
+pub const DEFAULT_STATES: u32 = 1_000_000;
 
 /// The options of `machine`.
 #[derive(Clone, Copy)]
@@ -25,6 +33,8 @@ pub struct MachineOptions {
     pub show_retired: bool,
     /// Whether multiplication and division are among the instructions.
     pub mul: bool,
+    /// After how many retired instructions it is said each time how far the run has come.
+    pub every: Option<u64>,
 }
 
 /// The options of `run`.
@@ -34,17 +44,36 @@ pub struct RunOptions<'a> {
     pub schedule: Schedule<'a>,
     /// How many instructions are retired at most.
     pub limit: u64,
-    /// What is shown before the closing report.
-    pub show: Show,
+    /// What is written before the closing report.
+    pub reporting: Reporting,
 }
 
 /// The options of `time`.
 #[derive(Clone, Copy)]
-pub struct TimeOptions {
+pub struct TimeOptions<'a> {
     /// How many instructions each run retires at most.
     pub limit: u64,
-    /// Whether it is shown what each time is made of.
-    pub sites: bool,
+    /// Which guesses each run makes.
+    pub rule: GuessRule,
+    /// The seed from which delays are drawn.
+    pub seed: Option<u32>,
+    /// What is shown of each run.
+    pub show: TimeShow,
+    /// The name of the file with the program's input.
+    pub input: Option<&'a str>,
+}
+
+/// The options of `orders`.
+#[derive(Clone, Copy)]
+pub struct OrdersOptions {
+    /// How many issues are made at most.
+    pub issues: u32,
+    /// How many states are reached at most.
+    pub states: u32,
+    /// The rule that is taken away.
+    pub without: Option<Rule>,
+    /// Whether each move of the search is shown, with the states before and after it.
+    pub show_edges: bool,
 }
 
 /// Where a layout is.
@@ -76,9 +105,24 @@ pub enum Command<'a> {
         program: &'a str,
         schedule: Schedule<'a>,
         limit: u64,
+        every: Option<u64>,
     },
     /// Runs the processor in rounds of independent moves.
     Rounds {
+        layout: LayoutWord<'a>,
+        program: &'a str,
+        limit: u64,
+        every: Option<u64>,
+        rule: GuessRule,
+    },
+    /// Searches all orders of the first moves of a program for one that is wrong.
+    Orders {
+        layout: LayoutWord<'a>,
+        program: &'a str,
+        options: OrdersOptions,
+    },
+    /// Goes through the log of a circuit.
+    Conform {
         layout: LayoutWord<'a>,
         program: &'a str,
         limit: u64,
@@ -93,7 +137,7 @@ pub enum Command<'a> {
         delays: &'a str,
         program: &'a str,
         layouts: &'a [String],
-        options: TimeOptions,
+        options: TimeOptions<'a>,
     },
     /// Says whether a recorded trace is that of a run.
     Audit {
@@ -120,6 +164,8 @@ pub enum Command<'a> {
     },
     /// Writes the help text.
     Help,
+    /// Writes the help text of a command.
+    HelpOn(CommandName),
     /// Writes the version.
     Version,
 }
@@ -141,12 +187,16 @@ fn bare<'a>(name: CommandName) -> Option<Command<'a>>
     ensures { (given : Given) → option_map asked_of result ≡ asked_by name [] given }
 {
     match name {
-        CommandName::Help | CommandName::HelpOption => Some(Command::Help),
-        CommandName::Version => Some(Command::Version),
+        CommandName::Help | CommandName::HelpOption | CommandName::HelpLetter => {
+            Some(Command::Help)
+        }
+        CommandName::Version | CommandName::VersionLetter => Some(Command::Version),
         CommandName::Machine
         | CommandName::Run
         | CommandName::Moves
         | CommandName::Rounds
+        | CommandName::Orders
+        | CommandName::Conform
         | CommandName::Debug => None,
         CommandName::Time
         | CommandName::Audit
@@ -166,8 +216,9 @@ fn with_one<'a>(name: CommandName, word: &'a str, options: Options<'a>) -> Optio
             program: word,
             options: MachineOptions {
                 limit: options.limit.unwrap_or(DEFAULT_LIMIT),
-                show_retired: matches!(options.show.unwrap_or(Show::Report), Show::Retired),
+                show_retired: matches!(lines_of(options.show), Show::Retired),
                 mul: options.mul,
+                every: options.every,
             },
         }),
         CommandName::Check => Some(Command::Check {
@@ -182,13 +233,44 @@ fn with_one<'a>(name: CommandName, word: &'a str, options: Options<'a>) -> Optio
                 run: options.run,
             })
         }
+        CommandName::Help => Some(Command::HelpOn(CommandName::from_topic(word)?)),
         CommandName::Run
         | CommandName::Moves
         | CommandName::Rounds
+        | CommandName::Orders
+        | CommandName::Conform
         | CommandName::Debug
         | CommandName::Time
         | CommandName::Audit => None,
-        CommandName::Help | CommandName::HelpOption | CommandName::Version => None,
+        CommandName::HelpOption
+        | CommandName::HelpLetter
+        | CommandName::Version
+        | CommandName::VersionLetter => None,
+    }
+}
+
+/// The options of `orders`.
+fn orders_options(options: Options<'_>) -> OrdersOptions
+    ensures { result ≡ orders_of (given_of options.entry) }
+{
+    OrdersOptions {
+        issues: options.issues.unwrap_or(DEFAULT_ISSUES),
+        states: options.states.unwrap_or(DEFAULT_STATES),
+        without: options.without,
+        show_edges: shows_edges(options.show),
+    }
+}
+
+/// The options of `time`.
+fn time_options<'a>(options: Options<'a>) -> TimeOptions<'a>
+    ensures { times_view result ≡ times_of (given_of options.entry) }
+{
+    TimeOptions {
+        limit: options.limit.unwrap_or(DEFAULT_LIMIT),
+        rule: options.guess.unwrap_or(GuessRule::Any),
+        seed: options.seed,
+        show: time_show_of(options.show),
+        input: options.input,
     }
 }
 
@@ -204,26 +286,43 @@ fn with_two<'a>(
 {
     let layout = LayoutWord::from_word(layout);
     let limit = options.limit.unwrap_or(DEFAULT_LIMIT);
+    let rule = options.guess.unwrap_or(GuessRule::Any);
     match name {
         CommandName::Run => Some(Command::Run {
             layout,
             program,
             options: RunOptions {
-                schedule: options.schedule.unwrap_or(Schedule::Rule),
+                schedule: options.schedule(),
                 limit,
-                show: options.show.unwrap_or(Show::Report),
+                reporting: Reporting {
+                    show: lines_of(options.show),
+                    every: options.every,
+                },
             },
         }),
         CommandName::Moves => {
-            let schedule = options.schedule?;
+            let file = options.script?;
             Some(Command::Moves {
                 layout,
                 program,
-                schedule,
+                schedule: Schedule::Script(file),
                 limit,
+                every: options.every,
             })
         }
         CommandName::Rounds => Some(Command::Rounds {
+            layout,
+            program,
+            limit,
+            every: options.every,
+            rule,
+        }),
+        CommandName::Orders => Some(Command::Orders {
+            layout,
+            program,
+            options: orders_options(options),
+        }),
+        CommandName::Conform => Some(Command::Conform {
             layout,
             program,
             limit,
@@ -235,8 +334,12 @@ fn with_two<'a>(
         | CommandName::Check
         | CommandName::Asm
         | CommandName::List => None,
-        CommandName::Gen | CommandName::Help | CommandName::HelpOption | CommandName::Version =>
-            None,
+        CommandName::Gen
+        | CommandName::Help
+        | CommandName::HelpOption
+        | CommandName::HelpLetter
+        | CommandName::Version
+        | CommandName::VersionLetter => None,
     }
 }
 
@@ -257,10 +360,7 @@ fn with_more<'a>(
             delays: first,
             program,
             layouts,
-            options: TimeOptions {
-                limit: options.limit.unwrap_or(DEFAULT_LIMIT),
-                sites: options.sites,
-            },
+            options: time_options(options),
         }),
         (CommandName::Audit, [trace]) => Some(Command::Audit {
             layout: LayoutWord::from_word(first),
@@ -324,7 +424,7 @@ pub fn read_words(words: &[String]) -> Result<Command<'_>, u32>
     ensures bounded { IfOk result (λ command. IsBounded (asked_of command)) }
 {
     let mut reading = ArgumentReading::Start;
-    // No command has more than twenty-two words, so the index stays small.
+    // No command has more than thirty-four words, so the index stays small.
     let mut index: u32 = 0;
     for word in words {
         let Some(later) = reading.follow(word.as_str()) else {

@@ -1,14 +1,19 @@
 //! The words of the command line: what they ask, or the first of them that has no place.
 #![tactic(auto)]
 
+mod amounts;
 mod command;
 mod names;
 mod numbers;
 mod options;
 mod reading;
+mod shown;
 
 pub use command::{
-    Command, DEFAULT_LIMIT, LayoutWord, MachineOptions, RunOptions, TimeOptions, read_words,
+    Command, DEFAULT_LIMIT, LayoutWord, MachineOptions, OrdersOptions, RunOptions, TimeOptions,
+    read_words,
 };
-pub use options::Schedule;
-pub use run_options::Show;
+pub use names::CommandName;
+pub use options::{Key, Schedule};
+pub use order_rules::Rule;
+pub use run_options::{GuessRule, Reporting, Show, TimeShow};

@@ -1,20 +1,21 @@
 //! The commands by their first words, and which positional words they have.
-#![tactic(auto, unfolding(crate::specs::Commands::is_positional, crate::specs::Reading::name_in))]
+#![tactic(auto, unfolding(crate::specs::Commands::is_positional, crate::specs::Commands::name_in, crate::specs::Commands::topic_in))]
 
 ghost use Rattle.std.specs.Prelude.{◌≡◌};
 ghost use Rattle.cli_arguments.specs.Values.{is_file_name};
-ghost use Rattle.cli_arguments.specs.Commands.{fewest, most, counts, is_positional};
-ghost use Rattle.cli_arguments.specs.Reading.{name_in};
+ghost use Rattle.cli_arguments.specs.Commands.{fewest, has_help, is_of, is_positional, most, name_in, places, topic_in};
 
 use crate::numbers::read_count;
 
 /// The commands.
 #[derive(Clone, Copy)]
-pub(crate) enum CommandName {
+pub enum CommandName {
     Machine,
     Run,
     Moves,
     Rounds,
+    Orders,
+    Conform,
     Debug,
     Time,
     Audit,
@@ -24,7 +25,20 @@ pub(crate) enum CommandName {
     Gen,
     Help,
     HelpOption,
+    HelpLetter,
     Version,
+    VersionLetter,
+}
+
+/// What the positional words of a command are.
+#[derive(Clone, Copy)]
+pub(crate) enum PlaceKind {
+    /// Names of files.
+    Files,
+    /// Numbers of statements.
+    Numbers,
+    /// Commands on which there is help.
+    Topics,
 }
 
 impl CommandName {
@@ -37,6 +51,8 @@ impl CommandName {
             "run" => Some(CommandName::Run),
             "moves" => Some(CommandName::Moves),
             "rounds" => Some(CommandName::Rounds),
+            "orders" => Some(CommandName::Orders),
+            "conform" => Some(CommandName::Conform),
             "debug" => Some(CommandName::Debug),
             "time" => Some(CommandName::Time),
             "audit" => Some(CommandName::Audit),
@@ -46,7 +62,9 @@ impl CommandName {
             "gen" => Some(CommandName::Gen),
             "help" => Some(CommandName::Help),
             "--help" => Some(CommandName::HelpOption),
+            "-h" => Some(CommandName::HelpLetter),
             "--version" => Some(CommandName::Version),
+            "-V" => Some(CommandName::VersionLetter),
             _ => None,
         }
     }
@@ -56,42 +74,86 @@ impl CommandName {
         ensures { result ≡ fewest self }
     {
         match self {
-            CommandName::Help | CommandName::HelpOption | CommandName::Version => 0,
+            CommandName::Help
+            | CommandName::HelpOption
+            | CommandName::HelpLetter
+            | CommandName::Version
+            | CommandName::VersionLetter => 0,
             CommandName::Machine
             | CommandName::Check
             | CommandName::Asm
             | CommandName::List
             | CommandName::Gen => 1,
-            CommandName::Run | CommandName::Moves | CommandName::Rounds | CommandName::Debug => 2,
+            CommandName::Run
+            | CommandName::Moves
+            | CommandName::Rounds
+            | CommandName::Orders
+            | CommandName::Conform
+            | CommandName::Debug => 2,
             CommandName::Time | CommandName::Audit => 3,
         }
     }
 
-    /// How many it has at most: `time` takes up to eight layouts.
+    /// How many it has at most: `time` takes up to eight layouts, and `help` a command's word.
     pub(crate) fn most(self) -> usize
         ensures { result ≡ most self }
     {
         match self {
             CommandName::Time => 10,
+            CommandName::Help => 1,
             name => name.fewest(),
         }
     }
 
-    /// Whether its positional words are numbers, and not the names of files.
-    fn counts(self) -> bool
-        ensures { result ≡ counts self }
+    /// Whether there is help on it: on all but those that are written as options.
+    fn has_help(self) -> bool
+        ensures { result ≡ has_help self }
     {
-        matches!(self, CommandName::Gen)
+        !matches!(
+            self,
+            CommandName::HelpOption
+                | CommandName::HelpLetter
+                | CommandName::Version
+                | CommandName::VersionLetter
+        )
+    }
+
+    /// The command that a word after `help` names.
+    pub(crate) fn from_topic(word: &str) -> Option<Self>
+        ensures { result ≡ topic_in word.now }
+    {
+        let name = CommandName::from_word(word)?;
+        name.has_help().then_some(name)
+    }
+
+    /// What its positional words are.
+    fn places(self) -> PlaceKind
+        ensures { result ≡ places self }
+    {
+        match self {
+            CommandName::Gen => PlaceKind::Numbers,
+            CommandName::Help => PlaceKind::Topics,
+            _ => PlaceKind::Files,
+        }
     }
 
     /// Whether a word may stand among its positional words.
     pub(crate) fn is_positional(self, word: &str) -> bool
         ensures { result ≡ is_positional self word.now }
     {
-        if self.counts() {
-            read_count(word).is_some()
-        } else {
-            is_file_name(word)
+        self.places().has(word)
+    }
+}
+
+impl PlaceKind {
+    /// Whether a word is of this kind.
+    fn has(self, word: &str) -> bool
+        ensures { result ≡ is_of self word.now }
+    {
+        match self {
+            PlaceKind::Files => is_file_name(word),
+            PlaceKind::Numbers => read_count(word).is_some(),
+            PlaceKind::Topics => CommandName::from_topic(word).is_some(),
         }
     }
 }

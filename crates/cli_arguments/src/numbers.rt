@@ -1,11 +1,10 @@
 //! Numbers on the command line.
-#![tactic(auto, unfolding(crate::specs::Reading::number_in), using(crate::proofs::Digits::digits))]
+#![tactic(auto)]
 
-ghost use Rattle.std.specs.Prelude.{◌≡◌, ◌≤◌, IfSome};
+ghost use Rattle.std.specs.Prelude.{◌≡◌, ◌<◌, ◌≤◌, ◌^◌, IfSome};
 ghost use Rattle.std.specs.List.{list_all};
 ghost use Rattle.texts.specs.Bytes.{is_digit};
-ghost use Rattle.cli_arguments.specs.Values.{is_numeral as is_number_word, count_in};
-ghost use Rattle.cli_arguments.specs.Reading.{number_in};
+ghost use Rattle.cli_arguments.specs.Values.{is_numeral as is_number_word, count_in, number_in, numeral_in, positive_in};
 
 /// The longest number: ten decimal digits.
 const MOST_DIGITS: usize = 10;
@@ -19,29 +18,49 @@ fn has_only_digits(word: &str) -> bool
     word.as_bytes().iter().all(|byte| byte.is_ascii_digit())
 }
 
-fn is_numeral(word: &str) -> bool
-    ensures { result ≡ is_number_word word.now }
+fn is_numeral(word: &str, longest: usize) -> bool
+    ensures { result ≡ is_number_word longest word.now }
 {
-    !word.is_empty() && word.len() <= MOST_DIGITS && has_only_digits(word)
+    !word.is_empty() && word.len() <= longest && has_only_digits(word)
+}
+
+/// The number that a word writes in decimal digits, at least one and at most `longest`.
+#[tactic(auto, unfolding(crate::specs::Values::numeral_in), using(crate::proofs::Digits::digits))]
+pub(crate) fn read_numeral(word: &str, longest: usize) -> Option<u64>
+    requires { longest ≤ 10 }
+    ensures number { result ≡ numeral_in longest word.now }
+    ensures within { IfSome result (λ number. number < 10 ^ longest) }
+{
+    if !is_numeral(word, longest) {
+        return None;
+    }
+    word.parse::<u64>().ok()
 }
 
 /// The number that a word writes in 1 to 10 decimal digits, where it is at most `most`.
+#[tactic(auto, unfolding(crate::specs::Values::number_in, crate::specs::Values::numeral_in))]
 pub(crate) fn read_number(word: &str, most: u64) -> Option<u64>
     ensures number { result ≡ number_in most word.now }
     ensures within { IfSome result (λ number. number ≤ most) }
 {
-    if !is_numeral(word) {
-        return None;
-    }
-    let number = word.parse::<u64>().ok()?;
+    let number = read_numeral(word, MOST_DIGITS)?;
     (number <= most).then_some(number)
 }
 
+/// The same, where it is not 0.
+#[tactic(auto, unfolding(crate::specs::Values::positive_in, crate::specs::Values::number_in))]
+pub(crate) fn read_positive(word: &str, most: u64) -> Option<u64>
+    ensures number { result ≡ positive_in most word.now }
+    ensures within { IfSome result (λ number. number ≤ most) }
+{
+    let number = read_number(word, most)?;
+    (number >= 1).then_some(number)
+}
+
 /// The number of statements that a word writes, from 1 to 30,000.
-#[tactic(auto, unfolding(crate::specs::Values::count_in, crate::specs::Reading::number_in))]
 pub(crate) fn read_count(word: &str) -> Option<u32>
     ensures { result ≡ count_in word.now }
 {
-    let number = read_number(word, MOST_STATEMENTS)?;
-    (number >= 1).then_some(number as u32)
+    let number = read_positive(word, MOST_STATEMENTS)?;
+    Some(number as u32)
 }

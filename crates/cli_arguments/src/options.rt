@@ -1,17 +1,31 @@
 //! The options of the commands, and what they give.
-#![tactic(auto, unfolding(crate::specs::Reading::key_in, crate::specs::Reading::lines_in, crate::specs::Reading::with_value))]
+#![tactic(auto, unfolding(crate::specs::Reading::key_in, crate::specs::Reading::rule_in, crate::specs::Reading::with_value))]
 
 ghost use Rattle.std.specs.Prelude.{◌≡◌, option_map};
-ghost use Rattle.cli_arguments.specs.Options.{takes_key, has_lines};
-ghost use Rattle.cli_arguments.specs.Reading.{key_in, lines_in, has_key, nothing_given, with_shown, with_value};
-ghost use Rattle.cli_arguments.specs.Views.{given_of};
+ghost use Rattle.cli_arguments.specs.declared.options.Key.TheVariants as keys;
+ghost use Rattle.cli_arguments.specs.Options.{most_limit_of, takes_key};
+ghost use Rattle.cli_arguments.specs.Reading.{key_in, rule_in, has_key, nothing_given, with_value};
+ghost use Rattle.cli_arguments.specs.Words.{schedule_of};
+ghost use Rattle.cli_arguments.specs.Views.{given_of, schedule_view};
 
+use crate::amounts::read_amount;
 use crate::names::{CommandName, is_file_name};
-use crate::numbers::read_number;
-use run_options::Show;
+use crate::numbers::{read_number, read_positive};
+use crate::shown::Shown;
+use order_rules::Rule;
+use run_options::GuessRule;
 
-/// The greatest number of retired instructions after `--limit`.
-const MOST_LIMIT: u64 = 1_000_000_000;
+/// The greatest number of retired instructions after `--limit` and `--every`.
+const MOST_LIMIT: u64 = 1_000_000_000_000;
+
+/// The same after `--limit` where moves are timed.
+const MOST_TIMED_LIMIT: u64 = 1_000_000_000;
+
+/// The greatest number after `--issues`.
+const MOST_ISSUES: u64 = 64;
+
+/// The greatest number after `--states`.
+const MOST_STATES: u64 = 16_777_216;
 
 /// The greatest seed after `--seed`.
 const MOST_SEED: u64 = 0xFFFF_FFFF;
@@ -21,19 +35,25 @@ const MOST_SEED: u64 = 0xFFFF_FFFF;
 pub enum Schedule<'a> {
     /// The script in a file of this name.
     Script(&'a str),
-    /// They are drawn from this seed.
-    Seed(u32),
-    /// The fixed rule.
-    Rule,
+    /// They are drawn from this seed, of those that the guess rule keeps.
+    Seed(u32, GuessRule),
+    /// The fixed rule, of those that the guess rule keeps.
+    Rule(GuessRule),
 }
 
 /// The options by their own words.
 #[derive(Clone, Copy)]
-pub(crate) enum Key {
+pub enum Key {
     Limit,
+    Every,
     Show,
     Script,
     Seed,
+    Guess,
+    Input,
+    Issues,
+    States,
+    Without,
     Mul,
     Run,
 }
@@ -42,9 +62,15 @@ pub(crate) enum Key {
 #[derive(Clone, Copy)]
 pub(crate) struct Options<'a> {
     pub(crate) limit: Option<u64>,
-    pub(crate) show: Option<Show>,
-    pub(crate) sites: bool,
-    pub(crate) schedule: Option<Schedule<'a>>,
+    pub(crate) every: Option<u64>,
+    pub(crate) show: Option<Shown>,
+    pub(crate) script: Option<&'a str>,
+    pub(crate) seed: Option<u32>,
+    pub(crate) guess: Option<GuessRule>,
+    pub(crate) input: Option<&'a str>,
+    pub(crate) issues: Option<u32>,
+    pub(crate) states: Option<u32>,
+    pub(crate) without: Option<Rule>,
     pub(crate) mul: bool,
     pub(crate) run: bool,
 }
@@ -56,9 +82,15 @@ impl Key {
     {
         match word {
             "--limit" => Some(Key::Limit),
+            "--every" => Some(Key::Every),
             "--show" => Some(Key::Show),
             "--script" => Some(Key::Script),
             "--seed" => Some(Key::Seed),
+            "--guess" => Some(Key::Guess),
+            "--input" => Some(Key::Input),
+            "--issues" => Some(Key::Issues),
+            "--states" => Some(Key::States),
+            "--without" => Some(Key::Without),
             "--mul" => Some(Key::Mul),
             "--run" => Some(Key::Run),
             _ => None,
@@ -70,37 +102,43 @@ impl Key {
         ensures { result ≡ takes_key name self }
     {
         match (name, self) {
-            (CommandName::Machine, Key::Limit | Key::Show | Key::Mul) => true,
-            (CommandName::Run, Key::Limit | Key::Show | Key::Script | Key::Seed) => true,
-            (CommandName::Moves, Key::Limit | Key::Script) => true,
-            (CommandName::Rounds, Key::Limit) => true,
+            (CommandName::Machine, Key::Limit | Key::Every | Key::Show | Key::Mul) => true,
+            (CommandName::Run, Key::Limit | Key::Every | Key::Show) => true,
+            (CommandName::Run, Key::Script | Key::Seed | Key::Guess) => true,
+            (CommandName::Moves, Key::Limit | Key::Every | Key::Script) => true,
+            (CommandName::Rounds, Key::Limit | Key::Every | Key::Guess) => true,
+            (CommandName::Orders, Key::Issues | Key::States | Key::Without | Key::Show) => true,
+            (CommandName::Conform, Key::Limit) => true,
             (CommandName::Time, Key::Limit | Key::Show) => true,
+            (CommandName::Time, Key::Seed | Key::Guess | Key::Input) => true,
             (CommandName::Gen, Key::Run) => true,
             _ => false,
         }
     }
 }
 
-/// What the value of `--show` asks to be shown of a run.
-fn lines_of(word: &str) -> Option<Show>
-    ensures { result ≡ lines_in word.now }
+/// The guess rule that the value of `--guess` names.
+fn rule_of(word: &str) -> Option<GuessRule>
+    ensures { result ≡ rule_in word.now }
 {
     match word {
-        "report" => Some(Show::Report),
-        "retired" => Some(Show::Retired),
-        "moves" => Some(Show::Moves),
+        "any" => Some(GuessRule::Any),
+        "next" => Some(GuessRule::Next),
+        "taken" => Some(GuessRule::Taken),
+        "backward" => Some(GuessRule::Backward),
+        "wait" => Some(GuessRule::Wait),
         _ => None,
     }
 }
 
-/// Whether a command can show this of a run: only a run of the processor has moves.
-fn can_show(name: CommandName, show: Show) -> bool
-    ensures { result ≡ has_lines name show }
+/// The greatest number of retired instructions after `--limit` of a command.
+fn most_limit(name: CommandName) -> u64
+    ensures { result ≡ most_limit_of name }
 {
-    matches!(
-        (name, show),
-        (CommandName::Run, _) | (CommandName::Machine, Show::Report | Show::Retired)
-    )
+    match name {
+        CommandName::Time => MOST_TIMED_LIMIT,
+        _ => MOST_LIMIT,
+    }
 }
 
 impl<'a> Options<'a> {
@@ -110,40 +148,139 @@ impl<'a> Options<'a> {
     {
         Options {
             limit: None,
+            every: None,
             show: None,
-            sites: false,
-            schedule: None,
+            script: None,
+            seed: None,
+            guess: None,
+            input: None,
+            issues: None,
+            states: None,
+            without: None,
             mul: false,
             run: false,
         }
     }
 
-    /// Whether what this option settles has already been settled: a script and a seed exclude each other.
+    /// Whether an option that excludes this one has been given: the same one, or of a script and a seed, or of a script and a guess
+    /// rule, the other.
     pub(crate) fn has(&self, key: Key) -> bool
         ensures { result ≡ has_key (given_of self.now) key }
     {
         match key {
             Key::Limit => self.limit.is_some(),
-            Key::Show => self.show.is_some() || self.sites,
-            Key::Script | Key::Seed => self.schedule.is_some(),
+            Key::Every => self.every.is_some(),
+            Key::Show => self.show.is_some(),
+            Key::Script => self.script.is_some() || self.seed.is_some() || self.guess.is_some(),
+            Key::Seed => self.seed.is_some() || self.script.is_some(),
+            Key::Guess => self.guess.is_some() || self.script.is_some(),
+            Key::Input => self.input.is_some(),
+            Key::Issues => self.issues.is_some(),
+            Key::States => self.states.is_some(),
+            Key::Without => self.without.is_some(),
             Key::Mul => self.mul,
             Key::Run => self.run,
         }
     }
 
-    /// The options with what is to be shown, where the command has it.
-    fn with_shown(self, name: CommandName, word: &str) -> Option<Self>
-        ensures { option_map given_of result ≡ with_shown name (given_of self.entry) word.now }
+    /// What chooses the moves.
+    pub(crate) fn schedule(self) -> Schedule<'a>
+        ensures { schedule_view result ≡ schedule_of (given_of self.entry) }
     {
-        if word == "sites" {
-            return matches!(name, CommandName::Time).then_some(Options {
-                sites: true,
-                ..self
-            });
+        let rule = self.guess.unwrap_or(GuessRule::Any);
+        match self.script {
+            Some(file) => Schedule::Script(file),
+            None => match self.seed {
+                Some(seed) => Schedule::Seed(seed, rule),
+                None => Schedule::Rule(rule),
+            },
         }
-        let show = lines_of(word)?;
-        can_show(name, show).then_some(Options {
-            show: Some(show),
+    }
+
+    /// The options with a value of `--show`, where the command can show it.
+    fn with_shown(self, name: CommandName, word: &str) -> Option<Self>
+        ensures { option_map given_of result ≡ with_value name (given_of self.entry) keys.Show word.now }
+    {
+        let shown = Shown::from_word(word)?;
+        shown.is_of(name).then_some(Options {
+            show: Some(shown),
+            ..self
+        })
+    }
+
+    /// The options with a limit of that command.
+    fn with_limit(self, name: CommandName, word: &str) -> Option<Self>
+        ensures { option_map given_of result ≡ with_value name (given_of self.entry) keys.Limit word.now }
+    {
+        let limit = read_amount(word, 0, most_limit(name))?;
+        Some(Options {
+            limit: Some(limit),
+            ..self
+        })
+    }
+
+    /// The options with an amount of `--every`.
+    fn with_every(self, name: CommandName, word: &str) -> Option<Self>
+        ensures { option_map given_of result ≡ with_value name (given_of self.entry) keys.Every word.now }
+    {
+        let every = read_amount(word, 1, MOST_LIMIT)?;
+        Some(Options {
+            every: Some(every),
+            ..self
+        })
+    }
+
+    /// The options with a seed.
+    fn with_seed(self, name: CommandName, word: &str) -> Option<Self>
+        ensures { option_map given_of result ≡ with_value name (given_of self.entry) keys.Seed word.now }
+    {
+        let seed = read_number(word, MOST_SEED)?;
+        Some(Options {
+            seed: Some(seed as u32),
+            ..self
+        })
+    }
+
+    /// The options with a guess rule.
+    fn with_guess(self, name: CommandName, word: &str) -> Option<Self>
+        ensures { option_map given_of result ≡ with_value name (given_of self.entry) keys.Guess word.now }
+    {
+        let rule = rule_of(word)?;
+        Some(Options {
+            guess: Some(rule),
+            ..self
+        })
+    }
+
+    /// The options with how many issues a search makes at most.
+    fn with_issues(self, name: CommandName, word: &str) -> Option<Self>
+        ensures { option_map given_of result ≡ with_value name (given_of self.entry) keys.Issues word.now }
+    {
+        let issues = read_positive(word, MOST_ISSUES)?;
+        Some(Options {
+            issues: Some(issues as u32),
+            ..self
+        })
+    }
+
+    /// The options with how many states it reaches at most.
+    fn with_states(self, name: CommandName, word: &str) -> Option<Self>
+        ensures { option_map given_of result ≡ with_value name (given_of self.entry) keys.States word.now }
+    {
+        let states = read_positive(word, MOST_STATES)?;
+        Some(Options {
+            states: Some(states as u32),
+            ..self
+        })
+    }
+
+    /// The options with the rule that is taken away.
+    fn with_without(self, name: CommandName, word: &str) -> Option<Self>
+        ensures { option_map given_of result ≡ with_value name (given_of self.entry) keys.Without word.now }
+    {
+        let rule = Rule::named(word)?;
+        Some(Options {
+            without: Some(rule),
             ..self
         })
     }
@@ -153,25 +290,22 @@ impl<'a> Options<'a> {
         ensures { option_map given_of result ≡ with_value name (given_of self.entry) key word.entry.now }
     {
         match key {
-            Key::Limit => {
-                let limit = read_number(word, MOST_LIMIT)?;
-                Some(Options {
-                    limit: Some(limit),
-                    ..self
-                })
-            }
+            Key::Limit => self.with_limit(name, word),
+            Key::Every => self.with_every(name, word),
             Key::Show => self.with_shown(name, word),
             Key::Script => is_file_name(word).then_some(Options {
-                schedule: Some(Schedule::Script(word)),
+                script: Some(word),
                 ..self
             }),
-            Key::Seed => {
-                let seed = read_number(word, MOST_SEED)?;
-                Some(Options {
-                    schedule: Some(Schedule::Seed(seed as u32)),
-                    ..self
-                })
-            }
+            Key::Seed => self.with_seed(name, word),
+            Key::Guess => self.with_guess(name, word),
+            Key::Input => is_file_name(word).then_some(Options {
+                input: Some(word),
+                ..self
+            }),
+            Key::Issues => self.with_issues(name, word),
+            Key::States => self.with_states(name, word),
+            Key::Without => self.with_without(name, word),
             Key::Mul | Key::Run => None,
         }
     }

@@ -75,9 +75,16 @@ fn after_subject<'a>(
                 ..options
             },
         )),
-        Key::Limit | Key::Show | Key::Script | Key::Seed => Some(ArgumentReading::Value(
-            subject, options, key,
-        )),
+        Key::Limit
+        | Key::Every
+        | Key::Show
+        | Key::Script
+        | Key::Seed
+        | Key::Guess
+        | Key::Input
+        | Key::Issues
+        | Key::States
+        | Key::Without => Some(ArgumentReading::Value(subject, options, key)),
     }
 }
 

@@ -40,34 +40,30 @@ pub record AuditSide : Type 0 where
 abbrev pub side : Option FilesSeen → Option (List ℕ) → AuditSide
 side files input = record { files = files; input = input }
 
-abbrev pub side_of : Outside → AuditSide
-side_of outside = side outside.files outside.streams.input
+abbrev pub audit_side : Outside → AuditSide
+audit_side outside = side outside.files outside.streams.input
 
 -- the status that says what an audit found
-abbrev pub status_of : Audit → Status
-status_of (found.Agrees n) = status.Done
-status_of (found.Wrong number kind) = status.BadTrace (fault.Line number kind)
-status_of found.ReadFault = status.ReadFault which.Input
+abbrev pub audit_status : Audit → Status
+audit_status (found.Agrees n) = status.Done
+audit_status (found.Wrong number kind) = status.BadTrace (fault.Line number kind)
+audit_status found.ReadFault = status.ReadFault which.Input
 
 -- and the report
-abbrev pub text_of : Audit → List ℕ
-text_of (found.Agrees n) = trace_of n
-text_of (found.Wrong number kind) = bad_trace (fault.Line number kind)
-text_of found.ReadFault = line (codes "read fault input")
+abbrev pub audit_report : Audit → List ℕ
+audit_report (found.Agrees n) = trace_of n
+audit_report (found.Wrong number kind) = bad_trace (fault.Line number kind)
+audit_report found.ReadFault = line (codes "read fault input")
 
--- over an input that tells what it has left, the lines of retirement in the trace are those of the sequential machine
--- that starts on the hart with that input: a line for each of its first instructions, in their order
-abbrev pub RetiresAsMachine : Plan → Hart → Option (List ℕ) → List ℕ → ℕ → Type 0
-RetiresAsMachine plan hart None text n = Unit {0}
-RetiresAsMachine plan hart (Some rest) text n = RetiresAs (opened plan hart) hart rest text n
-
--- the text is the trace of a run of n moves of the layout's processor, opened on the hart; the run leaves this of the input
+-- the text is the trace of a run of n moves of the layout's processor, opened on the hart; the run leaves this of the
+-- input; and the lines of retirement in the trace are those of the sequential machine that starts on the hart: a line for
+-- each of its first instructions, in their order
 pub record IsTraceOf (plan : Plan) (hart : Hart) (text : List ℕ) (before after : Option (List ℕ)) (n : ℕ) :
     Type 0 where
   pub last : Moment
   pub is : IsTrace (opened plan hart) before text n last
   pub input : Becomes before after last.rest
-  pub retires : RetiresAsMachine plan hart before text n
+  pub retires : RetiresAs (opened plan hart) hart before text n
 
 -- the text is the trace of no run, which is seen in this line, for this reason; the moves that were made leave this of the input
 pub record IsNoTraceOf (plan : Plan) (hart : Hart) (text : List ℕ) (before after : Option (List ℕ)) (number : ℕ)

@@ -6,7 +6,7 @@ ghost use Rattle.cf_io.specs.Causes.{HasCause};
 ghost use Rattle.cli_arguments.specs.Views.{layout_of};
 ghost use Rattle.cli_files.specs.Causes.{files_answered, input_answered, output_answered};
 ghost use Rattle.cf_audit.specs.Limits.{most_trace};
-ghost use Rattle.cli_audit.specs.Audit.{audit_asked, side, AnswersAudit, ComesOfTrace, status_of as status_for, text_of};
+ghost use Rattle.cli_audit.specs.Audit.{audit_asked, side, AnswersAudit, ComesOfTrace, audit_status, audit_report};
 
 use crate::reports::trace_of;
 use crate::traces::trace_at;
@@ -20,8 +20,8 @@ use std::alloc::Global;
 
 /// The answer that says what an audit found.
 fn answer_of(found: Audit) -> Answer
-    ensures status { result.status ≡ status_for found }
-    ensures closing { result.closing ≡ text_of found }
+    ensures status { result.status ≡ audit_status found }
+    ensures closing { result.closing ≡ audit_report found }
 {
     match found {
         Audit::Agrees(moves) => Answer {

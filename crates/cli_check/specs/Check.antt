@@ -2,7 +2,7 @@
 use Rattle.std.specs.Prelude.{◌≡◌, ◌⊎◌, ℕ, List, [], codes, Option}
 use Rattle.cf_io.specs.Puts.{Writes, WritesFront}
 use Rattle.cf_layout.specs.Layout.{Plan}
-use Rattle.layout_file.specs.Text.{text_of}
+use Rattle.layout_file.specs.Text.{layout_text}
 use Rattle.texts.specs.Lines.{line}
 use Rattle.cli_arguments.specs.Words.{NamedLayout}
 use Rattle.cli_reports.specs.FileCommands.{FileSide}
@@ -13,9 +13,9 @@ use Rattle.cli_files.specs.declared.status.Status.TheVariants as status
 -- what the output has after the layout's text was put to it, and the report, by the status
 abbrev pub WritesText : Plan → Option (List ℕ) → Option (List ℕ) → Status → List ℕ → Type 0
 WritesText plan before after status.Done report =
-    Writes before after (text_of plan) × (report ≡ [])
+    Writes before after (layout_text plan) × (report ≡ [])
 WritesText plan before after status.WriteFault report =
-    WritesFront before after (text_of plan) × (report ≡ line (codes "write fault output"))
+    WritesFront before after (layout_text plan) × (report ≡ line (codes "write fault output"))
 WritesText plan before after status.NoMemory report =
     (after ≡ before) × (report ≡ line (codes "no memory"))
 WritesText plan before after _ report = ⊥

@@ -16,7 +16,7 @@ use Rattle.cli_files.specs.Outside.{Outside}
 use Rattle.cli_files.specs.declared.answer.Answer.{Answer}
 use Rattle.cli_files.specs.Loading.{IsLoaded}
 use Rattle.cli_arguments.specs.Words.{NamedLayout}
-use Rattle.cli_debug.specs.Debug.{status_of, closing_of, HasSession, ComesOfCommands, BreaksSession, AnswersDebug, BreaksDebug}
+use Rattle.cli_debug.specs.Debug.{session_status, closing_of_session, HasSession, ComesOfCommands, BreaksSession, AnswersDebug, BreaksDebug}
 use Rattle.cli_debug.proofs.Telling.{Tells, tells}
 
 -- the session as it is told
@@ -37,8 +37,8 @@ pub decides-session : (plan : Plan) (hart : Hart) (core last : Processor) (ring 
     (blank full : Option (List ℕ)) (ended : Debugged) (result : Result Answer Failed) → core ≡ opened plan hart → ring ≡ [] →
     Debugs (session_of (processor_state core ring before.output) before.input blank) (session_of (processor_state last kept after.output) after.input full)
     ended →
-    StaysOnRun core last ended → IfOk result (λ answer. ended ≢ ReportFault) → IfOk result (λ answer. answer.status ≡ status_of ended) →
-    IfOk result (λ answer. answer.closing ≡ closing_of ended) → IfErr result (λ failed. ended ≡ ReportFault) →
+    StaysOnRun core last ended → IfOk result (λ answer. ended ≢ ReportFault) → IfOk result (λ answer. answer.status ≡ session_status ended) →
+    IfOk result (λ answer. answer.closing ≡ closing_of_session ended) → IfErr result (λ failed. ended ≡ ReportFault) →
     Decides (ComesOfCommands plan hart before after) (BreaksSession plan hart before after blank full) blank full result
 decides-session plan hart core last ring kept before after blank full ended (Ok answer) is empty session stays works status closing fails =
     let had : Debugs (session_of (processor_state core [] before.output) before.input blank)

@@ -19,20 +19,20 @@ use Rattle.cli_files.specs.declared.status.Status.TheVariants as status
 use Rattle.cli_files.specs.declared.status.Which.TheVariants as which
 
 -- the status of a session that ended in this way
-abbrev pub status_of : Debugged → Status
-status_of Done = status.Done
-status_of Limit = status.Limit None
-status_of ReadFault = status.ReadFault which.Input
-status_of WriteFault = status.WriteFault
-status_of ReportFault = status.WriteFault
+abbrev pub session_status : Debugged → Status
+session_status Done = status.Done
+session_status Limit = status.Limit None
+session_status ReadFault = status.ReadFault which.Input
+session_status WriteFault = status.WriteFault
+session_status ReportFault = status.WriteFault
 
 -- the line that closes its report, where it did not end as the commands wanted
-abbrev pub closing_of : Debugged → List ℕ
-closing_of Done = []
-closing_of Limit = line (codes "limit")
-closing_of ReadFault = line (codes "read fault input")
-closing_of WriteFault = line (codes "write fault output")
-closing_of ReportFault = []
+abbrev pub closing_of_session : Debugged → List ℕ
+closing_of_session Done = []
+closing_of_session Limit = line (codes "limit")
+closing_of_session ReadFault = line (codes "read fault input")
+closing_of_session WriteFault = line (codes "write fault output")
+closing_of_session ReportFault = []
 
 -- a session on the processor of the layout, as it is opened on the hart, with nothing kept; the input has its commands. The
 -- processor is left at a moment of a run, unless the output or the report failed
@@ -51,8 +51,8 @@ pub record AnswersSession (plan : Plan) (hart : Hart) (before after : Streams) (
   pub told : ended ≢ ReportFault
   pub answers : List ℕ
   pub session : HasSession plan hart before after (Some []) (Some answers) ended
-  pub status_is : answer ≡ status_of ended
-  pub reports : report ≡ answers ++ closing_of ended
+  pub status_is : answer ≡ session_status ended
+  pub reports : report ≡ answers ++ closing_of_session ended
 
 -- what comes of a layout and a hart
 abbrev pub ComesOfCommands : Plan → Hart → (before after : Streams) → Status → List ℕ → Type 0

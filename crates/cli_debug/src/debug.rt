@@ -9,7 +9,7 @@ ghost use Rattle.cf_debug.specs.declared.answer.Debugged.TheVariants.{ReportFaul
 ghost use Rattle.cli_files.specs.Causes.{input_answered, output_answered};
 ghost use Rattle.cli_files.specs.Deciding.{FaultsCounted, Decides, files_decided};
 ghost use Rattle.cli_files.specs.Outside.{outside_of};
-ghost use Rattle.cli_debug.specs.Debug.{AnswersDebug, BreaksDebug, BreaksSession, ComesOfCommands, status_of as status_for, closing_of as closing_for};
+ghost use Rattle.cli_debug.specs.Debug.{AnswersDebug, BreaksDebug, BreaksSession, ComesOfCommands, session_status, closing_of_session};
 
 use cf_core::Core;
 use cf_debug::{Debugged, Ring, debug};
@@ -22,8 +22,8 @@ use std::alloc::Global;
 /// The answer of a session that ended in this way; it fails where the report did.
 fn answer_of(ended: Debugged) -> Result<Answer, Failed>
     ensures told { IfOk result (λ answer. ended ≢ ReportFault) }
-    ensures status { IfOk result (λ answer. answer.status ≡ status_for ended) }
-    ensures closing { IfOk result (λ answer. answer.closing ≡ closing_for ended) }
+    ensures status { IfOk result (λ answer. answer.status ≡ session_status ended) }
+    ensures closing { IfOk result (λ answer. answer.closing ≡ closing_of_session ended) }
     ensures fails { IfErr result (λ failed. ended ≡ ReportFault) }
     ensures files { files_decided result ≡ Ok tt }
 {

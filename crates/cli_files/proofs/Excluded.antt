@@ -1,5 +1,5 @@
 -- A file that is a program is never refused.
-use Rattle.std.proofs.Common.{◌≡◌, ℕ, List, [], ◌∷◌, length, false, Bool, if◌then◌else◌, Some, ap, sym, subst, arith}
+use Rattle.std.proofs.Common.{◌≡◌, ◌≢◌, ℕ, List, [], ◌∷◌, length, false, Bool, if◌then◌else◌, Some, ap, refl, sym, subst, arith}
 use Rattle.elf_view.proofs.Executables.{refused-no_elf}
 use Rattle.mem_regions.specs.declared.Part.{Part}
 use Rattle.mem_regions.specs.declared.refusal.LoadErr.{LoadErr}
@@ -17,12 +17,15 @@ abbrev no_part : Part
 no_part = record { base = 0; start = 0; len = 0; size = 0; write = false; exec = false }
 
 -- what a refusal says of parts is not true of those that are accepted
+pub cause-excluded : (parts : List Part) (e : LoadErr) → AreAccepted parts → IsLoadCause parts e → e ≢ NoMemory → ⊥
+cause-excluded parts (TooMany n) a c other = omega (arith, c.0, a.few)
+cause-excluded parts (WrapsAround i) a c other = a.in_space i no_part c.within (c.wraps no_part)
+cause-excluded parts (TooLarge n) a c other = omega (arith, c.0, a.small)
+cause-excluded parts (Overlap i j) a c other = a.apart i j c.before c.within no_part no_part (c.share no_part no_part)
+cause-excluded parts NoMemory a c other = other refl
+
 not_both : (parts : List Part) (e : LoadErr) → AreAccepted parts → refusal parts ≡ Some e → IsLoadCause parts e → ⊥
-not_both parts (TooMany n) a is c = omega (arith, c.0, a.few)
-not_both parts (WrapsAround i) a is c = a.in_space i no_part c.within (c.wraps no_part)
-not_both parts (TooLarge n) a is c = omega (arith, c.0, a.small)
-not_both parts (Overlap i j) a is c = a.apart i j c.before c.within no_part no_part (c.share no_part no_part)
-not_both parts NoMemory a is c = cc (is, refusal_is_told parts NoMemory (sym (ap load_answer is)))
+not_both parts e a is c = cause-excluded parts e a c (λ none. cc (none, is, refusal_is_told parts e (sym (ap load_answer is))))
 
 pub never-refused : (image : List ℕ) (error : ProgramErr) → IsRefused image error → IsProgramFile image → ⊥
 never-refused image TooLong long p = omega (arith, long, p.fits)

@@ -1,6 +1,7 @@
 pub mod Excluded
 pub mod FileFronts
 pub mod Flat
+pub mod LoadedAgain
 pub mod Named
 pub mod NoStreams
 pub mod ProgramFiles

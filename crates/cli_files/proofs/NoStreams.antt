@@ -5,7 +5,8 @@ use Rattle.cf_io.specs.Reads.{FilesSeen}
 use Rattle.cli_arguments.specs.Words.{NamedLayout, plain, in_file}
 use Rattle.cli_files.specs.Causes.{input_answered, output_answered}
 use Rattle.cli_files.specs.Layouts.{IsNoLayout, LacksLayout}
-use Rattle.cli_files.specs.Loading.{LacksLoaded}
+use Rattle.cli_files.specs.Loading.{LacksLoaded, LacksLoadedLoosely}
+use Rattle.cli_files.specs.LooseLayouts.{IsNoLooseLayout, LacksLooseLayout}
 use Rattle.cli_files.specs.Programs.{IsNoProgram, LacksProgram}
 use Rattle.cli_files.specs.RunFiles.{RunAsked, LacksRunFile}
 use Rattle.cli_files.specs.Scripts.{LacksScript}
@@ -25,9 +26,13 @@ no-layout-says : (file : List ℕ) (answer : Status) (report : List ℕ) → IsN
 no-layout-says file answer report (inl (error, fails, reason, is, reports)) = record { input = rw is; output = rw is }
 no-layout-says file answer report (inr (is, reports)) = record { input = rw is; output = rw is }
 
+no-loose-layout-says : (file : List ℕ) (answer : Status) (report : List ℕ) → IsNoLooseLayout file answer report → SaysNoStream answer
+no-loose-layout-says file answer report (inl (error, fails, reason, is, reports)) = record { input = rw is; output = rw is }
+no-loose-layout-says file answer report (inr (is, reports)) = record { input = rw is; output = rw is }
+
 no-program-says : (image : List ℕ) (answer : Status) (report : List ℕ) → IsNoProgram image answer report → SaysNoStream answer
 no-program-says image answer report (inl (error, refused, is, reports)) = record { input = rw is; output = rw is }
-no-program-says image answer report (inr (is, reports)) = record { input = rw is; output = rw is }
+no-program-says image answer report (inr (program, (is, reports))) = record { input = rw is; output = rw is }
 
 pub lacks-layout-says : (word : NamedLayout) (before after : Option FilesSeen) (answer : Status) (report : List ℕ) →
     LacksLayout word before after answer report → SaysNoStream answer
@@ -36,6 +41,15 @@ lacks-layout-says (in_file name) before after answer report (inl r) = no-layout-
 lacks-layout-says (in_file name) before after answer report (inr (inl r)) =
     record { input = rw r.status_is; output = rw r.status_is }
 lacks-layout-says (in_file name) before after answer report (inr (inr r)) =
+    record { input = rw r.status_is; output = rw r.status_is }
+
+lacks-loose-layout-says : (word : NamedLayout) (before after : Option FilesSeen) (answer : Status) (report : List ℕ) →
+    LacksLooseLayout word before after answer report → SaysNoStream answer
+lacks-loose-layout-says plain before after answer report h = absurd h
+lacks-loose-layout-says (in_file name) before after answer report (inl r) = no-loose-layout-says r.file answer report r.why
+lacks-loose-layout-says (in_file name) before after answer report (inr (inl r)) =
+    record { input = rw r.status_is; output = rw r.status_is }
+lacks-loose-layout-says (in_file name) before after answer report (inr (inr r)) =
     record { input = rw r.status_is; output = rw r.status_is }
 
 pub lacks-program-says : (name : List ℕ) (before after : Option FilesSeen) (answer : Status) (report : List ℕ) →
@@ -60,6 +74,13 @@ pub lacks-loaded-says : (layout : NamedLayout) (program : List ℕ) (before afte
 lacks-loaded-says layout program before after answer report (inl h) =
     lacks-layout-says layout before after answer report h
 lacks-loaded-says layout program before after answer report (inr h) =
+    lacks-program-says program h.between after answer report h.lacks
+
+pub lacks-loosely-says : (layout : NamedLayout) (program : List ℕ) (before after : Option FilesSeen) (answer : Status)
+    (report : List ℕ) → LacksLoadedLoosely layout program before after answer report → SaysNoStream answer
+lacks-loosely-says layout program before after answer report (inl h) =
+    lacks-loose-layout-says layout before after answer report h
+lacks-loosely-says layout program before after answer report (inr h) =
     lacks-program-says program h.between after answer report h.lacks
 
 pub lacks-file-says : (asked : RunAsked) (before after : Option FilesSeen) (answer : Status) (report : List ℕ) →

@@ -12,7 +12,8 @@ use Rattle.cli_files.specs.Files.{IsFrontOf, NotesFailure, NotesUnheld, LacksByt
 use Rattle.cli_files.specs.Image.{most_bytes}
 use Rattle.layout_file.specs.Limits.{most_layout_bytes}
 use Rattle.cli_files.specs.Layouts.{IsLayoutAt, LacksLayout}
-use Rattle.cli_files.specs.Loading.{IsLoaded, LacksLoaded}
+use Rattle.cli_files.specs.LooseLayouts.{IsLooseLayoutAt, LacksLooseLayout}
+use Rattle.cli_files.specs.Loading.{IsLoaded, IsLoadedLoosely, LacksLoaded, LacksLoadedLoosely}
 use Rattle.cli_files.specs.Outside.{Outside}
 use Rattle.cli_files.specs.Programs.{IsProgramAt, LacksProgram}
 use Rattle.cli_files.specs.Reads.{layout_files, script_files, ReadsFirst, WereRead}
@@ -175,13 +176,39 @@ loaded-lacking word name a b answer report (inr h) =
     were-after (layout_files word) (name ∷ []) a h.between b (layout-read word a h.between h.plan h.laid)
     (program-lacking name h.between b answer report h.lacks)
 
+-- the same, where the layout may break the rule on where control turns
+loose-layout-read : (word : NamedLayout) (a b : Option FilesSeen) (plan : Plan) → IsLooseLayoutAt word a b plan → AllRead (layout_files word) a b
+loose-layout-read plain a b plan h = none-read a b h.1
+loose-layout-read (in_file name) a b plan (file, front, describes) = one-read (most_layout_bytes + 1) a b name file front
+
+loose-layout-lacking : (word : NamedLayout) (a b : Option FilesSeen) (answer : Status) (report : List ℕ) →
+    LacksLooseLayout word a b answer report → WereRead (layout_files word) a b
+loose-layout-lacking plain a b answer report h = absurd h
+loose-layout-lacking (in_file name) a b answer report (inl r) =
+    were-all (name ∷ []) a b (one-read (most_layout_bytes + 1) a b name r.file r.front)
+loose-layout-lacking (in_file name) a b answer report (inr r) = were-lacking _ _ name a b answer report r
+
+pub loaded-loosely-read : (word : NamedLayout) (name : List ℕ) (a b : Option FilesSeen) (plan : Plan) (hart : Hart) →
+    IsLoadedLoosely word name a b plan hart → AllRead (layout_files word ++ name ∷ []) a b
+loaded-loosely-read word name a b plan hart l =
+    more-read (layout_files word) (name ∷ []) a l.between b (loose-layout-read word a l.between plan l.laid)
+    (program-read name l.between b hart l.program)
+
+pub loaded-loosely-lacking : (word : NamedLayout) (name : List ℕ) (a b : Option FilesSeen) (answer : Status) (report : List ℕ) →
+    LacksLoadedLoosely word name a b answer report → WereRead (layout_files word ++ name ∷ []) a b
+loaded-loosely-lacking word name a b answer report (inl h) =
+    were-before (layout_files word) (name ∷ []) a b (loose-layout-lacking word a b answer report h)
+loaded-loosely-lacking word name a b answer report (inr h) =
+    were-after (layout_files word) (name ∷ []) a h.between b (loose-layout-read word a h.between h.plan h.laid)
+    (program-lacking name h.between b answer report h.lacks)
+
 -- a script
 scheduled-read : (schedule : Schedule) (a b : Option FilesSeen) (ready : ReadySchedule) → IsScheduled schedule a b ready → AllRead (script_files schedule) a b
 scheduled-read (by_script file) a b (in_script text) s = one-read (most_script + 1) a b file text s.front
-scheduled-read (by_script file) a b (drawn_from seed) s = absurd s
-scheduled-read (by_script file) a b in_turn s = absurd s
-scheduled-read (by_seed seed) a b ready s = none-read a b s.1
-scheduled-read by_rule a b ready s = none-read a b s.1
+scheduled-read (by_script file) a b (drawn_from seed rule) s = absurd s
+scheduled-read (by_script file) a b (in_turn rule) s = absurd s
+scheduled-read (by_seed seed rule) a b ready s = none-read a b s.1
+scheduled-read (by_rule rule) a b ready s = none-read a b s.1
 
 script-lacking : (name : List ℕ) (a b : Option FilesSeen) (answer : Status) (report : List ℕ) →
     LacksScript name a b answer report → WereRead (name ∷ []) a b

@@ -27,10 +27,20 @@ files_answered (status.ReadFault which.Delays) = Err tt
 files_answered (status.ReadFault which.Trace) = Err tt
 files_answered _ = Ok tt
 
+-- the same where the program's input is in a file too
+abbrev pub reading_answered : Status → Result (Unit {0}) (Unit {0})
+reading_answered (status.ReadFault which) = Err tt
+reading_answered _ = Ok tt
+
 -- an error where it is the answer that was given in place of what a file holds
 abbrev pub files_read : {T : Type 0} → Result T Answer → Result (Unit {0}) (Unit {0})
 files_read (Ok x) = Ok tt
 files_read (Err answer) = files_answered answer.status
+
+-- the same of what is read where the program's input is in a file too
+abbrev pub reading_failed : {T : Type 0} → Result T Answer → Result (Unit {0}) (Unit {0})
+reading_failed (Ok x) = Ok tt
+reading_failed (Err answer) = reading_answered answer.status
 
 -- an error where the answer is that the program's output failed
 abbrev pub output_answered : Status → Result (Unit {0}) (Unit {0})

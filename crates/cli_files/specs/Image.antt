@@ -5,7 +5,7 @@ use Rattle.std.specs.Prelude.{◌≡◌, ◌<◌, ◌≤◌, ℕ, List, [], ◌�
 use Rattle.elf_view.specs.Executables.{IsElf}
 use Rattle.elf_view.specs.Headers.{file_header}
 use Rattle.elf_view.specs.Refusal.{starts_with_elf}
-use Rattle.elf_view.specs.Refusal.{refusal as elf_refusal}
+use Rattle.elf_view.specs.Refusal.{file_refusal}
 use Rattle.elf_view.specs.Segments.{LoadSegment, segments_of}
 use Rattle.mem_regions.specs.declared.Part.{Part}
 use Rattle.mem_regions.specs.Causes.{AreAccepted}
@@ -63,12 +63,12 @@ parts_of image =
     if starts_with_elf image then elf_parts image else flat_part (length image) ∷ stack_part ∷ []
 
 -- where a program is entered
-abbrev pub entry_of : List ℕ → ℕ
-entry_of image = if starts_with_elf image then (file_header image).entry else flat_base
+abbrev pub image_entry : List ℕ → ℕ
+image_entry image = if starts_with_elf image then (file_header image).entry else flat_base
 
 -- the hart at the start of a program
 unfoldable pub opened : List ℕ → Hart
-opened image = start_hart (loaded image (parts_of image)) (entry_of image)
+opened image = start_hart (loaded image (parts_of image)) (image_entry image)
 
 -- the file is a program: it is not too long, is a sound ELF file if it begins as one, and its parts can be loaded
 pub record IsProgramFile (image : List ℕ) : Type 0 where
@@ -82,7 +82,7 @@ abbrev pub IsRefused : List ℕ → ProgramErr → Type 0
 IsRefused image program.TooLong = most_bytes < length image
 IsRefused image (program.Elf error) =
     (length image ≤ most_bytes) × (starts_with_elf image ≡ true)
-    × (elf_refusal image ≡ Some error)
+    × (file_refusal image ≡ Some error)
 IsRefused image (program.Load error) =
     (length image ≤ most_bytes) × (starts_with_elf image ≡ true) × IsElf image
     × (load_refusal (elf_parts image) ≡ Some error)

@@ -6,6 +6,7 @@ pub mod Files
 pub mod Image
 pub mod Layouts
 pub mod Loading
+pub mod LooseLayouts
 pub mod Memory
 pub mod Opening
 pub mod Outside

@@ -5,6 +5,7 @@ use Rattle.rv_machine.specs.Hart.{Hart}
 use Rattle.cf_layout.specs.Layout.{Plan}
 use Rattle.cli_arguments.specs.Words.{NamedLayout}
 use Rattle.cli_files.specs.Layouts.{IsLayoutAt, LacksLayout}
+use Rattle.cli_files.specs.LooseLayouts.{IsLooseLayoutAt, LacksLooseLayout}
 use Rattle.cli_files.specs.Programs.{IsProgramAt, LacksProgram}
 use Rattle.cli_files.specs.declared.status.Status.{Status}
 
@@ -28,3 +29,22 @@ abbrev pub LacksLoaded : NamedLayout → List ℕ → Option FilesSeen → Optio
 LacksLoaded layout program before after answer report =
     LacksLayout layout before after answer report
     ⊎ StopsAtProgram layout program before after answer report
+
+-- the same, where the layout may break the rule on where control turns
+pub record IsLoadedLoosely (layout : NamedLayout) (name : List ℕ) (before after : Option FilesSeen) (plan : Plan)
+    (hart : Hart) : Type 0 where
+  pub between : Option FilesSeen
+  pub laid : IsLooseLayoutAt layout before between plan
+  pub program : IsProgramAt name between after hart
+
+pub record StopsAtProgramLoosely (layout : NamedLayout) (name : List ℕ) (before after : Option FilesSeen)
+    (answer : Status) (report : List ℕ) : Type 0 where
+  pub plan : Plan
+  pub between : Option FilesSeen
+  pub laid : IsLooseLayoutAt layout before between plan
+  pub lacks : LacksProgram name between after answer report
+
+abbrev pub LacksLoadedLoosely : NamedLayout → List ℕ → Option FilesSeen → Option FilesSeen → Status → List ℕ → Type 0
+LacksLoadedLoosely layout program before after answer report =
+    LacksLooseLayout layout before after answer report
+    ⊎ StopsAtProgramLoosely layout program before after answer report

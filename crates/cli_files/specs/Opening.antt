@@ -4,7 +4,7 @@ use Rattle.cli_files.specs.Image.{IsProgramFile, IsRefused}
 use Rattle.cli_files.specs.declared.opening.OpenErr.{OpenErr}
 use Rattle.cli_files.specs.declared.opening.OpenErr.TheVariants as err
 
--- it is refused, and is no program; lack of memory says nothing of it
+-- it is refused, and is no program; only a program is what there is no memory for
 abbrev pub IsNotOpened : List ℕ → OpenErr → Type 0
 IsNotOpened image (err.Refused error) = IsRefused image error × ¬ IsProgramFile image
-IsNotOpened image err.NoMemory = Unit {0}
+IsNotOpened image err.NoMemory = IsProgramFile image

@@ -18,12 +18,12 @@ pub record IsProgramAt (name : List ℕ) (before after : Option FilesSeen) (hart
   pub program : IsProgramFile image
   pub begins : hart ≡ opened image
 
--- the image is no program, and the status and the report say why; or memory for it was refused
+-- the image is no program, and the status and the report say why; or it is one, and memory for it was refused
 abbrev pub IsNoProgram : List ℕ → Status → List ℕ → Type 0
 IsNoProgram image answer report =
     ((error : ProgramErr) × IsRefused image error × (answer ≡ status.BadProgram error)
     × (report ≡ bad_program error))
-    ⊎ SaysNoMemory answer report
+    ⊎ (IsProgramFile image × SaysNoMemory answer report)
 
 -- the file was read, and gives no program
 pub record RefusesProgram (name : List ℕ) (before after : Option FilesSeen) (answer : Status)

@@ -18,8 +18,13 @@ files_of_layouts (word ∷ words) = layout_files word ++ files_of_layouts words
 -- the file of the script, where a script gives the moves
 abbrev pub script_files : Schedule → List (List ℕ)
 script_files (by_script file) = file ∷ []
-script_files (by_seed seed) = []
-script_files by_rule = []
+script_files (by_seed seed rule) = []
+script_files (by_rule rule) = []
+
+-- the file of the program's input, where one is named
+abbrev pub input_files : Option (List ℕ) → List (List ℕ)
+input_files None = []
+input_files (Some file) = file ∷ []
 
 -- the first `count` of the names were read, in their order and no others; after them one read may have found no memory
 pub record ReadsFirst (names : List (List ℕ)) (before after : FilesSeen) : Type 0 where

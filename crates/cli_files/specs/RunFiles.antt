@@ -1,6 +1,6 @@
 -- The files that `run` reads, one after another: the layout's, the program's and, where a script gives the moves, the script's.
 use Rattle.std.specs.Prelude.{◌≡◌, ◌⊎◌, ℕ, List, Option}
-use Rattle.run_options.specs.declared.show.Show.{Show}
+use Rattle.run_options.specs.declared.reporting.Reporting.{Reporting}
 use Rattle.cf_io.specs.Reads.{FilesSeen}
 use Rattle.rv_machine.specs.Hart.{Hart}
 use Rattle.cf_layout.specs.Layout.{Plan}
@@ -12,21 +12,21 @@ use Rattle.cli_files.specs.Schedules.{ReadySchedule, IsScheduled, LacksSchedule}
 use Rattle.cli_files.specs.declared.status.Status.{Status}
 
 -- what the words ask of `run`: where the layout is, the file with the program, what chooses the moves, the number of
--- retired instructions at which the run stops, and what it shows
+-- retired instructions at which the run stops, and what it writes to the report
 pub record RunAsked : Type 0 where
   pub layout : NamedLayout
   pub program : List ℕ
   pub schedule : Schedule
   pub limit : ℕ
-  pub show : Show
+  pub reporting : Reporting
 
-abbrev pub run_asked : NamedLayout → List ℕ → Schedule → ℕ → Show → RunAsked
-run_asked layout program schedule limit show = record {
+abbrev pub run_asked : NamedLayout → List ℕ → Schedule → ℕ → Reporting → RunAsked
+run_asked layout program schedule limit reporting = record {
   layout = layout;
   program = program;
   schedule = schedule;
   limit = limit;
-  show = show;
+  reporting = reporting;
 }
 
 -- all are there: after layout and program this schedule was read

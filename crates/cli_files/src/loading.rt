@@ -4,13 +4,15 @@ ghost use Rattle.std.specs.Prelude.{◌≡◌, IfOk, IfErr};
 ghost use Rattle.cf_io.specs.Causes.{HasCause};
 ghost use Rattle.cli_arguments.specs.Views.{layout_of};
 ghost use Rattle.cli_files.specs.Causes.{files_read};
-ghost use Rattle.cli_files.specs.Loading.{IsLoaded, LacksLoaded};
+ghost use Rattle.cli_files.specs.Loading.{IsLoaded, IsLoadedLoosely, LacksLoaded, LacksLoadedLoosely};
 
 use crate::answer::Answer;
+use crate::images::{ProgramImages, images_at};
 use crate::layouts::layout_at;
+use crate::loose_layouts::loose_layout_at;
 use crate::programs::program_at;
 use cf_io::Files;
-use cf_layout::Layout;
+use cf_layout::{Layout, LooseLayout};
 use cli_arguments::LayoutWord;
 use rv_machine::Machine;
 use std::alloc::Global;
@@ -42,6 +44,72 @@ pub fn load<F: Files>(
     };
     match program_at(alloc, program, files) {
         Ok(machine) => Ok(Loaded { layout, machine }),
+        Err(answer) => Err(answer),
+    }
+}
+
+/// A layout, and a program that is loaded three times.
+#[derive(Drop)]
+pub struct LoadedImages {
+    pub layout: Layout,
+    pub images: ProgramImages,
+}
+
+/// The same with a layout that may break the rule on where control turns.
+#[derive(Drop)]
+pub struct LooseImages {
+    pub layout: LooseLayout,
+    pub images: ProgramImages,
+}
+
+/// Reads the layout and then the program, which is loaded three times; or gives the answer of the first that is not there.
+pub fn load_images<F: Files>(
+    alloc: Global,
+    layout: LayoutWord<'_>,
+    program: &str,
+    files: &mut F,
+) -> Result<LoadedImages, Answer>
+    ensures loaded { IfOk result (λ loaded. IsLoaded (layout_of layout.entry) program.now
+        (F.told files.old) (F.told files.new) loaded.layout loaded.images.machine) }
+    ensures image { IfOk result (λ loaded. loaded.images.machine.mem ≡ loaded.images.image) }
+    ensures memory { IfOk result (λ loaded. loaded.images.mem ≡ loaded.images.image) }
+    ensures count { IfOk result (λ loaded. loaded.images.machine.retired ≡ 0) }
+    ensures lacks { IfErr result (λ answer. LacksLoaded (layout_of layout.entry) program.now
+        (F.told files.old) (F.told files.new) answer.status answer.closing) }
+    ensures faults { HasCause (F.faults files.old) (F.faults files.new) (files_read result) }
+{
+    let layout = match layout_at(alloc, layout, files) {
+        Ok(layout) => layout,
+        Err(answer) => return Err(answer),
+    };
+    match images_at(alloc, program, files) {
+        Ok(images) => Ok(LoadedImages { layout, images }),
+        Err(answer) => Err(answer),
+    }
+}
+
+/// The same, where the layout may break the rule on where control turns.
+pub fn load_images_loosely<F: Files>(
+    alloc: Global,
+    layout: LayoutWord<'_>,
+    program: &str,
+    files: &mut F,
+) -> Result<LooseImages, Answer>
+    ensures loaded { IfOk result (λ loaded. IsLoadedLoosely (layout_of layout.entry) program.now
+        (F.told files.old) (F.told files.new) loaded.layout loaded.images.machine) }
+    ensures image { IfOk result (λ loaded. loaded.images.machine.mem ≡ loaded.images.image) }
+    ensures memory { IfOk result (λ loaded. loaded.images.mem ≡ loaded.images.image) }
+    ensures count { IfOk result (λ loaded. loaded.images.machine.retired ≡ 0) }
+    ensures lacks { IfErr result (λ answer. LacksLoadedLoosely (layout_of layout.entry) program.now
+        (F.told files.old) (F.told files.new) answer.status answer.closing) }
+    ensures faults { HasCause (F.faults files.old) (F.faults files.new) (files_read result) }
+{
+    let layout = match loose_layout_at(alloc, layout, files) {
+        Ok(layout) => layout,
+        Err(answer) => return Err(answer),
+    };
+    match images_at(alloc, program, files) {
+        Ok(images) => Ok(LooseImages { layout, images }),
         Err(answer) => Err(answer),
     }
 }

@@ -9,7 +9,7 @@ ghost use Rattle.rv_machine.specs.Machine.{start_hart};
 ghost use Rattle.cli_files.specs.Image.{IsProgramFile, most_bytes, opened};
 ghost use Rattle.cli_files.specs.Opening.{IsNotOpened};
 
-use crate::parts::{MOST_PARTS, STACK, count_parts, parts_of};
+use crate::parts::{FLAT_BASE, MOST_PARTS, STACK, count_parts, flat_part, parts_of};
 use elf_view::Elf;
 use mem_regions::{LoadErr, Part, Regions};
 use report_refusals::ProgramErr;
@@ -18,9 +18,6 @@ use std::alloc::{AllocError, Global};
 
 /// The greatest length of a program file, in bytes.
 pub const MOST_BYTES: u64 = 33_554_432;
-
-/// Where a flat image stands, and where it is entered.
-const FLAT_BASE: u32 = 0x1_0000;
 
 /// Why a program file was not opened.
 pub enum OpenErr {
@@ -39,11 +36,13 @@ pub fn is_elf(image: &[u8]) -> bool
 }
 
 /// A machine at the entry, with these parts of the file as its memory.
+#[tactic(auto, using(mem_regions::proofs::Causes::causes))]
 fn load(alloc: Global, image: &[u8], parts: &[Part], entry: u32) -> Result<Machine, LoadErr>
     requires { All (LiesIn image.now) parts.now }
     ensures accepted { IfOk result (λ machine. AreAccepted parts.now) }
     ensures machine { IfOk result (λ machine. machine ≡ start_hart (loaded image.now parts.now) entry) }
     ensures refused { IfErr result (λ error. refusal parts.now ≡ refusal_told error) }
+    ensures unheld { result ≡ Err LoadErr.NoMemory → AreAccepted parts.now }
 {
     let memory = Regions::load(alloc, image, parts)?;
     Ok(Machine::new(memory, entry))
@@ -57,15 +56,7 @@ fn open_flat(alloc: Global, image: &[u8]) -> Result<Machine, OpenErr>
     ensures machine { IfOk result (λ machine. machine ≡ opened image.now) }
     ensures refused { IfErr result (IsNotOpened image.now) }
 {
-    let size = image.len() as u32;
-    let flat = Part {
-        base: FLAT_BASE,
-        start: 0,
-        len: size,
-        size,
-        write: true,
-        exec: true,
-    };
+    let flat = flat_part(image.len() as u32);
     match load(alloc, image, &[flat, STACK], FLAT_BASE) {
         Ok(machine) => Ok(machine),
         Err(LoadErr::NoMemory) => Err(OpenErr::NoMemory),

@@ -2,7 +2,7 @@
 
 ghost use Rattle.std.specs.Prelude.{◌≡◌, ◌-◌, ◌^◌, ◌≤◌, length, min, take};
 ghost use Rattle.elf_view.specs.Segments.{shown_segment};
-ghost use Rattle.cli_files.specs.Image.{part_of as part_for, takes_room as has_room, elf_parts};
+ghost use Rattle.cli_files.specs.Image.{part_of as part_for, takes_room as has_room, elf_parts, flat_part as part_of_all};
 
 use elf_view::{Elf, Segment};
 use mem_regions::Part;
@@ -19,6 +19,23 @@ pub const STACK: Part = Part {
     write: true,
     exec: false,
 };
+
+/// Where a flat image stands, and where it is entered.
+pub const FLAT_BASE: u32 = 0x1_0000;
+
+/// The part that a flat image of this size makes.
+pub fn flat_part(size: u32) -> Part
+    ensures { result ≡ part_of_all size }
+{
+    Part {
+        base: FLAT_BASE,
+        start: 0,
+        len: size,
+        size,
+        write: true,
+        exec: true,
+    }
+}
 
 /// The part that a segment makes.
 fn part_of(segment: &Segment) -> Part

@@ -5,7 +5,7 @@ ghost use Rattle.cf_io.specs.Causes.{HasCause};
 ghost use Rattle.cli_files.specs.Causes.{files_read};
 ghost use Rattle.cli_arguments.specs.Views.{layout_of, schedule_view as asked_schedule};
 ghost use Rattle.cli_files.specs.RunFiles.{run_asked, RunFilesRead, LacksRunFile};
-ghost use Rattle.cli_files.specs.Schedules.{schedule_view, FitsScript};
+ghost use Rattle.cli_files.specs.Schedules.{ready_schedule_view, FitsScript};
 
 use crate::answer::Answer;
 use crate::loading::load;
@@ -34,13 +34,13 @@ pub fn read_files<F: Files>(
     files: &mut F,
 ) -> Result<ReadyRun, Answer>
     ensures ready { IfOk result (λ ready. RunFilesRead
-        (run_asked (layout_of layout.entry) program.now (asked_schedule options.entry.schedule) options.entry.limit options.entry.show)
+        (run_asked (layout_of layout.entry) program.now (asked_schedule options.entry.schedule) options.entry.limit options.entry.reporting)
         (F.told files.old) (F.told files.new)
-        ready.layout ready.machine (schedule_view ready.schedule)) }
+        ready.layout ready.machine (ready_schedule_view ready.schedule)) }
     ensures count { IfOk result (λ ready. ready.machine.retired ≡ 0) }
-    ensures fits { IfOk result (λ ready. FitsScript (schedule_view ready.schedule)) }
+    ensures fits { IfOk result (λ ready. FitsScript (ready_schedule_view ready.schedule)) }
     ensures lacks { IfErr result (λ answer. LacksRunFile
-        (run_asked (layout_of layout.entry) program.now (asked_schedule options.entry.schedule) options.entry.limit options.entry.show)
+        (run_asked (layout_of layout.entry) program.now (asked_schedule options.entry.schedule) options.entry.limit options.entry.reporting)
         (F.told files.old) (F.told files.new)
         answer.status answer.closing) }
     ensures faults { HasCause (F.faults files.old) (F.faults files.new) (files_read result) }

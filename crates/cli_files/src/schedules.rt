@@ -4,12 +4,12 @@ ghost use Rattle.std.specs.Prelude.{IfOk, IfErr};
 ghost use Rattle.cf_io.specs.Causes.{HasCause};
 ghost use Rattle.cli_files.specs.Causes.{files_read};
 ghost use Rattle.cli_arguments.specs.Views.{schedule_view as asked_schedule};
-ghost use Rattle.cli_files.specs.Schedules.{schedule_view, FitsScript, IsScheduled, LacksSchedule};
+ghost use Rattle.cli_files.specs.Schedules.{ready_schedule_view, FitsScript, IsScheduled, LacksSchedule};
 
 use crate::answer::Answer;
 use crate::scripts::script_at;
 use cf_io::Files;
-use cli_arguments::Schedule;
+use cli_arguments::{GuessRule, Schedule};
 use std::alloc::Global;
 
 /// What chooses the moves of a run.
@@ -17,10 +17,10 @@ use std::alloc::Global;
 pub enum ReadySchedule {
     /// The script of this text.
     Script(Vec<u8>),
-    /// They are drawn from this seed.
-    Seed(u32),
-    /// The fixed rule.
-    Rule,
+    /// They are drawn from this seed, of those that the guess rule keeps.
+    Seed(u32, GuessRule),
+    /// The fixed rule, of those that the guess rule keeps.
+    Rule(GuessRule),
 }
 
 /// Reads the script, where the words ask for one in a file; or gives the answer where that file holds none.
@@ -31,8 +31,8 @@ pub fn schedule_at<F: Files>(
 ) -> Result<ReadySchedule, Answer>
     ensures ready { IfOk result (λ ready. IsScheduled (asked_schedule schedule.entry)
         (F.told files.old) (F.told files.new)
-        (schedule_view ready)) }
-    ensures fits { IfOk result (λ ready. FitsScript (schedule_view ready)) }
+        (ready_schedule_view ready)) }
+    ensures fits { IfOk result (λ ready. FitsScript (ready_schedule_view ready)) }
     ensures lacks { IfErr result (λ answer. LacksSchedule (asked_schedule schedule.entry)
         (F.told files.old) (F.told files.new)
         answer.status answer.closing) }
@@ -43,7 +43,7 @@ pub fn schedule_at<F: Files>(
             Ok(text) => Ok(ReadySchedule::Script(text)),
             Err(answer) => Err(answer),
         },
-        Schedule::Seed(seed) => Ok(ReadySchedule::Seed(seed)),
-        Schedule::Rule => Ok(ReadySchedule::Rule),
+        Schedule::Seed(seed, rule) => Ok(ReadySchedule::Seed(seed, rule)),
+        Schedule::Rule(rule) => Ok(ReadySchedule::Rule(rule)),
     }
 }

@@ -3,6 +3,7 @@
 ghost use Rattle.std.specs.Prelude.{◌≡◌};
 
 use cf_bind::Bar;
+use cf_log::LogErr;
 use layout_file::FileErr;
 use report_refusals::{DelaysFault, ProgramErr, ScriptFault, TraceFault};
 use rv_asm::AsmErr;
@@ -61,6 +62,21 @@ pub enum Status {
     /// The file is not the trace of a run.
     BadTrace(TraceFault),
 
+    /// The file is too long for the input of a program.
+    BadInput,
+
+    /// A line of the log is refused, or says what is not so.
+    BadLog(LogErr),
+
+    /// The log had ended after this many moves, and the program had not.
+    LogEnd(u64),
+
+    /// A list of moves is wrong.
+    Wrong,
+
+    /// The lists of moves reach more states than this.
+    TooMany(u32),
+
     /// A file or the input could not be read.
     ReadFault(Which),
 
@@ -72,12 +88,12 @@ pub enum Status {
 }
 
 impl Status {
-    ghost use Rattle.cli_files.specs.Codes.{code_of};
+    ghost use Rattle.cli_files.specs.Codes.{exit_code};
 
     /// The status that the process ends with: a program's own, 0 at a script's end or after a command that was carried out
     /// and has no other, or a number from 120 on.
     pub fn code(&self) -> u8
-        ensures { result ≡ code_of self.now }
+        ensures { result ≡ exit_code self.now }
     {
         match self {
             Status::Exit(code) => *code,
@@ -96,6 +112,11 @@ impl Status {
             Status::NoMemory => 130,
             Status::BadDelays(_) => 131,
             Status::BadTrace(_) => 132,
+            Status::BadLog(_) => 134,
+            Status::LogEnd(_) => 135,
+            Status::Wrong => 136,
+            Status::TooMany(_) => 121,
+            Status::BadInput => 137,
         }
     }
 }

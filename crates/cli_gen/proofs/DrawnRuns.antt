@@ -1,6 +1,7 @@
 -- What comes of a program that was drawn and run.
 use Rattle.std.proofs.Common.{◌≡◌, ℕ, List, [], Option, Ok, Result, Err, sym, subst, inl, inr}
-use Rattle.run_options.specs.declared.show.Show.TheVariants.{Report as Closing}
+use Rattle.run_options.specs.Reportings as show
+use Rattle.run_options.specs.declared.guess_rule.GuessRule.TheVariants as rules
 use Rattle.cf_io.specs.declared.failed.Failed.{Failed}
 use Rattle.rv_machine.specs.Hart.{Hart}
 use Rattle.rv_machine.specs.Streams.{Streams}
@@ -21,8 +22,9 @@ use Rattle.cli_reports.proofs.PutReports.{shows-none}
 -- what comes of the run is the outcome of `gen` with `--run`, which reads no file
 pub drawn-comes : (number : ℕ) (plan : Plan) (hart : Hart) (before after : Streams) (blank full : Report)
     (result : Result Reported Failed) → plan ≡ plain → StartsDrawn number hart →
-    Comes (ComesOf default_limit Closing Nothing plan hart (drawn_from number) before after blank.written)
-    (BreaksCore default_limit Closing (opened plan hart) (chosen_by default_limit Closing (drawn_from number)) before after blank.written full.written)
+    Comes (ComesOf default_limit show.report Nothing plan hart (drawn_from number rules.Any) before after blank.written)
+    (BreaksCore default_limit show.report (opened plan hart) (chosen_by default_limit show.report (drawn_from number rules.Any)) before after blank.written
+    full.written)
     blank full result →
     Comes (AnswersDrawn number before after blank.written) (BreaksDrawn number before after blank.written full.written) blank full result
 drawn-comes number plan hart before after blank full (Ok reported) same starts (shown, closing, comes, puts) =
@@ -33,11 +35,11 @@ drawn-comes number plan hart before after blank full (Err failed) same starts (b
 -- or its text was no program
 pub drawn-refused : (number : ℕ) (before after : Streams) (told : Option (List ℕ)) (blank full : Report)
     (answer : Status) (text : List ℕ) (reported : Reported) → reported.status ≡ answer →
-    RefusesDrawn number before after answer text → PutsReport blank full text reported.put →
+    RefusesDrawn before after answer text → PutsReport blank full text reported.put →
     Carries (AnswersDrawn number before after told) blank full reported
 drawn-refused number before after told blank full answer text reported same refused puts = (
   [],
   text,
-  inr (subst (λ (s : Status). RefusesDrawn number before after s text) (sym same) refused),
+  inr (subst (λ (s : Status). RefusesDrawn before after s text) (sym same) refused),
   shows-none blank full text reported.put puts,
 )

@@ -1,17 +1,18 @@
 -- What the command `gen` with `--run` answers, and what it leaves of the streams.
 use Rattle.std.specs.Prelude.{◌≡◌, ◌⊎◌, ℕ, List, ◌++◌, Option}
-use Rattle.run_options.specs.declared.show.Show.TheVariants.{Report}
+use Rattle.run_options.specs.Reportings as show
 use Rattle.rv_machine.specs.Hart.{Hart}
 use Rattle.rv_machine.specs.Streams.{Streams}
+use Rattle.run_options.specs.declared.guess_rule.GuessRule.TheVariants as rules
 use Rattle.cf_core.specs.Processors.{opened as opened_on}
 use Rattle.cf_gen.specs.Program.{program_text}
 use Rattle.cf_layout.specs.Plain.{plain}
 use Rattle.cli_arguments.specs.Options.{default_limit}
 use Rattle.cli_files.specs.Image.{IsProgramFile, opened}
-use Rattle.cli_files.specs.Programs.{IsNoProgram}
+use Rattle.cli_files.specs.Memory.{SaysNoMemory}
 use Rattle.cli_run.specs.Run.{chosen_by, BreaksCore, ComesOf}
 use Rattle.cli_files.specs.Schedules.{drawn_from}
-use Rattle.cli_asm.specs.Sources.{IsAssembly, IsUnassembled}
+use Rattle.cli_asm.specs.Sources.{IsAssembly}
 use Rattle.cli_files.specs.declared.status.Status.{Status}
 use Rattle.cli_run.specs.declared.tail.Tail.TheVariants.{Nothing}
 
@@ -22,34 +23,28 @@ pub record StartsDrawn (number : ℕ) (hart : Hart) : Type 0 where
   pub program : IsProgramFile file
   pub begins : hart ≡ opened file
 
--- there is no such hart: the assembler or the loader refuses the text, or memory for it was refused
-abbrev pub IsUndrawn : ℕ → Status → List ℕ → Type 0
-IsUndrawn number answer report =
-    IsUnassembled (program_text number) answer report
-    ⊎ ((file : List ℕ) × IsAssembly (program_text number) file × IsNoProgram file answer report)
-
 -- the program was run on the built-in layout, by moves that are drawn from its number
 pub record RunsDrawn (number : ℕ) (before after : Streams) (blank : Option (List ℕ)) (answer : Status)
     (shown closing : List ℕ) : Type 0 where
   pub hart : Hart
   pub starts : StartsDrawn number hart
-  pub comes : ComesOf default_limit Report Nothing plain hart (drawn_from number) before after blank answer shown closing
+  pub comes : ComesOf default_limit show.report Nothing plain hart (drawn_from number rules.Any) before after blank answer shown closing
 
--- it was not run, and the streams were left alone
-pub record RefusesDrawn (number : ℕ) (before after : Streams) (answer : Status) (report : List ℕ) :
-    Type 0 where
-  pub lacks : IsUndrawn number answer report
+-- it was not run, since memory was refused; the assembler and the loader accept each drawn program. The streams were
+-- left alone
+pub record RefusesDrawn (before after : Streams) (answer : Status) (report : List ℕ) : Type 0 where
+  pub lacks : SaysNoMemory answer report
   pub streams : after ≡ before
 
 -- the answer of `gen` with `--run` and its report, after what the report told before
 abbrev pub AnswersDrawn : ℕ → Streams → Streams → Option (List ℕ) → Status → (shown closing : List ℕ) → Type 0
 AnswersDrawn number before after blank answer shown closing =
     RunsDrawn number before after blank answer shown closing
-    ⊎ RefusesDrawn number before after answer (shown ++ closing)
+    ⊎ RefusesDrawn before after answer (shown ++ closing)
 
 -- the report failed during the run
 pub record BreaksDrawn (number : ℕ) (before after : Streams) (blank full : Option (List ℕ)) : Type 0 where
   pub hart : Hart
   pub starts : StartsDrawn number hart
-  pub breaks : BreaksCore default_limit Report (opened_on plain hart)
-      (chosen_by default_limit Report (drawn_from number)) before after blank full
+  pub breaks : BreaksCore default_limit show.report (opened_on plain hart)
+      (chosen_by default_limit show.report (drawn_from number rules.Any)) before after blank full

@@ -1,11 +1,12 @@
 //! The command `gen`.
 
-ghost use Rattle.std.specs.Prelude.{◌≡◌, ◌≤◌, Ok, IfOk, IfErr};
+ghost use Rattle.std.specs.Prelude.{◌≡◌, ◌≤◌, ℕ, [], Ok, IfOk, IfErr, length};
 ghost use Rattle.run_options.specs.Limits.{most_statements};
 ghost use Rattle.cf_io.specs.Causes.{HasCause};
 ghost use Rattle.cf_gen.specs.Program.{program_text};
 ghost use Rattle.cli_files.specs.Causes.{files_answered, input_answered, output_answered};
-ghost use Rattle.cli_gen.specs.Drawn.{AnswersDrawn, BreaksDrawn, IsUndrawn, StartsDrawn};
+ghost use Rattle.cli_files.specs.Memory.{SaysNoMemory};
+ghost use Rattle.cli_gen.specs.Drawn.{AnswersDrawn, BreaksDrawn, StartsDrawn};
 ghost use Rattle.cli_reports.specs.FileCommands.{PutsOrFails};
 ghost use Rattle.cli_reports.specs.Reporting.{ComesOver, FaultsReported, files_reported};
 ghost use Rattle.cli_reports.specs.OutsideChanges.{streams_change, input_left, output_left};
@@ -13,7 +14,7 @@ ghost use Rattle.cli_reports.specs.OutsideChanges.{streams_change, input_left, o
 use cf_gen::generate;
 use cf_io::{Failed, MemSink, Sink, Source};
 use cf_layout::plain;
-use cli_arguments::{DEFAULT_LIMIT, RunOptions, Schedule, Show};
+use cli_arguments::{DEFAULT_LIMIT, GuessRule, Reporting, RunOptions, Schedule, Show};
 use cli_asm::file_of;
 use cli_files::{Answer, ReadyRun, ReadySchedule, done, no_memory, open_image, write_fault};
 use cli_reports::{Reported, RunStreams, put_answer};
@@ -39,15 +40,29 @@ pub fn put_drawn<K: Sink>(number: u32, output: &mut K) -> Answer
     }
 }
 
+/// An empty buffer with room for the text of each program, or the answer where there is no memory for it.
+#[tactic(auto, using(asm_drawn::proofs::Programs::accepting))]
+fn room_for_text(alloc: Global) -> Result<MemSink, Answer>
+    ensures empty { IfOk result (λ sink. sink.written ≡ []) }
+    ensures room { IfOk result (λ sink. (number : ℕ) → number ≤ most_statements → length (program_text number) ≤ sink.capacity) }
+    ensures lacks { IfErr result (λ answer. SaysNoMemory answer.status answer.closing) }
+{
+    match MemSink::new(alloc, MOST_TEXT, Vec::new(alloc)) {
+        Ok(sink) => Ok(sink),
+        Err(_) => Err(no_memory()),
+    }
+}
+
 /// The text of that program, or the answer where there is no memory for it.
 fn drawn_text(alloc: Global, number: u32) -> Result<MemSink, Answer>
     requires some { 1 ≤ number }
     requires limit { number ≤ most_statements }
     ensures text { IfOk result (λ sink. sink.written ≡ program_text number) }
-    ensures lacks { IfErr result (λ answer. IsUndrawn number answer.status answer.closing) }
+    ensures lacks { IfErr result (λ answer. SaysNoMemory answer.status answer.closing) }
 {
-    let Ok(mut text) = MemSink::new(alloc, MOST_TEXT, Vec::new(alloc)) else {
-        return Err(no_memory());
+    let mut text = match room_for_text(alloc) {
+        Ok(text) => text,
+        Err(answer) => return Err(answer),
     };
     match generate(number, &mut text) {
         Ok(()) => Ok(text),
@@ -55,13 +70,13 @@ fn drawn_text(alloc: Global, number: u32) -> Result<MemSink, Answer>
     }
 }
 
-/// The machine that the program starts, or the answer where it starts no machine.
+/// The machine that the program starts, or the answer where there is no memory for it.
 fn drawn_machine(alloc: Global, number: u32) -> Result<Machine, Answer>
     requires some { 1 ≤ number }
     requires limit { number ≤ most_statements }
     ensures machine { IfOk result (StartsDrawn number) }
     ensures count { IfOk result (λ machine. machine.retired ≡ 0) }
-    ensures lacks { IfErr result (λ answer. IsUndrawn number answer.status answer.closing) }
+    ensures lacks { IfErr result (λ answer. SaysNoMemory answer.status answer.closing) }
 {
     let text = match drawn_text(alloc, number) {
         Ok(text) => text,
@@ -99,12 +114,15 @@ pub fn run_drawn<S: Source, K: Sink, R: Sink>(
     let ready = ReadyRun {
         layout: plain(),
         machine,
-        schedule: ReadySchedule::Seed(number),
+        schedule: ReadySchedule::Seed(number, GuessRule::Any),
     };
     let options = RunOptions {
-        schedule: Schedule::Seed(number),
+        schedule: Schedule::Seed(number, GuessRule::Any),
         limit: DEFAULT_LIMIT,
-        show: Show::Report,
+        reporting: Reporting {
+            show: Show::Report,
+            every: None,
+        },
     };
     run_ready(alloc, ready, options, Tail::Nothing, streams)
 }

@@ -1,7 +1,7 @@
 -- What the command `list` answers, and what it leaves of the outside.
 use Rattle.std.specs.Prelude.{◌≡◌, ◌⊎◌, ℕ, ◌+◌, ◌<◌, ◌≤◌, true, List, length, codes, Option, Some, if◌then◌else◌}
 use Rattle.elf_view.specs.Executables.{IsElf}
-use Rattle.elf_view.specs.Refusal.{starts_with_elf, refusal as elf_refusal}
+use Rattle.elf_view.specs.Refusal.{starts_with_elf, file_refusal}
 use Rattle.cf_io.specs.Puts.{WritesFront}
 use Rattle.asm_listing.specs.Listing.{elf_listing, flat_listing}
 use Rattle.texts.specs.Lines.{line}
@@ -30,7 +30,7 @@ abbrev pub IsUnlistable : List ℕ → ProgramErr → Type 0
 IsUnlistable image program.TooLong = most_bytes < length image
 IsUnlistable image (program.Elf error) =
     (length image ≤ most_bytes) × (starts_with_elf image ≡ true)
-    × (elf_refusal image ≡ Some error)
+    × (file_refusal image ≡ Some error)
 IsUnlistable image (program.Load error) = ⊥
 
 -- what holds of an image and of the output where the listing was not put

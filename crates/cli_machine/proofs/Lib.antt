@@ -1,4 +1,3 @@
 pub mod ProgramFiles
 pub mod Reading
-pub mod Reports
 pub mod Runs

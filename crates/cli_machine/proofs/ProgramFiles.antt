@@ -6,9 +6,9 @@ use Rattle.cf_io.specs.declared.failed.Failed.{Failed}
 use Rattle.rv_machine.specs.Hart.{Hart}
 use Rattle.rv_machine.specs.Streams.{Streams}
 use Rattle.report_closing.specs.Closing.{machine_closing}
-use Rattle.cf_run.specs.declared.answer.Ran.{Ran as Answer}
-use Rattle.cf_run.specs.declared.answer.Ran.TheVariants as ran
-use Rattle.cf_run.specs.Policies.{input_stopped, output_stopped, report_stopped}
+use Rattle.run_finishes.specs.declared.finish.Ran.{Ran as Answer}
+use Rattle.run_finishes.specs.declared.finish.Ran.TheVariants as ran
+use Rattle.run_finishes.specs.Stopped.{input_stopped, output_stopped, report_stopped}
 use Rattle.cli_files.specs.Causes.{files_answered, input_answered, output_answered}
 use Rattle.cli_files.specs.Outside.{Outside, Report, report_of}
 use Rattle.cli_files.specs.Programs.{IsProgramAt}
@@ -18,7 +18,7 @@ use Rattle.cli_machine.specs.Closing.{ClosesMachine, report_failed}
 use Rattle.cli_machine.specs.Machine.{RunsHart, BreaksHart, RefusesMachine, AnswersMachine, BreaksProgram}
 use Rattle.cli_machine.specs.Options.{Chosen}
 use Rattle.cli_reports.specs.Reporting.{PutsReport, Carries, Comes, FaultsReported, files_reported}
-use Rattle.cli_machine.specs.Statuses.{status_of_run}
+use Rattle.cli_reports.specs.RunStatuses.{status_of_run}
 use Rattle.cli_reports.specs.declared.reporting.Reported.{Reported}
 use Rattle.cli_reports.proofs.PutReports.{closed-tells, shows-none}
 
@@ -87,6 +87,23 @@ output-said limit ran.ReadFault sound = refl
 output-said limit ran.WriteFault sound = refl
 output-said limit ran.ReportFault sound = absurd (cc)
 
+-- where the report failed, neither did
+input-works : (finish : Answer) → report_failed finish ≡ true → input_stopped (Some finish) ≡ Ok tt
+input-works ran.ReportFault cut = refl
+input-works (ran.Exit code) cut = absurd (cc)
+input-works (ran.Trap cause pc detail) cut = absurd (cc)
+input-works ran.Limit cut = absurd (cc)
+input-works ran.ReadFault cut = absurd (cc)
+input-works ran.WriteFault cut = absurd (cc)
+
+output-works : (finish : Answer) → report_failed finish ≡ true → output_stopped (Some finish) ≡ Ok tt
+output-works ran.ReportFault cut = refl
+output-works (ran.Exit code) cut = absurd (cc)
+output-works (ran.Trap cause pc detail) cut = absurd (cc)
+output-works ran.Limit cut = absurd (cc)
+output-works ran.ReadFault cut = absurd (cc)
+output-works ran.WriteFault cut = absurd (cc)
+
 files-said : (limit : ℕ) (finish : Answer) → files_answered (status_of_run limit finish) ≡ Ok tt
 files-said limit (ran.Exit code) = refl
 files-said limit (ran.Trap cause pc detail) = refl
@@ -132,7 +149,7 @@ pub machine-input : (limit : ℕ) (finish : Answer) (last : Hart) (half full : R
 machine-input limit finish last half full result before now closes h =
     closed-tells input_answered (report_failed finish) (status_of_run limit finish) _
     (machine_closing limit finish last.retired last.regs) half full result before now
-    (λ sound. input-said limit finish) closes h
+    (λ sound. input-said limit finish) (λ cut. input-works finish cut) closes h
 
 pub machine-output : (limit : ℕ) (finish : Answer) (last : Hart) (half full : Report) (result : Result Reported Failed)
     (before now : ℕ) → ClosesMachine limit finish last half full result →
@@ -140,7 +157,7 @@ pub machine-output : (limit : ℕ) (finish : Answer) (last : Hart) (half full : 
 machine-output limit finish last half full result before now closes h =
     closed-tells output_answered (report_failed finish) (status_of_run limit finish) _
     (machine_closing limit finish last.retired last.regs) half full result before now
-    (λ sound. output-said limit finish sound) closes h
+    (λ sound. output-said limit finish sound) (λ cut. output-works finish cut) closes h
 
 pub machine-files : (limit : ℕ) (finish : Answer) (last : Hart) (half full : Report) (result : Result Reported Failed) →
     ClosesMachine limit finish last half full result → files_reported result ≡ Ok tt

@@ -1,5 +1,5 @@
 -- What a step adds to a run: one more instruction, or its end.
-use Rattle.std.proofs.Common.{◌≡◌, ℕ, zero, suc, ◌+◌, ◌<◌, List, [], ◌++◌, Bool, true, false, Option, Some, None, refl, ap, sym, ◌∙◌, subst, add-one}
+use Rattle.std.proofs.Common.{◌≡◌, ℕ, zero, suc, ◌+◌, ◌<◌, List, [], ◌++◌, Bool, true, false, Option, Some, None, refl, ap, sym, ◌∙◌, subst, add-one, ◌-◌, arith}
 use Rattle.std.specs.Prelude.{unwrap_or}
 use Rattle.cf_io.specs.Puts.{Writes, WritesFront}
 use Rattle.cf_io.proofs.Owing.{writes-nothing, writes-again}
@@ -13,14 +13,14 @@ use Rattle.rv_machine.specs.Outcome.{Outcome, Next, Trap, Exit}
 use Rattle.rv_machine.specs.Step.{step, step_on, after_output}
 use Rattle.rv_machine.specs.After.{after}
 use Rattle.rv_machine.specs.Acts.{Acts, StopsUnchanged, Steps}
+use Rattle.rv_machine.specs.Quick.{RetireAlone}
+use Rattle.rv_machine.proofs.Steps.{retire-none, steps-alone}
 use Rattle.rv_machine.proofs.InputKnown.{rest-told, stays, leaves-again}
-use Rattle.cli_machine.specs.Options.{Chosen, shown}
-use Rattle.cf_report.specs.Lines.{retired_line}
-use Rattle.cf_run.specs.declared.answer.Ran.{Ran}
-use Rattle.cf_run.specs.declared.answer.Ran.TheVariants as ran
-use Rattle.cli_machine.specs.Lines.{retired_lines, LeadsBy, ReachesBy}
+use Rattle.cli_machine.specs.Options.{Chosen, is_shown, shown_text, is_silent}
+use Rattle.run_finishes.specs.declared.finish.Ran.{Ran}
+use Rattle.run_finishes.specs.declared.finish.Ran.TheVariants as ran
+use Rattle.cli_machine.specs.Lines.{retired_texts, outcome_text, LeadsBy, ReachesBy}
 use Rattle.cli_machine.specs.Finish.{opening, Finishes, Closes, Runs, BreaksOff}
-use Rattle.cli_machine.proofs.Reports.{shown-again}
 
 -- what is known of a run so far: the streams before it and now, and the report before it and now
 pub record Told : Type 0 where
@@ -37,52 +37,47 @@ told_of before after blank full =
 pub record Reached (c : Chosen) (start now : Hart) (t : Told) (n : ℕ) : Type 0 where
   pub last : Machine
   pub lines : List ℕ
-  pub reaches : ReachesBy c.isa t.before.input (opening start t.before.input) n last lines
+  pub reaches : ReachesBy c t.before.input (opening start t.before.input) n last lines
   pub hart : now ≡ last.hart
   pub streams : Leaves t.before t.after last.rest last.output
-  pub report : Writes t.blank t.full (shown c.shows lines)
-
--- where there are no lines nothing is shown
-shows-nothing : (shows : Bool) (told : Option (List ℕ)) → Writes told told (shown shows [])
-shows-nothing true told = writes-nothing told
-shows-nothing false told = writes-nothing told
+  pub report : Writes t.blank t.full lines
 
 -- before the first step
-reaches-none : (isa : Isa) (start : Hart) (left : Option (List ℕ)) →
-    ReachesBy isa left (opening start left) 0 (opening start left) []
-unfolding after LeadsBy retired_lines
-reaches-none isa start None = (record { hart = refl; output = refl }, refl)
-reaches-none isa start (Some told) = (refl, refl)
+reaches-none : (c : Chosen) (start : Hart) (left : Option (List ℕ)) →
+    ReachesBy c left (opening start left) 0 (opening start left) []
+unfolding after LeadsBy retired_texts
+reaches-none c start None = (record { hart = refl; output = refl }, refl)
+reaches-none c start (Some told) = (refl, refl)
 
 pub reached-none : (c : Chosen) (start : Hart) (s : Streams) (report : Option (List ℕ)) →
     Reached c start start (told_of s s report report) 0
 reached-none c start s report = record {
   last = opening start s.input;
   lines = [];
-  reaches = reaches-none c.isa start s.input;
+  reaches = reaches-none c start s.input;
   hart = refl;
   streams = stays s (unwrap_or s.input []) (rest-told s.input);
-  report = shows-nothing c.shows report;
+  report = writes-nothing report;
 }
 
 -- over an input that does not tell what it has left, the machine may have any rest
-leads-rest : (isa : Isa) (start m : Machine) (n : ℕ) (lines rest : List ℕ) →
-    LeadsBy isa start n m lines → LeadsBy isa start n (record m { rest = rest }) lines
+leads-rest : (c : Chosen) (start m : Machine) (n : ℕ) (lines rest : List ℕ) →
+    LeadsBy c start n m lines → LeadsBy c start n (record m { rest = rest }) lines
 unfolding LeadsBy
-leads-rest isa start m zero lines rest (same, none) =
+leads-rest c start m zero lines rest (same, none) =
     (record { hart = same.hart; output = same.output }, none)
-leads-rest isa start m (suc n) lines rest (before, earlier, line, next, leads, steps, same, all) =
+leads-rest c start m (suc n) lines rest (before, earlier, line, next, leads, steps, same, all) =
     (before, earlier, line, next, leads, steps, record { hart = same.hart; output = same.output }, all)
 
 -- a run so far whose machine has the rest that the next step finds
 record Finds (c : Chosen) (start now : Hart) (t : Told) (n : ℕ) (rest : List ℕ) : Type 0 where
   pub machine : Machine
   pub lines : List ℕ
-  pub reaches : ReachesBy c.isa t.before.input (opening start t.before.input) n machine lines
+  pub reaches : ReachesBy c t.before.input (opening start t.before.input) n machine lines
   pub hart : machine.hart ≡ now
   pub rest_is : machine.rest ≡ rest
   pub streams : Leaves t.before t.after machine.rest machine.output
-  pub report : Writes t.blank t.full (shown c.shows lines)
+  pub report : Writes t.blank t.full lines
 
 -- where the input told what it had left, it is what the step finds
 told-rest : (told : Option (List ℕ)) (a b : List ℕ) → told ≡ Some a → IsTold told b → a ≡ b
@@ -97,7 +92,7 @@ found : (c : Chosen) (start now : Hart) (input output : Option (List ℕ)) (afte
 found c start now None output after blank full n rest run told = record {
   machine = record run.last { rest = rest };
   lines = run.lines;
-  reaches = leads-rest c.isa _ run.last n run.lines rest run.reaches;
+  reaches = leads-rest c _ run.last n run.lines rest run.reaches;
   hart = sym run.hart;
   rest_is = refl;
   streams = record { input = tt; output = run.streams.output };
@@ -127,17 +122,17 @@ step-is isa m now rest o h r e =
     subst (λ (x : List ℕ). step_on isa now x ≡ o) (sym r) e in
     ap (after_output m.output) (subst (λ (x : Hart). step_on isa x m.rest ≡ o) (sym h) on_rest)
 
--- one more instruction, and its line
-reaches-next : (isa : Isa) (left : Option (List ℕ)) (start m next : Machine) (n : ℕ)
-    (line : Retired) (lines : List ℕ) → ReachesBy isa left start n m lines →
-    step isa m ≡ Next next line →
-    ReachesBy isa left start (n + 1) next (lines ++ retired_line next.hart.retired line)
-unfolding after LeadsBy retired_lines
-reaches-next isa None start m next n line lines h e =
+-- one more instruction, and what is shown of it
+reaches-next : (c : Chosen) (left : Option (List ℕ)) (start m next : Machine) (n : ℕ)
+    (line : Retired) (lines : List ℕ) → ReachesBy c left start n m lines →
+    step c.isa m ≡ Next next line →
+    ReachesBy c left start (n + 1) next (lines ++ outcome_text c (Next next line))
+unfolding after LeadsBy retired_texts
+reaches-next c None start m next n line lines h e =
     rw add-one (m, lines, line, next, h, e, record { hart = refl; output = refl }, refl)
-reaches-next isa (Some told) start m next n line lines h e = (
+reaches-next c (Some told) start m next n line lines h e = (
   rw (add-one, h.0, e) refl,
-  rw (add-one, h.0, e) (ap (λ (z : List ℕ). z ++ retired_line next.hart.retired line) h.1),
+  rw (add-one, h.0, e) (ap (λ (z : List ℕ). z ++ outcome_text c (Next next line)) h.1),
 )
 
 -- what a step that retires an instruction adds
@@ -145,12 +140,12 @@ record Adds (c : Chosen) (start now new : Hart) (t : Told) (later : Streams) (n 
     (line : Retired) : Type 0 where
   pub last : Machine
   pub lines : List ℕ
-  pub reaches : ReachesBy c.isa t.before.input (opening start t.before.input) n last lines
+  pub reaches : ReachesBy c t.before.input (opening start t.before.input) n last lines
   pub next : Machine
   pub is : step c.isa last ≡ Next next line
   pub hart : new ≡ next.hart
   pub streams : Leaves t.before later next.rest next.output
-  pub report : Writes t.blank t.full (shown c.shows lines)
+  pub report : Writes t.blank t.full lines
 
 adds : (c : Chosen) (start now new : Hart) (t : Told) (later : Streams) (n : ℕ) (line : Retired) →
     Reached c start now t n → Steps c.isa now new t.after later (stepped.Next line) →
@@ -171,61 +166,47 @@ adds c start now new t later n line run steps =
       report = f.report;
     }
 
--- the line that is put is that of the step
-line-is : (count : ℕ) (new : Hart) (next : Machine) (line : Retired) → count ≡ new.retired →
-    new ≡ next.hart → retired_line count line ≡ retired_line next.hart.retired line
-line-is count new next line e h =
-    ap (λ (k : ℕ). retired_line k line) (e ∙ ap (λ (x : Hart). x.retired) h)
+-- the count after a step
+count-is : (count : ℕ) (new : Hart) (next : Machine) → count ≡ new.retired → new ≡ next.hart → count ≡ next.hart.retired
+count-is count new next e h = e ∙ ap (λ (x : Hart). x.retired) h
 
 -- a step goes on
 pub reached-next : (c : Chosen) (start now new : Hart) (before between after : Streams)
     (blank half full : Option (List ℕ)) (n count : ℕ) (line : Retired) →
     Reached c start now (told_of before between blank half) n →
     Steps c.isa now new between after (stepped.Next line) → count ≡ new.retired →
-    Writes half full (shown c.shows (retired_line count line)) →
+    Writes half full (shown_text c.shows c.every count line) →
     Reached c start new (told_of before after blank full) (n + 1)
 reached-next c start now new before between after blank half full n count line run steps e put =
     let a : Adds c start now new (told_of before between blank half) after n line =
     adds c start now new (told_of before between blank half) after n line run steps in
-    let text : retired_line count line ≡ retired_line a.next.hart.retired line =
-    line-is count new a.next line e a.hart in
-    let P : List ℕ → Type 0 = λ z. Writes half full (shown c.shows z) in
-    let Q : List ℕ → Type 0 = λ z. Writes blank full z in
+    let here : Writes half full (outcome_text c (Next a.next line)) =
+    subst (λ (k : ℕ). Writes half full (shown_text c.shows c.every k line)) (count-is count new a.next e a.hart) put in
     record {
       last = a.next;
-      lines = a.lines ++ retired_line a.next.hart.retired line;
-      reaches = reaches-next c.isa before.input _ a.last a.next n line a.lines a.reaches a.is;
+      lines = a.lines ++ outcome_text c (Next a.next line);
+      reaches = reaches-next c before.input _ a.last a.next n line a.lines a.reaches a.is;
       hart = a.hart;
       streams = a.streams;
-      report = subst Q (shown-again c.shows a.lines (retired_line a.next.hart.retired line))
-          (writes-again blank half full _ _ a.report (subst P text put));
+      report = writes-again blank half full _ _ a.report here;
     }
 
--- where lines are shown, all of them are
-all-shown : (shows : Bool) (blank full : Option (List ℕ)) (lines : List ℕ) → shows ≡ true →
-    Writes blank full (shown shows lines) → Writes blank full lines
-all-shown true blank full lines e h = h
-all-shown false blank full lines e h = absurd (cc)
-
--- the report fails at the line of a step
+-- the report fails at what is shown of a step
 pub breaks-off : (c : Chosen) (start now new : Hart) (before between after : Streams)
     (blank half full : Option (List ℕ)) (n count : ℕ) (line : Retired) → n < c.limit →
     Reached c start now (told_of before between blank half) n →
     Steps c.isa now new between after (stepped.Next line) → count ≡ new.retired →
-    c.shows ≡ true → WritesFront half full (retired_line count line) →
+    is_shown c.shows c.every count ≡ true → WritesFront half full (shown_text c.shows c.every count line) →
     BreaksOff c start new before after blank full
 breaks-off c start now new before between after blank half full n count line below run steps e shows front =
     let a : Adds c start now new (told_of before between blank half) after n line =
     adds c start now new (told_of before between blank half) after n line run steps in
-    let P : List ℕ → Type 0 = λ z. WritesFront half full z in
-    let part : WritesFront half full (retired_line a.next.hart.retired line) =
-    subst P (line-is count new a.next line e a.hart) front in
+    let same = count-is count new a.next e a.hart in
     record {
-      shows = shows;
       count = n;
       within = below;
       last = a.last;
-      lines = a.lines;
+      text = a.lines;
       reaches = a.reaches;
       next = a.next;
       line = line;
@@ -233,8 +214,9 @@ breaks-off c start now new before between after blank half full n count line bel
       hart = a.hart;
       streams = a.streams;
       half = half;
-      put = all-shown c.shows blank half a.lines shows a.report;
-      breaks = part;
+      put = a.report;
+      shows = subst (λ (k : ℕ). is_shown c.shows c.every k ≡ true) same shows;
+      breaks = subst (λ (k : ℕ). WritesFront half full (shown_text c.shows c.every k line)) same front;
     }
 
 -- a run that has ended, and its lines were written
@@ -248,7 +230,7 @@ ends : (c : Chosen) (start now new : Hart) (before between after : Streams)
     Reached c start now (told_of before between blank full) n →
     now.retired ≡ start.retired + n → StopsUnchanged (step_on c.isa now) o now new between after →
     ((m : Machine) (lines : List ℕ) →
-    ReachesBy c.isa before.input (opening start before.input) n m lines →
+    ReachesBy c before.input (opening start before.input) n m lines →
     step c.isa m ≡ after_output m.output o →
     Finishes c before.input (opening start before.input) end n m lines) →
     ((last : Hart) → new ≡ last → Closes c.isa end last new between after) →
@@ -257,17 +239,15 @@ ends c start now new before between after blank full n o end run count stops fin
     let f : Finds c start now (told_of before between blank full) n stops.rest =
     finds c start now (told_of before between blank full) n stops.rest run stops.told in
     let m : Machine = f.machine in (
-      shown c.shows f.lines,
+      f.lines,
       record {
         count = n;
         last = m;
-        lines = f.lines;
         finishes = finishes m f.lines f.reaches (step-is c.isa m now stops.rest o f.hart f.rest_is stops.is);
         retired = ap (λ (h : Hart). h.retired) stops.hart ∙ count;
         between = between;
         streams = f.streams;
         closes = closes m.hart (stops.hart ∙ sym f.hart);
-        shows = refl;
       },
       f.report,
     )
@@ -302,23 +282,21 @@ fails : (c : Chosen) (start now new : Hart) (before between after : Streams)
     Reached c start now (told_of before between blank full) n →
     now.retired ≡ start.retired + n → new.retired ≡ now.retired →
     ((m : Machine) (lines : List ℕ) →
-    ReachesBy c.isa before.input (opening start before.input) n m lines →
+    ReachesBy c before.input (opening start before.input) n m lines →
     Finishes c before.input (opening start before.input) end n m lines) →
     Closes c.isa end now new between after →
     Ended c start new (told_of before after blank full) end
 fails c start now new before between after blank full n end run count same finishes closes =
     let P : Hart → Type 0 = λ h. Closes c.isa end h new between after in (
-      shown c.shows run.lines,
+      run.lines,
       record {
         count = n;
         last = run.last;
-        lines = run.lines;
         finishes = finishes run.last run.lines run.reaches;
         retired = same ∙ count;
         between = between;
         streams = run.streams;
         closes = subst P run.hart closes;
-        shows = refl;
       },
       run.report,
     )
@@ -345,6 +323,38 @@ runs-write-fault c start now new before between after blank full n run below cou
     fails c start now new before between after blank full n ran.WriteFault run count
     (ap (λ (h : Hart). h.retired) steps.2) (λ m lines reaches. (below, reaches)) steps
 
+-- instructions that need no stream, one after another, where nothing is shown
+silent-text : (shows : Bool) (every : Option ℕ) (n : ℕ) (line : Retired) → is_silent shows every ≡ true → shown_text shows every n line ≡ []
+silent-text true every n line e = absurd (cc)
+silent-text false None n line e = refl
+silent-text false (Some step) n line e = absurd (cc)
+
+reached-alone-by : (c : Chosen) (start old now : Hart) (before after : Streams) (blank full : Option (List ℕ)) (n k : ℕ) →
+    is_silent c.shows c.every ≡ true → Reached c start old (told_of before after blank full) n → RetireAlone old k now →
+    Reached c start now (told_of before after blank full) (n + k)
+unfolding RetireAlone
+reached-alone-by c start old now before after blank full n zero silent run e =
+    let none : n + zero ≡ n = omega arith in
+    rw none (subst (λ (h : Hart). Reached c start h (told_of before after blank full) n) (sym e) run)
+reached-alone-by c start old now before after blank full n (suc k) silent run (between, earlier, step) =
+    let more : n + suc k ≡ n + k + 1 = omega arith in
+    rw more
+    (reached-next c start between now before after after blank full full (n + k) now.retired step.line
+    (reached-alone-by c start old between before after blank full n k silent run earlier)
+    (steps-alone c.isa between now after step) refl
+    (rw (silent-text c.shows c.every now.retired step.line silent) (writes-nothing full)))
+
+pub reached-alone : (c : Chosen) (start old now : Hart) (before after : Streams) (blank full : Option (List ℕ)) (n : ℕ) (b : Bool) →
+    is_silent c.shows c.every ≡ b → (b ≡ false → now ≡ old) → Reached c start old (told_of before after blank full) n →
+    RetireAlone old (now.retired - old.retired) now →
+    Reached c start now (told_of before after blank full) (n + (now.retired - old.retired))
+reached-alone c start old now before after blank full n true silent same run alone =
+    reached-alone-by c start old now before after blank full n (now.retired - old.retired) silent run alone
+reached-alone c start old now before after blank full n false silent same run alone =
+    let count : now.retired ≡ old.retired = ap (λ (h : Hart). h.retired) (same refl) in
+    let none : n + (now.retired - old.retired) ≡ n = omega (arith, count) in
+    rw none (subst (λ (h : Hart). Reached c start h (told_of before after blank full) n) (sym (same refl)) run)
+
 -- the limit is reached
 pub runs-limit : (c : Chosen) (start now : Hart) (before after : Streams)
     (blank full : Option (List ℕ)) (n : ℕ) →
@@ -352,17 +362,17 @@ pub runs-limit : (c : Chosen) (start now : Hart) (before after : Streams)
     now.retired ≡ start.retired + n →
     Ended c start now (told_of before after blank full) ran.Limit
 runs-limit c start now before after blank full n run e count = (
-  shown c.shows run.lines,
+  run.lines,
   record {
     count = n;
     last = run.last;
-    lines = run.lines;
     finishes = (e, run.reaches);
     retired = count;
     between = after;
     streams = run.streams;
     closes = (run.hart, refl);
-    shows = refl;
   },
   run.report,
 )
+
+pub ruleset standing = (retire-none)

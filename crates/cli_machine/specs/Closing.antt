@@ -2,13 +2,13 @@
 use Rattle.std.specs.Prelude.{ℕ, Bool, Result}
 use Rattle.cf_io.specs.declared.failed.Failed.{Failed}
 use Rattle.rv_machine.specs.Hart.{Hart}
-use Rattle.cf_run.specs.declared.answer.Ran.{Ran as Answer}
-use Rattle.cf_run.specs.declared.answer.Scripted.TheVariants.{Ran}
+use Rattle.run_finishes.specs.declared.finish.Ran.{Ran as Answer}
+use Rattle.run_finishes.specs.declared.finish.Scripted.TheVariants.{Ran}
 use Rattle.report_closing.specs.Closing.{machine_closing, is_report_fault}
 use Rattle.cli_files.specs.Outside.{Report}
 use Rattle.cli_reports.specs.Reporting.{PutsClosing}
 use Rattle.cli_reports.specs.declared.reporting.Reported.{Reported}
-use Rattle.cli_machine.specs.Statuses.{status_of_run}
+use Rattle.cli_reports.specs.RunStatuses.{status_of_run}
 
 -- the report failed during the run
 abbrev pub report_failed : Answer → Bool

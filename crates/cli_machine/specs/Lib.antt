@@ -3,4 +3,3 @@ pub mod Finish
 pub mod Lines
 pub mod Machine
 pub mod Options
-pub mod Statuses

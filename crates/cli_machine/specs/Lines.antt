@@ -1,40 +1,40 @@
--- The retirement lines of the sequential machine: one for each instruction, in order.
+-- What is shown of the instructions that the sequential machine retires, in order.
 use Rattle.std.specs.Prelude.{◌≡◌, ℕ, zero, suc, List, [], ◌++◌, Option, Some, None}
-use Rattle.rv_inst.specs.declared.isa.Isa.{Isa}
 use Rattle.rv_machine.specs.declared.outcome.Retired.{Retired}
 use Rattle.rv_machine.specs.Machine.{Machine}
 use Rattle.rv_machine.specs.Outcome.{Outcome, Next, Trap, Exit}
 use Rattle.rv_machine.specs.Step.{step}
 use Rattle.rv_machine.specs.After.{after, SameButInput}
-use Rattle.cf_report.specs.Lines.{retired_line}
+use Rattle.cli_machine.specs.Options.{Chosen, shown_text}
 
--- the line of an outcome: no line where nothing retired
-abbrev pub text_of : Outcome Machine → List ℕ
-text_of (Next m line) = retired_line m.hart.retired line
-text_of (Trap cause pc detail) = []
-text_of (Exit status) = []
+-- what is shown of an outcome: nothing where nothing retired
+abbrev pub outcome_text : Chosen → Outcome Machine → List ℕ
+outcome_text c (Next m line) = shown_text c.shows c.every m.hart.retired line
+outcome_text c (Trap cause pc detail) = []
+outcome_text c (Exit status) = []
 
--- the line of the next step of the machine, if there is one
-abbrev pub text_from : Isa → Option Machine → List ℕ
-text_from isa None = []
-text_from isa (Some m) = text_of (step isa m)
+-- what is shown of the next step of the machine, if there is one
+abbrev pub text_from : Chosen → Option Machine → List ℕ
+text_from c None = []
+text_from c (Some m) = outcome_text c (step c.isa m)
 
--- the lines of the first n steps: those of the machines after 0, 1, .. and n - 1 instructions
-unfoldable pub retired_lines : Isa → Machine → ℕ → List ℕ
-retired_lines isa start zero = []
-retired_lines isa start (suc n) = retired_lines isa start n ++ text_from isa (after isa start n)
+-- what is shown of the first n steps: those of the machines after 0, 1, .. and n - 1 instructions
+unfoldable pub retired_texts : Chosen → Machine → ℕ → List ℕ
+retired_texts c start zero = []
+retired_texts c start (suc n) = retired_texts c start n ++ text_from c (after c.isa start n)
 
--- n instructions with these lines lead from one machine to another, over an input that does not tell what it has left: each finds whatever it finds
-unfoldable pub LeadsBy : Isa → Machine → ℕ → Machine → List ℕ → Type 0
-LeadsBy isa start zero m lines = SameButInput start m × (lines ≡ [])
-LeadsBy isa start (suc n) m lines =
+-- n instructions of which this is shown lead from one machine to another, over an input that does not tell what it has
+-- left: each finds whatever it finds
+unfoldable pub LeadsBy : Chosen → Machine → ℕ → Machine → List ℕ → Type 0
+LeadsBy c start zero m text = SameButInput start m × (text ≡ [])
+LeadsBy c start (suc n) m text =
     (before : Machine) × (earlier : List ℕ) × (line : Retired) × (next : Machine)
-    × LeadsBy isa start n before earlier × (step isa before ≡ Next next line)
-    × SameButInput next m × (lines ≡ earlier ++ text_of (Next next line))
+    × LeadsBy c start n before earlier × (step c.isa before ≡ Next next line)
+    × SameButInput next m × (text ≡ earlier ++ outcome_text c (Next next line))
 
--- the machine is the one after n instructions, and these are their lines, where the input tells what it has left; else
--- n instructions with these lines lead to it
-abbrev pub ReachesBy : Isa → Option (List ℕ) → Machine → ℕ → Machine → List ℕ → Type 0
-ReachesBy isa (Some left) start n m lines =
-    (after isa start n ≡ Some m) × (lines ≡ retired_lines isa start n)
-ReachesBy isa None start n m lines = LeadsBy isa start n m lines
+-- the machine is the one after n instructions, and this is shown of them, where the input tells what it has left; else
+-- n instructions of which this is shown lead to it
+abbrev pub ReachesBy : Chosen → Option (List ℕ) → Machine → ℕ → Machine → List ℕ → Type 0
+ReachesBy c (Some left) start n m text =
+    (after c.isa start n ≡ Some m) × (text ≡ retired_texts c start n)
+ReachesBy c None start n m text = LeadsBy c start n m text

@@ -2,14 +2,14 @@
 use Rattle.std.specs.Prelude.{◌≡◌, ◌⊎◌, ℕ, List, ◌++◌, Option}
 use Rattle.rv_machine.specs.Hart.{Hart}
 use Rattle.rv_machine.specs.Streams.{Streams}
-use Rattle.cf_run.specs.declared.answer.Ran.{Ran}
+use Rattle.run_finishes.specs.declared.finish.Ran.{Ran}
 use Rattle.report_closing.specs.Closing.{machine_closing}
 use Rattle.cli_machine.specs.Options.{Chosen}
 use Rattle.cli_machine.specs.Finish.{Runs, BreaksOff}
 use Rattle.cli_files.specs.Outside.{Outside}
 use Rattle.cli_files.specs.Programs.{IsProgramAt, LacksProgram}
 use Rattle.cli_files.specs.declared.status.Status.{Status}
-use Rattle.cli_machine.specs.Statuses.{status_of_run}
+use Rattle.cli_reports.specs.RunStatuses.{status_of_run}
 
 -- the hart was run; the status says how the run finished, these lines are shown, and these close the report
 pub record RunsHart (chosen : Chosen) (start : Hart) (before after : Streams) (answer : Status)

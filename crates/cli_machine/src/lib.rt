@@ -5,5 +5,4 @@ mod closing;
 mod machine;
 mod running;
 
-pub use closing::status_of_run;
 pub use machine::run_program;

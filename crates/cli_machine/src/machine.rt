@@ -28,8 +28,8 @@ fn run_machine<S: Source, K: Sink, R: Sink>(
 ) -> Result<Reported, Failed>
     requires { machine.retired ≡ 0 }
     ensures comes { ComesOver
-        (λ before after blank. RunsHart (chosen_of options.limit options.show_retired options.mul) machine before after)
-        (BreaksHart (chosen_of options.limit options.show_retired options.mul) machine)
+        (λ before after blank. RunsHart (chosen_of options.limit options.show_retired options.mul options.every) machine before after)
+        (BreaksHart (chosen_of options.limit options.show_retired options.mul options.every) machine)
         (streams_change S.left K.written R.written R.faults streams.entry streams.exit) result }
     ensures files { files_reported result ≡ Ok tt }
     ensures input { FaultsReported input_answered (S.faults streams.entry.input.now) (S.faults (input_left streams.exit)) result }
@@ -56,8 +56,8 @@ pub fn run_program<F: Files, S: Source, K: Sink, R: Sink>(
     streams: RunStreams<'_, S, K, R>,
 ) -> Result<Reported, Failed>
     ensures answers { CarriesOut
-        (λ before after blank. AnswersMachine program.now (chosen_of options.limit options.show_retired options.mul) before after)
-        (BreaksProgram program.now (chosen_of options.limit options.show_retired options.mul))
+        (λ before after blank. AnswersMachine program.now (chosen_of options.limit options.show_retired options.mul options.every) before after)
+        (BreaksProgram program.now (chosen_of options.limit options.show_retired options.mul options.every))
         (outside_change F.told F.faults S.left S.faults K.written K.faults R.written R.faults files.old files.new streams.entry streams.exit) result }
     ensures files { HasCause (F.faults files.old) (F.faults files.new) (files_reported result) }
     ensures input { FaultsReported input_answered (S.faults streams.entry.input.now) (S.faults (input_left streams.exit)) result }

@@ -1,25 +1,26 @@
 //! Running the sequential machine.
 
-ghost use Rattle.std.specs.Prelude.{◌≡◌, ◌+◌, ◌<◌, ◌^◌, true, Some, OnOk, OnErr};
+ghost use Rattle.std.specs.Prelude.{◌≡◌, ◌+◌, ◌<◌, ◌^◌, true, Some, OnErr, ◌-◌, ◌≤◌, false};
 ghost use Rattle.cf_io.specs.Causes.{HasCause};
-ghost use Rattle.cf_io.specs.Puts.{Writes, WritesFront};
 ghost use Rattle.cf_report.specs.Lines.{retired_line};
+ghost use Rattle.cf_report.specs.Progress.{is_step as is_step_of, machine_line};
 ghost use Rattle.cf_report.specs.Putting.{PutsText};
-ghost use Rattle.cf_run.specs.Policies.{input_stopped, output_stopped, report_stopped};
+ghost use Rattle.run_finishes.specs.Stopped.{input_stopped, output_stopped, report_stopped};
 ghost use Rattle.cli_machine.specs.Finish.{RunsToFinish};
-ghost use Rattle.cli_machine.specs.Options.{chosen_of, isa_of, shown};
+ghost use Rattle.cli_machine.specs.Options.{chosen_of, is_shown, machine_isa, lines_shown, shown_text, is_silent};
+ghost use Rattle.rv_machine.specs.Quick.{RetireAlone};
 ghost use Rattle.rv_machine.specs.Streams.{streams_of};
 
 use cf_io::{Failed, Sink, Source};
-use cf_report::put_retired;
-use cf_run::Ran;
+use cf_report::{is_step, put_machine_progress, put_retired};
 use cli_arguments::MachineOptions;
+use run_finishes::Ran;
 use rv_inst::Isa;
 use rv_machine::{Machine, Retired, Stepped};
 
 /// The instruction set of a machine that multiplies and divides, or of one that does not.
 fn instruction_set(mul: bool) -> Isa
-    ensures { result ≡ isa_of mul }
+    ensures { result ≡ machine_isa mul }
 {
     if mul { Isa::Rv32im } else { Isa::Rv32i }
 }
@@ -50,14 +51,10 @@ fn put_line<R: Sink>(
 
 /// The same, where lines are shown.
 #[inline(always)]
-#[tactic(auto, using(crate::proofs::Reports::reports))]
 fn show_line<R: Sink>(shows: bool, count: u64, line: Retired, report: &mut R) -> Result<(), Failed>
-    ensures ok { OnOk result (Writes (R.written report.old) (R.written report.new)
-        (shown shows (retired_line count line))) }
+    ensures puts { PutsText (R.written report.old) (R.written report.new) (R.faults report.old) (R.faults report.new)
+        (lines_shown shows (retired_line count line)) result }
     ensures shows { OnErr result (shows ≡ true) }
-    ensures err { OnErr result (WritesFront (R.written report.old) (R.written report.new)
-        (retired_line count line)) }
-    ensures cause { HasCause (R.faults report.old) (R.faults report.new) result }
 {
     if shows {
         put_line(count, line.pc, line.word, line.reg, line.value, report)
@@ -66,9 +63,62 @@ fn show_line<R: Sink>(shows: bool, count: u64, line: Retired, report: &mut R) ->
     }
 }
 
+/// Puts how far the run has come, where it is said after this many retired instructions.
+#[inline(always)]
+fn show_progress<R: Sink>(every: Option<u64>, count: u64, report: &mut R) -> Result<(), Failed>
+    ensures puts { PutsText (R.written report.old) (R.written report.new) (R.faults report.old) (R.faults report.new)
+        (lines_shown (is_step_of every count) (machine_line count)) result }
+    ensures shows { OnErr result (is_step_of every count ≡ true) }
+{
+    if is_step(every, count) {
+        put_machine_progress(count, report)
+    } else {
+        Ok(())
+    }
+}
+
+/// Puts what is shown of an instruction that retired; `count` have retired with it.
+#[inline(always)]
+fn show_step<R: Sink>(
+    options: MachineOptions,
+    count: u64,
+    line: Retired,
+    report: &mut R,
+) -> Result<(), Failed>
+    ensures puts { PutsText (R.written report.old) (R.written report.new) (R.faults report.old) (R.faults report.new)
+        (shown_text options.show_retired options.every count line) result }
+    ensures shows { OnErr result (is_shown options.show_retired options.every count ≡ true) }
+{
+    show_line(options.show_retired, count, line, report)?;
+    show_progress(options.every, count, report)
+}
+
+/// Whether nothing is shown while the machine runs.
+#[inline(always)]
+fn is_silent(options: MachineOptions) -> bool
+    ensures { result ≡ is_silent options.show_retired options.every }
+{
+    !options.show_retired && options.every.is_none()
+}
+
+/// Where nothing is shown of instructions, executes them as long as they need no stream, until `end` have retired.
+#[inline(always)]
+#[tactic(auto, using(crate::proofs::Runs::standing))]
+fn run_unshown(machine: &mut Machine, options: MachineOptions, end: u64)
+    requires { machine.old.retired ≤ end }
+    ensures goes { RetireAlone machine.old (machine.new.retired - machine.old.retired) machine.new }
+    ensures onward { machine.old.retired ≤ machine.new.retired }
+    ensures within { machine.new.retired ≤ end }
+    ensures shown { is_silent options.show_retired options.every ≡ false → machine.new ≡ machine.old }
+{
+    if is_silent(options) {
+        machine.run_alone(end);
+    }
+}
+
 /// Runs the machine until the program ends or traps, one of its streams fails, or as many more
 /// instructions have retired as the options allow. Each retired instruction's line is put to the report as it comes,
-/// where the options ask for that; the run ends with `ReportFault` where the report fails; nothing more is then put to it.
+/// and how far the run has come, where the options ask for that; the run ends with `ReportFault` where the report fails; nothing more is then put to it.
 // The machine makes a step in this place alone, so that the compiler makes the whole step a part of the loop: a second
 // call of it, for the other instruction set, cost half the speed.
 pub fn run<S: Source, K: Sink, R: Sink>(
@@ -79,7 +129,7 @@ pub fn run<S: Source, K: Sink, R: Sink>(
     report: &mut R,
 ) -> Ran
     requires { machine.old.retired + options.limit < 2 ^ 64 }
-    ensures runs { RunsToFinish (chosen_of options.limit options.show_retired options.mul) machine.old machine.new
+    ensures runs { RunsToFinish (chosen_of options.limit options.show_retired options.mul options.every) machine.old machine.new
         (streams_of (S.left input.old) (K.written output.old))
         (streams_of (S.left input.new) (K.written output.new))
         (R.written report.old) (R.written report.new) result }
@@ -89,11 +139,12 @@ pub fn run<S: Source, K: Sink, R: Sink>(
 {
     let isa = instruction_set(options.mul);
     let end = machine.retired() + options.limit;
+    run_unshown(machine, options, end);
     while machine.retired() < end {
         match machine.step_as(isa, input, output) {
             Stepped::Next(line) => {
-                match show_line(options.show_retired, machine.retired(), line, report) {
-                    Ok(()) => {}
+                match show_step(options, machine.retired(), line, report) {
+                    Ok(()) => run_unshown(machine, options, end),
                     Err(_) => return Ran::ReportFault,
                 }
             }

@@ -4,6 +4,7 @@ use Rattle.rv_inst.specs.declared.isa.Isa.{Isa}
 use Rattle.rv_machine.specs.Hart.{Hart}
 use Rattle.rv_machine.specs.Machine.{Machine}
 use Rattle.rv_machine.specs.Outcome.{Outcome, Next, Trap, Exit}
+use Rattle.rv_machine.specs.After.{after}
 use Rattle.rv_machine.specs.Step.{step}
 use Rattle.rv_machine.specs.Streams.{Streams, Leaves}
 use Rattle.rv_machine.specs.declared.outcome.Retired.{Retired}
@@ -13,19 +14,19 @@ use Rattle.cf_semantics.specs.moves.Instructions.{Goes, step_at, step_here, step
 use Rattle.cf_semantics.specs.state.Layouts.{isa_of}
 use Rattle.cf_semantics.specs.runs.Lines.{Line}
 use Rattle.cf_report.specs.declared.tally.Tally.{Tally}
-use Rattle.cf_run.specs.declared.answer.Ran.{Ran as RunAnswer}
-use Rattle.cf_run.specs.declared.answer.Ran.TheVariants as ran
-use Rattle.cf_run.specs.declared.answer.Scripted.{Scripted}
-use Rattle.cf_run.specs.declared.answer.Scripted.TheVariants.{Ran, ScriptEnd, BadScript, BarredAt}
+use Rattle.run_finishes.specs.declared.finish.Ran.{Ran as RunAnswer}
+use Rattle.run_finishes.specs.declared.finish.Ran.TheVariants as ran
+use Rattle.run_finishes.specs.declared.finish.Scripted.{Scripted}
+use Rattle.run_finishes.specs.declared.finish.Scripted.TheVariants.{Ran, ScriptEnd, BadScript, BarredAt}
 use Rattle.cf_run.specs.Ending.{EndsAsMachine, EndsSequentially, EndsUnderLimit, IsAfterSteps}
 use Rattle.cf_run.specs.Moving.{RunPlace, place_of}
 use Rattle.theory_unknown_input.specs.UnknownInput.{GoesTo}
 use Rattle.report_closing.specs.Closing.{head_text, machine_closing}
 use Rattle.report_closing.specs.Lines.{first_line}
 use Rattle.cli_machine.specs.Finish.{opening, Runs}
-use Rattle.cli_machine.specs.Lines.{LeadsBy, ReachesBy, retired_lines, text_of}
-use Rattle.cli_machine.specs.Options.{chosen_of}
-use Rattle.cli_processor.specs.Agreement.{start_of, head_of, AgreesWithMachine, IsMachines}
+use Rattle.cli_machine.specs.Lines.{LeadsBy, ReachesBy, retired_texts, text_from, outcome_text}
+use Rattle.cli_machine.specs.Options.{Chosen, chosen_of}
+use Rattle.cli_processor.specs.Agreement.{run_start, head_of, AgreesWithMachine, IsMachines}
 use Rattle.cli_processor.specs.Statuses.{status_of}
 use Rattle.cli_files.specs.declared.status.Status.{Status}
 use Rattle.cli_files.specs.declared.status.Status.TheVariants as status
@@ -44,82 +45,92 @@ steps isa before next e = of (step isa before) refl e
     of (Trap cause pc detail) f g = absurd (cc)
     of (Exit status) f g = absurd (cc)
 
--- so, over an input that does not tell what it has left, the steps have lines
-leads_by : (isa : Isa) (start : Machine) (n : ℕ) (at : Machine) (written : List Line) → GoesTo isa start n at written →
-    (lines : List ℕ) × LeadsBy isa start n at lines
-unfolding GoesTo LeadsBy
-leads_by isa start zero at written (same, none) = ([], (same, refl))
-leads_by isa start (suc n) at written (before, next, earlier, goes, is, same, more) =
-    let sooner = leads_by isa start n before earlier goes in
-    let s : Steps isa before next = steps isa before next is in
-    (sooner.0 ++ text_of (Next next s.line), (before, sooner.0, s.line, next, sooner.1, s.is, same, refl))
+-- a run of the machine that shows nothing
+abbrev silent : ℕ → Plan → Chosen
+silent limit plan = chosen_of limit false (has_mul plan) None
 
-reaches_by : (isa : Isa) (told : Option (List ℕ)) (hart : Hart) (n : ℕ) (at : Machine) → IsAfterSteps isa told hart n at →
-    (lines : List ℕ) × ReachesBy isa told (opening hart told) n at lines
-reaches_by isa (Some rest) hart n at is = (retired_lines isa (opening hart (Some rest)) n, (is, refl))
-reaches_by isa None hart n at (written, goes) = leads_by isa (opening hart None) n at written goes
+nothing_of : (limit : ℕ) (plan : Plan) (o : Outcome Machine) → outcome_text (silent limit plan) o ≡ []
+nothing_of limit plan (Next m line) = refl
+nothing_of limit plan (Trap cause pc detail) = refl
+nothing_of limit plan (Exit status) = refl
+
+nothing_from : (limit : ℕ) (plan : Plan) (m : Option Machine) → text_from (silent limit plan) m ≡ []
+nothing_from limit plan None = refl
+nothing_from limit plan (Some m) = nothing_of limit plan (step (isa_of plan) m)
+
+nothing_shown : (limit : ℕ) (plan : Plan) (start : Machine) (n : ℕ) → [] ≡ retired_texts (silent limit plan) start n
+unfolding retired_texts
+nothing_shown limit plan start zero = refl
+nothing_shown limit plan start (suc n) =
+    sym (rw (sym (nothing_shown limit plan start n), nothing_from limit plan (after (isa_of plan) start n)) refl)
+
+-- so, over an input that does not tell what it has left, nothing is shown of the steps
+leads_by : (limit : ℕ) (plan : Plan) (start : Machine) (n : ℕ) (at : Machine) (written : List Line) → GoesTo (isa_of plan) start n at written →
+    LeadsBy (silent limit plan) start n at []
+unfolding GoesTo LeadsBy
+leads_by limit plan start zero at written (same, none) = (same, refl)
+leads_by limit plan start (suc n) at written (before, next, earlier, goes, is, same, more) =
+    let s : Steps (isa_of plan) before next = steps (isa_of plan) before next is in
+    (before, [], s.line, next, leads_by limit plan start n before earlier goes, s.is, same, refl)
+
+reaches_by : (limit : ℕ) (plan : Plan) (told : Option (List ℕ)) (hart : Hart) (n : ℕ) (at : Machine) → IsAfterSteps (isa_of plan) told hart n at →
+    ReachesBy (silent limit plan) told (opening hart told) n at []
+reaches_by limit plan (Some rest) hart n at is = (is, nothing_shown limit plan (opening hart (Some rest)) n)
+reaches_by limit plan None hart n at (written, goes) = leads_by limit plan (opening hart None) n at written goes
 
 -- a machine that is reached from a hart that has retired nothing
-record Reached (limit : ℕ) (isa : Isa) (hart : Hart) (before after : Streams) (m : Machine) : Type 0 where
-  lines : List ℕ
-  reaches : ReachesBy isa before.input (opening hart before.input) m.hart.retired m lines
+record Reached (limit : ℕ) (plan : Plan) (hart : Hart) (before after : Streams) (m : Machine) : Type 0 where
+  reaches : ReachesBy (silent limit plan) before.input (opening hart before.input) m.hart.retired m []
   counts : m.hart.retired ≡ hart.retired + m.hart.retired
   streams : Leaves before after m.rest m.output
 
 reached : (limit : ℕ) (hart : Hart) (begin new : RunPlace) (answer : RunAnswer) → hart.retired ≡ 0 → (e : EndsAsMachine limit hart begin new answer) →
-    Reached limit (isa_of begin.core.plan) hart begin.streams new.streams e.at
+    Reached limit begin.core.plan hart begin.streams new.streams e.at
 reached limit hart begin new answer fresh e =
     let number : new.core.state.retired - hart.retired ≡ e.at.hart.retired = let r = e.retired in omega (arith, fresh, r) in
-    let r = reaches_by (isa_of begin.core.plan) begin.streams.input hart (new.core.state.retired - hart.retired) e.at e.comes in
+    let r = reaches_by limit begin.core.plan begin.streams.input hart (new.core.state.retired - hart.retired) e.at e.comes in
     record {
-      lines = r.0;
-      reaches = subst (λ (n : ℕ). ReachesBy (isa_of begin.core.plan) begin.streams.input (opening hart begin.streams.input) n e.at r.0) number r.1;
+      reaches = subst (λ (n : ℕ). ReachesBy (silent limit begin.core.plan) begin.streams.input (opening hart begin.streams.input) n e.at []) number r;
       counts = omega (arith, fresh);
       streams = e.streams;
     }
 
--- the run of the machine that finishes in this way, with its lines not shown
-exit_runs : (limit : ℕ) (plan : Plan) (hart : Hart) (before after : Streams) (m : Machine) (code : ℕ) → Reached limit (isa_of plan) hart before after m →
-    (m.hart.retired < limit) × (step (isa_of plan) m ≡ Exit code) → Runs (chosen_of limit false (has_mul plan)) hart m.hart before after (ran.Exit code) []
+-- the run of the machine that finishes in this way, and shows nothing
+exit_runs : (limit : ℕ) (plan : Plan) (hart : Hart) (before after : Streams) (m : Machine) (code : ℕ) → Reached limit plan hart before after m →
+    (m.hart.retired < limit) × (step (isa_of plan) m ≡ Exit code) → Runs (silent limit plan) hart m.hart before after (ran.Exit code) []
 exit_runs limit plan hart before after m code r (below, is) = record {
   count = m.hart.retired;
   last = m;
-  lines = r.lines;
   finishes = (below, r.reaches, is);
   retired = r.counts;
   between = after;
   streams = r.streams;
   closes = (refl, refl);
-  shows = refl;
 }
 
 trap_runs : (limit : ℕ) (plan : Plan) (hart : Hart) (before after : Streams) (m : Machine) (cause pc detail : ℕ) →
-    Reached limit (isa_of plan) hart before after m → (m.hart.retired < limit) × (step (isa_of plan) m ≡ Trap cause pc detail) →
-    Runs (chosen_of limit false (has_mul plan)) hart m.hart before after (ran.Trap cause pc detail) []
+    Reached limit plan hart before after m → (m.hart.retired < limit) × (step (isa_of plan) m ≡ Trap cause pc detail) →
+    Runs (silent limit plan) hart m.hart before after (ran.Trap cause pc detail) []
 trap_runs limit plan hart before after m cause pc detail r (below, is) = record {
   count = m.hart.retired;
   last = m;
-  lines = r.lines;
   finishes = (below, r.reaches, is);
   retired = r.counts;
   between = after;
   streams = r.streams;
   closes = (refl, refl);
-  shows = refl;
 }
 
-limit_runs : (limit : ℕ) (plan : Plan) (hart : Hart) (before after : Streams) (m : Machine) → Reached limit (isa_of plan) hart before after m →
-    m.hart.retired ≡ limit → Runs (chosen_of limit false (has_mul plan)) hart m.hart before after ran.Limit []
+limit_runs : (limit : ℕ) (plan : Plan) (hart : Hart) (before after : Streams) (m : Machine) → Reached limit plan hart before after m →
+    m.hart.retired ≡ limit → Runs (silent limit plan) hart m.hart before after ran.Limit []
 limit_runs limit plan hart before after m r full = record {
   count = m.hart.retired;
   last = m;
-  lines = r.lines;
   finishes = (full, r.reaches);
   retired = r.counts;
   between = after;
   streams = r.streams;
   closes = (refl, refl);
-  shows = refl;
 }
 
 -- so the answer and the head of the report are those of `machine`
@@ -128,7 +139,7 @@ exit_agrees : (limit : ℕ) (plan : Plan) (hart : Hart) (begin new : RunPlace) (
     (head_of limit (Ran (ran.Exit code)) new.core new.tally)
 unfolding machine_closing head_text first_line
 exit_agrees limit plan hart begin new code fresh same e =
-    let r = subst (λ (p : Plan). Reached limit (isa_of p) hart begin.streams new.streams e.at) same (reached limit hart begin new (ran.Exit code) fresh e) in
+    let r = subst (λ (p : Plan). Reached limit p hart begin.streams new.streams e.at) same (reached limit hart begin new (ran.Exit code) fresh e) in
     let ends = subst (λ (p : Plan). EndsUnderLimit (isa_of p) limit e.at (ran.Exit code)) same e.ends in
     record {
       runs = record {
@@ -145,7 +156,7 @@ trap_agrees : (limit : ℕ) (plan : Plan) (hart : Hart) (begin new : RunPlace) (
     (head_of limit (Ran (ran.Trap cause pc detail)) new.core new.tally)
 unfolding machine_closing head_text first_line
 trap_agrees limit plan hart begin new cause pc detail fresh same e =
-    let r = subst (λ (p : Plan). Reached limit (isa_of p) hart begin.streams new.streams e.at) same
+    let r = subst (λ (p : Plan). Reached limit p hart begin.streams new.streams e.at) same
     (reached limit hart begin new (ran.Trap cause pc detail) fresh e) in
     let ends = subst (λ (p : Plan). EndsUnderLimit (isa_of p) limit e.at (ran.Trap cause pc detail)) same e.ends in
     record {
@@ -163,7 +174,7 @@ limit_agrees : (limit : ℕ) (plan : Plan) (hart : Hart) (begin new : RunPlace) 
     (head_of limit (Ran ran.Limit) new.core new.tally)
 unfolding machine_closing head_text first_line
 limit_agrees limit plan hart begin new fresh same e =
-    let r = subst (λ (p : Plan). Reached limit (isa_of p) hart begin.streams new.streams e.at) same (reached limit hart begin new ran.Limit fresh e) in
+    let r = subst (λ (p : Plan). Reached limit p hart begin.streams new.streams e.at) same (reached limit hart begin new ran.Limit fresh e) in
     record {
       runs = record {
         finish = ran.Limit;
@@ -180,20 +191,20 @@ opened_plan plan hart = refl
 
 pub agrees : (limit : ℕ) (plan : Plan) (hart : Hart) (before after : Streams) (blank told : Option (List ℕ)) (last : Processor) (tally : Tally)
     (finish : Scripted) (answer : Status) → hart.retired ≡ 0
-    → EndsSequentially limit (start_of (opened plan hart) before blank) (place_of last after told tally) finish → answer ≡ status_of limit tally.moves finish →
+    → EndsSequentially limit (run_start (opened plan hart) before blank) (place_of last after told tally) finish → answer ≡ status_of limit tally.moves finish →
     AgreesWithMachine limit plan hart before after finish last tally answer
 unfolding EndsSequentially
 agrees limit plan hart before after blank told last tally (Ran (ran.Exit code)) answer fresh ends said =
     subst (λ (s : Status). IsMachines limit plan hart before after s (head_of limit (Ran (ran.Exit code)) last tally)) (sym said)
-    (exit_agrees limit plan hart (start_of (opened plan hart) before blank) (place_of last after told tally) code fresh (opened_plan plan hart)
+    (exit_agrees limit plan hart (run_start (opened plan hart) before blank) (place_of last after told tally) code fresh (opened_plan plan hart)
     (ends plan hart refl))
 agrees limit plan hart before after blank told last tally (Ran (ran.Trap cause pc detail)) answer fresh ends said =
     subst (λ (s : Status). IsMachines limit plan hart before after s (head_of limit (Ran (ran.Trap cause pc detail)) last tally)) (sym said)
-    (trap_agrees limit plan hart (start_of (opened plan hart) before blank) (place_of last after told tally) cause pc detail fresh (opened_plan plan hart)
+    (trap_agrees limit plan hart (run_start (opened plan hart) before blank) (place_of last after told tally) cause pc detail fresh (opened_plan plan hart)
     (ends plan hart refl))
 agrees limit plan hart before after blank told last tally (Ran ran.Limit) answer fresh ends said =
     subst (λ (s : Status). IsMachines limit plan hart before after s (head_of limit (Ran ran.Limit) last tally)) (sym said)
-    (limit_agrees limit plan hart (start_of (opened plan hart) before blank) (place_of last after told tally) fresh (opened_plan plan hart)
+    (limit_agrees limit plan hart (run_start (opened plan hart) before blank) (place_of last after told tally) fresh (opened_plan plan hart)
     (ends plan hart refl))
 agrees limit plan hart before after blank told last tally (Ran ran.ReadFault) answer fresh ends said = tt
 agrees limit plan hart before after blank told last tally (Ran ran.WriteFault) answer fresh ends said = tt

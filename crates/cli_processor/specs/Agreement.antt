@@ -1,14 +1,14 @@
 -- Where a run of the processor begins, and that it answers as `machine` does.
-use Rattle.std.specs.Prelude.{ℕ, List, [], ◌++◌, false, Option}
+use Rattle.std.specs.Prelude.{ℕ, List, [], ◌++◌, false, Option, None}
 use Rattle.rv_machine.specs.Hart.{Hart}
 use Rattle.rv_machine.specs.Streams.{Streams}
 use Rattle.cf_layout.specs.Layout.{Plan, has_mul}
 use Rattle.cf_core.specs.Processors.{Processor}
 use Rattle.cf_report.specs.declared.tally.Tally.{Tally}
 use Rattle.cf_report.specs.Lines.{registers_text}
-use Rattle.cf_run.specs.declared.answer.Ran.TheVariants as ran
-use Rattle.cf_run.specs.declared.answer.Scripted.{Scripted}
-use Rattle.cf_run.specs.declared.answer.Scripted.TheVariants.{Ran}
+use Rattle.run_finishes.specs.declared.finish.Ran.TheVariants as ran
+use Rattle.run_finishes.specs.declared.finish.Scripted.{Scripted}
+use Rattle.run_finishes.specs.declared.finish.Scripted.TheVariants.{Ran}
 use Rattle.cf_run.specs.Moving.{RunPlace, place_of}
 use Rattle.cf_run.specs.Reaching.{no_tally}
 use Rattle.report_closing.specs.Closing.{head_text}
@@ -17,14 +17,14 @@ use Rattle.cli_machine.specs.Machine.{RunsHart}
 use Rattle.cli_machine.specs.Options.{chosen_of}
 
 -- where the run begins: before its first move
-abbrev pub start_of : Processor → Streams → Option (List ℕ) → RunPlace
-start_of core streams report = place_of core streams report no_tally
+abbrev pub run_start : Processor → Streams → Option (List ℕ) → RunPlace
+run_start core streams report = place_of core streams report no_tally
 
 -- the answer is that of `machine` on the hart, under the same limit and with multiplication where the layout has it; it
 -- takes the same from the input and writes the same to the output, and this text closes its report
 pub record IsMachines (limit : ℕ) (plan : Plan) (hart : Hart) (before after : Streams) (answer : Status)
     (text : List ℕ) : Type 0 where
-  pub runs : RunsHart (chosen_of limit false (has_mul plan)) hart before after answer [] text
+  pub runs : RunsHart (chosen_of limit false (has_mul plan) None) hart before after answer [] text
 
 -- the first line of the report, the line of the retired count and the registers
 abbrev pub head_of : (limit : ℕ) → Scripted → Processor → Tally → List ℕ

@@ -1,11 +1,11 @@
 -- The status that a run of the processor ends with.
 use Rattle.std.specs.Prelude.{ℕ}
-use Rattle.cf_run.specs.declared.answer.Scripted.{Scripted}
-use Rattle.cf_run.specs.declared.answer.Scripted.TheVariants.{Ran, ScriptEnd, BadScript, BarredAt}
+use Rattle.run_finishes.specs.declared.finish.Scripted.{Scripted}
+use Rattle.run_finishes.specs.declared.finish.Scripted.TheVariants.{Ran, ScriptEnd, BadScript, BarredAt}
 use Rattle.report_refusals.specs.declared.faults.ScriptFault.TheVariants as fault
 use Rattle.cli_files.specs.declared.status.Status.{Status}
 use Rattle.cli_files.specs.declared.status.Status.TheVariants as status
-use Rattle.cli_machine.specs.Statuses.{status_of_run}
+use Rattle.cli_reports.specs.RunStatuses.{status_of_run}
 
 -- under this limit, with this many moves made
 abbrev pub status_of : (limit moves : ℕ) → Scripted → Status

@@ -1,5 +1,5 @@
 -- The outcome of a command whose report was put, or failed.
-use Rattle.std.proofs.Common.{◌≡◌, ℕ, List, [], ◌++◌, Bool, false, Option, Result, Ok, Err, refl, sym, ap, subst}
+use Rattle.std.proofs.Common.{◌≡◌, ℕ, List, [], ◌++◌, Bool, true, false, Option, Result, Ok, Err, refl, sym, ap, subst}
 use Rattle.cf_io.specs.Causes.{Rose, HasCause}
 use Rattle.cf_io.specs.declared.failed.Failed.{Failed}
 use Rattle.cf_io.proofs.Owing.{writes-nothing}
@@ -75,14 +75,15 @@ pub tells-answered : (answered : Status → Result (Unit {0}) (Unit {0})) (befor
 tells-answered answered before now answer reported same cause =
     says-of-count answered before now answer reported.status same cause
 
--- where a run was closed a count rose exactly where the status says so; where the report had failed, it has not fallen
+-- where a run was closed a count rose exactly where the status says so; where the report had failed, nothing else did
 pub closed-tells : (answered : Status → Result (Unit {0}) (Unit {0})) (cut : Bool) (said : Status)
     (cause : Result (Unit {0}) (Unit {0})) (lines : List ℕ) (half full : Report) (result : Result Reported Failed)
-    (before now : ℕ) → (cut ≡ false → answered said ≡ cause) → PutsClosing cut said lines half full result →
+    (before now : ℕ) → (cut ≡ false → answered said ≡ cause) → (cut ≡ true → cause ≡ Ok tt) → PutsClosing cut said lines half full result →
     HasCause before now cause → FaultsReported answered before now result
-closed-tells answered cut said cause lines half full (Ok reported) before now same (sound, closes) h =
+closed-tells answered cut said cause lines half full (Ok reported) before now same alone (sound, closes) h =
     rw (closes.status_is, same sound) h
-closed-tells answered cut said cause lines half full (Err failed) before now same closes h = h.never_falls
+closed-tells answered cut said cause lines half full (Err failed) before now same alone (failed_first, closes) h =
+    (subst (HasCause before now) (alone failed_first) h).still
 
 -- a text was put after another, or one of them failed
 pub adds : (blank half full : Report) (text more : List ℕ) (so_far put : Result (Unit {0}) Failed) →

@@ -1,3 +1,4 @@
 pub mod FileCommands
 pub mod OutsideChanges
 pub mod Reporting
+pub mod RunStatuses

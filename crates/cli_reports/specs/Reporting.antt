@@ -1,5 +1,5 @@
 -- The outcome of a command once its report was put.
-use Rattle.std.specs.Prelude.{◌≡◌, ◌≤◌, ℕ, List, Bool, true, false, Option, Result, Ok, Err}
+use Rattle.std.specs.Prelude.{◌≡◌, ℕ, List, Bool, true, false, Option, Result, Ok, Err}
 use Rattle.cf_io.specs.Causes.{Rose, HasCause}
 use Rattle.cf_io.specs.Puts.{Writes}
 use Rattle.cf_io.specs.declared.failed.Failed.{Failed}
@@ -63,10 +63,10 @@ abbrev pub files_reported : Result Reported Failed → Result (Unit {0}) (Unit {
 files_reported (Ok reported) = files_answered reported.status
 files_reported (Err failed) = Ok tt
 
--- a count of faults: it rose exactly where the answer says so; where the report failed while the command was carried out, it has not fallen
+-- a count of faults: it rose exactly where the answer says so; where the report failed while the command was carried out, nothing else did
 abbrev pub FaultsReported : (Status → Result (Unit {0}) (Unit {0})) → ℕ → ℕ → Result Reported Failed → Type 0
 FaultsReported answered before now (Ok reported) = HasCause before now (answered reported.status)
-FaultsReported answered before now (Err failed) = before ≤ now
+FaultsReported answered before now (Err failed) = now ≡ before
 
 -- the closing lines of what was decided were put; where the report had failed, no lines were
 abbrev pub PutsDecided : Result Answer Failed → (half full : Report) → Result Reported Failed → Type 0

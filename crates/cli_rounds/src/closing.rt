@@ -1,17 +1,27 @@
 //! How a run in rounds finishes: its status and its closing lines.
 
+ghost use Rattle.std.specs.Prelude.{◌≡◌};
+ghost use Rattle.run_finishes.specs.declared.finish.Scripted.TheVariants.{Ran as Finished};
+ghost use Rattle.report_closing.specs.Closing.{is_report_fault};
 ghost use Rattle.cli_files.specs.Outside.{report_of};
 ghost use Rattle.cli_rounds.specs.Closing.{ClosesRounds};
 
 use cf_core::Core;
-use cf_io::Sink;
+use cf_io::{Failed, Sink};
 use cf_report::Tally;
 use cf_run::{Ran, Scripted};
-use cli_machine::status_of_run;
-use cli_reports::Reported;
+use cli_reports::{Reported, status_of_run};
 use report_closing::put_closing_in_rounds;
 
-/// Puts the closing lines after a run in this many rounds.
+/// Whether the report failed during the run.
+fn is_cut(finish: Ran) -> bool
+    ensures { result ≡ is_report_fault (Finished finish) }
+{
+    matches!(finish, Ran::ReportFault)
+}
+
+/// Puts the closing lines after a run in this many rounds. It fails where the report failed during the run; nothing more is
+/// then put to the report.
 pub fn close_in_rounds<R: Sink>(
     core: &Core,
     limit: u64,
@@ -19,12 +29,15 @@ pub fn close_in_rounds<R: Sink>(
     rounds: u64,
     tally: &Tally,
     report: &mut R,
-) -> Reported
+) -> Result<Reported, Failed>
     ensures { ClosesRounds limit finish rounds core.now tally.now (report_of (R.written report.old) (R.faults report.old))
         (report_of (R.written report.new) (R.faults report.new)) result }
 {
-    Reported {
+    if is_cut(finish) {
+        return Err(Failed);
+    }
+    Ok(Reported {
         status: status_of_run(limit, finish),
         put: put_closing_in_rounds(core, limit, Scripted::Ran(finish), rounds, tally, report),
-    }
+    })
 }

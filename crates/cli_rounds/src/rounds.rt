@@ -6,16 +6,17 @@ ghost use Rattle.cf_io.specs.Causes.{HasCause};
 ghost use Rattle.cli_arguments.specs.Views.{layout_of};
 ghost use Rattle.cf_rounds.specs.Running.{ran_of as ran_for};
 ghost use Rattle.cf_run.specs.Policies.{IsOpened};
-ghost use Rattle.cli_files.specs.Causes.{files_answered, input_answered, output_answered};
-ghost use Rattle.cli_reports.specs.Reporting.{ReportsAll, ReportsOver};
+ghost use Rattle.cf_core.specs.Processors.{opened};
+ghost use Rattle.cli_files.specs.Causes.{input_answered, output_answered};
+ghost use Rattle.cli_reports.specs.Reporting.{CarriesOut, ComesOver, FaultsReported, files_reported};
 ghost use Rattle.cli_reports.specs.OutsideChanges.{streams_change, outside_change, input_left, output_left};
-ghost use Rattle.cli_rounds.specs.Rounds.{rounds_asked, RunsCoreInRounds, ComesInRounds, AnswersRounds};
+ghost use Rattle.cli_rounds.specs.Rounds.{rounds_asked, RunsCoreInRounds, ComesInRounds, BreaksInRounds, AnswersRounds, BreaksRounds};
 
 use crate::closing::close_in_rounds;
-use cf_io::{Files, Sink, Source};
+use cf_io::{Failed, Files, Sink, Source};
 use cf_rounds::{Clocked, run_rounds};
 use cf_run::Ran;
-use cli_arguments::LayoutWord;
+use cli_arguments::{GuessRule, LayoutWord};
 use cli_files::{Loaded, load, no_memory};
 use cli_processor::{Opened, no_moves, open};
 use cli_reports::{Reported, RunStreams, put_answer};
@@ -31,24 +32,28 @@ fn ran_of(clocked: Clocked) -> Ran
         Clocked::Limit => Ran::Limit,
         Clocked::ReadFault => Ran::ReadFault,
         Clocked::WriteFault => Ran::WriteFault,
+        Clocked::ReportFault => Ran::ReportFault,
     }
 }
 
-/// Runs the opened processor in rounds, and puts the closing lines.
+/// Runs the opened processor in rounds, and puts what is shown and the closing lines.
 #[tactic(auto, using(cf_run::proofs::Opened::opened_cores))]
 fn run_core<S: Source, K: Sink, R: Sink>(
     opened: &mut Opened,
+    rule: GuessRule,
     limit: u64,
+    every: Option<u64>,
     streams: RunStreams<'_, S, K, R>,
-) -> Reported
+) -> Result<Reported, Failed>
     requires limit { limit ≤ most_limit }
     requires retired { opened.old.core.state.retired ≤ limit }
     requires opened { IsOpened opened.old.core }
-    ensures runs { ReportsOver (RunsCoreInRounds limit opened.old.core opened.new.core)
+    ensures runs { ComesOver (RunsCoreInRounds rule limit every opened.old.core opened.new.core)
+        (BreaksInRounds rule limit every opened.old.core)
         (streams_change S.left K.written R.written R.faults streams.entry streams.exit) result }
-    ensures files { files_answered result.status ≡ Ok tt }
-    ensures input { HasCause (S.faults streams.entry.input.now) (S.faults (input_left streams.exit)) (input_answered result.status) }
-    ensures output { HasCause (K.faults streams.entry.output.now) (K.faults (output_left streams.exit)) (output_answered result.status) }
+    ensures files { files_reported result ≡ Ok tt }
+    ensures input { FaultsReported input_answered (S.faults streams.entry.input.now) (S.faults (input_left streams.exit)) result }
+    ensures output { FaultsReported output_answered (K.faults streams.entry.output.now) (K.faults (output_left streams.exit)) result }
 {
     let RunStreams {
         input,
@@ -60,9 +65,12 @@ fn run_core<S: Source, K: Sink, R: Sink>(
     let clocked = run_rounds(
         &mut opened.core,
         &mut opened.candidates,
+        rule,
         limit,
+        every,
         input,
         output,
+        report,
         &mut tally,
         &mut rounds,
     );
@@ -74,43 +82,51 @@ fn run_core<S: Source, K: Sink, R: Sink>(
 fn run_loaded<S: Source, K: Sink, R: Sink>(
     alloc: Global,
     loaded: Loaded,
+    rule: GuessRule,
     limit: u64,
+    every: Option<u64>,
     streams: RunStreams<'_, S, K, R>,
-) -> Reported
+) -> Result<Reported, Failed>
     requires count { loaded.machine.retired ≡ 0 }
     requires limit { limit ≤ most_limit }
-    ensures comes { ReportsOver (ComesInRounds limit loaded.layout loaded.machine)
+    ensures comes { ComesOver (ComesInRounds rule limit every loaded.layout loaded.machine)
+        (BreaksInRounds rule limit every (opened loaded.layout loaded.machine))
         (streams_change S.left K.written R.written R.faults streams.entry streams.exit) result }
-    ensures files { files_answered result.status ≡ Ok tt }
-    ensures input { HasCause (S.faults streams.entry.input.now) (S.faults (input_left streams.exit)) (input_answered result.status) }
-    ensures output { HasCause (K.faults streams.entry.output.now) (K.faults (output_left streams.exit)) (output_answered result.status) }
+    ensures files { files_reported result ≡ Ok tt }
+    ensures input { FaultsReported input_answered (S.faults streams.entry.input.now) (S.faults (input_left streams.exit)) result }
+    ensures output { FaultsReported output_answered (K.faults streams.entry.output.now) (K.faults (output_left streams.exit)) result }
 {
     match open(alloc, loaded.layout, loaded.machine) {
-        Ok(mut opened) => run_core(&mut opened, limit, streams),
-        Err(_) => put_answer(no_memory(), streams.report),
+        Ok(mut opened) => run_core(&mut opened, rule, limit, every, streams),
+        Err(_) => Ok(put_answer(no_memory(), streams.report)),
     }
 }
 
-/// Carries out `rounds`: reads the layout and the program, in this order, runs the processor round after round, and puts how
-/// the run finished, how many instructions retired, how many rounds were made, the tally of their moves, the registers and the
-/// picture. A round whose call of the environment failed is not counted, nor its move.
+/// Carries out `rounds`: reads the layout and the program, in this order, runs the processor round after round under the
+/// guess rule, and puts how far the run has come after each `every` retired instructions, then how the run finished, how many
+/// instructions retired, how many rounds were made, the tally of their moves, the registers and the picture. A round whose
+/// call of the environment failed is not counted, nor its move. It fails where the report fails during the run; nothing more
+/// is then put to the report.
 pub fn run_in_rounds<F: Files, S: Source, K: Sink, R: Sink>(
     alloc: Global,
     layout: LayoutWord<'_>,
     program: &str,
+    rule: GuessRule,
     limit: u64,
+    every: Option<u64>,
     files: &mut F,
     streams: RunStreams<'_, S, K, R>,
-) -> Reported
+) -> Result<Reported, Failed>
     requires { limit ≤ most_limit }
-    ensures answers { ReportsAll (AnswersRounds (rounds_asked (layout_of layout.entry) program.now limit))
+    ensures answers { CarriesOut (AnswersRounds (rounds_asked (layout_of layout.entry) program.now limit every rule))
+        (BreaksRounds (rounds_asked (layout_of layout.entry) program.now limit every rule))
         (outside_change F.told F.faults S.left S.faults K.written K.faults R.written R.faults files.old files.new streams.entry streams.exit) result }
-    ensures files { HasCause (F.faults files.old) (F.faults files.new) (files_answered result.status) }
-    ensures input { HasCause (S.faults streams.entry.input.now) (S.faults (input_left streams.exit)) (input_answered result.status) }
-    ensures output { HasCause (K.faults streams.entry.output.now) (K.faults (output_left streams.exit)) (output_answered result.status) }
+    ensures files { HasCause (F.faults files.old) (F.faults files.new) (files_reported result) }
+    ensures input { FaultsReported input_answered (S.faults streams.entry.input.now) (S.faults (input_left streams.exit)) result }
+    ensures output { FaultsReported output_answered (K.faults streams.entry.output.now) (K.faults (output_left streams.exit)) result }
 {
     match load(alloc, layout, program, files) {
-        Ok(loaded) => run_loaded(alloc, loaded, limit, streams),
-        Err(answer) => put_answer(answer, streams.report),
+        Ok(loaded) => run_loaded(alloc, loaded, rule, limit, every, streams),
+        Err(answer) => Ok(put_answer(answer, streams.report)),
     }
 }

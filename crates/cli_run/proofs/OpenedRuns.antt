@@ -1,16 +1,16 @@
 -- What comes of a processor that was opened and run.
 use Rattle.std.proofs.Common.{◌≡◌, ℕ, List, [], ◌++◌, Option, Result, Ok, Err, refl, sym, ap, subst, ◌∙◌, inl, inr}
-use Rattle.run_options.specs.declared.show.Show.{Show}
+use Rattle.run_options.specs.declared.reporting.Reporting.{Reporting}
 use Rattle.rv_machine.specs.Hart.{Hart}
 use Rattle.rv_machine.specs.Streams.{Streams}
 use Rattle.cf_io.specs.declared.failed.Failed.{Failed}
 use Rattle.cf_bind.specs.declared.moves.Move.{Move}
 use Rattle.cf_layout.specs.Layout.{Plan}
 use Rattle.cf_core.specs.Processors.{Processor, opened}
-use Rattle.cf_run.specs.declared.answer.Ran.{Ran as RunAnswer}
-use Rattle.cf_run.specs.declared.answer.Ran.TheVariants as ran
-use Rattle.cf_run.specs.declared.answer.Scripted.{Scripted}
-use Rattle.cf_run.specs.declared.answer.Scripted.TheVariants.{Ran}
+use Rattle.run_finishes.specs.declared.finish.Ran.{Ran as RunAnswer}
+use Rattle.run_finishes.specs.declared.finish.Ran.TheVariants as ran
+use Rattle.run_finishes.specs.declared.finish.Scripted.{Scripted}
+use Rattle.run_finishes.specs.declared.finish.Scripted.TheVariants.{Ran}
 use Rattle.cf_run.specs.Made.{Made}
 use Rattle.cf_run.specs.Moving.{RunPlace}
 use Rattle.cli_files.specs.Outside.{Report}
@@ -19,7 +19,7 @@ use Rattle.cli_files.specs.Memory.{LacksProcessor}
 use Rattle.cli_run.specs.Run.{chosen_by, IsComplete, RunsCore, RunsWithTail, RunsOpened, BreaksCore, ComesOf}
 use Rattle.cli_processor.specs.Statuses.{status_of}
 use Rattle.cli_processor.proofs.Agreement.{agrees}
-use Rattle.cli_run.specs.Tail.{lines_after}
+use Rattle.cli_run.specs.Tail.{tail_text}
 use Rattle.cli_reports.specs.declared.reporting.Reported.{Reported}
 use Rattle.cli_run.specs.declared.tail.Tail.{Tail}
 use Rattle.cli_reports.proofs.PutReports.{shows-none, adds-after}
@@ -30,18 +30,18 @@ use Rattle.cli_files.specs.declared.status.Status.{Status}
 complete_ran : (limit moves : ℕ) (schedule : ReadySchedule) (end : RunAnswer) (answer : Status) → answer ≡ status_of limit moves (Ran end) →
     IsComplete schedule answer
 complete_ran limit moves (in_script text) end answer said = tt
-complete_ran limit moves (drawn_from seed) end answer said = subst (IsComplete (drawn_from seed)) (sym said) (of end)
+complete_ran limit moves (drawn_from seed rule) end answer said = subst (IsComplete (drawn_from seed rule)) (sym said) (of end)
   where
-    of : (end : RunAnswer) → IsComplete (drawn_from seed) (status_of limit moves (Ran end))
+    of : (end : RunAnswer) → IsComplete (drawn_from seed rule) (status_of limit moves (Ran end))
     of (ran.Exit code) = tt
     of (ran.Trap cause pc detail) = tt
     of ran.Limit = tt
     of ran.ReadFault = tt
     of ran.WriteFault = tt
     of ran.ReportFault = tt
-complete_ran limit moves in_turn end answer said = subst (IsComplete in_turn) (sym said) (of end)
+complete_ran limit moves (in_turn rule) end answer said = subst (IsComplete (in_turn rule)) (sym said) (of end)
   where
-    of : (end : RunAnswer) → IsComplete in_turn (status_of limit moves (Ran end))
+    of : (end : RunAnswer) → IsComplete (in_turn rule) (status_of limit moves (Ran end))
     of (ran.Exit code) = tt
     of (ran.Trap cause pc detail) = tt
     of ran.Limit = tt
@@ -49,17 +49,18 @@ complete_ran limit moves in_turn end answer said = subst (IsComplete in_turn) (s
     of ran.WriteFault = tt
     of ran.ReportFault = tt
 
-pub complete : (limit : ℕ) (show : Show) (schedule : ReadySchedule) (start new : RunPlace) (finish : Scripted) (trace : List Made) (moves : List Move)
+pub complete : (limit : ℕ) (show : Reporting) (schedule : ReadySchedule) (start new : RunPlace) (finish : Scripted) (trace : List Made) (moves : List Move)
     (answer : Status) → chosen_by limit show schedule start new finish trace moves → answer ≡ status_of limit new.tally.moves finish →
     IsComplete schedule answer
 complete limit show (in_script text) start new finish trace moves answer by said = tt
-complete limit show (drawn_from seed) start new finish trace moves answer by said = complete_ran limit new.tally.moves (drawn_from seed) by.answer answer (said
+complete limit show (drawn_from seed rule) start new finish trace moves answer by said = complete_ran limit new.tally.moves
+    (drawn_from seed rule) by.answer answer (said
     ∙ ap (status_of limit new.tally.moves) by.finish_is)
-complete limit show in_turn start new finish trace moves answer by said = complete_ran limit new.tally.moves in_turn by.answer answer (said
+complete limit show (in_turn rule) start new finish trace moves answer by said = complete_ran limit new.tally.moves (in_turn rule) by.answer answer (said
     ∙ ap (status_of limit new.tally.moves) by.finish_is)
 
 -- a run of the processor that was opened, and its tail
-runs-opened : (limit : ℕ) (show : Show) (tail : Tail) (last : Processor) (plan : Plan) (hart : Hart) (schedule : ReadySchedule) (before after : Streams)
+runs-opened : (limit : ℕ) (show : Reporting) (tail : Tail) (last : Processor) (plan : Plan) (hart : Hart) (schedule : ReadySchedule) (before after : Streams)
     (blank : Option (List ℕ)) (answer : Status) (shown closing : List ℕ) → hart.retired ≡ 0
     → RunsWithTail limit show tail (opened plan hart) last (chosen_by limit show schedule) before after blank answer shown closing
     → RunsOpened limit show tail plan hart last schedule before after blank answer shown closing
@@ -72,37 +73,37 @@ runs-opened limit show tail last plan hart schedule before after blank answer sh
 }
 
 -- what comes of the run, as it was seen
-abbrev pub Opens : (limit : ℕ) (show : Show) (core last : Processor) → ReadySchedule → (before after : Streams) → (blank full : Report) →
+abbrev pub Opens : (limit : ℕ) (show : Reporting) (core last : Processor) → ReadySchedule → (before after : Streams) → (blank full : Report) →
     Result Reported Failed → Type 0
 Opens limit show core last schedule before after blank full result =
     Comes (RunsCore limit show core last (chosen_by limit show schedule) before after blank.written)
     (BreaksCore limit show core (chosen_by limit show schedule) before after blank.written full.written) blank full result
 
 -- the same with its tail
-abbrev pub OpensWithTail : (limit : ℕ) (show : Show) → Tail → (core last : Processor) → ReadySchedule → (before after : Streams) → (blank full : Report) →
+abbrev pub OpensWithTail : (limit : ℕ) (show : Reporting) → Tail → (core last : Processor) → ReadySchedule → (before after : Streams) → (blank full : Report) →
     Result Reported Failed → Type 0
 OpensWithTail limit show tail core last schedule before after blank full result =
     Comes (RunsWithTail limit show tail core last (chosen_by limit show schedule) before after blank.written)
     (BreaksCore limit show core (chosen_by limit show schedule) before after blank.written full.written) blank full result
 
 -- once that was put
-pub tail-comes : (limit : ℕ) (show : Show) (tail : Tail) (core last : Processor) (schedule : ReadySchedule) (before after : Streams) (blank half full : Report)
+pub tail-comes : (limit : ℕ) (show : Reporting) (tail : Tail) (core last : Processor) (schedule : ReadySchedule) (before after : Streams) (blank half full : Report)
     (reported later : Reported)
     → Opens limit show core last schedule before after blank half (Ok reported) → later.status ≡ reported.status →
-    Adds reported.put half full (lines_after tail reported.status last) later.put
+    Adds reported.put half full (tail_text tail reported.status last) later.put
     → OpensWithTail limit show tail core last schedule before after blank full (Ok later)
 tail-comes limit show tail core last schedule before after blank half full reported later run said added =
     let text : List ℕ = run.1 in (
       run.0,
-      text ++ lines_after tail reported.status last,
+      text ++ tail_text tail reported.status last,
       subst (λ (s : Status). RunsWithTail limit show tail core last (chosen_by limit show schedule) before after blank.written s run.0 (text
-          ++ lines_after tail reported.status last)) (sym said)
+          ++ tail_text tail reported.status last)) (sym said)
           (record { text = text; runs = run.2; closes = refl }),
-      adds-after blank half full run.0 text (lines_after tail reported.status last) reported.put later.put run.3 added,
+      adds-after blank half full run.0 text (tail_text tail reported.status last) reported.put later.put run.3 added,
     )
 
 -- is what comes of the layout, the hart and the schedule
-on-opened : (limit : ℕ) (show : Show) (tail : Tail) (last : Processor) (plan : Plan) (hart : Hart) (schedule : ReadySchedule) (before after : Streams)
+on-opened : (limit : ℕ) (show : Reporting) (tail : Tail) (last : Processor) (plan : Plan) (hart : Hart) (schedule : ReadySchedule) (before after : Streams)
     (blank full : Report) (result : Result Reported Failed) → hart.retired ≡ 0
     → OpensWithTail limit show tail (opened plan hart) last schedule before after blank full result
     → Comes (ComesOf limit show tail plan hart schedule before after blank.written) (BreaksCore limit show (opened plan hart)
@@ -111,7 +112,7 @@ on-opened limit show tail last plan hart schedule before after blank full (Ok re
     (shown, closing, inl (last, runs-opened limit show tail last plan hart schedule before after blank.written reported.status shown closing fresh runs), puts)
 on-opened limit show tail last plan hart schedule before after blank full (Err failed) fresh (breaks, rose) = (breaks, rose)
 
-pub opened-comes : (limit : ℕ) (show : Show) (tail : Tail) (core last : Processor) (plan : Plan) (hart : Hart) (schedule : ReadySchedule)
+pub opened-comes : (limit : ℕ) (show : Reporting) (tail : Tail) (core last : Processor) (plan : Plan) (hart : Hart) (schedule : ReadySchedule)
     (before after : Streams) (blank full : Report) (result : Result Reported Failed) → core ≡ opened plan hart → hart.retired ≡ 0
     → OpensWithTail limit show tail core last schedule before after blank full result
     → Comes (ComesOf limit show tail plan hart schedule before after blank.written) (BreaksCore limit show (opened plan hart)
@@ -121,7 +122,7 @@ opened-comes limit show tail core last plan hart schedule before after blank ful
     (subst (λ (p : Processor). OpensWithTail limit show tail p last schedule before after blank full result) is opens)
 
 -- or memory for it was refused
-pub unopened-comes : (limit : ℕ) (show : Show) (tail : Tail) (plan : Plan) (hart : Hart) (schedule : ReadySchedule) (before after : Streams)
+pub unopened-comes : (limit : ℕ) (show : Reporting) (tail : Tail) (plan : Plan) (hart : Hart) (schedule : ReadySchedule) (before after : Streams)
     (told : Option (List ℕ)) (blank full : Report) (answer : Status) (text : List ℕ) (reported : Reported) → reported.status ≡ answer
     → LacksProcessor before after answer text → PutsReport blank full text reported.put
     → Carries (ComesOf limit show tail plan hart schedule before after told) blank full reported

@@ -1,30 +1,32 @@
 -- A run of the processor, its closing lines, and what the report then has.
 use Rattle.std.proofs.Common.{◌≡◌, ◌≤◌, ◌-◌, ℕ, List, Bool, true, false, Option, Some, Result, Ok, Err, refl, sym, ap, subst, ◌∙◌}
-use Rattle.run_options.specs.declared.show.Show.{Show}
+use Rattle.run_options.specs.declared.guess_rule.GuessRule.{GuessRule}
+use Rattle.run_options.specs.declared.reporting.Reporting.{Reporting}
 use Rattle.cf_io.specs.Causes.{Rose, HasCause}
 use Rattle.cf_io.specs.Puts.{Writes}
 use Rattle.cf_io.specs.declared.failed.Failed.{Failed}
 use Rattle.rv_machine.specs.Streams.{Streams}
 use Rattle.cf_bind.specs.declared.moves.Move.{Move}
 use Rattle.cf_core.specs.Processors.{Processor}
-use Rattle.cf_run.specs.declared.answer.Ran.{Ran as RunAnswer}
-use Rattle.cf_run.specs.declared.answer.Ran.TheVariants as ran
-use Rattle.cf_run.specs.declared.answer.Scripted.{Scripted}
-use Rattle.cf_run.specs.declared.answer.Scripted.TheVariants.{Ran, ScriptEnd, BadScript, BarredAt}
+use Rattle.run_finishes.specs.declared.finish.Ran.{Ran as RunAnswer}
+use Rattle.run_finishes.specs.declared.finish.Ran.TheVariants as ran
+use Rattle.run_finishes.specs.declared.finish.Scripted.{Scripted}
+use Rattle.run_finishes.specs.declared.finish.Scripted.TheVariants.{Ran, ScriptEnd, BadScript, BarredAt}
 use Rattle.cf_report.specs.declared.tally.Tally.{Tally}
 use Rattle.run_scripts.specs.Scripts.{ScriptLines, script_of}
 use Rattle.cf_run.specs.Ending.{EndsSequentially}
 use Rattle.cf_run.specs.Headline.{RunsSequentially}
 use Rattle.cf_run.specs.Made.{Made, all_shown}
 use Rattle.cf_run.specs.Moving.{RunPlace, place_of, MoveDoes}
-use Rattle.cf_run.specs.Policies.{input_stopped, output_stopped, report_stopped, RunsPolicy, RunsRight, most_moves}
+use Rattle.cf_run.specs.Policies.{RunsPolicy, RunsRight, most_moves}
+use Rattle.run_finishes.specs.Stopped.{input_stopped, output_stopped, report_stopped}
 use Rattle.cf_run.specs.Scripts.{ScriptRun, stand_of, first_moves, RunsScript, DoesLine, ScriptStops, input_scripted, output_scripted, report_scripted}
 use Rattle.report_closing.specs.Closing.{closing, is_report_fault}
 use Rattle.cli_files.specs.Causes.{files_answered, input_answered, output_answered}
 use Rattle.cli_files.specs.Outside.{Report, report_of}
 use Rattle.cli_run.specs.Closing.{ClosesCore}
 use Rattle.cli_reports.specs.Reporting.{PutsReport, PutsClosing, Comes, FaultsReported, files_reported}
-use Rattle.cli_processor.specs.Agreement.{start_of}
+use Rattle.cli_processor.specs.Agreement.{run_start}
 use Rattle.cli_run.specs.Run.{RunRelation, ByScript, ByPolicy, ProcessorRun, RunsCore, BreaksCore}
 use Rattle.cli_processor.specs.Statuses.{status_of}
 use Rattle.cli_reports.specs.declared.reporting.Reported.{Reported}
@@ -47,7 +49,7 @@ same-report blank now new lines put same =
     subst (λ (told : Option (List ℕ)). Writes blank told lines) (sym same) put
 
 -- after a run whose report did not fail, the report has what was shown of the moves
-script-shown : (limit : ℕ) (show : Show) (start new : ScriptRun) (finish : Scripted)
+script-shown : (limit : ℕ) (show : Reporting) (start new : ScriptRun) (finish : Scripted)
     (r : RunsScript limit show start new finish) → is_report_fault finish ≡ false →
     Writes start.place.report new.place.report (all_shown show start.place.core.plan 1 r.follows.reaches.trace)
 unfolding ScriptStops DoesLine MoveDoes
@@ -65,29 +67,29 @@ script-shown limit show start new (Ran (ran.Trap cause pc detail)) r sound =
     stays _ _ _ _ r.follows.reaches.report r.stops.1
 script-shown limit show start new (Ran ran.Limit) r sound = stays _ _ _ _ r.follows.reaches.report r.stops.1
 
-policy-shown : {P : Type 0} (picked : P → List Move → ℕ) (onward : P → List Move → P) (limit : ℕ) (show : Show)
+policy-shown : {P : Type 0} (rule : GuessRule) (picked : P → List Move → ℕ) (onward : P → List Move → P) (limit : ℕ) (show : Reporting)
     (start new : RunPlace) (policy later : P) (moves : List Move) (answer : RunAnswer)
-    (r : RunsPolicy picked onward limit show start new policy later moves answer) → is_report_fault (Ran answer) ≡ false →
+    (r : RunsPolicy rule picked onward limit show start new policy later moves answer) → is_report_fault (Ran answer) ≡ false →
     Writes start.report new.report (all_shown show start.core.plan 1 r.reaches.trace)
 unfolding MoveDoes
-policy-shown picked onward limit show start new policy later moves ran.ReadFault r sound =
+policy-shown rule picked onward limit show start new policy later moves ran.ReadFault r sound =
     same-report _ _ _ _ r.reaches.report r.stops.does.0.report
-policy-shown picked onward limit show start new policy later moves ran.WriteFault r sound =
+policy-shown rule picked onward limit show start new policy later moves ran.WriteFault r sound =
     same-report _ _ _ _ r.reaches.report r.stops.does.0.report
-policy-shown picked onward limit show start new policy later moves ran.ReportFault r sound = absurd (cc)
-policy-shown picked onward limit show start new policy later moves (ran.Exit code) r sound =
+policy-shown rule picked onward limit show start new policy later moves ran.ReportFault r sound = absurd (cc)
+policy-shown rule picked onward limit show start new policy later moves (ran.Exit code) r sound =
     same-place _ _ _ _ r.reaches.report r.stops.1
-policy-shown picked onward limit show start new policy later moves (ran.Trap cause pc detail) r sound =
+policy-shown rule picked onward limit show start new policy later moves (ran.Trap cause pc detail) r sound =
     same-place _ _ _ _ r.reaches.report r.stops.1
-policy-shown picked onward limit show start new policy later moves ran.Limit r sound =
+policy-shown rule picked onward limit show start new policy later moves ran.Limit r sound =
     same-place _ _ _ _ r.reaches.report r.stops.1
 
 -- a run, and where it ends
-run_of : (limit : ℕ) (show : Show) (core last : Processor) (by : RunRelation) (before after : Streams)
+run_of : (limit : ℕ) (show : Reporting) (core last : Processor) (by : RunRelation) (before after : Streams)
     (blank told : Option (List ℕ)) (tally : Tally) (finish : Scripted) (trace : List Made) (moves : List Move) →
-    by (start_of core before blank) (place_of last after told tally) finish trace moves →
-    RunsSequentially show moves (start_of core before blank) (place_of last after told tally) finish →
-    EndsSequentially limit (start_of core before blank) (place_of last after told tally) finish →
+    by (run_start core before blank) (place_of last after told tally) finish trace moves →
+    RunsSequentially show moves (run_start core before blank) (place_of last after told tally) finish →
+    EndsSequentially limit (run_start core before blank) (place_of last after told tally) finish →
     ProcessorRun limit show core last by before after blank
 run_of limit show core last by before after blank told tally finish trace moves runs sequential ends = record {
   tally = tally;
@@ -134,12 +136,12 @@ stopped-report ran.WriteFault = refl
 stopped-report ran.ReportFault = refl
 
 -- its closing lines were put, or failed, or its report had failed at a move
-run-closed : (limit : ℕ) (show : Show) (core last : Processor) (by : RunRelation) (before after : Streams)
+run-closed : (limit : ℕ) (show : Reporting) (core last : Processor) (by : RunRelation) (before after : Streams)
     (blank half full : Report) (tally : Tally) (finish : Scripted) (trace : List Made) (moves : List Move)
     (result : Result Reported Failed) →
-    by (start_of core before blank.written) (place_of last after half.written tally) finish trace moves →
-    RunsSequentially show moves (start_of core before blank.written) (place_of last after half.written tally) finish →
-    EndsSequentially limit (start_of core before blank.written) (place_of last after half.written tally) finish →
+    by (run_start core before blank.written) (place_of last after half.written tally) finish trace moves →
+    RunsSequentially show moves (run_start core before blank.written) (place_of last after half.written tally) finish →
+    EndsSequentially limit (run_start core before blank.written) (place_of last after half.written tally) finish →
     (is_report_fault finish ≡ false → Writes blank.written half.written (all_shown show core.plan 1 trace)) →
     HasCause blank.faults half.faults (report_scripted (Some finish)) →
     ClosesCore limit finish last tally half full result →
@@ -174,16 +176,16 @@ run-closed limit show core last by before after blank half full tally finish tra
 )
 
 -- by a script
-by_script : (limit : ℕ) (show : Show) (text : List ℕ) (start new : RunPlace) (left : ScriptLines) (finish : Scripted) →
+by_script : (limit : ℕ) (show : Reporting) (text : List ℕ) (start new : RunPlace) (left : ScriptLines) (finish : Scripted) →
     (r : RunsScript limit show (stand_of start (script_of text)) (stand_of new left) finish) →
     ByScript limit show text start new finish r.follows.reaches.trace (first_moves (script_of text) new.tally)
 by_script limit show text start new left finish r = record { left = left; runs = r; trace_is = refl; moves_are = refl }
 
-pub script-closed : (limit : ℕ) (show : Show) (core last : Processor) (text : List ℕ) (before after : Streams)
+pub script-closed : (limit : ℕ) (show : Reporting) (core last : Processor) (text : List ℕ) (before after : Streams)
     (blank half full : Report) (tally : Tally) (left : ScriptLines) (finish : Scripted) (result : Result Reported Failed) →
-    RunsScript limit show (stand_of (start_of core before blank.written) (script_of text)) (stand_of (place_of last after half.written tally) left) finish →
-    RunsSequentially show (first_moves (script_of text) tally) (start_of core before blank.written) (place_of last after half.written tally) finish →
-    EndsSequentially limit (start_of core before blank.written) (place_of last after half.written tally) finish →
+    RunsScript limit show (stand_of (run_start core before blank.written) (script_of text)) (stand_of (place_of last after half.written tally) left) finish →
+    RunsSequentially show (first_moves (script_of text) tally) (run_start core before blank.written) (place_of last after half.written tally) finish →
+    EndsSequentially limit (run_start core before blank.written) (place_of last after half.written tally) finish →
     HasCause blank.faults half.faults (report_scripted (Some finish)) → ClosesCore limit finish last tally half full result →
     Comes (RunsCore limit show core last (ByScript limit show text) before after blank.written)
     (BreaksCore limit show core (ByScript limit show text) before after blank.written full.written) blank full result
@@ -192,27 +194,27 @@ script-closed limit show core last text before after blank half full tally left 
     (by_script limit show text _ _ left finish r) sequential ends (λ sound. script-shown limit show _ _ finish r sound) cause closes
 
 -- by a policy
-by_policy : {P : Type 0} (picked : P → List Move → ℕ) (onward : P → List Move → P) (limit : ℕ) (show : Show)
+by_policy : {P : Type 0} (rule : GuessRule) (picked : P → List Move → ℕ) (onward : P → List Move → P) (limit : ℕ) (show : Reporting)
     (start new : RunPlace) (policy later : P) (moves : List Move) (answer : RunAnswer) →
-    (r : RunsPolicy picked onward limit show start new policy later moves answer) →
+    (r : RunsPolicy rule picked onward limit show start new policy later moves answer) →
     new.tally.moves ≤ most_moves start.core.plan (new.core.state.retired - start.core.state.retired) →
-    ByPolicy picked onward limit show policy start new (Ran answer) r.reaches.trace moves
-by_policy picked onward limit show start new policy later moves answer r bounded =
+    ByPolicy rule picked onward limit show policy start new (Ran answer) r.reaches.trace moves
+by_policy rule picked onward limit show start new policy later moves answer r bounded =
     record { answer = answer; finish_is = refl; later = later; runs = r; trace_is = refl; bounded = bounded }
 
-pub policy-closed : {P : Type 0} (picked : P → List Move → ℕ) (onward : P → List Move → P) (limit : ℕ) (show : Show)
+pub policy-closed : {P : Type 0} (rule : GuessRule) (picked : P → List Move → ℕ) (onward : P → List Move → P) (limit : ℕ) (show : Reporting)
     (core last : Processor) (policy later : P) (before after : Streams) (blank half full : Report)
     (tally : Tally) (answer : RunAnswer) (result : Result Reported Failed) →
-    RunsRight picked onward limit show (start_of core before blank.written) (place_of last after half.written tally) policy later answer →
-    EndsSequentially limit (start_of core before blank.written) (place_of last after half.written tally) (Ran answer) →
+    RunsRight rule picked onward limit show (run_start core before blank.written) (place_of last after half.written tally) policy later answer →
+    EndsSequentially limit (run_start core before blank.written) (place_of last after half.written tally) (Ran answer) →
     tally.moves ≤ most_moves core.plan (last.state.retired - core.state.retired) →
     HasCause blank.faults half.faults (report_stopped (Some answer)) → ClosesCore limit (Ran answer) last tally half full result →
-    Comes (RunsCore limit show core last (ByPolicy picked onward limit show policy) before after blank.written)
-    (BreaksCore limit show core (ByPolicy picked onward limit show policy) before after blank.written full.written) blank full result
-policy-closed picked onward limit show core last policy later before after blank half full tally answer result r ends bounded cause closes =
-    run-closed limit show core last (ByPolicy picked onward limit show policy) before after blank half full tally (Ran answer) _ _ result
-    (by_policy picked onward limit show _ _ policy later r.moves answer r.runs bounded) r.sequential ends
-    (λ sound. policy-shown picked onward limit show _ _ policy later r.moves answer r.runs sound)
+    Comes (RunsCore limit show core last (ByPolicy rule picked onward limit show policy) before after blank.written)
+    (BreaksCore limit show core (ByPolicy rule picked onward limit show policy) before after blank.written full.written) blank full result
+policy-closed rule picked onward limit show core last policy later before after blank half full tally answer result r ends bounded cause closes =
+    run-closed limit show core last (ByPolicy rule picked onward limit show policy) before after blank half full tally (Ran answer) _ _ result
+    (by_policy rule picked onward limit show _ _ policy later r.moves answer r.runs bounded) r.sequential ends
+    (λ sound. policy-shown rule picked onward limit show _ _ policy later r.moves answer r.runs sound)
     (rw (stopped-report answer) at cause) closes
 
 -- the status says of the input and the output what the run says of them
@@ -240,20 +242,45 @@ output-said limit moves ScriptEnd sound = refl
 output-said limit moves (BadScript refusal) sound = refl
 output-said limit moves (BarredAt line bar) sound = refl
 
+-- where the report failed, neither did
+input-works : (finish : Scripted) → is_report_fault finish ≡ true → input_scripted (Some finish) ≡ Ok tt
+input-works (Ran ran.ReportFault) cut = refl
+input-works (Ran (ran.Exit code)) cut = absurd (cc)
+input-works (Ran (ran.Trap cause pc detail)) cut = absurd (cc)
+input-works (Ran ran.Limit) cut = absurd (cc)
+input-works (Ran ran.ReadFault) cut = absurd (cc)
+input-works (Ran ran.WriteFault) cut = absurd (cc)
+input-works ScriptEnd cut = absurd (cc)
+input-works (BadScript refusal) cut = absurd (cc)
+input-works (BarredAt line bar) cut = absurd (cc)
+
+output-works : (finish : Scripted) → is_report_fault finish ≡ true → output_scripted (Some finish) ≡ Ok tt
+output-works (Ran ran.ReportFault) cut = refl
+output-works (Ran (ran.Exit code)) cut = absurd (cc)
+output-works (Ran (ran.Trap cause pc detail)) cut = absurd (cc)
+output-works (Ran ran.Limit) cut = absurd (cc)
+output-works (Ran ran.ReadFault) cut = absurd (cc)
+output-works (Ran ran.WriteFault) cut = absurd (cc)
+output-works ScriptEnd cut = absurd (cc)
+output-works (BadScript refusal) cut = absurd (cc)
+output-works (BarredAt line bar) cut = absurd (cc)
+
 -- so where a run was closed a count rose exactly where the answer says so
 pub closed-input : (limit : ℕ) (finish : Scripted) (last : Processor) (tally : Tally) (half full : Report)
     (result : Result Reported Failed) (before now : ℕ) → ClosesCore limit finish last tally half full result →
     HasCause before now (input_scripted (Some finish)) → FaultsReported input_answered before now result
 closed-input limit finish last tally half full result before now closes h =
     closed-tells input_answered (is_report_fault finish) (status_of limit tally.moves finish) (input_scripted (Some finish))
-    (closing limit finish last.plan last.state tally) half full result before now (λ sound. input-said limit tally.moves finish) closes h
+    (closing limit finish last.plan last.state tally) half full result before now (λ sound. input-said limit tally.moves finish)
+    (λ cut. input-works finish cut) closes h
 
 pub closed-output : (limit : ℕ) (finish : Scripted) (last : Processor) (tally : Tally) (half full : Report)
     (result : Result Reported Failed) (before now : ℕ) → ClosesCore limit finish last tally half full result →
     HasCause before now (output_scripted (Some finish)) → FaultsReported output_answered before now result
 closed-output limit finish last tally half full result before now closes h =
     closed-tells output_answered (is_report_fault finish) (status_of limit tally.moves finish) (output_scripted (Some finish))
-    (closing limit finish last.plan last.state tally) half full result before now (λ sound. output-said limit tally.moves finish sound) closes h
+    (closing limit finish last.plan last.state tally) half full result before now (λ sound. output-said limit tally.moves finish sound)
+    (λ cut. output-works finish cut) closes h
 
 -- it says nothing of files
 files-said : (limit moves : ℕ) (finish : Scripted) → files_answered (status_of limit moves finish) ≡ Ok tt

@@ -18,8 +18,8 @@ use Rattle.cli_reports.proofs.PutReports.{shows-none}
 pub run-comes : (tail : Tail) (asked : RunAsked) (before after : Outside) (plan : Plan) (hart : Hart)
     (schedule : ReadySchedule) (blank full : Report) (result : Result Reported Failed) →
     RunFilesRead asked before.files after.files plan hart schedule →
-    Comes (ComesOf asked.limit asked.show tail plan hart schedule before.streams after.streams blank.written)
-    (BreaksCore asked.limit asked.show (opened plan hart) (chosen_by asked.limit asked.show schedule) before.streams after.streams blank.written full.written)
+    Comes (ComesOf asked.limit asked.reporting tail plan hart schedule before.streams after.streams blank.written)
+    (BreaksCore asked.limit asked.reporting (opened plan hart) (chosen_by asked.limit asked.reporting schedule) before.streams after.streams blank.written full.written)
     blank full result →
     Comes (AnswersRun tail asked before after blank.written) (BreaksRun asked before after blank.written full.written) blank full result
 run-comes tail asked before after plan hart schedule blank full (Ok reported) ready (shown, closing, comes, puts) =

@@ -3,7 +3,7 @@ use Rattle.std.specs.Prelude.{ℕ, Result}
 use Rattle.cf_io.specs.declared.failed.Failed.{Failed}
 use Rattle.cf_core.specs.Processors.{Processor}
 use Rattle.cf_report.specs.declared.tally.Tally.{Tally}
-use Rattle.cf_run.specs.declared.answer.Scripted.{Scripted}
+use Rattle.run_finishes.specs.declared.finish.Scripted.{Scripted}
 use Rattle.report_closing.specs.Closing.{closing, is_report_fault}
 use Rattle.cli_files.specs.Outside.{Report}
 use Rattle.cli_reports.specs.Reporting.{PutsClosing}

@@ -8,7 +8,7 @@ use Rattle.cli_run.specs.declared.tail.Tail.{Tail}
 use Rattle.cli_run.specs.declared.tail.Tail.TheVariants as tail
 
 -- under `moves`, where the script has no further move, which moves can be made; else nothing
-abbrev pub lines_after : Tail → Status → Processor → List ℕ
-lines_after tail.Moves (status.ScriptEnd moves) last = moves_text last.plan last.state
-lines_after tail.Moves answer last = []
-lines_after tail.Nothing answer last = []
+abbrev pub tail_text : Tail → Status → Processor → List ℕ
+tail_text tail.Moves (status.ScriptEnd moves) last = moves_text last.plan last.state
+tail_text tail.Moves answer last = []
+tail_text tail.Nothing answer last = []

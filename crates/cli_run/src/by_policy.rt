@@ -11,25 +11,28 @@ use crate::closing::close;
 use cf_core::Core;
 use cf_index::Candidates;
 use cf_io::{Failed, Sink, Source};
-use cf_run::{Scripted, Show, run_policy};
+use cf_run::{Reporting, Scripted, run_policy};
 use cf_sched::Policy;
 use cli_processor::no_moves;
 use cli_reports::{Reported, RunStreams};
+use run_options::GuessRule;
 
-/// Runs the opened processor by the picks of a policy, and puts what is shown and the closing lines.
+/// Runs the opened processor by the picks of a policy from the moves that the guess rule keeps, and puts what is shown
+/// and the closing lines.
 // A call of its own, with the policy as a local, so that the compiler makes a loop for each policy and keeps its state in registers.
 #[inline(never)]
 pub fn run_by_policy<P: Policy + Drop, S: Source, K: Sink, R: Sink>(
     core: &mut Core,
     candidates: &mut Candidates,
     policy: P,
+    rule: GuessRule,
     limit: u64,
-    show: Show,
+    reporting: Reporting,
     streams: RunStreams<'_, S, K, R>,
 ) -> Result<Reported, Failed>
     requires begins { CanRun limit core.old }
-    ensures runs { ComesOver (RunsCore limit show core.old core.new (ByPolicy P.picked P.onward limit show policy))
-        (BreaksCore limit show core.old (ByPolicy P.picked P.onward limit show policy))
+    ensures runs { ComesOver (RunsCore limit reporting core.old core.new (ByPolicy rule P.picked P.onward limit reporting policy))
+        (BreaksCore limit reporting core.old (ByPolicy rule P.picked P.onward limit reporting policy))
         (streams_change S.left K.written R.written R.faults streams.entry streams.exit) result }
     ensures files { files_reported result ≡ Ok tt }
     ensures input { FaultsReported input_answered (S.faults streams.entry.input.now) (S.faults (input_left streams.exit)) result }
@@ -46,8 +49,9 @@ pub fn run_by_policy<P: Policy + Drop, S: Source, K: Sink, R: Sink>(
         core,
         candidates,
         &mut policy,
+        rule,
         limit,
-        show,
+        reporting,
         input,
         output,
         report,

@@ -11,7 +11,7 @@ ghost use Rattle.cli_reports.specs.OutsideChanges.{streams_change, input_left, o
 use crate::closing::close;
 use cf_core::Core;
 use cf_io::{Failed, Sink, Source};
-use cf_run::{Show, run_script};
+use cf_run::{Reporting, run_script};
 use cli_processor::no_moves;
 use cli_reports::{Reported, RunStreams};
 use run_scripts::Script;
@@ -23,15 +23,15 @@ pub fn run_by_script<S: Source, K: Sink, R: Sink>(
     core: &mut Core,
     text: &[u8],
     limit: u64,
-    show: Show,
+    reporting: Reporting,
     streams: RunStreams<'_, S, K, R>,
 ) -> Result<Reported, Failed>
     requires limit { limit ≤ most_limit }
     requires retired { core.old.state.retired ≤ limit }
     requires works { core.old.state.failed ≡ false }
     requires fits { length text.now ≤ most_script }
-    ensures runs { ComesOver (RunsCore limit show core.old core.new (ByScript limit show text.now))
-        (BreaksCore limit show core.old (ByScript limit show text.now))
+    ensures runs { ComesOver (RunsCore limit reporting core.old core.new (ByScript limit reporting text.now))
+        (BreaksCore limit reporting core.old (ByScript limit reporting text.now))
         (streams_change S.left K.written R.written R.faults streams.entry streams.exit) result }
     ensures files { files_reported result ≡ Ok tt }
     ensures input { FaultsReported input_answered (S.faults streams.entry.input.now) (S.faults (input_left streams.exit)) result }
@@ -45,7 +45,7 @@ pub fn run_by_script<S: Source, K: Sink, R: Sink>(
     let mut moves = Script::view(text);
     let mut tally = no_moves();
     let finish = run_script(
-        core, &mut moves, limit, show, input, output, report, &mut tally,
+        core, &mut moves, limit, reporting, input, output, report, &mut tally,
     );
     close(core, limit, finish, &tally, report)
 }

@@ -11,8 +11,7 @@ use cf_io::{Failed, Sink};
 use cf_report::Tally;
 use cf_run::{Ran, Scripted};
 use cli_files::{ScriptFault, Status};
-use cli_machine::status_of_run;
-use cli_reports::Reported;
+use cli_reports::{Reported, status_of_run};
 use report_closing::put_closing;
 
 /// Whether the report failed during the run.

@@ -11,7 +11,7 @@ ghost use Rattle.cli_files.specs.RunFiles.{run_asked};
 ghost use Rattle.cli_reports.specs.Reporting.{CarriesOut, ComesOver, FaultsReported, files_reported};
 ghost use Rattle.cli_run.specs.Run.{chosen_by, RunsCore, RunsWithTail, BreaksCore, ComesOf, AnswersRun, BreaksRun};
 ghost use Rattle.cli_reports.specs.OutsideChanges.{streams_change, outside_change, input_left, output_left};
-ghost use Rattle.cli_files.specs.Schedules.{schedule_view, FitsScript};
+ghost use Rattle.cli_files.specs.Schedules.{ready_schedule_view, FitsScript};
 
 use crate::by_policy::run_by_policy;
 use crate::by_script::run_by_script;
@@ -19,7 +19,7 @@ use crate::tail::{Tail, add_tail};
 use cf_core::Core;
 use cf_index::Candidates;
 use cf_io::{Failed, Files, Sink, Source};
-use cf_run::Show;
+use cf_run::Reporting;
 use cf_sched::{Drawn, Round};
 use cli_arguments::{LayoutWord, RunOptions};
 use cli_files::{ReadyRun, ReadySchedule, no_memory, read_files};
@@ -34,13 +34,13 @@ fn run_scheduled<S: Source, K: Sink, R: Sink>(
     candidates: &mut Candidates,
     schedule: &ReadySchedule,
     limit: u64,
-    show: Show,
+    reporting: Reporting,
     streams: RunStreams<'_, S, K, R>,
 ) -> Result<Reported, Failed>
     requires begins { CanRun limit core.old }
-    requires fits { FitsScript (schedule_view schedule.now) }
-    ensures runs { ComesOver (RunsCore limit show core.old core.new (chosen_by limit show (schedule_view schedule.now)))
-        (BreaksCore limit show core.old (chosen_by limit show (schedule_view schedule.now)))
+    requires fits { FitsScript (ready_schedule_view schedule.now) }
+    ensures runs { ComesOver (RunsCore limit reporting core.old core.new (chosen_by limit reporting (ready_schedule_view schedule.now)))
+        (BreaksCore limit reporting core.old (chosen_by limit reporting (ready_schedule_view schedule.now)))
         (streams_change S.left K.written R.written R.faults streams.entry streams.exit) result }
     ensures files { files_reported result ≡ Ok tt }
     ensures input { FaultsReported input_answered (S.faults streams.entry.input.now) (S.faults (input_left streams.exit)) result }
@@ -48,15 +48,15 @@ fn run_scheduled<S: Source, K: Sink, R: Sink>(
 {
     match schedule {
         ReadySchedule::Script(text) => {
-            run_by_script(core, text.as_slice(), limit, show, streams)
+            run_by_script(core, text.as_slice(), limit, reporting, streams)
         }
-        ReadySchedule::Seed(seed) => {
+        ReadySchedule::Seed(seed, rule) => {
             let drawn = Drawn::new(*seed);
-            run_by_policy(core, candidates, drawn, limit, show, streams)
+            run_by_policy(core, candidates, drawn, *rule, limit, reporting, streams)
         }
-        ReadySchedule::Rule => {
+        ReadySchedule::Rule(rule) => {
             let round = Round::new();
-            run_by_policy(core, candidates, round, limit, show, streams)
+            run_by_policy(core, candidates, round, *rule, limit, reporting, streams)
         }
     }
 }
@@ -70,10 +70,10 @@ fn run_opened<S: Source, K: Sink, R: Sink>(
     streams: RunStreams<'_, S, K, R>,
 ) -> Result<Reported, Failed>
     requires begins { CanRun options.limit opened.old.core }
-    requires fits { FitsScript (schedule_view schedule.now) }
+    requires fits { FitsScript (ready_schedule_view schedule.now) }
     ensures comes { ComesOver
-        (RunsWithTail options.entry.limit options.entry.show tail opened.old.core opened.new.core (chosen_by options.entry.limit options.entry.show (schedule_view schedule.now)))
-        (BreaksCore options.entry.limit options.entry.show opened.old.core (chosen_by options.entry.limit options.entry.show (schedule_view schedule.now)))
+        (RunsWithTail options.entry.limit options.entry.reporting tail opened.old.core opened.new.core (chosen_by options.entry.limit options.entry.reporting (ready_schedule_view schedule.now)))
+        (BreaksCore options.entry.limit options.entry.reporting opened.old.core (chosen_by options.entry.limit options.entry.reporting (ready_schedule_view schedule.now)))
         (streams_change S.left K.written R.written R.faults streams.entry streams.exit) result }
     ensures files { files_reported result ≡ Ok tt }
     ensures input { FaultsReported input_answered (S.faults streams.entry.input.now) (S.faults (input_left streams.exit)) result }
@@ -89,7 +89,7 @@ fn run_opened<S: Source, K: Sink, R: Sink>(
         &mut opened.candidates,
         schedule,
         options.limit,
-        options.show,
+        options.reporting,
         RunStreams {
             input,
             output,
@@ -109,10 +109,10 @@ pub fn run_ready<S: Source, K: Sink, R: Sink>(
 ) -> Result<Reported, Failed>
     requires limit { options.limit ≤ most_limit }
     requires count { ready.machine.retired ≡ 0 }
-    requires fits { FitsScript (schedule_view ready.schedule) }
+    requires fits { FitsScript (ready_schedule_view ready.schedule) }
     ensures comes { ComesOver
-        (ComesOf options.entry.limit options.entry.show tail ready.layout ready.machine (schedule_view ready.schedule))
-        (BreaksCore options.entry.limit options.entry.show (opened ready.layout ready.machine) (chosen_by options.entry.limit options.entry.show (schedule_view ready.schedule)))
+        (ComesOf options.entry.limit options.entry.reporting tail ready.layout ready.machine (ready_schedule_view ready.schedule))
+        (BreaksCore options.entry.limit options.entry.reporting (opened ready.layout ready.machine) (chosen_by options.entry.limit options.entry.reporting (ready_schedule_view ready.schedule)))
         (streams_change S.left K.written R.written R.faults streams.entry streams.exit) result }
     ensures files { files_reported result ≡ Ok tt }
     ensures input { FaultsReported input_answered (S.faults streams.entry.input.now) (S.faults (input_left streams.exit)) result }
@@ -124,10 +124,11 @@ pub fn run_ready<S: Source, K: Sink, R: Sink>(
     }
 }
 
-/// Carries out `run` and `moves`. It reads the layout, the program and the script, where the arguments name one, in this order.
-/// It runs the processor by the script, by moves drawn from the seed, or by the fixed rule. It puts what is to be shown, then
-/// how the run finished, how many instructions retired, the tally of its moves, the registers and the picture, and after
-/// that the tail. It fails where the report fails during the run; nothing more is then put to the report.
+/// Carries out `run` and `moves`. It reads the layout, the program and the script, where the arguments name one, in this
+/// order. It runs the processor by the script, by moves drawn from the seed, or by the fixed rule, the latter two under a
+/// guess rule. It puts what is to be shown, then how the run finished, how many instructions retired, the tally of its
+/// moves, the registers and the picture, and after that the tail. It fails where the report fails during the run; nothing
+/// more is then put to the report.
 pub fn run_processor<F: Files, S: Source, K: Sink, R: Sink>(
     alloc: Global,
     layout: LayoutWord<'_>,
@@ -139,8 +140,8 @@ pub fn run_processor<F: Files, S: Source, K: Sink, R: Sink>(
 ) -> Result<Reported, Failed>
     requires { options.limit ≤ most_limit }
     ensures answers { CarriesOut
-        (AnswersRun tail (run_asked (layout_of layout.entry) program.now (asked_schedule options.entry.schedule) options.entry.limit options.entry.show))
-        (BreaksRun (run_asked (layout_of layout.entry) program.now (asked_schedule options.entry.schedule) options.entry.limit options.entry.show))
+        (AnswersRun tail (run_asked (layout_of layout.entry) program.now (asked_schedule options.entry.schedule) options.entry.limit options.entry.reporting))
+        (BreaksRun (run_asked (layout_of layout.entry) program.now (asked_schedule options.entry.schedule) options.entry.limit options.entry.reporting))
         (outside_change F.told F.faults S.left S.faults K.written K.faults R.written R.faults files.old files.new streams.entry streams.exit) result }
     ensures files { HasCause (F.faults files.old) (F.faults files.new) (files_reported result) }
     ensures input { FaultsReported input_answered (S.faults streams.entry.input.now) (S.faults (input_left streams.exit)) result }

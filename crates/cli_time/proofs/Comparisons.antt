@@ -1,5 +1,6 @@
 -- What comes of the lines of all layouts, and of the line after them.
-use Rattle.std.proofs.Common.{◌≡◌, ◌∙◌, ap, subst, ℕ, List, [], ◌++◌, append-nil, Option, Some, Result, Ok, Err, inl, inr}
+use Rattle.std.proofs.Common.{◌≡◌, ◌∙◌, ◌≤◌, sym, ap, subst, ℕ, List, [], ◌++◌, append-nil, Option, Some, Result, Ok, Err, inl, inr}
+use Rattle.cf_timed.specs.declared.span.Span.{Span}
 use Rattle.std.specs.Prelude.{codes, slice_get}
 use Rattle.std.specs.Result.{IsErr}
 use Rattle.cf_io.specs.Puts.{Writes, WritesFront}
@@ -7,27 +8,35 @@ use Rattle.cf_io.specs.Reads.{FilesSeen}
 use Rattle.cf_io.specs.declared.failed.Failed.{Failed}
 use Rattle.cf_io.proofs.Owing.{writes-again}
 use Rattle.rv_machine.specs.Hart.{Hart}
+use Rattle.rv_machine.specs.Machine.{Machine}
 use Rattle.cf_layout.specs.Layout.{Plan}
+use Rattle.cf_run.specs.Headline.{machine_on}
 use Rattle.std.proofs.lemmas.Bool.{false≢true}
 use Rattle.cf_report.specs.Putting.{PutsText}
 use Rattle.texts.specs.Lines.{line}
-use Rattle.cli_arguments.specs.declared.command.TimeOptions.{TimeOptions}
-use Rattle.cli_arguments.specs.Words.{NamedLayout}
+use Rattle.cli_time.specs.declared.choices.RunChoices.{RunChoices}
+use Rattle.cli_arguments.specs.Words.{NamedLayout, TimeChoices}
+use Rattle.run_options.specs.Limits.{most_timed_limit}
 use Rattle.cli_files.specs.Deciding.{Decides}
 use Rattle.cli_files.specs.declared.answer.Answer.{Answer}
 use Rattle.cli_files.specs.declared.status.Status.TheVariants as status
-use Rattle.cli_time.specs.Asked.{TimeAsked}
+use Rattle.cli_time.specs.Asked.{TimeAsked, choices_by}
+use Rattle.cli_time.specs.InputFiles.{TimeInputRead}
 use Rattle.cli_time.specs.Leasts.{IsFirstLeast}
 use Rattle.cli_time.specs.Lines.{least_line, time_lines}
-use Rattle.cli_time.specs.Reading.{TimeFilesRead}
 use Rattle.cli_time.specs.Runs.{PutsAll, PutsFewer}
 use Rattle.cli_time.specs.Times.{AnswersTime, BreaksTime, BreaksTimes, MeasuresAll, TimesOf}
 
+-- the limit is that of the words
+pub limit-chosen : (asked : TimeChoices) (options : RunChoices) → options ≡ choices_by asked → asked.limit ≤ most_timed_limit → options.limit ≤ most_timed_limit
+unfolding choices_by
+limit-chosen asked options is few = subst (λ (o : RunChoices). o.limit ≤ most_timed_limit) (sym is) few
+
 -- the layout that is named is the first with the least time
-measures-all : (words : List NamedLayout) (options : TimeOptions) (delays : List ℕ) (plans : List Plan) (hart : Hart) (blank told : Option (List ℕ))
-    (times : List ℕ) (place : ℕ) (named : NamedLayout) → (h : PutsAll words options delays plans hart blank told times) →
-    IsFirstLeast times place → slice_get words place ≡ Some named → MeasuresAll words options delays plans hart h.measured named
-measures-all words options delays plans hart blank told times place named h least is = record {
+measures-all : (words : List NamedLayout) (options : RunChoices) (delays : List Span) (plans : List Plan) (start : Machine) (blank told : Option (List ℕ))
+    (times : List ℕ) (place : ℕ) (named : NamedLayout) → (h : PutsAll words options delays plans start blank told times) →
+    IsFirstLeast times place → slice_get words place ≡ Some named → MeasuresAll words options delays plans start h.measured named
+measures-all words options delays plans start blank told times place named h least is = record {
   each = h.each;
   all = h.all;
   place = place;
@@ -36,66 +45,66 @@ measures-all words options delays plans hart blank told times place named h leas
 }
 
 -- it was named
-pub times-all : (words : List NamedLayout) (options : TimeOptions) (delays : List ℕ) (plans : List Plan) (hart : Hart) (blank told full : Option (List ℕ))
-    (times : List ℕ) (place : ℕ) (named : NamedLayout) (answer : Answer) → PutsAll words options delays plans hart blank told times →
+pub times-all : (words : List NamedLayout) (options : RunChoices) (delays : List Span) (plans : List Plan) (start : Machine) (blank told full : Option (List ℕ))
+    (times : List ℕ) (place : ℕ) (named : NamedLayout) (answer : Answer) → PutsAll words options delays plans start blank told times →
     IsFirstLeast times place → slice_get words place ≡ Some named → Writes told full (least_line named) →
     answer.status ≡ status.Done → answer.closing ≡ [] →
-    Decides (TimesOf words options delays plans hart) (BreaksTimes words options delays plans hart blank full) blank full (Ok answer)
-times-all words options delays plans hart blank told full times place named answer h least is put done closed =
+    Decides (TimesOf words options delays plans start) (BreaksTimes words options delays plans start blank full) blank full (Ok answer)
+times-all words options delays plans start blank told full times place named answer h least is put done closed =
     let text : List ℕ = time_lines options.limit words h.measured ++ least_line named in (
       text,
       writes-again blank told full (time_lines options.limit words h.measured) (least_line named) h.put put,
       inl (record {
         measured = h.measured;
         named = named;
-        all = measures-all words options delays plans hart blank told times place named h least is;
+        all = measures-all words options delays plans start blank told times place named h least is;
         status_is = done;
         reports = ap (λ (rest : List ℕ). text ++ rest) closed ∙ append-nil text;
       }),
     )
 
 -- the report failed at that line
-pub times-break : (words : List NamedLayout) (options : TimeOptions) (delays : List ℕ) (plans : List Plan) (hart : Hart) (blank told full : Option (List ℕ))
-    (times : List ℕ) (place : ℕ) (named : NamedLayout) → PutsAll words options delays plans hart blank told times →
+pub times-break : (words : List NamedLayout) (options : RunChoices) (delays : List Span) (plans : List Plan) (start : Machine) (blank told full : Option (List ℕ))
+    (times : List ℕ) (place : ℕ) (named : NamedLayout) → PutsAll words options delays plans start blank told times →
     IsFirstLeast times place → slice_get words place ≡ Some named → WritesFront told full (least_line named) →
-    BreaksTimes words options delays plans hart blank full
-times-break words options delays plans hart blank told full times place named h least is front =
+    BreaksTimes words options delays plans start blank full
+times-break words options delays plans start blank told full times place named h least is front =
     inr (record {
       measured = h.measured;
       named = named;
-      all = measures-all words options delays plans hart blank told times place named h least is;
+      all = measures-all words options delays plans start blank told times place named h least is;
       told = told;
       put = h.put;
       front = front;
     })
 
-pub times-broken : {T E : Type 0} (words : List NamedLayout) (options : TimeOptions) (delays : List ℕ) (plans : List Plan) (hart : Hart)
+pub times-broken : {T E : Type 0} (words : List NamedLayout) (options : RunChoices) (delays : List Span) (plans : List Plan) (start : Machine)
     (blank told full : Option (List ℕ)) (i j : ℕ) (times : List ℕ) (place : ℕ) (named : NamedLayout) (r : Result T E) (e : E) (result : Result Answer Failed) →
-    PutsAll words options delays plans hart blank told times → IsFirstLeast times place → slice_get words place ≡ Some named →
+    PutsAll words options delays plans start blank told times → IsFirstLeast times place → slice_get words place ≡ Some named →
     PutsText told full i j (least_line named) r → r ≡ Err e → IsErr result →
-    Decides (TimesOf words options delays plans hart) (BreaksTimes words options delays plans hart blank full) blank full result
-times-broken words options delays plans hart blank told full i j times place named r e (Ok answer) h least is puts was failed =
+    Decides (TimesOf words options delays plans start) (BreaksTimes words options delays plans start blank full) blank full result
+times-broken words options delays plans start blank told full i j times place named r e (Ok answer) h least is puts was failed =
     absurd (false≢true failed)
-times-broken {T = T} {E = E} words options delays plans hart blank told full i j times place named r e (Err f) h least is puts was failed =
+times-broken {T = T} {E = E} words options delays plans start blank told full i j times place named r e (Err f) h least is puts was failed =
     let q : PutsText {T = T} {E = E} told full i j (least_line named) (Err e) = rw was at puts in
-    times-break words options delays plans hart blank told full times place named h least is q.front
+    times-break words options delays plans start blank told full times place named h least is q.front
 
 -- it was named, and that is all
-pub times-named : {T E : Type 0} (words : List NamedLayout) (options : TimeOptions) (delays : List ℕ) (plans : List Plan) (hart : Hart)
+pub times-named : {T E : Type 0} (words : List NamedLayout) (options : RunChoices) (delays : List Span) (plans : List Plan) (start : Machine)
     (blank told full : Option (List ℕ)) (i j : ℕ) (times : List ℕ) (place : ℕ) (named : NamedLayout) (r : Result T E) (t : T) (answer : Answer) →
-    PutsAll words options delays plans hart blank told times → IsFirstLeast times place → slice_get words place ≡ Some named →
+    PutsAll words options delays plans start blank told times → IsFirstLeast times place → slice_get words place ≡ Some named →
     PutsText told full i j (least_line named) r → r ≡ Ok t → answer.status ≡ status.Done → answer.closing ≡ [] →
-    Decides (TimesOf words options delays plans hart) (BreaksTimes words options delays plans hart blank full) blank full (Ok answer)
-times-named {T = T} {E = E} words options delays plans hart blank told full i j times place named r t answer h least is puts was done closed =
+    Decides (TimesOf words options delays plans start) (BreaksTimes words options delays plans start blank full) blank full (Ok answer)
+times-named {T = T} {E = E} words options delays plans start blank told full i j times place named r t answer h least is puts was done closed =
     let q : PutsText {T = T} {E = E} told full i j (least_line named) (Ok t) = rw was at puts in
-    times-all words options delays plans hart blank told full times place named answer h least is q.all done closed
+    times-all words options delays plans start blank told full times place named answer h least is q.all done closed
 
 -- memory was refused before that
-pub times-fewer : (words : List NamedLayout) (options : TimeOptions) (delays : List ℕ) (plans : List Plan) (hart : Hart) (blank full : Option (List ℕ))
-    (answer : Answer) → PutsFewer words options delays plans hart blank full →
+pub times-fewer : (words : List NamedLayout) (options : RunChoices) (delays : List Span) (plans : List Plan) (start : Machine) (blank full : Option (List ℕ))
+    (answer : Answer) → PutsFewer words options delays plans start blank full →
     answer.status ≡ status.NoMemory → answer.closing ≡ line (codes "no memory") →
-    Decides (TimesOf words options delays plans hart) (BreaksTimes words options delays plans hart blank full) blank full (Ok answer)
-times-fewer words options delays plans hart blank full answer h is closed =
+    Decides (TimesOf words options delays plans start) (BreaksTimes words options delays plans start blank full) blank full (Ok answer)
+times-fewer words options delays plans start blank full answer h is closed =
     let text : List ℕ = time_lines options.limit words h.measured in (
       text,
       h.put,
@@ -109,12 +118,13 @@ times-fewer words options delays plans hart blank full answer h is closed =
     )
 
 -- what comes of the files is what the command answers
-pub answers-time : (asked : TimeAsked) (before after : Option FilesSeen) (delays : List ℕ) (plans : List Plan) (hart : Hart)
-    (blank full : Option (List ℕ)) (result : Result Answer Failed) → TimeFilesRead asked.files before after delays plans hart →
-    Decides (TimesOf asked.files.layouts asked.options delays plans hart) (BreaksTimes asked.files.layouts asked.options delays plans hart blank full) blank
-    full result →
+pub answers-time : (asked : TimeAsked) (before after : Option FilesSeen) (delays : List Span) (plans : List Plan) (hart : Hart) (bytes : List ℕ)
+    (blank full : Option (List ℕ)) (result : Result Answer Failed) →
+    TimeInputRead asked.files asked.input before after delays plans hart bytes →
+    Decides (TimesOf asked.files.layouts asked.options delays plans (machine_on hart bytes))
+    (BreaksTimes asked.files.layouts asked.options delays plans (machine_on hart bytes) blank full) blank full result →
     Decides (AnswersTime asked before after) (BreaksTime asked before after blank full) blank full result
-answers-time asked before after delays plans hart blank full (Ok answer) ready (lines, put, comes) =
-    (lines, put, inl (record { delays = delays; plans = plans; hart = hart; ready = ready; comes = comes }))
-answers-time asked before after delays plans hart blank full (Err failed) ready breaks =
-    record { delays = delays; plans = plans; hart = hart; ready = ready; comes = breaks }
+answers-time asked before after delays plans hart bytes blank full (Ok answer) ready (lines, put, comes) =
+    (lines, put, inl (record { delays = delays; plans = plans; hart = hart; bytes = bytes; ready = ready; comes = comes }))
+answers-time asked before after delays plans hart bytes blank full (Err failed) ready breaks =
+    record { delays = delays; plans = plans; hart = hart; bytes = bytes; ready = ready; comes = breaks }

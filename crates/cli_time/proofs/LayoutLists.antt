@@ -79,6 +79,12 @@ words-length words plans a b h =
     sym (length-mapped layout_in (map string_bytes words) ∙ length-mapped string_bytes words)
     ∙ layouts-length (map layout_in (map string_bytes words)) plans a b h
 
+-- the layout at a place
+pub plan-there : (plans seen : List Plan) (i : ℕ) (plan : Plan) → i < length plans → seen ≡ plans → plan ≡ slice_index_or seen i plan →
+    slice_get plans i ≡ Some plan
+plan-there plans seen i plan within is at_plan =
+    there-at plans i plan within (subst (λ (ps : List Plan). plan ≡ slice_index_or ps i plan) is at_plan)
+
 -- the layout beside a word
 pub plan-at : (words : List (String Global)) (plans seen : List Plan) (i : ℕ) (word : NamedLayout) (plan : Plan) →
     slice_get (map layout_in (map string_bytes words)) i ≡ Some word → length words ≡ length plans → seen ≡ plans →
@@ -87,4 +93,4 @@ plan-at words plans seen i word plan e same is at_plan =
     let w = got-within (map layout_in (map string_bytes words)) i word e in
     let n = length-mapped layout_in (map string_bytes words) in
     let k = length-mapped string_bytes words in
-    there-at plans i plan (omega (arith, w, n, k, same)) (subst (λ (ps : List Plan). plan ≡ slice_index_or ps i plan) is at_plan)
+    plan-there plans seen i plan (omega (arith, w, n, k, same)) is at_plan

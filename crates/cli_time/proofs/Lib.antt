@@ -1,3 +1,4 @@
+pub mod ClassNames
 pub mod Comparisons
 pub mod Counts
 pub mod DelaysFound

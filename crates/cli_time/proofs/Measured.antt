@@ -1,26 +1,38 @@
 -- What a timed run measures.
-use Rattle.std.proofs.Common.{◌≡◌, ◌∙◌, ◌≤◌, sym, ap, subst, refl, ℕ, List, Some, None, Result, Ok, Err, Bool, true, arith}
-use Rattle.run_options.specs.Limits.{most_limit}
+use Rattle.std.proofs.Common.{◌≡◌, ◌∙◌, ◌≤◌, ◌-◌, sym, ap, subst, refl, ℕ, List, [], Option, Some, None, Result, Ok, Err, arith}
+use Rattle.cf_timed.specs.declared.span.Span.{Span}
+use Rattle.run_options.specs.Limits.{most_timed_limit}
 use Rattle.cf_io.specs.Causes.{HasCause}
 use Rattle.rv_machine.specs.Hart.{Hart}
+use Rattle.rv_machine.specs.Machine.{Machine}
 use Rattle.cf_layout.specs.Layout.{Plan}
 use Rattle.cf_core.specs.Processors.{Processor, opened}
 use Rattle.cf_run.specs.Ending.{EndsAlike, EndsAsMachine, EndsSequentially}
 use Rattle.cf_run.specs.Moving.{RunPlace, place_of}
-use Rattle.cf_run.specs.declared.answer.Scripted.TheVariants.{Ran}
+use Rattle.cf_run.specs.Policies.{most_moves}
+use Rattle.run_finishes.specs.declared.finish.Scripted.TheVariants.{Ran}
 use Rattle.cf_timed.specs.declared.answer.Timed.{Timed}
 use Rattle.cf_timed.specs.declared.answer.Timed.TheVariants as timed
-use Rattle.cf_timed.specs.Clocks.{SiteTimes, started}
-use Rattle.cf_timed.specs.TimedRuns.{CanBegin, HasCauses, RunsTimed, answer_of, begins}
+use Rattle.cf_timed.specs.declared.span.Span.{Span}
+use Rattle.cf_timed.specs.Clocks.{ClockKnows, SiteTimes, rule_of, started}
+use Rattle.cf_timed.specs.DelayedRuns.{DelayRule, delays_of, timed as timed_moves, timed_after, visits_of}
+use Rattle.cf_timed.specs.Drawing.{drawn_from}
+use Rattle.cf_timed.specs.Times.{greatest_time, times}
+use Rattle.cf_timed.specs.TimedRuns.{CanBegin, HasCauses, RunsShown, RunsTimed, answer_of, begins, lines_from}
 use Rattle.cf_timed.proofs.Chaining.{longest}
-use Rattle.run_ledger.specs.Ledgers.{opened as opened_ledger, told_by}
+use Rattle.cf_io.proofs.Owing.{writes-nothing}
+use Rattle.cf_run.specs.Made.{Made}
 use Rattle.run_ledger.specs.NotedRuns.{RunsNoted}
+use Rattle.run_ledger.specs.RunLedgers.{told_by}
 use Rattle.run_ledger.specs.declared.breakdown.Breakdown.{Breakdown}
-use Rattle.run_ledger.specs.declared.ledger.Ledger.{Ledger}
-use Rattle.cli_arguments.specs.declared.command.TimeOptions.{TimeOptions}
+use Rattle.run_ledger.specs.declared.run_ledger.RunLedger.{RunLedger}
 use Rattle.cf_run.proofs.Opened.{can-run}
-use Rattle.cli_time.specs.Measures.{Measures, MeasuresRun, made_of, quiet}
+use Rattle.cli_time.specs.Measures.{BreaksTaking, Measures, MeasuresRun, TakenRun, lines_of, made_of, moves_by, over, rule_by, seen_by}
+use Rattle.cli_time.specs.Runs.{PutsMoves, PutsRun}
+use Rattle.cli_time.specs.declared.choices.RunChoices.{RunChoices}
 use Rattle.cli_time.specs.declared.measuring.Measured.{Measured}
+use Rattle.run_options.specs.declared.time_show.TimeShow.{TimeShow}
+use Rattle.run_options.specs.declared.time_show.TimeShow.TheVariants as shows
 
 -- a count that is always 0 does not rise
 never-rises : (u : Unit {0}) (r : Result (Unit {0}) (Unit {0})) → r ≡ Err u → HasCause 0 0 r → ⊥
@@ -29,7 +41,7 @@ never-rises u (Err v) e h = let rose = h.rose in absurd (omega (arith, rose))
 
 -- a run whose input and output cannot fail ends as the sequential machine does
 as-machine : (limit : ℕ) (hart : Hart) (begin new : RunPlace) (answer : Timed) →
-    HasCauses 0 0 0 0 (answer_of answer) →
+    HasCauses 0 0 0 0 (Some (answer_of answer)) →
     EndsAlike limit hart begin new (Ran (answer_of answer)) → EndsAsMachine limit hart begin new (answer_of answer)
 as-machine limit hart begin new (timed.Exit status) causes h = h
 as-machine limit hart begin new (timed.Trap cause pc detail) causes h = h
@@ -37,82 +49,130 @@ as-machine limit hart begin new timed.Limit causes h = h
 as-machine limit hart begin new timed.ReadFault causes h = absurd (never-rises tt (Err tt) refl causes.of_input)
 as-machine limit hart begin new timed.WriteFault causes h = absurd (never-rises tt (Err tt) refl causes.of_output)
 
+-- the greatest time is the last of the moves
+time-told : (rule : DelayRule) (core : Processor) (trace : List Made) (clock : SiteTimes) →
+    ClockKnows core.plan rule (timed_moves core.plan rule (visits_of core.state trace)) clock →
+    clock.latest ≡ greatest_time (times core.plan (moves_by rule core.plan core trace))
+unfolding times timed_after delays_of
+time-told rule core trace clock told = told.latest_is
+
 -- so this was taken of an opened processor
-pub takes : (delays : List ℕ) (options : TimeOptions) (core last : Processor) (clock : SiteTimes) (measured : Measured)
-    (runs : RunsTimed delays options.limit (begins core quiet) last quiet clock measured.moves measured.answer) →
+pub takes : (rule : DelayRule) (options : RunChoices) (core last : Processor) (bytes left : List ℕ) (clock : SiteTimes) (measured : Measured) (shown : List ℕ) →
+    (runs : RunsTimed options.rule rule options.limit (begins core (over bytes)) last (over left) clock measured.moves measured.answer) →
     measured.time ≡ clock.latest → measured.retired ≡ last.state.retired →
-    measured.sites ≡ made_of options.sites core.plan delays runs.right.moves → MeasuresRun delays options core.plan core measured
-takes delays options core last clock measured runs time retired sites = record {
+    measured.moves ≤ most_moves core.plan (last.state.retired - core.state.retired) →
+    measured.sites ≡ made_of options.show core.plan (seen_by rule core.plan core runs.right.runs.reaches.trace) →
+    shown ≡ lines_of options.show rule (begins core (over bytes)) runs.right.runs.reaches.trace →
+    MeasuresRun rule options core.plan core bytes (record { measured = measured; shown = shown })
+takes rule options core last bytes left clock measured shown runs time retired bounded sites lines = record {
   last = last;
+  left = left;
   clock = clock;
   runs = runs;
-  time_is = time ∙ runs.told.latest_is;
+  time_is = time ∙ time-told rule core runs.right.runs.reaches.trace clock runs.told;
   retired_is = retired;
+  bounded = bounded;
   sites_are = sites;
+  shown_is = lines;
 }
 
+-- nothing was shown
+pub takes-time : (rule : DelayRule) (options : RunChoices) (core last : Processor) (bytes left : List ℕ) (clock : SiteTimes) (measured : Measured) → options.show ≡ shows.Nothing →
+    RunsTimed options.rule rule options.limit (begins core (over bytes)) last (over left) clock measured.moves measured.answer →
+    measured.time ≡ clock.latest → measured.retired ≡ last.state.retired →
+    measured.moves ≤ most_moves core.plan (last.state.retired - core.state.retired) → measured.sites ≡ None →
+    MeasuresRun rule options core.plan core bytes (record { measured = measured; shown = [] })
+takes-time rule options core last bytes left clock measured shown runs time retired bounded none =
+    takes rule options core last bytes left clock measured [] runs time retired bounded
+    (none ∙ ap (λ (show : TimeShow). made_of show core.plan (seen_by rule core.plan core runs.right.runs.reaches.trace)) (sym shown))
+    (ap (λ (show : TimeShow). lines_of show rule (begins core (over bytes)) runs.right.runs.reaches.trace) (sym shown))
+
 -- the ledger tells of the same run
-pub takes-sites : (delays : List ℕ) (limit : ℕ) (core last : Processor) (clock : SiteTimes) (ledger : Ledger) (measured : Measured) (made : Breakdown) →
-    RunsNoted delays limit (begins core quiet) last quiet clock ledger measured.moves measured.answer →
-    measured.time ≡ clock.latest → measured.retired ≡ last.state.retired → measured.sites ≡ Some made → made ≡ told_by ledger →
-    MeasuresRun delays (record { limit = limit; sites = true }) core.plan core measured
-takes-sites delays limit core last clock ledger measured made noted time retired shown told =
-    takes delays (record { limit = limit; sites = true }) core last clock measured noted.timed time retired
-    (shown ∙ ap Some (told ∙ noted.tells))
+pub takes-sites : (rule : DelayRule) (options : RunChoices) (core last : Processor) (bytes left : List ℕ) (clock : SiteTimes) (ledger : RunLedger) (measured : Measured)
+    (made : Breakdown) → options.show ≡ shows.Sites →
+    RunsNoted options.rule rule options.limit (begins core (over bytes)) last (over left) clock ledger measured.moves measured.answer →
+    measured.time ≡ clock.latest → measured.retired ≡ last.state.retired →
+    measured.moves ≤ most_moves core.plan (last.state.retired - core.state.retired) → measured.sites ≡ Some made → made ≡ told_by ledger →
+    MeasuresRun rule options core.plan core bytes (record { measured = measured; shown = [] })
+takes-sites rule options core last bytes left clock ledger measured made shown noted time retired bounded some told =
+    takes rule options core last bytes left clock measured [] noted.timed time retired bounded
+    (some ∙ ap Some (told ∙ noted.tells)
+    ∙ ap (λ (show : TimeShow). made_of show core.plan (seen_by rule core.plan core noted.timed.right.runs.reaches.trace)) (sym shown))
+    (ap (λ (show : TimeShow). lines_of show rule (begins core (over bytes)) noted.timed.right.runs.reaches.trace) (sym shown))
+
+-- the moves were shown
+pub takes-moves : (rule : DelayRule) (options : RunChoices) (core last : Processor) (bytes left : List ℕ) (clock : SiteTimes) (blank full : Option (List ℕ)) (measured : Measured) →
+    options.show ≡ shows.Moves →
+    RunsShown options.rule rule options.limit (begins core (over bytes)) last (over left) clock blank full measured.moves measured.answer →
+    measured.time ≡ clock.latest → measured.retired ≡ last.state.retired →
+    measured.moves ≤ most_moves core.plan (last.state.retired - core.state.retired) → measured.sites ≡ None →
+    PutsRun rule options core.plan core bytes blank full measured
+takes-moves rule options core last bytes left clock blank full measured shown runs time retired bounded none =
+    let trace : List Made = runs.run.right.runs.reaches.trace in
+    record {
+      shown = lines_from (begins core (over bytes)) rule trace;
+      takes = takes rule options core last bytes left clock measured (lines_from (begins core (over bytes)) rule trace) runs.run time retired bounded
+          (none ∙ ap (λ (show : TimeShow). made_of show core.plan (seen_by rule core.plan core trace)) (sym shown))
+          (ap (λ (show : TimeShow). lines_of show rule (begins core (over bytes)) trace) (sym shown));
+      put = runs.put;
+    }
+
+-- a run whose moves are not shown
+pub puts-nothing : (rule : DelayRule) (options : RunChoices) (plan : Plan) (core : Processor) (bytes : List ℕ) (blank : Option (List ℕ)) (measured : Measured) →
+    MeasuresRun rule options plan core bytes (record { measured = measured; shown = [] }) → PutsRun rule options plan core bytes blank blank measured
+puts-nothing rule options plan core bytes blank measured taken = record { shown = []; takes = taken; put = writes-nothing blank }
 
 -- and so it was measured
-of-opened : (delays : List ℕ) (options : TimeOptions) (plan : Plan) (hart : Hart) (measured : Measured) →
-    MeasuresRun delays options plan (opened plan hart) measured →
-    HasCauses 0 0 0 0 (answer_of measured.answer) →
-    Measures delays options plan hart measured
+of-opened : (delays : List Span) (options : RunChoices) (plan : Plan) (start : Machine) (taken : TakenRun) →
+    MeasuresRun (rule_by delays options) options plan (opened plan start.hart) start.rest taken →
+    HasCauses 0 0 0 0 (Some (answer_of taken.measured.answer)) →
+    Measures delays options plan start taken
 unfolding EndsSequentially opened
-of-opened delays options plan hart measured taken causes = record {
-  takes = taken;
-  longest = rw taken.time_is (longest plan delays taken.runs.right.moves);
-  machine = as-machine options.limit hart (begins (opened plan hart) quiet) (place_of taken.last quiet None taken.runs.tally) measured.answer
-      causes (taken.runs.ends plan hart refl);
+of-opened delays options plan start taken takes causes = record {
+  takes = takes;
+  longest = rw takes.time_is (longest plan (moves_by (rule_by delays options) plan (opened plan start.hart) takes.runs.right.runs.reaches.trace));
+  machine = as-machine options.limit start.hart (begins (opened plan start.hart) (over start.rest))
+      (place_of takes.last (over takes.left) None takes.runs.tally) taken.measured.answer causes (takes.runs.ends plan start.hart refl);
 }
 
 opened-plan : (core : Processor) (plan : Plan) (hart : Hart) → core ≡ opened plan hart → core.plan ≡ plan
 unfolding opened
 opened-plan core plan hart is = ap (λ (p : Processor). p.plan) is
 
-pub measures : (used delays : List ℕ) (options : TimeOptions) (sites : Bool) (core : Processor) (plan : Plan) (hart start : Hart) (measured : Measured) →
-    used ≡ delays → options.sites ≡ sites → core ≡ opened plan hart → hart ≡ start →
-    MeasuresRun used (record { limit = options.limit; sites = sites }) core.plan core measured →
-    HasCauses 0 0 0 0 (answer_of measured.answer) →
-    Measures delays options plan start measured
-measures used delays options sites core plan hart start measured same shown is begins_on taken causes =
-    subst (λ (h : Hart). Measures delays options plan h measured) begins_on
-    (of-opened delays options plan hart measured
-    (subst (λ (ds : List ℕ). MeasuresRun ds options plan (opened plan hart) measured) same
-    (subst (λ (p : Processor). MeasuresRun used options plan p measured) is
-    (subst (λ (l : Plan). MeasuresRun used options l core measured) (opened-plan core plan hart is)
-    (subst (λ (b : Bool). MeasuresRun used (record { limit = options.limit; sites = b }) core.plan core measured) (sym shown) taken))))
-    causes)
+pub measures : (used : DelayRule) (delays : List Span) (options : RunChoices) (core : Processor) (plan : Plan) (start : Machine)
+    (blank full : Option (List ℕ)) (measured : Measured) → used ≡ rule_by delays options → core ≡ opened plan start.hart →
+    PutsRun used options core.plan core start.rest blank full measured → HasCauses 0 0 0 0 (Some (answer_of measured.answer)) →
+    PutsMoves delays options plan start blank full measured
+measures used delays options core plan start blank full measured same is puts causes =
+    let there : PutsRun (rule_by delays options) options plan (opened plan start.hart) start.rest blank full measured =
+    subst (λ (r : DelayRule). PutsRun r options plan (opened plan start.hart) start.rest blank full measured) same
+    (subst (λ (p : Processor). PutsRun used options plan p start.rest blank full measured) is
+    (subst (λ (l : Plan). PutsRun used options l core start.rest blank full measured) (opened-plan core plan start.hart is) puts)) in
+    record { shown = there.shown; measures = of-opened delays options plan start _ there.takes causes; put = there.put }
 
--- the clock is a clock of the processor's layout that was told of no move
-clock-started : (core : Processor) (plan : Plan) (hart : Hart) (delays : List ℕ) (clock : SiteTimes) →
-    core ≡ opened plan hart → clock ≡ started plan delays → clock ≡ started core.plan clock.delays
-unfolding opened started
-clock-started core plan hart delays clock is e =
-    let p : core.plan ≡ plan = ap (λ (q : Processor). q.plan) is in
-    let d : clock.delays ≡ delays = ap (λ (k : SiteTimes). k.delays) e in
-    e ∙ ap (λ (l : Plan). started l delays) (sym p) ∙ ap (started core.plan) (sym d)
+-- or its report failed
+pub breaks : (used : DelayRule) (delays : List Span) (options : RunChoices) (core : Processor) (plan : Plan) (start : Machine)
+    (blank full : Option (List ℕ)) → used ≡ rule_by delays options → core ≡ opened plan start.hart →
+    BreaksTaking used options core start.rest blank full → BreaksTaking (rule_by delays options) options (opened plan start.hart) start.rest blank full
+breaks used delays options core plan start blank full same is h =
+    subst (λ (r : DelayRule). BreaksTaking r options (opened plan start.hart) start.rest blank full) same
+    (subst (λ (p : Processor). BreaksTaking used options p start.rest blank full) is h)
+
+-- the clock is a clock of the processor's layout and of the delays that was told of no move
+pub clock-rule : (plan : Plan) (rule : DelayRule) (clock : SiteTimes) → clock ≡ started plan rule → rule_of clock ≡ rule
+unfolding started drawn_from
+clock-rule plan rule clock e = ap rule_of e
+
+clock-started : (core : Processor) (plan : Plan) (hart : Hart) (rule : DelayRule) (clock : SiteTimes) →
+    core ≡ opened plan hart → clock ≡ started plan rule → clock ≡ started core.plan (rule_of clock)
+clock-started core plan hart rule clock is e =
+    e ∙ ap (λ (l : Plan). started l rule) (sym (opened-plan core plan hart is)) ∙ ap (started core.plan) (sym (clock-rule plan rule clock e))
 
 -- so a timed run may begin
-pub can-begin : (limit : ℕ) (core : Processor) (plan : Plan) (hart : Hart) (delays : List ℕ) (clock : SiteTimes) →
-    limit ≤ most_limit → hart.retired ≡ 0 → core ≡ opened plan hart → clock ≡ started plan delays → CanBegin limit core clock 0
-can-begin limit core plan hart delays clock few none is begun =
-    record { can_run = can-run limit core plan hart few none is; clock_is = clock-started core plan hart delays clock is begun; none_made = refl }
-
--- and the clock is a clock of the delays
-pub clock-delays : (plan : Plan) (delays : List ℕ) (clock : SiteTimes) → clock ≡ started plan delays → clock.delays ≡ delays
-unfolding started
-clock-delays plan delays clock e = ap (λ (k : SiteTimes). k.delays) e
-
--- the ledger is a ledger of the processor's layout and of the clock's delays
-pub ledger-opened : (core : Processor) (plan : Plan) (hart : Hart) (used delays : List ℕ) (ledger : Ledger) →
-    core ≡ opened plan hart → used ≡ delays → ledger ≡ opened_ledger plan delays → ledger ≡ opened_ledger core.plan used
-ledger-opened core plan hart used delays ledger is same e =
-    e ∙ ap (λ (l : Plan). opened_ledger l delays) (sym (opened-plan core plan hart is)) ∙ ap (opened_ledger core.plan) (sym same)
+pub can-begin : (limit : ℕ) (core : Processor) (plan : Plan) (hart : Hart) (rule : DelayRule) (clock : SiteTimes) →
+    limit ≤ most_timed_limit → hart.retired ≡ 0 → core ≡ opened plan hart → clock ≡ started plan rule → CanBegin limit core clock 0
+can-begin limit core plan hart rule clock few none is begun = record {
+  can_run = record { can_run = can-run limit core plan hart (omega (arith, few)) none is; few = few };
+  clock_is = clock-started core plan hart rule clock is begun;
+  none_made = refl;
+}

@@ -1,8 +1,14 @@
--- No answer that is given in place of what a file holds says that the program's input or output failed.
-use Rattle.std.proofs.Common.{ℕ, List, [], ◌∷◌, Option, inl, inr}
+-- Where a file other than the program's input is lacking, the answer says of neither the input nor the output that it failed; so
+-- its cause is the same whether the input counts as a file or not.
+use Rattle.std.proofs.Common.{◌≡◌, ℕ, List, [], ◌∷◌, Option, Result, Ok, refl, sym, subst, inl, inr}
+use Rattle.cf_io.specs.Causes.{HasCause}
 use Rattle.cf_io.specs.Reads.{FilesSeen}
 use Rattle.cli_arguments.specs.Words.{NamedLayout}
+use Rattle.cli_files.specs.Causes.{files_answered, input_answered, output_answered, reading_answered}
+use Rattle.cli_files.specs.declared.answer.Answer.{Answer}
 use Rattle.cli_files.specs.declared.status.Status.{Status}
+use Rattle.cli_files.specs.declared.status.Status.TheVariants as status
+use Rattle.cli_files.specs.declared.status.Which.TheVariants as which
 use Rattle.cli_files.proofs.NoStreams.{SaysNoStream, lacks-layout-says, lacks-program-says}
 use Rattle.cli_time.specs.Asked.{TimeFiles}
 use Rattle.cli_time.specs.DelayFiles.{LacksDelays}
@@ -35,3 +41,42 @@ lacks-file-says asked before after answer report (inr (inl h)) =
     lacks-layouts-says asked.layouts h.between after answer report h.lacks
 lacks-file-says asked before after answer report (inr (inr h)) =
     lacks-program-says asked.program h.between after answer report h.lacks
+
+-- where the input is not what could not be read, it is the same whether the input counts as a file or not
+pub same-files : (answer : Status) → input_answered answer ≡ Ok tt → reading_answered answer ≡ files_answered answer
+same-files (status.ReadFault which.Layout) h = refl
+same-files (status.ReadFault which.Program) h = refl
+same-files (status.ReadFault which.Script) h = refl
+same-files (status.ReadFault which.Source) h = refl
+same-files (status.ReadFault which.Delays) h = refl
+same-files (status.ReadFault which.Trace) h = refl
+same-files (status.ReadFault which.Input) h = absurd (cc)
+same-files (status.Exit code) h = refl
+same-files (status.Trap cause pc detail) h = refl
+same-files (status.Limit limit) h = refl
+same-files (status.ScriptEnd moves) h = refl
+same-files status.Done h = refl
+same-files (status.BadWords index) h = refl
+same-files (status.BadLayout error) h = refl
+same-files (status.BadProgram error) h = refl
+same-files (status.BadScript fault) h = refl
+same-files (status.BarredAt line bar) h = refl
+same-files (status.BadSource error) h = refl
+same-files (status.BadDelays fault) h = refl
+same-files (status.BadTrace fault) h = refl
+same-files status.BadInput h = refl
+same-files (status.BadLog refusal) h = refl
+same-files (status.LogEnd moves) h = refl
+same-files status.Wrong h = refl
+same-files (status.TooMany most) h = refl
+same-files status.WriteFault h = refl
+same-files status.NoMemory h = refl
+
+-- so a count that tells of a file that could not be read tells the same
+pub counts-file : (before now : ℕ) (asked : TimeFiles) (a b : Option FilesSeen) (answer : Answer) →
+    LacksTimeFile asked a b answer.status answer.closing →
+    HasCause {T = Unit {0}} {E = Unit {0}} before now (files_answered answer.status) →
+    HasCause {T = Unit {0}} {E = Unit {0}} before now (reading_answered answer.status)
+counts-file before now asked a b answer lacks h =
+    subst (λ (r : Result (Unit {0}) (Unit {0})). HasCause before now r)
+    (sym (same-files answer.status (lacks-file-says asked a b answer.status answer.closing lacks).input)) h

@@ -1,36 +1,40 @@
 -- The runs on the first layouts and their lines, and those of the next one.
-use Rattle.std.proofs.Common.{◌≡◌, ◌∙◌, sym, ap, subst, refl, ℕ, ◌+◌, ◌<◌, List, [], ◌∷◌, ◌++◌, length, map, append-nil, append_assoc, Option, Some, true, false, Result, Ok, Err, Bool, arith}
+use Rattle.std.proofs.Common.{◌≡◌, ◌∙◌, sym, ap, subst, refl, ℕ, ◌+◌, ◌<◌, List, [], ◌∷◌, ◌++◌, length, map, append-nil, append_assoc, Option, Some, inl, inr, true, false, Result, Ok, Err, Bool, arith}
+use Rattle.cf_timed.specs.declared.span.Span.{Span}
 use Rattle.std.specs.Prelude.{slice_get, is_err}
 use Rattle.std.proofs.lemmas.List.{length-append}
 use Rattle.cf_io.specs.Causes.{HasCause}
 use Rattle.cf_io.specs.Puts.{Writes}
-use Rattle.cf_io.proofs.Owing.{writes-again, writes-nothing}
-use Rattle.rv_machine.specs.Hart.{Hart}
+use Rattle.cf_io.proofs.Owing.{front-again, writes-again, writes-nothing}
+use Rattle.rv_machine.specs.Machine.{Machine}
 use Rattle.cf_layout.specs.Layout.{Plan}
+use Rattle.cf_core.specs.Processors.{opened}
 use Rattle.cf_report.specs.Putting.{PutsText}
-use Rattle.cli_arguments.specs.declared.command.TimeOptions.{TimeOptions}
+use Rattle.cli_time.specs.declared.choices.RunChoices.{RunChoices}
 use Rattle.cli_arguments.specs.Words.{NamedLayout}
-use Rattle.cli_time.specs.Lines.{layout_lines, time_lines}
-use Rattle.cli_time.specs.Measures.{Measures, MeasuresFirst}
-use Rattle.cli_time.specs.Runs.{PutsAll, PutsFewer}
-use Rattle.cli_time.specs.Times.{BreaksAtLine}
+use Rattle.cli_time.specs.Lines.{closing_lines, layout_lines, time_lines}
+use Rattle.cli_time.specs.Measures.{BreaksTaking, Measures, MeasuresFirst, TakenRun, rule_by}
+use Rattle.cli_time.specs.Runs.{MeasuringStops, PutsAll, PutsFewer, PutsMoves, TimingStops, report_stopped}
+use Rattle.cli_time.specs.declared.stop.Stop.{Stop}
+use Rattle.cli_time.specs.declared.stop.Stop.TheVariants as stop
+use Rattle.cli_time.specs.Times.{BreaksAtLayout}
 use Rattle.cli_time.specs.declared.measuring.Measured.{Measured}
 use Rattle.cli_time.proofs.Lists.{map-next}
 
 -- one more run
-pub measures-next : (delays : List ℕ) (options : TimeOptions) (hart : Hart) (plans : List Plan) (earlier : List Measured) (plan : Plan) (next : Measured) →
-    MeasuresFirst delays options hart plans earlier → slice_get plans (length earlier) ≡ Some plan → Measures delays options plan hart next →
-    MeasuresFirst delays options hart plans (earlier ++ next ∷ [])
-measures-next delays options hart [] [] plan next h e m = absurd (cc)
-measures-next delays options hart (p ∷ plans) [] plan next h e m =
+pub measures-next : (delays : List Span) (options : RunChoices) (start : Machine) (plans : List Plan) (earlier : List TakenRun) (plan : Plan) (next : TakenRun) →
+    MeasuresFirst delays options start plans earlier → slice_get plans (length earlier) ≡ Some plan → Measures delays options plan start next →
+    MeasuresFirst delays options start plans (earlier ++ next ∷ [])
+measures-next delays options start [] [] plan next h e m = absurd (cc)
+measures-next delays options start (p ∷ plans) [] plan next h e m =
     let same : p ≡ plan = cc in
     (rw same m, tt)
-measures-next delays options hart [] (k ∷ earlier) plan next h e m = absurd h
-measures-next delays options hart (p ∷ plans) (k ∷ earlier) plan next (first, more) e m =
-    (first, measures-next delays options hart plans earlier plan next more e m)
+measures-next delays options start [] (k ∷ earlier) plan next h e m = absurd h
+measures-next delays options start (p ∷ plans) (k ∷ earlier) plan next (first, more) e m =
+    (first, measures-next delays options start plans earlier plan next more e m)
 
 -- and its line
-pub lines-next : (options : TimeOptions) (words : List NamedLayout) (earlier : List Measured) (word : NamedLayout) (next : Measured) →
+pub lines-next : (options : RunChoices) (words : List NamedLayout) (earlier : List TakenRun) (word : NamedLayout) (next : TakenRun) →
     slice_get words (length earlier) ≡ Some word →
     time_lines options.limit words (earlier ++ next ∷ []) ≡ time_lines options.limit words earlier ++ layout_lines options.limit word next
 lines-next options [] [] word next e = absurd (cc)
@@ -43,19 +47,19 @@ lines-next options (w ∷ words) (k ∷ earlier) word next e =
     ∙ sym (append_assoc (layout_lines options.limit w k) (time_lines options.limit words earlier) (layout_lines options.limit word next))
 
 -- the runs on the first layouts, with their times, have their lines, and the report did not fail
-pub record RowsPut (words : List NamedLayout) (options : TimeOptions) (delays : List ℕ) (plans : List Plan) (hart : Hart)
+pub record RowsPut (words : List NamedLayout) (options : RunChoices) (delays : List Span) (plans : List Plan) (start : Machine)
     (blank told : Option (List ℕ)) (before now : ℕ) (place : ℕ) (times : List ℕ) : Type 0 where
-  pub measured : List Measured
-  pub each : MeasuresFirst delays options hart plans measured
+  pub measured : List TakenRun
+  pub each : MeasuresFirst delays options start plans measured
   pub count : length measured ≡ place
-  pub times_are : times ≡ map (λ m. m.time) measured
+  pub times_are : times ≡ map (λ m. m.measured.time) measured
   pub put : Writes blank told (time_lines options.limit words measured)
   pub still : now ≡ before
 
-pub rows-start : (words : List NamedLayout) (options : TimeOptions) (delays : List ℕ) (plans : List Plan) (hart : Hart)
+pub rows-start : (words : List NamedLayout) (options : RunChoices) (delays : List Span) (plans : List Plan) (start : Machine)
     (blank : Option (List ℕ)) (faults : ℕ) (times : List ℕ) → times ≡ [] →
-    RowsPut words options delays plans hart blank blank faults faults 0 times
-rows-start words options delays plans hart blank faults times none = record {
+    RowsPut words options delays plans start blank blank faults faults 0 times
+rows-start words options delays plans start blank faults times none = record {
   measured = [];
   each = tt;
   count = refl;
@@ -65,46 +69,47 @@ rows-start words options delays plans hart blank faults times none = record {
 }
 
 -- the next line was put
-put-next : (words : List NamedLayout) (options : TimeOptions) (delays : List ℕ) (plans : List Plan) (hart : Hart)
-    (blank told full : Option (List ℕ)) (before now later : ℕ) (place : ℕ) (times more : List ℕ) (word : NamedLayout) (plan : Plan) (next : Measured) →
-    RowsPut words options delays plans hart blank told before now place times →
-    slice_get words place ≡ Some word → slice_get plans place ≡ Some plan → Measures delays options plan hart next →
-    Writes told full (layout_lines options.limit word next) → later ≡ now → more ≡ times ++ next.time ∷ [] →
-    RowsPut words options delays plans hart blank full before later (place + 1) more
-put-next words options delays plans hart blank told full before now later place times more word plan next h at_word at_plan measures put still pushed =
+put-next : (words : List NamedLayout) (options : RunChoices) (delays : List Span) (plans : List Plan) (start : Machine)
+    (blank told full : Option (List ℕ)) (before now later : ℕ) (place : ℕ) (times more : List ℕ) (word : NamedLayout) (plan : Plan) (next : TakenRun) →
+    RowsPut words options delays plans start blank told before now place times →
+    slice_get words place ≡ Some word → slice_get plans place ≡ Some plan → Measures delays options plan start next →
+    Writes told full (layout_lines options.limit word next) → later ≡ now → more ≡ times ++ next.measured.time ∷ [] →
+    RowsPut words options delays plans start blank full before later (place + 1) more
+put-next words options delays plans start blank told full before now later place times more word plan next h at_word at_plan measures put still pushed =
     let w : slice_get words (length h.measured) ≡ Some word = rw h.count at_word in
     let p : slice_get plans (length h.measured) ≡ Some plan = rw h.count at_plan in
     record {
       measured = h.measured ++ next ∷ [];
-      each = measures-next delays options hart plans h.measured plan next h.each p measures;
+      each = measures-next delays options start plans h.measured plan next h.each p measures;
       count = let n = length-append h.measured (next ∷ []) in let k = h.count in omega (arith, n, k);
-      times_are = pushed ∙ ap (λ (ts : List ℕ). ts ++ next.time ∷ []) h.times_are ∙ sym (map-next (λ (m : Measured). m.time) h.measured next);
+      times_are = pushed ∙ ap (λ (ts : List ℕ). ts ++ next.measured.time ∷ []) h.times_are ∙ sym (map-next (λ (m : TakenRun). m.measured.time) h.measured next);
       put = subst (λ (text : List ℕ). Writes blank full text) (sym (lines-next options words h.measured word next w))
           (writes-again blank told full (time_lines options.limit words h.measured) (layout_lines options.limit word next) h.put put);
       still = still ∙ h.still;
     }
 
-pub rows-next : {T E : Type 0} (words : List NamedLayout) (options : TimeOptions) (delays : List ℕ) (plans : List Plan) (hart : Hart)
-    (blank told full : Option (List ℕ)) (before now later : ℕ) (place : ℕ) (times more : List ℕ) (word : NamedLayout) (plan : Plan) (next : Measured)
-    (r : Result T E) (failed : Bool) →
-    RowsPut words options delays plans hart blank told before now place times →
-    slice_get words place ≡ Some word → slice_get plans place ≡ Some plan → Measures delays options plan hart next →
-    PutsText told full now later (layout_lines options.limit word next) r → failed ≡ is_err r → failed ≡ false → more ≡ times ++ next.time ∷ [] →
-    RowsPut words options delays plans hart blank full before later (place + 1) more
-rows-next words options delays plans hart blank told full before now later place times more word plan next
-    (Ok u) failed h at_word at_plan measures puts is none pushed =
-    put-next words options delays plans hart blank told full before now later place times more word plan next h at_word at_plan measures
-    puts.all puts.cause.still pushed
-rows-next words options delays plans hart blank told full before now later place times more word plan next
-    (Err e) failed h at_word at_plan measures puts is none pushed =
+pub rows-next : {T E : Type 0} (words : List NamedLayout) (options : RunChoices) (delays : List Span) (plans : List Plan) (start : Machine)
+    (blank told between full : Option (List ℕ)) (before now middle later : ℕ) (place : ℕ) (times more : List ℕ) (word : NamedLayout) (plan : Plan)
+    (next : Measured) (r : Result T E) (failed : Bool) →
+    RowsPut words options delays plans start blank told before now place times →
+    slice_get words place ≡ Some word → slice_get plans place ≡ Some plan → PutsMoves delays options plan start told between next → middle ≡ now →
+    PutsText between full middle later (closing_lines options.limit word next) r → failed ≡ is_err r → failed ≡ false → more ≡ times ++ next.time ∷ [] →
+    RowsPut words options delays plans start blank full before later (place + 1) more
+rows-next words options delays plans start blank told between full before now middle later place times more word plan next
+    (Ok u) failed h at_word at_plan measures kept puts is none pushed =
+    put-next words options delays plans start blank told full before now later place times more word plan
+    (record { measured = next; shown = measures.shown }) h at_word at_plan measures.measures
+    (writes-again told between full measures.shown (closing_lines options.limit word next) measures.put puts.all) (puts.cause.still ∙ kept) pushed
+rows-next words options delays plans start blank told between full before now middle later place times more word plan next
+    (Err e) failed h at_word at_plan measures kept puts is none pushed =
     absurd (cc)
 
 -- all were
-pub rows-all : (words : List NamedLayout) (options : TimeOptions) (delays : List ℕ) (plans : List Plan) (hart : Hart)
+pub rows-all : (words : List NamedLayout) (options : RunChoices) (delays : List Span) (plans : List Plan) (start : Machine)
     (blank told : Option (List ℕ)) (before now : ℕ) (place : ℕ) (times : List ℕ) →
-    RowsPut words options delays plans hart blank told before now place times → place ≡ length plans →
-    PutsAll words options delays plans hart blank told times
-rows-all words options delays plans hart blank told before now place times h end = record {
+    RowsPut words options delays plans start blank told before now place times → place ≡ length plans →
+    PutsAll words options delays plans start blank told times
+rows-all words options delays plans start blank told before now place times h end = record {
   measured = h.measured;
   each = h.each;
   all = h.count ∙ end;
@@ -113,11 +118,11 @@ rows-all words options delays plans hart blank told before now place times h end
 }
 
 -- memory was refused for the next run
-pub rows-fewer : (words : List NamedLayout) (options : TimeOptions) (delays : List ℕ) (plans : List Plan) (hart : Hart)
+pub rows-fewer : (words : List NamedLayout) (options : RunChoices) (delays : List Span) (plans : List Plan) (start : Machine)
     (blank told : Option (List ℕ)) (before now : ℕ) (place : ℕ) (times : List ℕ) →
-    RowsPut words options delays plans hart blank told before now place times → place < length plans →
-    PutsFewer words options delays plans hart blank told
-rows-fewer words options delays plans hart blank told before now place times h below = record {
+    RowsPut words options delays plans start blank told before now place times → place < length plans →
+    PutsFewer words options delays plans start blank told
+rows-fewer words options delays plans start blank told before now place times h below = record {
   measured = h.measured;
   each = h.each;
   fewer = let k = h.count in omega (arith, k, below);
@@ -125,29 +130,60 @@ rows-fewer words options delays plans hart blank told before now place times h b
 }
 
 -- the report failed at the next line
-pub rows-break : {T E : Type 0} (words : List NamedLayout) (options : TimeOptions) (delays : List ℕ) (plans : List Plan) (hart : Hart)
-    (blank told full : Option (List ℕ)) (before now later : ℕ) (place : ℕ) (times : List ℕ) (word : NamedLayout) (plan : Plan) (next : Measured)
-    (r : Result T E) (failed : Bool) →
-    RowsPut words options delays plans hart blank told before now place times →
-    slice_get words place ≡ Some word → slice_get plans place ≡ Some plan → Measures delays options plan hart next →
-    PutsText told full now later (layout_lines options.limit word next) r → failed ≡ is_err r → failed ≡ true →
-    BreaksAtLine words options delays plans hart blank full
-rows-break words options delays plans hart blank told full before now later place times word plan next (Ok u) failed h at_word at_plan measures puts is some =
-    absurd (cc)
-rows-break words options delays plans hart blank told full before now later place times word plan next (Err e) failed h at_word at_plan measures puts is some =
-    record {
+pub rows-break : {T E : Type 0} (words : List NamedLayout) (options : RunChoices) (delays : List Span) (plans : List Plan) (start : Machine)
+    (blank told between full : Option (List ℕ)) (before now middle later : ℕ) (place : ℕ) (times : List ℕ) (word : NamedLayout) (plan : Plan)
+    (next : Measured) (r : Result T E) (failed : Bool) →
+    RowsPut words options delays plans start blank told before now place times →
+    slice_get words place ≡ Some word → slice_get plans place ≡ Some plan → PutsMoves delays options plan start told between next →
+    PutsText between full middle later (closing_lines options.limit word next) r → failed ≡ is_err r → failed ≡ true →
+    BreaksAtLayout words options delays plans start blank full
+rows-break words options delays plans start blank told between full before now middle later place times word plan next (Ok u) failed h at_word at_plan measures puts
+    is some = absurd (cc)
+rows-break words options delays plans start blank told between full before now middle later place times word plan next (Err e) failed h at_word at_plan measures puts
+    is some = inl (record {
       measured = h.measured;
       each = h.each;
       word = word;
       plan = plan;
-      next = next;
+      next = record { measured = next; shown = measures.shown };
       word_is = rw h.count at_word;
       plan_is = rw h.count at_plan;
-      measures = measures;
+      measures = measures.measures;
       told = told;
       put = h.put;
-      front = puts.front;
-    }
+      front = front-again told between full measures.shown (closing_lines options.limit word next) measures.put puts.front;
+    })
+
+-- or at a line of a move of the next run
+pub rows-cut : (words : List NamedLayout) (options : RunChoices) (delays : List Span) (plans : List Plan) (start : Machine)
+    (blank told full : Option (List ℕ)) (before now : ℕ) (place : ℕ) (times : List ℕ) (plan : Plan) →
+    RowsPut words options delays plans start blank told before now place times → slice_get plans place ≡ Some plan →
+    BreaksTaking (rule_by delays options) options (opened plan start.hart) start.rest told full → BreaksAtLayout words options delays plans start blank full
+rows-cut words options delays plans start blank told full before now place times plan h at_plan cut = inr (record {
+  measured = h.measured;
+  each = h.each;
+  plan = plan;
+  plan_is = rw h.count at_plan;
+  told = told;
+  put = h.put;
+  front = cut;
+})
+
+-- the next run was not measured
+pub rows-stop : (words : List NamedLayout) (options : RunChoices) (delays : List Span) (plans : List Plan) (start : Machine)
+    (blank told full : Option (List ℕ)) (before now : ℕ) (place : ℕ) (times : List ℕ) (plan : Plan) (stops : Stop) →
+    RowsPut words options delays plans start blank told before now place times → place < length plans → slice_get plans place ≡ Some plan →
+    MeasuringStops delays options plan start told full stops → TimingStops words options delays plans start blank full stops
+rows-stop words options delays plans start blank told full before now place times plan stop.NoMemory h below at_plan same =
+    rows-fewer words options delays plans start blank full before now place times
+    (rw same (record { measured = h.measured; each = h.each; count = h.count; times_are = h.times_are; put = h.put; still = h.still })) below
+rows-stop words options delays plans start blank told full before now place times plan stop.Failed h below at_plan cut =
+    rows-cut words options delays plans start blank told full before now place times plan h at_plan cut
+
+pub rows-stopped : (before now later : ℕ) (stops : Stop) → now ≡ before →
+    HasCause {T = Unit {0}} {E = Unit {0}} now later (report_stopped {T = Unit {0}} (Err stops)) →
+    HasCause {T = Unit {0}} {E = Unit {0}} before later (report_stopped {T = Unit {0}} (Err stops))
+rows-stopped before now later stops still h = rw (← still) h
 
 -- the count of the report's faults rose there
 pub rows-cause : {T E : Type 0} (told full : Option (List ℕ)) (before now later : ℕ) (text : List ℕ) (r : Result T E) (failed : Bool) →

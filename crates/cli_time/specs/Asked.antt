@@ -1,7 +1,7 @@
 -- What the words ask of `time`.
-use Rattle.std.specs.Prelude.{ℕ, List, codes}
-use Rattle.cli_arguments.specs.declared.command.TimeOptions.{TimeOptions}
-use Rattle.cli_arguments.specs.Words.{NamedLayout, plain, in_file}
+use Rattle.std.specs.Prelude.{ℕ, List, Option, codes}
+use Rattle.cli_time.specs.declared.choices.RunChoices.{RunChoices}
+use Rattle.cli_arguments.specs.Words.{NamedLayout, TimeChoices, plain, in_file}
 
 -- the files with the delays and with the program, and the layouts in their order
 pub record TimeFiles : Type 0 where
@@ -9,16 +9,30 @@ pub record TimeFiles : Type 0 where
   pub program : List ℕ
   pub layouts : List NamedLayout
 
--- what is read, and the options: the number of retired instructions at which each run stops, and whether it is shown what each time is made of
+-- what is read, the file with the program's input, where one is named, and how each run is made
 pub record TimeAsked : Type 0 where
   pub files : TimeFiles
-  pub options : TimeOptions
+  pub input : Option (List ℕ)
+  pub options : RunChoices
 
 abbrev pub files_asked : List ℕ → List ℕ → List NamedLayout → TimeFiles
 files_asked delays program layouts = record { delays = delays; program = program; layouts = layouts }
 
-abbrev pub time_asked : List ℕ → List ℕ → List NamedLayout → TimeOptions → TimeAsked
-time_asked delays program layouts options = record { files = files_asked delays program layouts; options = options }
+-- how the runs are made by what the words ask
+unfoldable pub choices_by : TimeChoices → RunChoices
+choices_by options = record {
+  limit = options.limit;
+  rule = options.rule;
+  seed = options.seed;
+  show = options.show;
+}
+
+abbrev pub time_asked : List ℕ → List ℕ → List NamedLayout → TimeChoices → TimeAsked
+time_asked delays program layouts options = record {
+  files = files_asked delays program layouts;
+  input = options.input;
+  options = choices_by options;
+}
 
 -- the word that names a layout
 unfoldable pub name_of : NamedLayout → List ℕ

@@ -1,5 +1,6 @@
 -- The delays that a file gives, and why it gives none.
 use Rattle.std.specs.Prelude.{◌≡◌, ◌<◌, ◌≤◌, ◌+◌, ◌⊎◌, ℕ, List, length, codes, Option, Ok, Err}
+use Rattle.cf_timed.specs.declared.span.Span.{Span}
 use Rattle.cf_io.specs.Reads.{FilesSeen}
 use Rattle.cf_timed.specs.DelayLines.{delays_in}
 use Rattle.cf_timed.specs.Limits.{most_delays}
@@ -12,7 +13,7 @@ use Rattle.cli_files.specs.declared.status.Which.TheVariants as which
 use Rattle.report_refusals.specs.Delays.{bad_delays}
 
 -- the file's first bytes, one more than it may have, are not too many, and give these
-pub record IsDelaysAt (name : List ℕ) (before after : Option FilesSeen) (delays : List ℕ) : Type 0 where
+pub record IsDelaysAt (name : List ℕ) (before after : Option FilesSeen) (delays : List Span) : Type 0 where
   pub text : List ℕ
   pub front : IsFrontOf (most_delays + 1) before after name text
   pub fits : length text ≤ most_delays

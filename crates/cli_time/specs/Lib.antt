@@ -1,5 +1,6 @@
 pub mod Asked
 pub mod DelayFiles
+pub mod InputFiles
 pub mod LayoutFiles
 pub mod Leasts
 pub mod Lines

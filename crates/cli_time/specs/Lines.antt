@@ -6,6 +6,7 @@ use Rattle.cf_timed.specs.declared.answer.Timed.{Timed}
 use Rattle.cf_timed.specs.TimedRuns.{answer_of}
 use Rattle.cli_arguments.specs.Words.{NamedLayout}
 use Rattle.cli_time.specs.Asked.{name_of}
+use Rattle.cli_time.specs.Measures.{TakenRun}
 use Rattle.cli_time.specs.SiteLines.{sites_text}
 use Rattle.cli_time.specs.declared.measuring.Measured.{Measured}
 
@@ -32,14 +33,18 @@ abbrev pub time_line : ℕ → NamedLayout → Measured → List ℕ
 time_line limit word measured = name_of word ++ measured_text limit measured
 
 -- the same, and after it the lines of what the time is made of, where that is shown
-abbrev pub layout_lines : ℕ → NamedLayout → Measured → List ℕ
-layout_lines limit word measured = time_line limit word measured ++ sites_text measured.sites
+abbrev pub closing_lines : ℕ → NamedLayout → Measured → List ℕ
+closing_lines limit word measured = time_line limit word measured ++ sites_text measured.sites
+
+-- what is shown of the moves, and then these
+abbrev pub layout_lines : ℕ → NamedLayout → TakenRun → List ℕ
+layout_lines limit word taken = taken.shown ++ closing_lines limit word taken.measured
 
 -- the lines of the first layouts, as many as were measured
-abbrev pub time_lines : ℕ → List NamedLayout → List Measured → List ℕ
+abbrev pub time_lines : ℕ → List NamedLayout → List TakenRun → List ℕ
 time_lines limit words [] = []
-time_lines limit [] (measured ∷ more) = []
-time_lines limit (word ∷ words) (measured ∷ more) = layout_lines limit word measured ++ time_lines limit words more
+time_lines limit [] (taken ∷ more) = []
+time_lines limit (word ∷ words) (taken ∷ more) = layout_lines limit word taken ++ time_lines limit words more
 
 -- the line that names the layout with the least time
 abbrev pub least_line : NamedLayout → List ℕ

@@ -1,5 +1,6 @@
 -- The files that `time` reads, one after another: that of the delays, those of the layouts in their order, and the program's.
 use Rattle.std.specs.Prelude.{◌⊎◌, ℕ, List, Option}
+use Rattle.cf_timed.specs.declared.span.Span.{Span}
 use Rattle.cf_io.specs.Reads.{FilesSeen}
 use Rattle.rv_machine.specs.Hart.{Hart}
 use Rattle.cf_layout.specs.Layout.{Plan}
@@ -11,14 +12,14 @@ use Rattle.cli_time.specs.DelayFiles.{IsDelaysAt, LacksDelays}
 use Rattle.cli_time.specs.LayoutFiles.{AreLayoutsAt, LacksLayouts}
 
 -- the delays of this name and the layouts of these words are there
-pub record DelaysAndLayoutsRead (name : List ℕ) (words : List NamedLayout) (before after : Option FilesSeen) (delays : List ℕ)
+pub record DelaysAndLayoutsRead (name : List ℕ) (words : List NamedLayout) (before after : Option FilesSeen) (delays : List Span)
     (plans : List Plan) : Type 0 where
   pub between : Option FilesSeen
   pub delays_at : IsDelaysAt name before between delays
   pub layouts : AreLayoutsAt words between after plans
 
 -- and after them the program, which begins on this hart
-pub record TimeFilesRead (asked : TimeFiles) (before after : Option FilesSeen) (delays : List ℕ) (plans : List Plan)
+pub record TimeFilesRead (asked : TimeFiles) (before after : Option FilesSeen) (delays : List Span) (plans : List Plan)
     (hart : Hart) : Type 0 where
   pub between : Option FilesSeen
   pub laid : DelaysAndLayoutsRead asked.delays asked.layouts before between delays plans
@@ -27,7 +28,7 @@ pub record TimeFilesRead (asked : TimeFiles) (before after : Option FilesSeen) (
 -- the delays are there, and not all layouts
 pub record StopsAtLayout (name : List ℕ) (words : List NamedLayout) (before after : Option FilesSeen) (answer : Status)
     (report : List ℕ) : Type 0 where
-  pub delays : List ℕ
+  pub delays : List Span
   pub between : Option FilesSeen
   pub delays_at : IsDelaysAt name before between delays
   pub lacks : LacksLayouts words between after answer report
@@ -40,7 +41,7 @@ LacksDelaysOrLayouts name words before after answer report =
 
 -- the delays and the layouts are there, and no program
 pub record TimingStopsAtProgram (asked : TimeFiles) (before after : Option FilesSeen) (answer : Status) (report : List ℕ) : Type 0 where
-  pub delays : List ℕ
+  pub delays : List Span
   pub plans : List Plan
   pub between : Option FilesSeen
   pub laid : DelaysAndLayoutsRead asked.delays asked.layouts before between delays plans

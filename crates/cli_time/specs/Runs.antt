@@ -1,41 +1,61 @@
 -- The runs on some layouts, one after another, each with its line.
 use Rattle.std.specs.Prelude.{◌≡◌, ◌<◌, ℕ, List, length, map, Option, Result, Ok, Err}
+use Rattle.cf_timed.specs.declared.span.Span.{Span}
 use Rattle.cf_io.specs.Puts.{Writes}
-use Rattle.rv_machine.specs.Hart.{Hart}
+use Rattle.rv_machine.specs.Machine.{Machine}
 use Rattle.cf_layout.specs.Layout.{Plan}
-use Rattle.cli_arguments.specs.declared.command.TimeOptions.{TimeOptions}
+use Rattle.cf_core.specs.Processors.{Processor, opened}
+use Rattle.cli_time.specs.declared.choices.RunChoices.{RunChoices}
 use Rattle.cli_arguments.specs.Words.{NamedLayout}
 use Rattle.cli_time.specs.Lines.{time_lines}
-use Rattle.cli_time.specs.Measures.{MeasuresFirst}
-use Rattle.cli_time.specs.Times.{BreaksAtLine}
-use Rattle.cli_time.specs.declared.comparing.Stop.{Stop}
-use Rattle.cli_time.specs.declared.comparing.Stop.TheVariants as stop
+use Rattle.cli_time.specs.Measures.{BreaksTaking, Measures, MeasuresFirst, MeasuresRun, TakenRun, rule_by}
+use Rattle.cf_timed.specs.DelayedRuns.{DelayRule}
+use Rattle.cli_time.specs.Times.{BreaksAtLayout}
 use Rattle.cli_time.specs.declared.measuring.Measured.{Measured}
+use Rattle.cli_time.specs.declared.stop.Stop.{Stop}
+use Rattle.cli_time.specs.declared.stop.Stop.TheVariants as stop
 
 -- the program was run on each layout, with these times, and each has its line
-pub record PutsAll (words : List NamedLayout) (options : TimeOptions) (delays : List ℕ) (plans : List Plan) (hart : Hart)
+pub record PutsAll (words : List NamedLayout) (options : RunChoices) (delays : List Span) (plans : List Plan) (start : Machine)
     (blank full : Option (List ℕ)) (times : List ℕ) : Type 0 where
-  pub measured : List Measured
-  pub each : MeasuresFirst delays options hart plans measured
+  pub measured : List TakenRun
+  pub each : MeasuresFirst delays options start plans measured
   pub all : length measured ≡ length plans
-  pub times_are : times ≡ map (λ m. m.time) measured
+  pub times_are : times ≡ map (λ m. m.measured.time) measured
   pub put : Writes blank full (time_lines options.limit words measured)
 
 -- memory was refused before the first move of a run
-pub record PutsFewer (words : List NamedLayout) (options : TimeOptions) (delays : List ℕ) (plans : List Plan) (hart : Hart)
+pub record PutsFewer (words : List NamedLayout) (options : RunChoices) (delays : List Span) (plans : List Plan) (start : Machine)
     (blank full : Option (List ℕ)) : Type 0 where
-  pub measured : List Measured
-  pub each : MeasuresFirst delays options hart plans measured
+  pub measured : List TakenRun
+  pub each : MeasuresFirst delays options start plans measured
   pub fewer : length measured < length plans
   pub put : Writes blank full (time_lines options.limit words measured)
 
 -- why there is not a line for each
-abbrev pub TimingStops : List NamedLayout → TimeOptions → List ℕ → List Plan → Hart → Option (List ℕ) → Option (List ℕ) → Stop → Type 0
-TimingStops words options delays plans hart blank full stop.NoMemory = PutsFewer words options delays plans hart blank full
-TimingStops words options delays plans hart blank full stop.Failed = BreaksAtLine words options delays plans hart blank full
+abbrev pub TimingStops : List NamedLayout → RunChoices → List Span → List Plan → Machine → Option (List ℕ) → Option (List ℕ) → Stop → Type 0
+TimingStops words options delays plans start blank full stop.NoMemory = PutsFewer words options delays plans start blank full
+TimingStops words options delays plans start blank full stop.Failed = BreaksAtLayout words options delays plans start blank full
 
 -- an error where the report failed
 abbrev pub report_stopped : {T : Type 0} → Result T Stop → Result (Unit {0}) (Unit {0})
 report_stopped (Ok times) = Ok tt
 report_stopped (Err stop.NoMemory) = Ok tt
 report_stopped (Err stop.Failed) = Err tt
+
+-- a run of an opened processor was measured, and the report got the lines of its moves where these are shown
+pub record PutsRun (rule : DelayRule) (options : RunChoices) (plan : Plan) (core : Processor) (bytes : List ℕ) (blank full : Option (List ℕ)) (measured : Measured) : Type 0 where
+  pub shown : List ℕ
+  pub takes : MeasuresRun rule options plan core bytes (record { measured = measured; shown = shown })
+  pub put : Writes blank full shown
+
+-- the same of the processor of a layout
+pub record PutsMoves (delays : List Span) (options : RunChoices) (plan : Plan) (start : Machine) (blank full : Option (List ℕ)) (measured : Measured) : Type 0 where
+  pub shown : List ℕ
+  pub measures : Measures delays options plan start (record { measured = measured; shown = shown })
+  pub put : Writes blank full shown
+
+-- why it was not measured: memory was refused, or the report failed
+abbrev pub MeasuringStops : List Span → RunChoices → Plan → Machine → (blank full : Option (List ℕ)) → Stop → Type 0
+MeasuringStops delays options plan start blank full stop.NoMemory = full ≡ blank
+MeasuringStops delays options plan start blank full stop.Failed = BreaksTaking (rule_by delays options) options (opened plan start.hart) start.rest blank full

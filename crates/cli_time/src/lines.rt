@@ -6,7 +6,7 @@ ghost use Rattle.cf_report.specs.Putting.{PutsText};
 ghost use Rattle.cf_timed.specs.TimedRuns.{answer_of};
 ghost use Rattle.cli_arguments.specs.Views.{layout_of};
 ghost use Rattle.cli_time.specs.Asked.{name_of};
-ghost use Rattle.cli_time.specs.Lines.{ending_text, layout_lines, least_line, measured_text, number_text};
+ghost use Rattle.cli_time.specs.Lines.{closing_lines, ending_text, least_line, measured_text, number_text};
 ghost use Rattle.texts.specs.Room.{page_room};
 
 use crate::measuring::Measured;
@@ -92,7 +92,7 @@ pub(crate) fn put_layout<R: Sink>(
     report: &mut R,
 ) -> Result<(), Failed>
     ensures { PutsText (R.written report.old) (R.written report.new)
-        (R.faults report.old) (R.faults report.new) (layout_lines limit (layout_of word.entry) measured) result }
+        (R.faults report.old) (R.faults report.new) (closing_lines limit (layout_of word.entry) measured) result }
 {
     let page = measured_page(limit, measured);
     put_both(name_of(word), page.bytes(), report)?;

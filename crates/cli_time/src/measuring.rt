@@ -1,20 +1,28 @@
-//! The run of a program on a layout, by which its time is measured.
+//! What is measured of a run.
 
-ghost use Rattle.std.specs.Prelude.{◌≡◌, ◌≤◌, IfOk, false, true};
-ghost use Rattle.run_options.specs.Limits.{most_limit};
-ghost use Rattle.run_ledger.specs.Ledgers.{opened as opened_ledger};
+ghost use Rattle.std.specs.Prelude.{◌≡◌, ◌≤◌, [], IfOk, MatchResult, Some};
+ghost use Rattle.run_options.specs.Limits.{most_timed_limit};
+ghost use Rattle.cf_io.specs.Causes.{HasCause};
+ghost use Rattle.cf_run.specs.Headline.{machine_on};
+ghost use Rattle.cf_timed.specs.Clocks.{rule_of};
 ghost use Rattle.cf_timed.specs.TimedRuns.{CanBegin, HasCauses, answer_of};
 ghost use Rattle.cli_files.specs.Image.{IsProgramFile, opened};
-ghost use Rattle.cli_time.specs.Measures.{Measures, MeasuresRun};
+ghost use Rattle.cli_time.specs.Measures.{BreaksTaking, MeasuresRun};
+ghost use Rattle.cf_core.specs.Processors.{opened as opened_core};
+ghost use Rattle.cli_time.specs.Runs.{MeasuringStops, PutsMoves, PutsRun, report_stopped};
+ghost use Rattle.run_options.specs.declared.time_show.TimeShow.TheVariants as shows;
 
+use crate::choices::RunChoices;
+use crate::guest_input::GuestInput;
+use crate::stop::Stop;
 use cf_core::Core;
 use cf_index::Candidates;
-use cf_io::{Empty, Nowhere};
+use cf_io::{Failed, Nowhere, Sink};
 use cf_layout::Layout;
-use cf_timed::{Clock, Delays, Timed, run_timed};
-use cli_arguments::TimeOptions;
+use cf_timed::{Clock, Delays, Timed, run_shown, run_timed};
 use cli_files::open_again;
-use run_ledger::{Breakdown, Ledger, run_noted};
+use run_ledger::{Breakdown, RunLedger, run_noted};
+use run_options::TimeShow;
 use std::alloc::{AllocError, Global};
 
 /// What is measured of the run of a program on a layout.
@@ -51,11 +59,18 @@ fn measurement(
     }
 }
 
-/// Runs an opened processor by a clock that was told of no move; no ledger is kept.
-fn take_time(core: &mut Core, candidates: &mut Candidates, clock: Clock, limit: u64) -> Measured
-    requires begins { CanBegin limit core.old clock 0 }
-    ensures takes { MeasuresRun clock.delays (record { limit = limit; sites = false }) core.old.plan core.old result }
-    ensures causes { HasCauses 0 0 0 0 (answer_of result.answer) }
+/// Runs an opened processor by a clock that was told of no move; nothing is shown.
+fn take_time(
+    core: &mut Core,
+    candidates: &mut Candidates,
+    clock: Clock,
+    options: RunChoices,
+    input: &[u8],
+) -> Measured
+    requires begins { CanBegin options.limit core.old clock 0 }
+    requires shown { options.show ≡ shows.Nothing }
+    ensures takes { MeasuresRun (rule_of clock) options core.old.plan core.old input.now (record { measured = result; shown = [] }) }
+    ensures causes { HasCauses 0 0 0 0 (Some (answer_of result.answer)) }
 {
     let mut clock = clock;
     let mut moves = 0;
@@ -63,8 +78,9 @@ fn take_time(core: &mut Core, candidates: &mut Candidates, clock: Clock, limit: 
         core,
         candidates,
         &mut clock,
-        limit,
-        &mut Empty,
+        options.rule,
+        options.limit,
+        &mut GuestInput { rest: input },
         &mut Nowhere,
         &mut moves,
     );
@@ -76,53 +92,140 @@ fn take_sites(
     core: &mut Core,
     candidates: &mut Candidates,
     clock: Clock,
-    ledger: Ledger,
-    limit: u64,
+    options: RunChoices,
+    input: &[u8],
 ) -> Measured
-    requires begins { CanBegin limit core.old clock 0 }
-    requires ledger { ledger ≡ opened_ledger core.old.plan clock.delays }
-    ensures takes { MeasuresRun clock.delays (record { limit = limit; sites = true }) core.old.plan core.old result }
-    ensures causes { HasCauses 0 0 0 0 (answer_of result.answer) }
+    requires begins { CanBegin options.limit core.old clock 0 }
+    requires shown { options.show ≡ shows.Sites }
+    ensures takes { MeasuresRun (rule_of clock) options core.old.plan core.old input.now (record { measured = result; shown = [] }) }
+    ensures causes { HasCauses 0 0 0 0 (Some (answer_of result.answer)) }
 {
     let mut clock = clock;
-    let mut ledger = ledger;
+    let mut ledger = RunLedger::new(core.layout());
     let mut moves = 0;
     let answer = run_noted(
         core,
         candidates,
         &mut clock,
         &mut ledger,
-        limit,
-        &mut Empty,
+        options.rule,
+        options.limit,
+        &mut GuestInput { rest: input },
         &mut Nowhere,
         &mut moves,
     );
     measurement(core, answer, &clock, moves, Some(ledger.breakdown()))
 }
 
-/// Loads the program anew, and runs it on the processor of a layout by the moves that are done first, over an empty input and
-/// with its output nowhere. A ledger is kept where it is shown what the time is made of. Memory may be refused, before the first
-/// move.
+/// The same without a ledger, and with a line for each move in the report.
+fn take_moves<R: Sink>(
+    core: &mut Core,
+    candidates: &mut Candidates,
+    clock: Clock,
+    options: RunChoices,
+    input: &[u8],
+    report: &mut R,
+) -> Result<Measured, Failed>
+    requires begins { CanBegin options.limit core.old clock 0 }
+    requires shown { options.show ≡ shows.Moves }
+    ensures takes { MatchResult result
+        (PutsRun (rule_of clock) options core.old.plan core.old input.now (R.written report.old) (R.written report.new))
+        (λ failed. BreaksTaking (rule_of clock) options core.old input.now (R.written report.old) (R.written report.new)) }
+    ensures causes { IfOk result (λ measured. HasCauses 0 0 0 0 (Some (answer_of measured.answer))) }
+    ensures report { HasCause (R.faults report.old) (R.faults report.new) result }
+{
+    let mut clock = clock;
+    let mut moves = 0;
+    let answer = run_shown(
+        core,
+        candidates,
+        &mut clock,
+        options.rule,
+        options.limit,
+        &mut GuestInput { rest: input },
+        &mut Nowhere,
+        report,
+        &mut moves,
+    )?;
+    Ok(measurement(core, answer, &clock, moves, None))
+}
+
+/// Runs an opened processor by a clock that was told of no move, and shows of it what the options say.
+fn take_run<R: Sink>(
+    core: &mut Core,
+    candidates: &mut Candidates,
+    clock: Clock,
+    options: RunChoices,
+    input: &[u8],
+    report: &mut R,
+) -> Result<Measured, Failed>
+    requires begins { CanBegin options.limit core.old clock 0 }
+    ensures takes { MatchResult result
+        (PutsRun (rule_of clock) options core.old.plan core.old input.now (R.written report.old) (R.written report.new))
+        (λ failed. BreaksTaking (rule_of clock) options core.old input.now (R.written report.old) (R.written report.new)) }
+    ensures causes { IfOk result (λ measured. HasCauses 0 0 0 0 (Some (answer_of measured.answer))) }
+    ensures report { HasCause (R.faults report.old) (R.faults report.new) result }
+{
+    match options.show {
+        TimeShow::Nothing => Ok(take_time(core, candidates, clock, options, input)),
+        TimeShow::Sites => Ok(take_sites(core, candidates, clock, options, input)),
+        TimeShow::Moves => take_moves(core, candidates, clock, options, input, report),
+    }
+}
+
+/// A processor with its program, and room for its candidates.
+#[derive(Drop)]
+struct LoadedCore {
+    core: Core,
+    candidates: Candidates,
+}
+
+/// Loads the program anew on the processor of a layout. Memory may be refused.
 #[tactic(auto, using(cf_run::proofs::Opened::opened_cores))]
-pub(crate) fn measure(
+fn load(alloc: Global, image: &[u8], layout: &Layout) -> Result<LoadedCore, AllocError>
+    requires program { IsProgramFile image.now }
+    ensures core { IfOk result (λ loaded. loaded.core ≡ opened_core layout.now (opened image.now)) }
+    ensures count { IfOk result (λ loaded. (opened image.now).retired ≡ 0) }
+{
+    let machine = open_again(alloc, image)?;
+    let candidates = Candidates::new(alloc)?;
+    let core = Core::new(alloc, *layout, machine)?;
+    Ok(LoadedCore { core, candidates })
+}
+
+/// Loads the program anew, and runs it on the processor of a layout by the moves that are done first, over the whole of this
+/// input and with its output nowhere. A ledger is kept where it is shown what the time is made of; where the moves are shown,
+/// the report gets their lines. Memory may be refused, before the first move; nothing is put to the report then.
+pub(crate) fn measure<R: Sink>(
     alloc: Global,
     image: &[u8],
     layout: &Layout,
     delays: Delays,
-    options: TimeOptions,
-) -> Result<Measured, AllocError>
-    requires limit { options.limit ≤ most_limit }
+    options: RunChoices,
+    input: &[u8],
+    report: &mut R,
+) -> Result<Measured, Stop>
+    requires limit { options.limit ≤ most_timed_limit }
     requires program { IsProgramFile image.now }
-    ensures { IfOk result (Measures delays options layout.now (opened image.now)) }
+    ensures measured { MatchResult result
+        (PutsMoves delays options layout.now (machine_on (opened image.now) input.now) (R.written report.old) (R.written report.new))
+        (MeasuringStops delays options layout.now (machine_on (opened image.now) input.now) (R.written report.old) (R.written report.new)) }
+    ensures cause { HasCause (R.faults report.old) (R.faults report.new) (report_stopped result) }
 {
-    let machine = open_again(alloc, image)?;
-    let mut candidates = Candidates::new(alloc)?;
-    let mut core = Core::new(alloc, *layout, machine)?;
-    let clock = Clock::new(layout, delays);
-    if options.sites {
-        let ledger = Ledger::new(layout, delays);
-        Ok(take_sites(&mut core, &mut candidates, clock, ledger, options.limit))
-    } else {
-        Ok(take_time(&mut core, &mut candidates, clock, options.limit))
+    let Ok(loaded) = load(alloc, image, layout) else {
+        return Err(Stop::NoMemory);
+    };
+    let mut loaded = loaded;
+    let clock = Clock::new(layout, delays, options.seed);
+    match take_run(
+        &mut loaded.core,
+        &mut loaded.candidates,
+        clock,
+        options,
+        input,
+        report,
+    ) {
+        Ok(measured) => Ok(measured),
+        Err(Failed) => Err(Stop::Failed),
     }
 }

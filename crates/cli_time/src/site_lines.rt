@@ -6,9 +6,10 @@ ghost use Rattle.std.specs.List.{flat_map, zip};
 ghost use Rattle.cf_report.specs.Putting.{PutsText};
 ghost use Rattle.run_scripts.specs.Kinds.{name_at, names};
 ghost use Rattle.texts.specs.Room.{page_room};
-ghost use Rattle.cf_timed.specs.Clocks.{number_at};
-ghost use Rattle.cli_time.specs.SiteLines.{breakdown_text, busy_line, counts_text, falling_stages, kinds_line, siding_line, siding_numbers, sites_text, stage_line};
+ghost use Rattle.cf_timed.specs.Numbers.{number_at};
+ghost use Rattle.cli_time.specs.SiteLines.{breakdown_text, busy_line, counts_text, falling_stages, kinds_line, siding_line, siding_numbers, sites_text, stage_line, use_line};
 
+use crate::class_lines::put_classes;
 use cf_io::{Failed, Sink, put_all};
 use run_ledger::Breakdown;
 use run_scripts::kind_name;
@@ -43,12 +44,34 @@ fn put_busy<R: Sink>(name: &[u8], number: u32, ticks: u64, report: &mut R) -> Re
     put_all(report, page.bytes())
 }
 
+/// A stage by its number, and how long it was in use, waited and was empty.
+#[tactic(auto, unfolding(crate::specs::SiteLines::use_line))]
+fn use_page(number: u32, busy: u64, waiting: u64, empty: u64) -> Page
+    ensures { result ≡ use_line number busy waiting empty }
+{
+    let mut page = Page::new();
+    page.push(b"stage ");
+    page.push_decimal(u64::from(number));
+    page.push(b" busy ");
+    page.push_decimal(busy);
+    page.push(b" waiting ");
+    page.push_decimal(waiting);
+    page.push_counted(b" empty ", empty);
+    page
+}
+
 /// Puts the line of a stage.
 fn put_stage<R: Sink>(made: &Breakdown, stage: u32, report: &mut R) -> Result<(), Failed>
     ensures { PutsText (R.written report.old) (R.written report.new)
         (R.faults report.old) (R.faults report.new) (stage_line made.now stage) result }
 {
-    put_busy(b"stage ", stage, ticks_at(&made.stages, stage), report)
+    let page = use_page(
+        stage,
+        ticks_at(&made.stages, stage),
+        ticks_at(&made.waiting, stage),
+        ticks_at(&made.empty, stage),
+    );
+    put_all(report, page.bytes())
 }
 
 /// Puts the line of a siding.
@@ -141,11 +164,13 @@ fn put_breakdown<R: Sink>(made: &Breakdown, report: &mut R) -> Result<(), Failed
     put_stages(made, report)?;
     put_sidings(made, report)?;
     put_kinds(b"moves", &made.moves, report)?;
+    put_classes(made, report)?;
     put_kinds(b"chain", &made.chain, report)
 }
 
-/// Puts the lines of what a time is made of, where that is shown: how long each stage was in use, the highest first, and each
-/// siding; how many moves of each kind were made; and how many of each kind are on a longest chain.
+/// Puts the lines of what a time is made of, where that is shown: how long each stage was in use, waited and was empty, the
+/// highest first, and each siding was in use; how many moves of each kind were made; how long the instructions of each class
+/// took; and how many moves of each kind are on a longest chain.
 #[tactic(auto, unfolding(crate::specs::SiteLines::sites_text))]
 pub(crate) fn put_sites<R: Sink>(sites: &Option<Breakdown>, report: &mut R) -> Result<(), Failed>
     ensures { PutsText (R.written report.old) (R.written report.new)

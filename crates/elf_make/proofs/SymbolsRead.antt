@@ -1,21 +1,23 @@
 -- The symbols that are read in a table that was written, with their names.
-use Rattle.std.proofs.Common.{◌≡◌, ◌≢◌, ℕ, zero, suc, ◌+◌, ◌-◌, ◌*◌, ◌^◌, ◌<◌, ◌≤◌, Bool, true, false, List, [], ◌∷◌, ◌++◌, length, take, drop, replicate, get_or, refl, sym, ap, ◌∙◌, subst, cond, arith, append_assoc, length-append, All}
+use Rattle.std.proofs.Common.{◌≡◌, ◌≢◌, ℕ, ◌+◌, ◌^◌, ◌<◌, ◌≤◌, Bool, true, false, List, [], ◌∷◌, ◌++◌, length, drop, replicate, get_or, refl, sym, ap, ◌∙◌, subst, cond, arith, append_assoc, length-append, All}
 use Rattle.std.specs.Prelude.{◌==◌, map}
 use Rattle.std.specs.List.{before_first, position_or_len}
 use Rattle.std.proofs.lemmas.Bool.Decides.{nat_tests}
 use Rattle.std.proofs.lemmas.List.{get_or-append-add}
 use Rattle.std.proofs.lemmas.List.Elements.{All-cons, All-nil, All-head, All-tail, All-append}
 use Rattle.std.proofs.lemmas.Grind.{flat_map-append}
-use Rattle.std.proofs.Math.Seq.{drop-append_seam, take-append_seam}
+use Rattle.std.proofs.Math.Seq.{take-append_seam}
 use Rattle.elf_view.specs.declared.headers.SymbolEntry.{SymbolEntry}
 use Rattle.elf_view.specs.Fields.{word, entries}
 use Rattle.elf_view.specs.Headers.{symbol_entry}
-use Rattle.elf_view.specs.Symbols.{NamedSymbol, symbol_of as symbol_read}
+use Rattle.elf_view.specs.Symbols.{NamedSymbol, symbol_of}
 use Rattle.rv_asm.specs.Labels.{LabelView}
 use Rattle.rv_asm.specs.Small.{HasNoNul, joined_names}
+use Rattle.elf_make.specs.declared.binding.SymbolBinding.{SymbolBinding}
+use Rattle.elf_make.specs.declared.binding.SymbolBinding.TheVariants.{Local, Global}
 use Rattle.elf_make.specs.Fields.{halves, words}
-use Rattle.elf_make.specs.Symbols.{is_bound, bound, closed, closed_names, in_order, entry, entries_from}
-use Rattle.elf_make.specs.Viewed.{symbol_of}
+use Rattle.elf_make.specs.Symbols.{is_bound, bound, terminated, terminated_names, locals_first, entry, entries_from}
+use Rattle.elf_make.specs.Viewed.{label_symbol}
 use Rattle.elf_make.proofs.Located.{after-part, word-in, word-is}
 
 -- the value of a label is an address
@@ -29,7 +31,7 @@ IsNoNul byte = byte ≢ 0
 abbrev pub entries_read : ℕ → List LabelView → List SymbolEntry
 entries_read name [] = []
 entries_read name (l ∷ ls) =
-    record { name = name; value = l.value; size = 0 } ∷ entries_read (name + length (closed l.name)) ls
+    record { name = name; value = l.value; size = 0 } ∷ entries_read (name + length (terminated l.name)) ls
 
 abbrev entry_with : ℕ → ℕ → ℕ → SymbolEntry
 entry_with name value size = record { name = name; value = value; size = size }
@@ -53,13 +55,13 @@ unfolding halves words
 length-entry name l = refl
 
 pub entries-are : (labels : List LabelView) (file rest : List ℕ) (at name : ℕ) → drop at file ≡ entries_from name labels ++ rest
-    → All IsAddress labels → name + length (closed_names labels) < 2 ^ 32
+    → All IsAddress labels → name + length (terminated_names labels) < 2 ^ 32
     → entries symbol_entry 16 file at (length labels) ≡ entries_read name labels
 entries-are [] file rest at name e h n = refl
 entries-are (l ∷ ls) file rest at name e h n =
-    let next = name + length (closed l.name) in
+    let next = name + length (terminated l.name) in
     let grouped = e ∙ append_assoc (entry name l) (entries_from next ls) rest in
-    let names = length-append (closed l.name) (closed_names ls) in
+    let names = length-append (terminated l.name) (terminated_names ls) in
     let first = entry-in file (entry name l ++ (entries_from next ls ++ rest)) at grouped ∙ entry-is name l (entries_from next ls ++ rest) (omega arith)
     (All-head IsAddress l ls h) in
     let after = after-part file (entry name l) (entries_from next ls ++ rest) at (at + 16) grouped (ap (λ (k : ℕ). at + k) (sym (length-entry name l))) in
@@ -94,41 +96,42 @@ back-no-nul (b ∷ bs) others h = back-no-nul bs others (All-tail IsNoNul b (bs 
 abbrev symbol_with : List ℕ → ℕ → ℕ → NamedSymbol
 symbol_with name value size = record { name = name; value = value; size = size }
 
-pub symbols-are : (labels : List LabelView) (names : List ℕ) (at : ℕ) → drop at names ≡ closed_names labels → HasNoNul (joined_names labels)
-    → map (symbol_read names) (entries_read at labels) ≡ map symbol_of labels
+pub symbols-are : (labels : List LabelView) (names : List ℕ) (at : ℕ) → drop at names ≡ terminated_names labels → HasNoNul (joined_names labels)
+    → map (symbol_of names) (entries_read at labels) ≡ map label_symbol labels
 symbols-are [] names at e h = refl
 symbols-are (l ∷ ls) names at e h =
-    let grouped = e ∙ append_assoc l.name (0 ∷ []) (closed_names ls) in
-    let name = ap (λ (t : List ℕ). before_first (λ byte. byte == 0) t) grouped ∙ name-is l.name (closed_names ls) (front-no-nul l.name (joined_names ls) h) in
-    let after = after-part names (closed l.name) (closed_names ls) at (at + length (closed l.name)) e refl in
-    let others = symbols-are ls names (at + length (closed l.name)) after (back-no-nul l.name (joined_names ls) h) in
-    ap (λ (n : List ℕ). symbol_with n l.value 0 ∷ map (symbol_read names) (entries_read (at + length (closed l.name)) ls)) name
+    let grouped = e ∙ append_assoc l.name (0 ∷ []) (terminated_names ls) in
+    let name = ap (λ (t : List ℕ). before_first (λ byte. byte == 0) t) grouped ∙ name-is l.name (terminated_names ls)
+    (front-no-nul l.name (joined_names ls) h) in
+    let after = after-part names (terminated l.name) (terminated_names ls) at (at + length (terminated l.name)) e refl in
+    let others = symbols-are ls names (at + length (terminated l.name)) after (back-no-nul l.name (joined_names ls) h) in
+    ap (λ (n : List ℕ). symbol_with n l.value 0 ∷ map (symbol_of names) (entries_read (at + length (terminated l.name)) ls)) name
     ∙ ap (λ (s : List NamedSymbol). symbol_with l.name l.value 0 ∷ s) others
 
 abbrev pub IsNameBelow : ℕ → SymbolEntry → Type 0
 IsNameBelow size e = e.name < size
 
 -- each name begins before the end of all
-pub names-begin : (labels : List LabelView) (name size : ℕ) → name + length (closed_names labels) ≤ size
+pub names-begin : (labels : List LabelView) (name size : ℕ) → name + length (terminated_names labels) ≤ size
     → All (IsNameBelow size) (entries_read name labels)
 names-begin [] name size h = All-nil (IsNameBelow size)
 names-begin (l ∷ ls) name size h =
-    let names = length-append (closed l.name) (closed_names ls) in
+    let names = length-append (terminated l.name) (terminated_names ls) in
     let nul = length-append l.name (0 ∷ []) in
-    All-cons (IsNameBelow size) (entry_with name l.value 0) (entries_read (name + length (closed l.name)) ls) (omega arith)
-    (names-begin ls (name + length (closed l.name)) size (omega arith))
+    All-cons (IsNameBelow size) (entry_with name l.value 0) (entries_read (name + length (terminated l.name)) ls) (omega arith)
+    (names-begin ls (name + length (terminated l.name)) size (omega arith))
 
 -- the last byte of the names is NUL
-pub names-end : (labels : List LabelView) → get_or (0 ∷ closed_names labels) (length (closed_names labels)) 0 ≡ 0
+pub names-end : (labels : List LabelView) → get_or (0 ∷ terminated_names labels) (length (terminated_names labels)) 0 ≡ 0
 names-end [] = refl
 names-end (l ∷ ls) =
-    let whole : (0 ∷ closed_names (l ∷ ls)) ≡ (0 ∷ l.name) ++ (0 ∷ closed_names ls) = ap (λ (n : List ℕ). 0 ∷ n)
-    (append_assoc l.name (0 ∷ []) (closed_names ls)) in
-    let count : length (closed_names (l ∷ ls)) ≡ length (0 ∷ l.name) + length (closed_names ls) =
-    omega (arith, length-append (closed l.name) (closed_names ls), length-append l.name (0 ∷ [])) in
-    ap (λ (n : List ℕ). get_or n (length (closed_names (l ∷ ls))) 0) whole
-    ∙ ap (λ (k : ℕ). get_or ((0 ∷ l.name) ++ (0 ∷ closed_names ls)) k 0) count
-    ∙ get_or-append-add (0 ∷ l.name) (0 ∷ closed_names ls) (length (closed_names ls)) 0
+    let whole : (0 ∷ terminated_names (l ∷ ls)) ≡ (0 ∷ l.name) ++ (0 ∷ terminated_names ls) = ap (λ (n : List ℕ). 0 ∷ n)
+    (append_assoc l.name (0 ∷ []) (terminated_names ls)) in
+    let count : length (terminated_names (l ∷ ls)) ≡ length (0 ∷ l.name) + length (terminated_names ls) =
+    omega (arith, length-append (terminated l.name) (terminated_names ls), length-append l.name (0 ∷ [])) in
+    ap (λ (n : List ℕ). get_or n (length (terminated_names (l ∷ ls))) 0) whole
+    ∙ ap (λ (k : ℕ). get_or ((0 ∷ l.name) ++ (0 ∷ terminated_names ls)) k 0) count
+    ∙ get_or-append-add (0 ∷ l.name) (0 ∷ terminated_names ls) (length (terminated_names ls)) 0
     ∙ names-end ls
 
 -- what holds of the labels holds of them in another order
@@ -136,13 +139,13 @@ either-no-nul : (b : Bool) (x : LabelView) (xs : List LabelView) → HasNoNul x.
 either-no-nul true x xs h k = All-append IsNoNul x.name (joined_names xs) h k
 either-no-nul false x xs h k = k
 
-bound-no-nul : (g : Bool) (labels : List LabelView) → HasNoNul (joined_names labels) → HasNoNul (joined_names (bound g labels))
+bound-no-nul : (g : SymbolBinding) (labels : List LabelView) → HasNoNul (joined_names labels) → HasNoNul (joined_names (bound g labels))
 bound-no-nul g [] h = h
 bound-no-nul g (l ∷ ls) h =
     either-no-nul (is_bound g l) l (bound g ls) (front-no-nul l.name (joined_names ls) h) (bound-no-nul g ls (back-no-nul l.name (joined_names ls) h))
 
-pub order-no-nul : (labels : List LabelView) → HasNoNul (joined_names labels) → HasNoNul (joined_names (in_order labels))
-unfolding in_order
+pub order-no-nul : (labels : List LabelView) → HasNoNul (joined_names labels) → HasNoNul (joined_names (locals_first labels))
+unfolding locals_first
 order-no-nul labels h =
-    subst HasNoNul (sym (flat_map-append (λ (l : LabelView). l.name) (bound false labels) (bound true labels)))
-    (All-append IsNoNul (joined_names (bound false labels)) (joined_names (bound true labels)) (bound-no-nul false labels h) (bound-no-nul true labels h))
+    subst HasNoNul (sym (flat_map-append (λ (l : LabelView). l.name) (bound Local labels) (bound Global labels)))
+    (All-append IsNoNul (joined_names (bound Local labels)) (joined_names (bound Global labels)) (bound-no-nul Local labels h) (bound-no-nul Global labels h))

@@ -1,34 +1,36 @@
 -- The symbols of the file and their names (Tool Interface Standard, Executable and Linking Format Specification,
 -- "Symbol Table" and "String Table").
-use Rattle.std.specs.Prelude.{ℕ, ◌+◌, ◌^◌, nat_lt, Bool, true, false, not, List, [], ◌∷◌, ◌++◌, filter, length, codes, replicate, if◌then◌else◌}
+use Rattle.std.specs.Prelude.{ℕ, ◌+◌, ◌^◌, nat_lt, Bool, not, List, [], ◌∷◌, ◌++◌, filter, length, codes, replicate, if◌then◌else◌}
 use Rattle.std.specs.List.{flat_map, list_all}
 use Rattle.rv_asm.specs.Labels.{LabelView}
+use Rattle.elf_make.specs.declared.binding.SymbolBinding.{SymbolBinding}
+use Rattle.elf_make.specs.declared.binding.SymbolBinding.TheVariants.{Local, Global}
 use Rattle.elf_make.specs.Fields.{halves, words}
 
 -- a name with the NUL that closes it
-abbrev pub closed : List ℕ → List ℕ
-closed name = name ++ 0 ∷ []
+abbrev pub terminated : List ℕ → List ℕ
+terminated name = name ++ 0 ∷ []
 
--- the label is exported exactly if `global` is set
-abbrev pub is_bound : (global : Bool) → LabelView → Bool
-is_bound true label = label.global
-is_bound false label = not label.global
+-- the label has this binding: it is global where it is exported
+abbrev pub is_bound : SymbolBinding → LabelView → Bool
+is_bound Local label = not label.global
+is_bound Global label = label.global
 
--- the labels that are exported, or those that are not
-abbrev pub bound : (global : Bool) → List LabelView → List LabelView
-bound global labels = filter (is_bound global) labels
+-- the labels of this binding
+abbrev pub bound : SymbolBinding → List LabelView → List LabelView
+bound binding labels = filter (is_bound binding) labels
 
 -- the order of the symbols: local labels first, then the exported ones
-unfoldable pub in_order : List LabelView → List LabelView
-in_order labels = bound false labels ++ bound true labels
+unfoldable pub locals_first : List LabelView → List LabelView
+locals_first labels = bound Local labels ++ bound Global labels
 
 -- the names of labels, each with its NUL
-abbrev pub closed_names : List LabelView → List ℕ
-closed_names labels = flat_map (λ label. closed label.name) labels
+abbrev pub terminated_names : List LabelView → List ℕ
+terminated_names labels = flat_map (λ label. terminated label.name) labels
 
 -- the names of the symbols; the first, of the null symbol, is empty
-unfoldable pub names : List LabelView → List ℕ
-names labels = 0 ∷ closed_names (in_order labels)
+unfoldable pub symbol_names : List LabelView → List ℕ
+symbol_names labels = 0 ∷ terminated_names (locals_first labels)
 
 -- the entry of a label whose name begins at an index: name, value, no size, whether it is local or global (STB_LOCAL,
 -- STB_GLOBAL), and its section
@@ -41,11 +43,11 @@ entry name label =
 abbrev pub entries_from : ℕ → List LabelView → List ℕ
 entries_from name [] = []
 entries_from name (label ∷ labels) =
-    entry name label ++ entries_from (name + length (closed label.name)) labels
+    entry name label ++ entries_from (name + length (terminated label.name)) labels
 
 -- the symbol table: the null symbol, then the labels
 unfoldable pub symbol_table : List LabelView → List ℕ
-symbol_table labels = replicate 16 0 ++ entries_from 1 (in_order labels)
+symbol_table labels = replicate 16 0 ++ entries_from 1 (locals_first labels)
 
 -- the values of labels are addresses of 32 bits
 abbrev pub are_addresses : List LabelView → Bool
@@ -54,5 +56,5 @@ are_addresses labels = list_all (λ label. nat_lt label.value (2 ^ 32)) labels
 -- the names of the sections
 abbrev pub section_names : List ℕ
 section_names =
-    0 ∷ flat_map closed
+    0 ∷ flat_map terminated
     (codes ".text" ∷ codes ".data" ∷ codes ".symtab" ∷ codes ".strtab" ∷ codes ".shstrtab" ∷ [])

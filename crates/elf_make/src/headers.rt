@@ -3,10 +3,11 @@
 
 ghost use Rattle.std.specs.Prelude.{◌≡◌, ◌++◌, OnOk};
 ghost use Rattle.elf_make.specs.Sizes.{AreSmall};
-ghost use Rattle.elf_make.specs.Headers.{file_header, program_header, program_headers, content_headers, table_headers, section_headers};
+ghost use Rattle.elf_make.specs.Headers.{file_header_bytes, program_header_bytes, program_headers_bytes, section_header_bytes, text_section, data_section, symbols_section, names_section, section_names_section, content_headers, table_headers, section_headers_bytes};
 
 use crate::fields::{push_halves, push_words};
-use crate::sizes::{SECTION_NAMES_LEN, Sizes, TEXT_AT};
+use crate::section::{NO_SECTION, SectionFields};
+use crate::sizes::{SECTION_NAMES_LEN, Sizes, TEXT_OFFSET};
 use std::alloc::AllocError;
 
 const TEXT_ADDRESS: u32 = 0x1_0000;
@@ -37,11 +38,11 @@ const ALLOCATED_DATA: u32 = 3;
 #[tactic(auto, using(std::proofs::lemmas::List::append_assoc), unfolding(crate::specs::Headers::identity))]
 pub fn push_file_header(file: &mut Vec<u8>, sizes: Sizes, entry: u32) -> Result<(), AllocError>
     requires { AreSmall sizes }
-    ensures { OnOk result (file.new.items ≡ file.old.items ++ file_header sizes entry) }
+    ensures { OnOk result (file.new.items ≡ file.old.items ++ file_header_bytes sizes entry) }
 {
     file.extend_from_slice(b"\x7fELF\x01\x01\x01\0\0\0\0\0\0\0\0\0")?;
     push_halves(file, &[EXECUTABLE_FILE, RISCV])?;
-    push_words(file, &[1, entry, 52, sizes.sections_at(), 0])?;
+    push_words(file, &[1, entry, 52, sizes.sections_offset(), 0])?;
     push_halves(file, &[52, 32, 2, 40, 6, 5])
 }
 
@@ -53,7 +54,7 @@ fn push_program_header(
     len: u32,
     flags: u32,
 ) -> Result<(), AllocError>
-    ensures { OnOk result (file.new.items ≡ file.old.items ++ program_header offset address len flags) }
+    ensures { OnOk result (file.new.items ≡ file.old.items ++ program_header_bytes offset address len flags) }
 {
     push_words(file, &[LOAD, offset, address, address, len, len, flags, 4])
 }
@@ -61,16 +62,121 @@ fn push_program_header(
 /// Appends the program headers.
 pub fn push_program_headers(file: &mut Vec<u8>, sizes: Sizes) -> Result<(), AllocError>
     requires { AreSmall sizes }
-    ensures { OnOk result (file.new.items ≡ file.old.items ++ program_headers sizes) }
+    ensures { OnOk result (file.new.items ≡ file.old.items ++ program_headers_bytes sizes) }
 {
-    push_program_header(file, TEXT_AT, TEXT_ADDRESS, sizes.text_len, READ_EXECUTE)?;
     push_program_header(
         file,
-        sizes.data_at(),
+        TEXT_OFFSET,
+        TEXT_ADDRESS,
+        sizes.text_len,
+        READ_EXECUTE,
+    )?;
+    push_program_header(
+        file,
+        sizes.data_offset(),
         DATA_ADDRESS,
         sizes.data_len,
         READ_WRITE,
     )
+}
+
+/// Appends the header of a section.
+fn push_section_header(file: &mut Vec<u8>, section: SectionFields) -> Result<(), AllocError>
+    ensures { OnOk result (file.new.items ≡ file.old.items ++ section_header_bytes section) }
+{
+    push_words(
+        file,
+        &[
+            section.name,
+            section.kind,
+            section.flags,
+            section.address,
+            section.offset,
+            section.len,
+            section.link,
+            section.info,
+            section.alignment,
+            section.entry_len,
+        ],
+    )
+}
+
+fn text_section(sizes: Sizes) -> SectionFields
+    ensures { result ≡ text_section sizes }
+{
+    SectionFields {
+        name: 1,
+        kind: CONTENT,
+        flags: ALLOCATED_CODE,
+        address: TEXT_ADDRESS,
+        offset: TEXT_OFFSET,
+        len: sizes.text_len,
+        alignment: 4,
+        ..NO_SECTION
+    }
+}
+
+fn data_section(sizes: Sizes) -> SectionFields
+    requires { AreSmall sizes }
+    ensures { result ≡ data_section sizes }
+{
+    SectionFields {
+        name: 7,
+        kind: CONTENT,
+        flags: ALLOCATED_DATA,
+        address: DATA_ADDRESS,
+        offset: sizes.data_offset(),
+        len: sizes.data_len,
+        alignment: 4,
+        ..NO_SECTION
+    }
+}
+
+/// The section of the symbols, whose names are in the section with the index 4.
+fn symbols_section(sizes: Sizes) -> SectionFields
+    requires { AreSmall sizes }
+    ensures { result ≡ symbols_section sizes }
+{
+    SectionFields {
+        name: 13,
+        kind: SYMBOLS,
+        offset: sizes.symbols_offset(),
+        len: sizes.symbols_len(),
+        link: 4,
+        info: 1 + sizes.locals,
+        alignment: 4,
+        entry_len: 16,
+        ..NO_SECTION
+    }
+}
+
+fn names_section(sizes: Sizes) -> SectionFields
+    requires { AreSmall sizes }
+    ensures { result ≡ names_section sizes }
+{
+    SectionFields {
+        name: 21,
+        kind: STRINGS,
+        offset: sizes.names_offset(),
+        len: sizes.names_len,
+        alignment: 1,
+        ..NO_SECTION
+    }
+}
+
+/// The section of the names of the sections.
+fn section_names_section(sizes: Sizes) -> SectionFields
+    requires { AreSmall sizes }
+    ensures { result ≡ section_names_section sizes }
+{
+    SectionFields {
+        name: 29,
+        kind: STRINGS,
+        offset: sizes.section_names_offset(),
+        len: SECTION_NAMES_LEN,
+        alignment: 1,
+        ..NO_SECTION
+    }
 }
 
 /// Appends the null header and those of the text and of the data.
@@ -78,37 +184,9 @@ fn push_content_headers(file: &mut Vec<u8>, sizes: Sizes) -> Result<(), AllocErr
     requires { AreSmall sizes }
     ensures { OnOk result (file.new.items ≡ file.old.items ++ content_headers sizes) }
 {
-    push_words(file, &[0, 0, 0, 0, 0, 0, 0, 0, 0, 0])?;
-    push_words(
-        file,
-        &[
-            1,
-            CONTENT,
-            ALLOCATED_CODE,
-            TEXT_ADDRESS,
-            TEXT_AT,
-            sizes.text_len,
-            0,
-            0,
-            4,
-            0,
-        ],
-    )?;
-    push_words(
-        file,
-        &[
-            7,
-            CONTENT,
-            ALLOCATED_DATA,
-            DATA_ADDRESS,
-            sizes.data_at(),
-            sizes.data_len,
-            0,
-            0,
-            4,
-            0,
-        ],
-    )
+    push_section_header(file, NO_SECTION)?;
+    push_section_header(file, text_section(sizes))?;
+    push_section_header(file, data_section(sizes))
 }
 
 /// Appends the headers of the symbols, of their names and of the names of the sections.
@@ -116,57 +194,15 @@ fn push_table_headers(file: &mut Vec<u8>, sizes: Sizes) -> Result<(), AllocError
     requires { AreSmall sizes }
     ensures { OnOk result (file.new.items ≡ file.old.items ++ table_headers sizes) }
 {
-    push_words(
-        file,
-        &[
-            13,
-            SYMBOLS,
-            0,
-            0,
-            sizes.symbols_at(),
-            sizes.symbols_len(),
-            4,
-            1 + sizes.locals,
-            4,
-            16,
-        ],
-    )?;
-    push_words(
-        file,
-        &[
-            21,
-            STRINGS,
-            0,
-            0,
-            sizes.names_at(),
-            sizes.names_len,
-            0,
-            0,
-            1,
-            0,
-        ],
-    )?;
-    push_words(
-        file,
-        &[
-            29,
-            STRINGS,
-            0,
-            0,
-            sizes.section_names_at(),
-            SECTION_NAMES_LEN,
-            0,
-            0,
-            1,
-            0,
-        ],
-    )
+    push_section_header(file, symbols_section(sizes))?;
+    push_section_header(file, names_section(sizes))?;
+    push_section_header(file, section_names_section(sizes))
 }
 
 /// Appends the headers of the sections.
 pub fn push_section_headers(file: &mut Vec<u8>, sizes: Sizes) -> Result<(), AllocError>
     requires { AreSmall sizes }
-    ensures { OnOk result (file.new.items ≡ file.old.items ++ section_headers sizes) }
+    ensures { OnOk result (file.new.items ≡ file.old.items ++ section_headers_bytes sizes) }
 {
     push_content_headers(file, sizes)?;
     push_table_headers(file, sizes)

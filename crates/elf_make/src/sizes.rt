@@ -1,17 +1,19 @@
 //! The lengths and the offsets of the parts of a file.
-#![tactic(auto, unfolding(crate::specs::Sizes::data_at, crate::specs::Sizes::symbols_at, crate::specs::Sizes::names_at, crate::specs::Sizes::section_names_at, crate::specs::Sizes::section_names_end, crate::specs::Sizes::sections_at))]
+#![tactic(auto, unfolding(crate::specs::Sizes::data_offset, crate::specs::Sizes::symbols_offset, crate::specs::Sizes::names_offset, crate::specs::Sizes::section_names_offset, crate::specs::Sizes::section_names_end, crate::specs::Sizes::sections_offset))]
 
-ghost use Rattle.std.specs.Prelude.{◌≡◌, ◌≤◌, ◌<◌, length, map, false};
-ghost use Rattle.rv_asm.specs.Labels.{named};
+ghost use Rattle.std.specs.Prelude.{◌≡◌, ◌≤◌, ◌<◌, length, map};
+ghost use Rattle.rv_asm.specs.Labels.{label_view};
+ghost use Rattle.rv_asm.specs.Reading.{padding};
 ghost use Rattle.rv_asm.specs.Small.{IsSmallObject, joined_names};
+ghost use Rattle.elf_make.specs.declared.binding.SymbolBinding.TheVariants.{Local};
 ghost use Rattle.elf_make.specs.Files.{sizes_of};
-ghost use Rattle.elf_make.specs.Sizes.{AreSmall, padding, padded, data_at, symbols_at, symbols_len, names_at, section_names_at, section_names_end, sections_at};
-ghost use Rattle.elf_make.specs.Symbols.{bound, closed_names, names};
+ghost use Rattle.elf_make.specs.Sizes.{AreSmall, padded, data_offset, symbols_offset, symbols_len, names_offset, section_names_offset, section_names_end, sections_offset};
+ghost use Rattle.elf_make.specs.Symbols.{bound, terminated_names, symbol_names};
 
 use rv_asm::{Label, Object};
 
 /// Where the text begins, after the headers.
-pub const TEXT_AT: u32 = 116;
+pub const TEXT_OFFSET: u32 = 116;
 
 /// The length of the names of the sections.
 pub const SECTION_NAMES_LEN: u32 = 39;
@@ -30,7 +32,7 @@ pub struct Sizes {
 /// The padding of a length to a multiple of 4.
 #[tactic(auto)]
 pub fn padding(len: u32) -> u32
-    ensures padding { result ≡ padding len }
+    ensures padding { result ≡ padding len 4 }
     ensures few { result < 4 }
 {
     (4 - len % 4) % 4
@@ -47,7 +49,7 @@ fn padded(len: u32) -> u32
 /// How many labels are not exported.
 #[tactic(auto, using(crate::proofs::Counts::counts))]
 fn count_locals(labels: &[Label]) -> usize
-    ensures count { result ≡ length (bound false (map named labels.now)) }
+    ensures count { result ≡ length (bound Local (map label_view labels.now)) }
     ensures within { result ≤ length labels.now }
 {
     labels.iter().filter(|label| !label.global).count()
@@ -55,9 +57,9 @@ fn count_locals(labels: &[Label]) -> usize
 
 /// How many bytes the names of labels have, each with a NUL.
 #[tactic(auto)]
-fn closed_names_len(labels: &[Label]) -> usize
-    requires { length (closed_names (map named labels.now)) ≤ 1572864 }
-    ensures { result ≡ length (closed_names (map named labels.now)) }
+fn terminated_names_len(labels: &[Label]) -> usize
+    requires { length (terminated_names (map label_view labels.now)) ≤ 1572864 }
+    ensures { result ≡ length (terminated_names (map label_view labels.now)) }
 {
     let mut len = 0;
     let mut rest = labels;
@@ -71,12 +73,12 @@ fn closed_names_len(labels: &[Label]) -> usize
 /// How many bytes the names of the symbols have.
 #[tactic(auto, using(crate::proofs::Counts::sums))]
 fn names_len(labels: &[Label]) -> u32
-    requires count { length (map named labels.now) ≤ 524288 }
-    requires bytes { length (joined_names (map named labels.now)) ≤ 1048576 }
-    ensures len { result ≡ length (names (map named labels.now)) }
+    requires count { length (map label_view labels.now) ≤ 524288 }
+    requires bytes { length (joined_names (map label_view labels.now)) ≤ 1048576 }
+    ensures len { result ≡ length (symbol_names (map label_view labels.now)) }
     ensures within { result ≤ 1572865 }
 {
-    1 + closed_names_len(labels) as u32
+    1 + terminated_names_len(labels) as u32
 }
 
 impl Sizes {
@@ -98,21 +100,21 @@ impl Sizes {
     }
 
     /// Where the data begins.
-    pub fn data_at(self) -> u32
+    pub fn data_offset(self) -> u32
         requires { AreSmall self }
-        ensures at { result ≡ data_at self }
+        ensures at { result ≡ data_offset self }
         ensures within { result ≤ 2000000 }
     {
-        TEXT_AT + padded(self.text_len)
+        TEXT_OFFSET + padded(self.text_len)
     }
 
     /// Where the symbols begin.
-    pub fn symbols_at(self) -> u32
+    pub fn symbols_offset(self) -> u32
         requires { AreSmall self }
-        ensures at { result ≡ symbols_at self }
+        ensures at { result ≡ symbols_offset self }
         ensures within { result ≤ 4000000 }
     {
-        self.data_at() + padded(self.data_len)
+        self.data_offset() + padded(self.data_len)
     }
 
     /// The length of the table of symbols.
@@ -125,21 +127,21 @@ impl Sizes {
     }
 
     /// Where the names of the symbols begin.
-    pub fn names_at(self) -> u32
+    pub fn names_offset(self) -> u32
         requires { AreSmall self }
-        ensures at { result ≡ names_at self }
+        ensures at { result ≡ names_offset self }
         ensures within { result ≤ 14000000 }
     {
-        self.symbols_at() + self.symbols_len()
+        self.symbols_offset() + self.symbols_len()
     }
 
     /// Where the names of the sections begin.
-    pub fn section_names_at(self) -> u32
+    pub fn section_names_offset(self) -> u32
         requires { AreSmall self }
-        ensures at { result ≡ section_names_at self }
+        ensures at { result ≡ section_names_offset self }
         ensures within { result ≤ 16000000 }
     {
-        self.names_at() + self.names_len
+        self.names_offset() + self.names_len
     }
 
     /// Where the names of the sections end.
@@ -148,13 +150,13 @@ impl Sizes {
         ensures at { result ≡ section_names_end self }
         ensures within { result ≤ 17000000 }
     {
-        self.section_names_at() + SECTION_NAMES_LEN
+        self.section_names_offset() + SECTION_NAMES_LEN
     }
 
     /// Where the headers of the sections begin.
-    pub fn sections_at(self) -> u32
+    pub fn sections_offset(self) -> u32
         requires { AreSmall self }
-        ensures { result ≡ sections_at self }
+        ensures { result ≡ sections_offset self }
     {
         padded(self.section_names_end())
     }

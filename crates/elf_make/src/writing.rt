@@ -2,11 +2,11 @@
 
 ghost use Rattle.std.specs.Prelude.{◌≡◌, ◌≤◌, ◌++◌, length, map, IfOk, OnOk, true};
 ghost use Rattle.rv_asm.specs.Small.{IsSmallObject};
-ghost use Rattle.rv_asm.specs.Labels.{named};
+ghost use Rattle.rv_asm.specs.Labels.{label_view};
 ghost use Rattle.elf_make.specs.Sizes.{AreSmall, zeros_after};
-ghost use Rattle.elf_make.specs.Symbols.{closed_names, in_order, are_addresses};
+ghost use Rattle.elf_make.specs.Symbols.{terminated_names, locals_first, are_addresses};
 ghost use Rattle.elf_make.specs.Viewed.{IsView};
-ghost use Rattle.elf_make.specs.Files.{front, contents, tables, elf_file};
+ghost use Rattle.elf_make.specs.Files.{front, section_contents, tables, elf_file};
 
 use crate::headers::{push_file_header, push_program_headers, push_section_headers};
 use crate::sizes::{Sizes, padding};
@@ -44,11 +44,11 @@ fn push_front(file: &mut Vec<u8>, sizes: Sizes, entry: u32) -> Result<(), AllocE
 }
 
 /// Appends text and data.
-#[tactic(auto, using(std::proofs::lemmas::List::append_assoc), unfolding(crate::specs::Files::contents))]
+#[tactic(auto, using(std::proofs::lemmas::List::append_assoc), unfolding(crate::specs::Files::section_contents))]
 fn push_contents(file: &mut Vec<u8>, text: &[u8], data: &[u8]) -> Result<(), AllocError>
     requires text { length text.now ≤ 1048576 }
     requires data_bytes { length «data».now ≤ 1048576 }
-    ensures { OnOk result (file.new.items ≡ file.old.items ++ contents text.now «data».now) }
+    ensures { OnOk result (file.new.items ≡ file.old.items ++ section_contents text.now «data».now) }
 {
     push_content(file, text)?;
     push_content(file, data)
@@ -57,10 +57,10 @@ fn push_contents(file: &mut Vec<u8>, text: &[u8], data: &[u8]) -> Result<(), All
 /// Appends the symbols and all names.
 #[tactic(auto, using(std::proofs::lemmas::List::append_assoc), unfolding(crate::specs::Files::tables))]
 fn push_tables(file: &mut Vec<u8>, labels: &[Label], sizes: Sizes) -> Result<(), AllocError>
-    requires names { length (closed_names (map named labels.now)) ≤ 1572864 }
+    requires names { length (terminated_names (map label_view labels.now)) ≤ 1572864 }
     requires small { AreSmall sizes }
-    ensures tables { OnOk result (file.new.items ≡ file.old.items ++ tables (map named labels.now) sizes) }
-    ensures addresses { OnOk result (are_addresses (in_order (map named labels.now)) ≡ true) }
+    ensures tables { OnOk result (file.new.items ≡ file.old.items ++ tables (map label_view labels.now) sizes) }
+    ensures addresses { OnOk result (are_addresses (locals_first (map label_view labels.now)) ≡ true) }
 {
     push_symbols(file, labels)?;
     push_names(file, labels)?;

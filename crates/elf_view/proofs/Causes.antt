@@ -10,12 +10,12 @@ use Rattle.std.proofs.lemmas.Slice.Eq.{bytes_eq-Decides}
 use Rattle.elf_view.specs.declared.headers.ProgramHeader.{ProgramHeader}
 use Rattle.elf_view.specs.declared.refusal.ElfErr.{ElfErr}
 use Rattle.elf_view.specs.declared.refusal.ElfErr.TheVariants.{TooShort, NotElf, Not32Little, NotRiscv, NotExecutable, NeedsCompressed, NeedsFloat, NeedsRve, BadHeaderSize, OutsideFile, FileLargerThanMemory, NeedsInterpreter, BadSymbols}
-use Rattle.elf_view.specs.Fields.{places, ends_beyond, FitsIn}
+use Rattle.elf_view.specs.Fields.{entry_offsets, ends_beyond, FitsIn}
 use Rattle.elf_view.specs.Headers.{file_header, program_headers, number_of_sections}
-use Rattle.elf_view.specs.Segments.{is_load, is_interpreter}
+use Rattle.elf_view.specs.Segments.{is_loaded, is_interpreter}
 use Rattle.elf_view.specs.Sections.{first_symbol_table, section_at, is_sound_table}
 use Rattle.elf_view.specs.Causes.{IsElfCause, IsFirstCut, IsFirstHeader, EndsBeyond, IsLarger}
-use Rattle.elf_view.specs.Refusal.{where_so, first_of, starts_with_elf, no_file_header, not_elf, not_32_little, identity_refusal, not_executable, not_riscv, needs_compressed, needs_float, needs_rve, target_refusal, bad_program_size, bad_section_size, cut_program_header, cut_section_header, table_refusal, needs_interpreter, is_outside, is_larger, outside_file, larger_than_memory, segment_refusal, bad_table, bad_symbols, refusal}
+use Rattle.elf_view.specs.Refusal.{where_so, first_error, starts_with_elf, no_file_header, not_elf, not_32_little, identity_refusal, not_executable, not_riscv, needs_compressed, needs_float, needs_rve, target_refusal, bad_program_size, bad_section_size, cut_program_header, cut_section_header, table_refusal, needs_interpreter, ends_outside, is_larger, outside_file, larger_than_memory, segment_refusal, bad_table, bad_symbols, file_refusal}
 use Rattle.elf_view.proofs.Groups.{identity_tests, target_tests, segment_tests, groups, no_header}
 use Rattle.elf_view.proofs.Readable.{both_hold, both_true, never, readable-sound}
 use Rattle.elf_view.proofs.Tables.{none_cut}
@@ -37,10 +37,10 @@ says-option_or file None b s t = t
 says-option_or file (Some e) b s t = s
 
 -- and so does the first of many
-says-first_of : (file : List ℕ) (tests : List (Option ElfErr)) → AllSay file tests → Says file (first_of tests)
+says-first_of : (file : List ℕ) (tests : List (Option ElfErr)) → AllSay file tests → Says file (first_error tests)
 unfolding Says AllSay
 says-first_of file [] all = tt
-says-first_of file (test ∷ tests) all = says-option_or file test (first_of tests) all.0 (says-first_of file tests all.1)
+says-first_of file (test ∷ tests) all = says-option_or file test (first_error tests) all.0 (says-first_of file tests all.1)
 
 -- a test says the truth where the fault that it finds is the cause
 says-where_so : (file : List ℕ) (fault : Bool) (e : ElfErr) → (fault ≡ true → IsElfCause file e) → Says file (where_so fault e)
@@ -135,15 +135,15 @@ cut_at file at size count place false o e told after =
     }
 
 -- the index that is found is that of the first entry that ends beyond the file
-cut-first : (file : List ℕ) (at size count place : ℕ) → find (λ p. ends_beyond file p size) (places at size count) ≡ Some place →
+cut-first : (file : List ℕ) (at size count place : ℕ) → find (λ p. ends_beyond file p size) (entry_offsets at size count) ≡ Some place →
     IsFirstCut file at size count place
 cut-first file at size zero place e = cc
 cut-first file at size (suc count) place e =
-    cut_at file at size count place (nat_lt (length file) (at + size)) (find (λ p. ends_beyond file p size) (places (at + size) size count)) refl e
+    cut_at file at size count place (nat_lt (length file) (at + size)) (find (λ p. ends_beyond file p size) (entry_offsets (at + size) size count)) refl e
     (λ fits told. cut-first file (at + size) size count place told)
 
 -- the sections are tested where the program headers lie in the file
-says-sections : (file : List ℕ) (programs : Option ℕ) → find (λ p. ends_beyond file p 32) (places (file_header file).program_offset 32
+says-sections : (file : List ℕ) (programs : Option ℕ) → find (λ p. ends_beyond file p 32) (entry_offsets (file_header file).program_offset 32
     (file_header file).program_count) ≡ programs →
     Says file (option_or (option_map (λ n. TooShort n) programs) (option_or (cut_section_header file) None))
 unfolding Says cut_section_header
@@ -151,8 +151,8 @@ says-sections file (Some place) e = inr (inl (cut-first file (file_header file).
 says-sections file None e =
     let h = file_header file in
     let fits : FitsIn file h.program_offset 32 h.program_count = none_cut file h.program_offset 32 h.program_count e in
-    says-option_or file (option_map (λ n. TooShort n) (find (λ p. ends_beyond file p 40) (places h.section_offset 40 (number_of_sections h)))) None
-    (says-option_map file (λ n. TooShort n) (find (λ p. ends_beyond file p 40) (places h.section_offset 40 (number_of_sections h)))
+    says-option_or file (option_map (λ n. TooShort n) (find (λ p. ends_beyond file p 40) (entry_offsets h.section_offset 40 (number_of_sections h)))) None
+    (says-option_map file (λ n. TooShort n) (find (λ p. ends_beyond file p 40) (entry_offsets h.section_offset 40 (number_of_sections h)))
     (λ place f. inr (inr (fits, cut-first file h.section_offset 40 (number_of_sections h) place f)))) tt
 
 -- the tests of the tables
@@ -179,24 +179,24 @@ first-header test So passing failing hs i e = record {
 }
 
 -- a segment outside the file
-outside-yes : (file : List ℕ) (h : ProgramHeader) → is_outside file h ≡ true → EndsBeyond file h
-outside-yes file h e = let both = both_hold (is_load h) (ends_beyond file h.offset h.filesz) e in
+outside-yes : (file : List ℕ) (h : ProgramHeader) → ends_outside file h ≡ true → EndsBeyond file h
+outside-yes file h e = let both = both_hold (is_loaded h) (ends_beyond file h.offset h.filesz) e in
     let beyond : nat_lt (length file) (h.offset + h.filesz) ≡ true = both.1 in (both.0, grind (arith, nat_tests))
 
 -- and one that is not
-outside-no : (file : List ℕ) (h : ProgramHeader) → is_outside file h ≡ false → ¬ EndsBeyond file h
+outside-no : (file : List ℕ) (h : ProgramHeader) → ends_outside file h ≡ false → ¬ EndsBeyond file h
 outside-no file h e so = let load = so.0 in let beyond = so.1 in let test : ends_beyond file h.offset h.filesz ≡ true = grind (arith, nat_tests) in
-    never (is_outside file h) (both_true (is_load h) (ends_beyond file h.offset h.filesz) load test) e
+    never (ends_outside file h) (both_true (is_loaded h) (ends_beyond file h.offset h.filesz) load test) e
 
 -- a segment that is larger in the file
 larger-yes : (h : ProgramHeader) → is_larger h ≡ true → IsLarger h
-larger-yes h e = let both = both_hold (is_load h) (nat_lt h.memsz h.filesz) e in let beyond : nat_lt h.memsz h.filesz ≡ true = both.1 in
+larger-yes h e = let both = both_hold (is_loaded h) (nat_lt h.memsz h.filesz) e in let beyond : nat_lt h.memsz h.filesz ≡ true = both.1 in
     (both.0, grind (arith, nat_tests))
 
 -- and one that is not
 larger-no : (h : ProgramHeader) → is_larger h ≡ false → ¬ IsLarger h
 larger-no h e so = let load = so.0 in let beyond = so.1 in let test : nat_lt h.memsz h.filesz ≡ true = grind (arith, nat_tests) in
-    never (is_larger h) (both_true (is_load h) (nat_lt h.memsz h.filesz) load test) e
+    never (is_larger h) (both_true (is_loaded h) (nat_lt h.memsz h.filesz) load test) e
 
 -- a kind, by the test
 same_kind : (h : ProgramHeader) → is_interpreter h ≡ true → h.kind ≡ 3
@@ -213,8 +213,8 @@ says-segments file =
     says-first_of file (segment_tests file) (
       says-where_so file (list_any is_interpreter (program_headers file)) NeedsInterpreter (λ e. interpreter-any (program_headers file) e),
       (
-        says-option_map file (λ i. OutsideFile i) (position (is_outside file) (program_headers file))
-            (λ i e. first-header (is_outside file) (EndsBeyond file) (outside-yes file) (outside-no file) (program_headers file) i e),
+        says-option_map file (λ i. OutsideFile i) (position (ends_outside file) (program_headers file))
+            (λ i e. first-header (ends_outside file) (EndsBeyond file) (outside-yes file) (outside-no file) (program_headers file) i e),
         (
           says-option_map file (λ i. FileLargerThanMemory i) (position is_larger (program_headers file))
               (λ i e. first-header is_larger IsLarger larger-yes larger-no (program_headers file) i e),
@@ -236,8 +236,8 @@ unfolding bad_symbols
 says-symbols file = says-table file (first_symbol_table file) refl
 
 -- all tests
-says-refusal : (file : List ℕ) → Says file (refusal file)
-unfolding refusal AllSay
+says-refusal : (file : List ℕ) → Says file (file_refusal file)
+unfolding file_refusal AllSay
 says-refusal file = says-first_of file (groups file) (says-identity file, (says-target file, (says-tables file, (says-segments file, (says-symbols file, tt)))))
 
 -- what is true of a refusal that is given
@@ -247,5 +247,5 @@ told-cause file None e h s = cc
 told-cause file (Some x) e h s = let same : x ≡ e = cc in subst (λ (y : ElfErr). IsElfCause file y) same s
 
 -- a refusal is given for its true cause
-pub refusal-cause : (file : List ℕ) (e : ElfErr) → refusal file ≡ Some e → IsElfCause file e
-refusal-cause file e h = told-cause file (refusal file) e h (says-refusal file)
+pub refusal-cause : (file : List ℕ) (e : ElfErr) → file_refusal file ≡ Some e → IsElfCause file e
+refusal-cause file e h = told-cause file (file_refusal file) e h (says-refusal file)

@@ -11,12 +11,12 @@ use Rattle.elf_view.specs.declared.headers.FileHeader.{FileHeader}
 use Rattle.elf_view.specs.declared.headers.ProgramHeader.{ProgramHeader}
 use Rattle.elf_view.specs.declared.refusal.ElfErr.{ElfErr}
 use Rattle.elf_view.specs.declared.refusal.ElfErr.TheVariants.{TooShort, NotElf, Not32Little, NotRiscv, NotExecutable, NeedsCompressed, NeedsFloat, NeedsRve, BadHeaderSize, NeedsInterpreter}
-use Rattle.elf_view.specs.Fields.{places, ends_beyond, bytes_at, FitsIn}
+use Rattle.elf_view.specs.Fields.{entry_offsets, ends_beyond, bytes_at, FitsIn}
 use Rattle.elf_view.specs.Headers.{file_header, program_headers, number_of_sections}
-use Rattle.elf_view.specs.Segments.{is_load, is_interpreter, segment_of, segments_of, IsSoundSegment, AreSound, IsLoadable}
+use Rattle.elf_view.specs.Segments.{is_loaded, is_interpreter, segment_of, segments_of, IsSoundSegment, AreSound, IsLoadable}
 use Rattle.elf_view.specs.Sections.{first_symbol_table, section_at, IsReadable}
 use Rattle.elf_view.specs.Executables.{HasIdentity, HasTarget, HasTables, IsElf}
-use Rattle.elf_view.specs.Refusal.{where_so, first_of, starts_with_elf, no_file_header, not_elf, not_32_little, identity_refusal, not_executable, not_riscv, needs_compressed, needs_float, needs_rve, target_refusal, bad_program_size, bad_section_size, cut_program_header, cut_section_header, table_refusal, needs_interpreter, is_outside, is_larger, outside_file, larger_than_memory, segment_refusal, bad_table, bad_symbols, refusal}
+use Rattle.elf_view.specs.Refusal.{where_so, first_error, starts_with_elf, no_file_header, not_elf, not_32_little, identity_refusal, not_executable, not_riscv, needs_compressed, needs_float, needs_rve, target_refusal, bad_program_size, bad_section_size, cut_program_header, cut_section_header, table_refusal, needs_interpreter, ends_outside, is_larger, outside_file, larger_than_memory, segment_refusal, bad_table, bad_symbols, file_refusal}
 use Rattle.elf_view.proofs.Accepted.{Pass, all_pass, groups_pass, tables_pass, segments_pass, programs_fit, sections_fit, segments_sound, table_readable}
 use Rattle.elf_view.proofs.Groups.{identity_tests, target_tests, table_tests, segment_tests, groups, no_header}
 use Rattle.elf_view.proofs.Readable.{both_hold, readable-sound, length-bytes_at, never}
@@ -83,7 +83,7 @@ right_size count size right false true e f h above = grind (arith, nat_tests)
 right_size count size right false false e f h above = cc
 
 -- the tables of headers
-passed-tables : (file : List ℕ) → refusal file ≡ None → HasTables file (file_header file)
+passed-tables : (file : List ℕ) → file_refusal file ≡ None → HasTables file (file_header file)
 unfolding bad_program_size bad_section_size
 passed-tables file e =
     let pass = tables_pass file e in
@@ -107,7 +107,7 @@ holds_of_none p x true e never = absurd (never e)
 holds_of_none p x false e never = e
 
 -- no interpreter
-passed-interpreter : (file : List ℕ) → refusal file ≡ None → All (λ h. h.kind ≢ 3) (program_headers file)
+passed-interpreter : (file : List ℕ) → file_refusal file ≡ None → All (λ h. h.kind ≢ 3) (program_headers file)
 unfolding needs_interpreter
 passed-interpreter file e =
     let none = no_fault (list_any is_interpreter (program_headers file)) NeedsInterpreter (segments_pass file e).0 in
@@ -115,7 +115,7 @@ passed-interpreter file e =
     (λ is. never (list_any is_interpreter (program_headers file)) (list_any_at is_interpreter (program_headers file) k d within is) none))
 
 -- a file that passes all tests can be viewed
-pub accepted-elf : (file : List ℕ) → refusal file ≡ None → IsElf file
+pub accepted-elf : (file : List ℕ) → file_refusal file ≡ None → IsElf file
 accepted-elf file e = record {
   identity = passed-identity file (groups_pass file e).0;
   target = passed-target (file_header file) (groups_pass file e).1.0;
@@ -134,17 +134,17 @@ loadable-segment file h s =
     record { within = rw size s.within; content = rw size refl; room = rw size s.room }
 
 -- the segments of a file that passes all tests
-pub segments-loadable : (file : List ℕ) → refusal file ≡ None → All (IsLoadable file) (segments_of file)
+pub segments-loadable : (file : List ℕ) → file_refusal file ≡ None → All (IsLoadable file) (segments_of file)
 unfolding segments_of
 segments-loadable file e =
-    let sound : All (IsSoundSegment file) (filter is_load (program_headers file)) = segments_sound file e in
-    All-map (IsLoadable file) (segment_of file) (filter is_load (program_headers file))
-    (λ k d within. loadable-segment file (get_or (filter is_load (program_headers file)) k d) (sound k d within))
+    let sound : All (IsSoundSegment file) (filter is_loaded (program_headers file)) = segments_sound file e in
+    All-map (IsLoadable file) (segment_of file) (filter is_loaded (program_headers file))
+    (λ k d within. loadable-segment file (get_or (filter is_loaded (program_headers file)) k d) (sound k d within))
 
 -- ---- what can be viewed passes all tests
 
 -- tests that each give no error give none together
-none_tells : (tests : List (Option ElfErr)) → Pass tests → first_of tests ≡ None
+none_tells : (tests : List (Option ElfErr)) → Pass tests → first_error tests ≡ None
 none_tells [] pass = refl
 none_tells (test ∷ tests) pass = rw pass.0 (none_tells tests pass.1)
 
@@ -196,7 +196,7 @@ size-passes count size right e false true f g h = refl
 size-passes count size right e false false f g h = absurd (grind (arith, nat_tests))
 
 -- no entry of a table in the file is cut off
-fits-none : (file : List ℕ) (at size count : ℕ) → FitsIn file at size count → find (λ p. ends_beyond file p size) (places at size count) ≡ None
+fits-none : (file : List ℕ) (at size count : ℕ) → FitsIn file at size count → find (λ p. ends_beyond file p size) (entry_offsets at size count) ≡ None
 fits-none file at size zero fits = refl
 fits-none file at size (suc count) fits =
     let all : at + size * suc count ≤ length file = fits (omega arith) in
@@ -237,12 +237,12 @@ loaded-fails true test h = h refl
 loaded-fails false test h = refl
 
 -- a sound header is not outside the file
-sound-inside : (file : List ℕ) (h : ProgramHeader) → (is_load h ≡ true → IsSoundSegment file h) → is_outside file h ≡ false
-sound-inside file h s = loaded-fails (is_load h) (ends_beyond file h.offset h.filesz) (λ load. let within = (s load).within in grind (arith, nat_tests))
+sound-inside : (file : List ℕ) (h : ProgramHeader) → (is_loaded h ≡ true → IsSoundSegment file h) → ends_outside file h ≡ false
+sound-inside file h s = loaded-fails (is_loaded h) (ends_beyond file h.offset h.filesz) (λ load. let within = (s load).within in grind (arith, nat_tests))
 
 -- and not larger there than in memory
-sound-small : (file : List ℕ) (h : ProgramHeader) → (is_load h ≡ true → IsSoundSegment file h) → is_larger h ≡ false
-sound-small file h s = loaded-fails (is_load h) (nat_lt h.memsz h.filesz) (λ load. let room = (s load).room in grind (arith, nat_tests))
+sound-small : (file : List ℕ) (h : ProgramHeader) → (is_loaded h ≡ true → IsSoundSegment file h) → is_larger h ≡ false
+sound-small file h s = loaded-fails (is_loaded h) (nat_lt h.memsz h.filesz) (λ load. let room = (s load).room in grind (arith, nat_tests))
 
 -- there is no index of an element that passes where none does
 no_index : (test : ProgramHeader → Bool) (hs : List ProgramHeader) (o : Option ℕ) → position test hs ≡ o → All (λ h. test h ≡ false) hs → o ≡ None
@@ -256,10 +256,10 @@ segments-pass : (file : List ℕ) → All (λ h. h.kind ≢ 3) (program_headers 
 unfolding segment_refusal needs_interpreter outside_file larger_than_memory
 segments-pass file other sound =
     let hs = program_headers file in
-    let each : All (λ h. is_load h ≡ true → IsSoundSegment file h) hs = filtered-all is_load (IsSoundSegment file) hs sound in
+    let each : All (λ h. is_loaded h ≡ true → IsSoundSegment file h) hs = filtered-all is_loaded (IsSoundSegment file) hs sound in
     let interpreter : list_any is_interpreter hs ≡ false = list_any_none is_interpreter hs (λ k d within. let kind = other k d within in
     grind (arith, nat_tests)) in
-    let outside : position (is_outside file) hs ≡ None = no_index (is_outside file) hs _ refl
+    let outside : position (ends_outside file) hs ≡ None = no_index (ends_outside file) hs _ refl
     (λ k d within. sound-inside file (get_or hs k d) (each k d within)) in
     let larger : position is_larger hs ≡ None = no_index is_larger hs _ refl (λ k d within. sound-small file (get_or hs k d) (each k d within)) in
     none_tells (segment_tests file) (rw interpreter refl, (rw outside refl, (rw larger refl, tt)))
@@ -276,8 +276,8 @@ unfolding bad_symbols
 symbols-pass file readable = table-passes file (first_symbol_table file) refl readable
 
 -- an executable that can be viewed passes all tests
-pub elf-accepted : (file : List ℕ) → IsElf file → refusal file ≡ None
-unfolding refusal
+pub elf-accepted : (file : List ℕ) → IsElf file → file_refusal file ≡ None
+unfolding file_refusal
 elf-accepted file elf =
     none_tells (groups file) (
       identity-passes file elf.identity,
@@ -294,5 +294,5 @@ elf-accepted file elf =
     )
 
 -- a file that is refused is not such an executable
-pub refused-no_elf : (file : List ℕ) (e : ElfErr) → refusal file ≡ Some e → ¬ IsElf file
+pub refused-no_elf : (file : List ℕ) (e : ElfErr) → file_refusal file ≡ Some e → ¬ IsElf file
 refused-no_elf file e h elf = let passes = elf-accepted file elf in cc

@@ -7,7 +7,7 @@ use Rattle.std.proofs.lemmas.List.{length-take-le, length-drop}
 use Rattle.elf_view.specs.declared.headers.SectionHeader.{SectionHeader}
 use Rattle.elf_view.specs.Fields.{bytes_at, ends_beyond}
 use Rattle.elf_view.specs.Headers.{file_header, number_of_sections}
-use Rattle.elf_view.specs.Sections.{lies_in, content_of, entries_of, has_whole_entries, ends_in_nul, names_begin_in, has_sound_names, is_sound_table, section_at, HasNames, IsReadable}
+use Rattle.elf_view.specs.Sections.{is_within_file, section_bytes, entries_of, has_whole_entries, ends_in_nul, names_begin_in, has_sound_names, is_sound_table, section_at, HasNames, IsReadable}
 
 -- of two tests that both hold each holds
 pub both_hold : (a b : Bool) → (a && b) ≡ true → (a ≡ true) × (b ≡ true)
@@ -79,10 +79,10 @@ true-below a b h = grind (arith, nat_tests)
 -- names that pass the test are what they are tested for
 sound-names : (file : List ℕ) (table names : SectionHeader) → has_sound_names file table names ≡ true → HasNames file names (entries_of file table)
 sound-names file table names e =
-    let lies = both_hold (lies_in file names) (ends_in_nul (content_of file names) && names_begin_in names (entries_of file table)) e in
-    let rest = both_hold (ends_in_nul (content_of file names)) (names_begin_in names (entries_of file table)) lies.1 in
+    let lies = both_hold (is_within_file file names) (ends_in_nul (section_bytes file names) && names_begin_in names (entries_of file table)) e in
+    let rest = both_hold (ends_in_nul (section_bytes file names)) (names_begin_in names (entries_of file table)) lies.1 in
     let within = lies-within file names.offset names.size lies.0 in
-    let closed = nul-closed (content_of file names) names.size (length-bytes_at file names.offset names.size within) rest.0 in
+    let closed = nul-closed (section_bytes file names) names.size (length-bytes_at file names.offset names.size within) rest.0 in
     record {
       within = within;
       filled = closed.0;
@@ -94,10 +94,10 @@ sound-names file table names e =
 -- and such names pass the test
 names-sound : (file : List ℕ) (table names : SectionHeader) → HasNames file names (entries_of file table) → has_sound_names file table names ≡ true
 names-sound file table names h =
-    both_true (lies_in file names) (ends_in_nul (content_of file names) && names_begin_in names (entries_of file table))
+    both_true (is_within_file file names) (ends_in_nul (section_bytes file names) && names_begin_in names (entries_of file table))
     (within-lies file names.offset names.size h.within)
-    (both_true (ends_in_nul (content_of file names)) (names_begin_in names (entries_of file table))
-    (closed-nul (content_of file names) names.size (length-bytes_at file names.offset names.size h.within) h.filled h.closed)
+    (both_true (ends_in_nul (section_bytes file names)) (names_begin_in names (entries_of file table))
+    (closed-nul (section_bytes file names) names.size (length-bytes_at file names.offset names.size h.within) h.filled h.closed)
     (all_true (λ e. nat_lt e.name names.size) (entries_of file table) (λ k d below. below-true (get_or (entries_of file table) k d).name names.size
     (h.begin k d below))))
 
@@ -114,9 +114,9 @@ true-whole table e = let tests = both_hold (table.entry_size == 16) (table.size 
 -- a symbol table that passes the test can be read
 pub sound-readable : (file : List ℕ) (table : SectionHeader) → is_sound_table file table ≡ true → IsReadable file table
 sound-readable file table e =
-    let whole = both_hold (has_whole_entries table) (lies_in file table && (nat_lt table.link (number_of_sections (file_header file))
+    let whole = both_hold (has_whole_entries table) (is_within_file file table && (nat_lt table.link (number_of_sections (file_header file))
     && has_sound_names file table (section_at file table.link))) e in
-    let lies = both_hold (lies_in file table) (nat_lt table.link (number_of_sections (file_header file))
+    let lies = both_hold (is_within_file file table) (nat_lt table.link (number_of_sections (file_header file))
     && has_sound_names file table (section_at file table.link)) whole.1 in
     let linked = both_hold (nat_lt table.link (number_of_sections (file_header file))) (has_sound_names file table (section_at file table.link)) lies.1 in
     let entries = true-whole table whole.0 in
@@ -131,10 +131,11 @@ sound-readable file table e =
 -- and one that can be read passes it
 pub readable-sound : (file : List ℕ) (table : SectionHeader) → IsReadable file table → is_sound_table file table ≡ true
 readable-sound file table r =
-    both_true (has_whole_entries table) (lies_in file table && (nat_lt table.link (number_of_sections (file_header file))
+    both_true (has_whole_entries table) (is_within_file file table && (nat_lt table.link (number_of_sections (file_header file))
     && has_sound_names file table (section_at file table.link)))
     (whole-true table r.entry_size r.whole)
-    (both_true (lies_in file table) (nat_lt table.link (number_of_sections (file_header file)) && has_sound_names file table (section_at file table.link))
+    (both_true (is_within_file file table) (nat_lt table.link (number_of_sections (file_header file)) && has_sound_names file table
+    (section_at file table.link))
     (within-lies file table.offset table.size r.within)
     (both_true (nat_lt table.link (number_of_sections (file_header file))) (has_sound_names file table (section_at file table.link))
     (below-true table.link (number_of_sections (file_header file)) r.linked) (names-sound file table (section_at file table.link) r.names)))

@@ -3,17 +3,17 @@ use Rattle.std.proofs.Common.{◌≡◌, ℕ, zero, suc, ◌+◌, ◌-◌, ◌*�
 use Rattle.std.specs.Prelude.{find, position, nat_lt, IfSome}
 use Rattle.std.specs.List.{position_or_len}
 use Rattle.std.proofs.lemmas.Bool.Decides.{nat_tests}
-use Rattle.elf_view.specs.Fields.{places, ends_beyond, entries}
+use Rattle.elf_view.specs.Fields.{entry_offsets, ends_beyond, entries}
 
 -- the indices that are left begin with the next
-pub next_place : (place size count counter : ℕ) → counter < count → places place size (count - counter) ≡ place
-    ∷ places (place + size) size (count - (counter + 1))
+pub next_place : (place size count counter : ℕ) → counter < count → entry_offsets place size (count - counter) ≡ place
+    ∷ entry_offsets (place + size) size (count - (counter + 1))
 next_place place size count counter below = let e : count - counter ≡ suc (count - (counter + 1)) = omega arith in rw e refl
 
 -- an entry that lies in the file is not the first that does not
 pub not_cut : (file : List ℕ) (place size count counter : ℕ) → counter < count → place + size ≤ length file →
-    find (λ at. ends_beyond file at size) (places (place + size) size (count - (counter + 1)))
-    ≡ find (λ at. ends_beyond file at size) (places place size (count - counter))
+    find (λ at. ends_beyond file at size) (entry_offsets (place + size) size (count - (counter + 1)))
+    ≡ find (λ at. ends_beyond file at size) (entry_offsets place size (count - counter))
 not_cut file place size count counter below within =
     let passes : nat_lt (length file) (place + size) ≡ false = grind (arith, nat_tests) in
     rw (next_place place size count counter below, passes) refl
@@ -30,11 +30,11 @@ one_more_fits file at size zero first others = omega arith
 one_more_fits file at size (suc count) first others = let more = others (omega arith) in grind arith
 
 -- a table lies in the file where none of its entries ends beyond it
-pub none_cut : (file : List ℕ) (at size count : ℕ) → find (λ place. ends_beyond file place size) (places at size count) ≡ None → 0 < count →
+pub none_cut : (file : List ℕ) (at size count : ℕ) → find (λ place. ends_beyond file place size) (entry_offsets at size count) ≡ None → 0 < count →
     at + size * count ≤ length file
 none_cut file at size zero e some = absurd (omega arith)
 none_cut file at size (suc count) e some =
-    let told : (nat_lt (length file) (at + size) ≡ false) × (find (λ place. ends_beyond file place size) (places (at + size) size count) ≡ None) =
+    let told : (nat_lt (length file) (at + size) ≡ false) × (find (λ place. ends_beyond file place size) (entry_offsets (at + size) size count) ≡ None) =
     told_none (nat_lt (length file) (at + size)) at _ e in
     let test : nat_lt (length file) (at + size) ≡ false = told.0 in
     let first : at + size ≤ length file = grind (arith, nat_tests) in

@@ -3,7 +3,7 @@ use Rattle.std.specs.Prelude.{◌≡◌, ◌≢◌, ◌⊎◌, ℕ, ◌+◌, ◌
 use Rattle.std.specs.List.{Any, HoldsAt}
 use Rattle.elf_view.specs.Fields.{FitsIn}
 use Rattle.elf_view.specs.Headers.{file_header, program_headers, number_of_sections}
-use Rattle.elf_view.specs.Segments.{is_load}
+use Rattle.elf_view.specs.Segments.{is_loaded}
 use Rattle.elf_view.specs.Sections.{first_symbol_table, section_at, IsReadable}
 use Rattle.elf_view.specs.declared.headers.FileHeader.{FileHeader}
 use Rattle.elf_view.specs.declared.headers.ProgramHeader.{ProgramHeader}
@@ -40,11 +40,11 @@ pub record IsFirstHeader (So : ProgramHeader → Type 0) (headers : List Program
 
 -- a segment that is loaded ends beyond the file
 abbrev pub EndsBeyond : List ℕ → ProgramHeader → Type 0
-EndsBeyond file h = (is_load h ≡ true) × (length file < h.offset + h.filesz)
+EndsBeyond file h = (is_loaded h ≡ true) × (length file < h.offset + h.filesz)
 
 -- a segment that is loaded has more bytes in the file than in memory
 abbrev pub IsLarger : ProgramHeader → Type 0
-IsLarger h = (is_load h ≡ true) × (h.memsz < h.filesz)
+IsLarger h = (is_loaded h ≡ true) × (h.memsz < h.filesz)
 
 -- what a refusal says of the file
 abbrev pub IsElfCause : List ℕ → ElfErr → Type 0

@@ -20,13 +20,13 @@ abbrev pub ends_beyond : List ℕ → ℕ → ℕ → Bool
 ends_beyond file at count = nat_lt (length file) (at + count)
 
 -- the offsets of the entries of a table: that many of one size, one after the other
-abbrev pub places : ℕ → ℕ → ℕ → List ℕ
-places at size zero = []
-places at size (suc count) = at ∷ places (at + size) size count
+abbrev pub entry_offsets : ℕ → ℕ → ℕ → List ℕ
+entry_offsets at size zero = []
+entry_offsets at size (suc count) = at ∷ entry_offsets (at + size) size count
 
 -- the entries of a table in the file: that many of one size, each read where it begins
 abbrev pub entries : {E : Type 0} → (List ℕ → ℕ → E) → ℕ → List ℕ → ℕ → ℕ → List E
-entries read size file at count = map (read file) (places at size count)
+entries read size file at count = map (read file) (entry_offsets at size count)
 
 -- a table of that many entries of one size lies in the file; an empty one lies anywhere
 abbrev pub FitsIn : List ℕ → ℕ → ℕ → ℕ → Type 0

@@ -1,7 +1,7 @@
 -- The headers of an ELF file, each field at its offset (Tool Interface Standard, Executable and Linking Format
 -- Specification, "ELF Header", "Program Header", "Sections" and "Symbol Table").
 use Rattle.std.specs.Prelude.{ℕ, ◌+◌, List, ◌==◌, if◌then◌else◌}
-use Rattle.elf_view.specs.Fields.{half, word, places, entries}
+use Rattle.elf_view.specs.Fields.{half, word, entry_offsets, entries}
 use Rattle.elf_view.specs.declared.headers.FileHeader.{FileHeader}
 use Rattle.elf_view.specs.declared.headers.ProgramHeader.{ProgramHeader}
 use Rattle.elf_view.specs.declared.headers.SectionHeader.{SectionHeader}
@@ -53,7 +53,7 @@ symbol_entry file at = record {
 
 -- where the program headers begin
 abbrev pub program_places : FileHeader → List ℕ
-program_places h = places h.program_offset 32 h.program_count
+program_places h = entry_offsets h.program_offset 32 h.program_count
 
 -- the program headers, in table order
 abbrev pub program_headers : List ℕ → List ProgramHeader
@@ -65,7 +65,7 @@ number_of_sections h = if h.section_offset == 0 then 0 else h.section_count
 
 -- where the section headers begin
 abbrev pub section_places : FileHeader → List ℕ
-section_places h = places h.section_offset 40 (number_of_sections h)
+section_places h = entry_offsets h.section_offset 40 (number_of_sections h)
 
 -- the section headers, in table order
 abbrev pub section_headers : List ℕ → List SectionHeader

@@ -6,7 +6,7 @@ use Rattle.std.specs.List.{list_any, starts_with}
 use Rattle.std.specs.Option.{option_or, option_map}
 use Rattle.elf_view.specs.Fields.{ends_beyond}
 use Rattle.elf_view.specs.Headers.{file_header, program_headers, program_places, section_places, number_of_sections}
-use Rattle.elf_view.specs.Segments.{is_load, is_interpreter}
+use Rattle.elf_view.specs.Segments.{is_loaded, is_interpreter}
 use Rattle.elf_view.specs.Sections.{first_symbol_table, section_at, is_sound_table}
 use Rattle.elf_view.specs.declared.headers.FileHeader.{FileHeader}
 use Rattle.elf_view.specs.declared.headers.ProgramHeader.{ProgramHeader}
@@ -18,9 +18,9 @@ abbrev pub where_so : Bool → ElfErr → Option ElfErr
 where_so fault e = if fault then Some e else None
 
 -- the first error of the tests
-abbrev pub first_of : List (Option ElfErr) → Option ElfErr
-first_of [] = None
-first_of (test ∷ tests) = option_or test (first_of tests)
+abbrev pub first_error : List (Option ElfErr) → Option ElfErr
+first_error [] = None
+first_error (test ∷ tests) = option_or test (first_error tests)
 
 -- there is no whole file header
 unfoldable pub no_file_header : List ℕ → Option ElfErr
@@ -79,16 +79,16 @@ unfoldable pub needs_interpreter : List ℕ → Option ElfErr
 needs_interpreter file = where_so (list_any is_interpreter (program_headers file)) NeedsInterpreter
 
 -- the bytes of a segment that is loaded end beyond the file
-abbrev pub is_outside : List ℕ → ProgramHeader → Bool
-is_outside file h = is_load h && ends_beyond file h.offset h.filesz
+abbrev pub ends_outside : List ℕ → ProgramHeader → Bool
+ends_outside file h = is_loaded h && ends_beyond file h.offset h.filesz
 
 -- the first header whose segment ends beyond the file
 unfoldable pub outside_file : List ℕ → Option ElfErr
-outside_file file = option_map OutsideFile (position (is_outside file) (program_headers file))
+outside_file file = option_map OutsideFile (position (ends_outside file) (program_headers file))
 
 -- a segment that is loaded has more bytes in the file than in memory
 abbrev pub is_larger : ProgramHeader → Bool
-is_larger h = is_load h && nat_lt h.memsz h.filesz
+is_larger h = is_loaded h && nat_lt h.memsz h.filesz
 
 -- the first header whose segment is larger in the file than in memory
 unfoldable pub larger_than_memory : List ℕ → Option ElfErr
@@ -105,25 +105,25 @@ bad_symbols file = bad_table file (first_symbol_table file)
 
 -- the tests of the file's identity
 unfoldable pub identity_refusal : List ℕ → Option ElfErr
-identity_refusal file = first_of (no_file_header file ∷ not_elf file ∷ not_32_little file ∷ [])
+identity_refusal file = first_error (no_file_header file ∷ not_elf file ∷ not_32_little file ∷ [])
 
 -- the tests of the file's target
 unfoldable pub target_refusal : FileHeader → Option ElfErr
-target_refusal h = first_of (not_executable h ∷ not_riscv h ∷ needs_compressed h ∷ needs_float h ∷ needs_rve h ∷ [])
+target_refusal h = first_error (not_executable h ∷ not_riscv h ∷ needs_compressed h ∷ needs_float h ∷ needs_rve h ∷ [])
 
 -- the tests of the tables of headers
 unfoldable pub table_refusal : List ℕ → Option ElfErr
 table_refusal file =
-    first_of (bad_program_size (file_header file) ∷ bad_section_size (file_header file) ∷ cut_program_header file ∷ cut_section_header file ∷ [])
+    first_error (bad_program_size (file_header file) ∷ bad_section_size (file_header file) ∷ cut_program_header file ∷ cut_section_header file ∷ [])
 
 -- the tests of the segments, each over all headers
 unfoldable pub segment_refusal : List ℕ → Option ElfErr
-segment_refusal file = first_of (needs_interpreter file ∷ outside_file file ∷ larger_than_memory file ∷ [])
+segment_refusal file = first_error (needs_interpreter file ∷ outside_file file ∷ larger_than_memory file ∷ [])
 
 -- the first error of all tests, in their order
-unfoldable pub refusal : List ℕ → Option ElfErr
-refusal file =
-    first_of (identity_refusal file ∷ target_refusal (file_header file) ∷ table_refusal file ∷ segment_refusal file ∷ bad_symbols file ∷ [])
+unfoldable pub file_refusal : List ℕ → Option ElfErr
+file_refusal file =
+    first_error (identity_refusal file ∷ target_refusal (file_header file) ∷ table_refusal file ∷ segment_refusal file ∷ bad_symbols file ∷ [])
 
 -- the outcome of a test
 abbrev pub view_answer : Option ElfErr → Result (Unit {0}) ElfErr

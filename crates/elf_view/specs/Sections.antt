@@ -20,12 +20,12 @@ abbrev pub section_at : List ℕ → ℕ → SectionHeader
 section_at file index = section_header file ((file_header file).section_offset + 40 * index)
 
 -- the bytes of a section lie in the file
-abbrev pub lies_in : List ℕ → SectionHeader → Bool
-lies_in file s = not (ends_beyond file s.offset s.size)
+abbrev pub is_within_file : List ℕ → SectionHeader → Bool
+is_within_file file s = not (ends_beyond file s.offset s.size)
 
 -- the bytes of a section
-abbrev pub content_of : List ℕ → SectionHeader → List ℕ
-content_of file s = bytes_at file s.offset s.size
+abbrev pub section_bytes : List ℕ → SectionHeader → List ℕ
+section_bytes file s = bytes_at file s.offset s.size
 
 -- the entries of a symbol table, each of 16 bytes
 abbrev pub entries_of : List ℕ → SectionHeader → List SymbolEntry
@@ -45,12 +45,12 @@ names_begin_in names entries = list_all (λ e. nat_lt e.name names.size) entries
 
 -- the names lie in the file and end in NUL, and each symbol's name begins in them
 abbrev pub has_sound_names : List ℕ → SectionHeader → SectionHeader → Bool
-has_sound_names file table names = lies_in file names && (ends_in_nul (content_of file names) && names_begin_in names (entries_of file table))
+has_sound_names file table names = is_within_file file names && (ends_in_nul (section_bytes file names) && names_begin_in names (entries_of file table))
 
 -- the symbol table can be read: whole entries that lie in the file, and a section of names, which exists and is sound
 abbrev pub is_sound_table : List ℕ → SectionHeader → Bool
 is_sound_table file table =
-    has_whole_entries table && (lies_in file table && (nat_lt table.link (number_of_sections (file_header file))
+    has_whole_entries table && (is_within_file file table && (nat_lt table.link (number_of_sections (file_header file))
     && has_sound_names file table (section_at file table.link)))
 
 -- the section has names for the entries: its bytes lie in the file and end in NUL, and the name of each entry begins in
@@ -58,7 +58,7 @@ is_sound_table file table =
 pub record HasNames (file : List ℕ) (names : SectionHeader) (entries : List SymbolEntry) : Type 0 where
   pub within : names.offset + names.size ≤ length file
   pub filled : 0 < names.size
-  pub closed : slice_index (content_of file names) (names.size - 1) ≡ 0
+  pub closed : slice_index (section_bytes file names) (names.size - 1) ≡ 0
   pub begin : All (λ e. e.name < names.size) entries
 
 -- the section is a symbol table that can be read: whole entries of 16 bytes that lie in the file, and a section with

@@ -17,8 +17,8 @@ pub record LoadSegment : Type 0 where
   pub exec : Bool
 
 -- the header is that of a segment that is loaded (PT_LOAD)
-abbrev pub is_load : ProgramHeader → Bool
-is_load h = h.kind == 1
+abbrev pub is_loaded : ProgramHeader → Bool
+is_loaded h = h.kind == 1
 
 -- the header is that of an interpreter's name (PT_INTERP)
 abbrev pub is_interpreter : ProgramHeader → Bool
@@ -26,7 +26,7 @@ is_interpreter h = h.kind == 3
 
 -- the headers in a table that belong to segments which are loaded
 abbrev pub loads_in : List ℕ → ℕ → ℕ → List ProgramHeader
-loads_in file at count = filter is_load (entries program_header 32 file at count)
+loads_in file at count = filter is_loaded (entries program_header 32 file at count)
 
 -- the segment of a header: its bytes are those of the file at its offset, and its flags say whether it may be written
 -- (PF_W) and executed (PF_X)
@@ -42,7 +42,7 @@ segment_of file h = record {
 
 -- the segments of those headers that belong to segments which are loaded, in their order
 abbrev pub segments_in : List ℕ → List ProgramHeader → List LoadSegment
-segments_in file headers = map (segment_of file) (filter is_load headers)
+segments_in file headers = map (segment_of file) (filter is_loaded headers)
 
 -- the segments of a file, in the order of the program headers
 unfoldable pub segments_of : List ℕ → List LoadSegment
@@ -55,7 +55,7 @@ pub record IsSoundSegment (file : List ℕ) (h : ProgramHeader) : Type 0 where
 
 -- this holds of each header of a segment that is loaded
 abbrev pub AreSound : List ℕ → List ProgramHeader → Type 0
-AreSound file headers = All (IsSoundSegment file) (filter is_load headers)
+AreSound file headers = All (IsSoundSegment file) (filter is_loaded headers)
 
 -- a segment whose bytes lie in the file at its offset, and fit into its size in memory
 pub record IsLoadable (file : List ℕ) (s : LoadSegment) : Type 0 where

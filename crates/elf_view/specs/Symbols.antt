@@ -2,7 +2,7 @@
 -- "String Table").
 use Rattle.std.specs.Prelude.{ℕ, List, [], length, map, drop, Bool, ◌==◌, not, Option, Some, None}
 use Rattle.std.specs.List.{before_first}
-use Rattle.elf_view.specs.Sections.{first_symbol_table, section_at, content_of, entries_of}
+use Rattle.elf_view.specs.Sections.{first_symbol_table, section_at, section_bytes, entries_of}
 use Rattle.elf_view.specs.declared.headers.SectionHeader.{SectionHeader}
 use Rattle.elf_view.specs.declared.headers.SymbolEntry.{SymbolEntry}
 use Rattle.elf_view.specs.declared.symbols.LazySymbol.{LazySymbol}
@@ -28,7 +28,7 @@ symbol_of names e = record { name = text_at names e.name; value = e.value; size 
 
 -- the symbols of a symbol table, with their names from the section that it links to
 abbrev pub symbols_in : List ℕ → SectionHeader → List NamedSymbol
-symbols_in file table = map (symbol_of (content_of file (section_at file table.link))) (entries_of file table)
+symbols_in file table = map (symbol_of (section_bytes file (section_at file table.link))) (entries_of file table)
 
 -- the symbols of the section at an index, and none without an index
 abbrev pub symbols_at : List ℕ → Option ℕ → List NamedSymbol
@@ -40,8 +40,8 @@ unfoldable pub symbols_of : List ℕ → List NamedSymbol
 symbols_of file = symbols_at file (first_symbol_table file)
 
 -- the symbol has a name that is not empty
-abbrev pub is_named : NamedSymbol → Bool
-is_named symbol = not (length symbol.name == 0)
+abbrev pub has_name : NamedSymbol → Bool
+has_name symbol = not (length symbol.name == 0)
 
 -- a symbol, as contracts see it
 abbrev pub shown_symbol : Symbol → NamedSymbol

@@ -6,7 +6,7 @@ ghost use Rattle.elf_view.specs.Executables.{IsElf};
 ghost use Rattle.elf_view.specs.Fields.{FitsIn};
 ghost use Rattle.elf_view.specs.Headers.{file_header, number_of_sections};
 ghost use Rattle.elf_view.specs.Left.{lazy_left, segments_left, symbols_left};
-ghost use Rattle.elf_view.specs.Refusal.{refusal};
+ghost use Rattle.elf_view.specs.Refusal.{file_refusal};
 ghost use Rattle.elf_view.specs.Sections.{IsReadable};
 ghost use Rattle.elf_view.specs.Segments.{segments_of, IsLoadable};
 ghost use Rattle.elf_view.specs.Symbols.{symbols_in, symbols_of};
@@ -28,13 +28,13 @@ pub struct Elf<'a> {
 impl<'a> Model for Elf<'a> {
     ghost use Rattle.std.specs.Prelude.{◌≡◌, ℕ, List, None};
     ghost use Rattle.elf_view.specs.Headers.{file_header};
-    ghost use Rattle.elf_view.specs.Refusal.{refusal};
+    ghost use Rattle.elf_view.specs.Refusal.{file_refusal};
 
     ghost Value = { List ℕ };
 
     ghost view = { λ e. e.file.now };
 
-    ghost invariant = { λ e. (refusal e.file.now ≡ None) × (e.header ≡ file_header e.file.now) };
+    ghost invariant = { λ e. (file_refusal e.file.now ≡ None) × (e.header ≡ file_header e.file.now) };
 }
 
 /// The symbols of a symbol table.
@@ -54,9 +54,9 @@ impl<'a> Elf<'a> {
     pub fn view(file: &'a [u8]) -> Result<Elf<'a>, ElfErr>
         ensures file { IfOk result (λ elf. elf ≡ file.now) }
         ensures is_elf { IfOk result (λ elf. IsElf file.now) }
-        ensures accepted { IfOk result (λ elf. refusal file.now ≡ None) }
+        ensures accepted { IfOk result (λ elf. file_refusal file.now ≡ None) }
         ensures loadable { IfOk result (λ elf. All (IsLoadable file.now) (segments_of file.now)) }
-        ensures refused { IfErr result (λ error. refusal file.now ≡ Some error) }
+        ensures refused { IfErr result (λ error. file_refusal file.now ≡ Some error) }
         ensures not_elf { IfErr result (λ error. ¬ IsElf file.now) }
         ensures cause { IfErr result (λ error. IsElfCause file.now error) }
     {

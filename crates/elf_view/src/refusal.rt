@@ -2,10 +2,10 @@
 
 ghost use Rattle.std.specs.Prelude.{◌≡◌, ◌<◌, ◌≤◌, ◌^◌, ◌*◌, ◌+◌, [], ◌∷◌, OnOk, IfOk, IfErr, IfSome, IfNone, length, find, position};
 ghost use Rattle.std.specs.List.{list_any};
-ghost use Rattle.elf_view.specs.Fields.{places, ends_beyond, FitsIn};
+ghost use Rattle.elf_view.specs.Fields.{entry_offsets, ends_beyond, FitsIn};
 ghost use Rattle.elf_view.specs.Headers.{file_header, program_headers, section_headers, number_of_sections};
-ghost use Rattle.elf_view.specs.Segments.{is_load, is_interpreter};
-ghost use Rattle.elf_view.specs.Refusal.{no_file_header, not_elf, not_32_little, identity_refusal, not_executable, not_riscv, needs_compressed, needs_float, needs_rve, target_refusal, bad_program_size, bad_section_size, cut_program_header, cut_section_header, table_refusal, needs_interpreter, is_outside, is_larger, outside_file, larger_than_memory, segment_refusal, bad_symbols, refusal, first_of, view_answer};
+ghost use Rattle.elf_view.specs.Segments.{is_loaded, is_interpreter};
+ghost use Rattle.elf_view.specs.Refusal.{no_file_header, not_elf, not_32_little, identity_refusal, not_executable, not_riscv, needs_compressed, needs_float, needs_rve, target_refusal, bad_program_size, bad_section_size, cut_program_header, cut_section_header, table_refusal, needs_interpreter, ends_outside, is_larger, outside_file, larger_than_memory, segment_refusal, bad_symbols, file_refusal, first_error, view_answer};
 
 use crate::entries::Entry;
 use crate::headers::{FileHeader, ProgramHeader, SectionHeader};
@@ -110,7 +110,7 @@ impl ProgramHeader {
 
     /// Whether the segment is loaded, and its bytes end beyond the file.
     fn is_outside(&self, file: &[u8]) -> bool
-        ensures { result ≡ is_outside file.now self.now }
+        ensures { result ≡ ends_outside file.now self.now }
     {
         self.is_load() && file.len() < self.offset as usize + self.filesz as usize
     }
@@ -127,7 +127,7 @@ impl ProgramHeader {
 #[tactic(auto, using(crate::proofs::Tables::none_cut))]
 fn first_cut(file: &[u8], at: u32, size: usize, count: u16) -> Option<u64>
     requires { size ≤ 40 }
-    ensures offset { result ≡ find (λ place. ends_beyond file.now place size) (places at size count) }
+    ensures offset { result ≡ find (λ place. ends_beyond file.now place size) (entry_offsets at size count) }
     ensures fits { IfNone result (FitsIn file.now at size count) }
 {
     let mut place = at as usize;
@@ -143,7 +143,7 @@ fn first_cut(file: &[u8], at: u32, size: usize, count: u16) -> Option<u64>
 #[tactic(auto, unfolding(crate::specs::Refusal::bad_program_size, crate::specs::Refusal::bad_section_size))]
 fn check_sizes(header: &FileHeader) -> Result<(), ElfErr>
     ensures { result
-        ≡ view_answer (first_of (bad_program_size header.now ∷ bad_section_size header.now ∷ [])) }
+        ≡ view_answer (first_error (bad_program_size header.now ∷ bad_section_size header.now ∷ [])) }
 {
     if header.program_count != 0 && usize::from(header.program_size) != ProgramHeader::SIZE {
         return Err(ElfErr::BadHeaderSize(header.program_size));
@@ -212,7 +212,7 @@ fn check_interpreter(file: &[u8], header: &FileHeader) -> Result<(), ElfErr>
 fn first_outside(file: &[u8], header: &FileHeader) -> Option<usize>
     requires header { header.now ≡ file_header file.now }
     requires fits { FitsIn file.now header.now.program_offset 32 header.now.program_count }
-    ensures index { result ≡ position (is_outside file.now) (program_headers file.now) }
+    ensures index { result ≡ position (ends_outside file.now) (program_headers file.now) }
     ensures within { IfSome result (λ i. i < 2 ^ 16) }
 {
     header
@@ -284,11 +284,11 @@ fn check_symbols(file: &[u8], header: &FileHeader) -> Result<(), ElfErr>
 }
 
 /// Tests the file, in the order of the definition, and returns its header.
-#[tactic(auto, unfolding(crate::specs::Refusal::refusal))]
+#[tactic(auto, unfolding(crate::specs::Refusal::file_refusal))]
 pub(crate) fn check(file: &[u8]) -> Result<FileHeader, ElfErr>
-    ensures accepted { IfOk result (λ header. refusal file.now ≡ None) }
+    ensures accepted { IfOk result (λ header. file_refusal file.now ≡ None) }
     ensures header { IfOk result (λ header. header ≡ file_header file.now) }
-    ensures refused { IfErr result (λ error. refusal file.now ≡ Some error) }
+    ensures refused { IfErr result (λ error. file_refusal file.now ≡ Some error) }
 {
     check_identity(file)?;
     let header = FileHeader::read(file);

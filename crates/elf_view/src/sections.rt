@@ -3,7 +3,7 @@
 ghost use Rattle.std.specs.Prelude.{◌≡◌, ◌<◌, ◌≤◌, ◌^◌, ◌+◌, ◌*◌, ◌/◌, IfSome, IsTrue, length, position};
 ghost use Rattle.elf_view.specs.Fields.{entries as table_entries, FitsIn};
 ghost use Rattle.elf_view.specs.Headers.{file_header, symbol_entry, number_of_sections};
-ghost use Rattle.elf_view.specs.Sections.{is_symbol_table, first_symbol_table, section_at, lies_in, content_of, entries_of, has_whole_entries, ends_in_nul, names_begin_in, has_sound_names, is_sound_table};
+ghost use Rattle.elf_view.specs.Sections.{is_symbol_table, first_symbol_table, section_at, is_within_file, section_bytes, entries_of, has_whole_entries, ends_in_nul, names_begin_in, has_sound_names, is_sound_table};
 
 use crate::entries::{Entries, Entry};
 use crate::headers::{FileHeader, SectionHeader, SymbolEntry};
@@ -20,15 +20,15 @@ impl SectionHeader {
 
     /// Whether the bytes of the section lie in the file.
     fn lies_in(&self, file: &[u8]) -> bool
-        ensures { result ≡ lies_in file.now self.now }
+        ensures { result ≡ is_within_file file.now self.now }
     {
         self.offset as usize + self.size as usize <= file.len()
     }
 
     /// The bytes of the section.
     pub(crate) fn content<'a>(&self, file: &'a [u8]) -> &'a [u8]
-        requires { IsTrue (lies_in file.now self.now) }
-        ensures value { result.now ≡ content_of file.now self.now }
+        requires { IsTrue (is_within_file file.now self.now) }
+        ensures value { result.now ≡ section_bytes file.now self.now }
         ensures length { length result.now ≡ self.now.size }
     {
         let start = self.offset as usize;
@@ -44,7 +44,7 @@ impl SectionHeader {
 
     /// The entries of the symbol table.
     pub(crate) fn entries<'a>(&self, file: &'a [u8]) -> Entries<'a, SymbolEntry>
-        requires { IsTrue (lies_in file.now self.now) }
+        requires { IsTrue (is_within_file file.now self.now) }
         ensures { table_entries symbol_entry 16 result.file.now result.at result.left
             ≡ entries_of file.now self.now }
     {
@@ -73,7 +73,7 @@ fn names_begin_in(names: &SectionHeader, mut entries: Entries<SymbolEntry>) -> b
 
 /// Whether the names lie in the file and end in NUL, and the name of each symbol begins in them.
 fn has_sound_names(file: &[u8], table: &SectionHeader, names: &SectionHeader) -> bool
-    requires { IsTrue (lies_in file.now table.now) }
+    requires { IsTrue (is_within_file file.now table.now) }
     ensures { result ≡ has_sound_names file.now table.now names.now }
 {
     names.lies_in(file)

@@ -1,7 +1,7 @@
 //! The segments of a file.
 
 ghost use Rattle.std.specs.Prelude.{◌≡◌, [], ◌∷◌, map, All, MatchOption};
-ghost use Rattle.elf_view.specs.Segments.{is_load, loads_in, segment_of, shown_segment, IsSoundSegment};
+ghost use Rattle.elf_view.specs.Segments.{is_loaded, loads_in, segment_of, shown_segment, IsSoundSegment};
 
 use crate::entries::Entries;
 use crate::headers::ProgramHeader;
@@ -16,7 +16,7 @@ const WRITABLE: u32 = 2;
 impl ProgramHeader {
     /// Whether the segment is loaded.
     pub(crate) fn is_load(&self) -> bool
-        ensures { result ≡ is_load self.now }
+        ensures { result ≡ is_loaded self.now }
     {
         self.kind == LOAD
     }

@@ -3,7 +3,7 @@
 ghost use Rattle.std.specs.Prelude.{◌≡◌, ◌≤◌, ◌<◌, ◌==◌, length, drop, position, IfSome, map, All};
 ghost use Rattle.elf_view.specs.Fields.{entries as table_entries};
 ghost use Rattle.elf_view.specs.Headers.{symbol_entry};
-ghost use Rattle.elf_view.specs.Symbols.{first_text, is_named, shown_lazy, shown_symbol, symbol_of};
+ghost use Rattle.elf_view.specs.Symbols.{first_text, has_name, shown_lazy, shown_symbol, symbol_of};
 
 use crate::entries::Entries;
 use crate::headers::SymbolEntry;
@@ -73,7 +73,7 @@ impl<'a> LazySymbol<'a> {
     /// Whether it has a name that is not empty.
     #[tactic(auto, using(crate::proofs::Names::names))]
     pub fn is_named(&self) -> bool
-        ensures { result ≡ is_named (shown_lazy self.now) }
+        ensures { result ≡ has_name (shown_lazy self.now) }
     {
         match self.names {
             [first, ..] => *first != 0,

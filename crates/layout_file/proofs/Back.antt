@@ -1,6 +1,5 @@
 -- The table of a layout's parts has no fault, and requests those parts.
 use Rattle.std.proofs.Common.{◌≡◌, ℕ, ℤ, pos, ◌≤◌, Ordering, Less, Equal, Greater, nat_cmp, is_eq, Bool, true, false, cond, le-leb, List, [], ◌∷◌, ◌++◌, length, map, codes, Option, Some, None, refl, sym, ap, ◌∙◌, arith}
-use Rattle.std.specs.Prelude.{◌&&◌}
 use Rattle.std.proofs.lemmas.Option.{none-some}
 use Rattle.std.proofs.lemmas.List.{length-map}
 use Rattle.std.specs.Cmp.{tied_itself}
@@ -13,12 +12,14 @@ use Rattle.cf_layout.specs.declared.parts.Siding.{Siding}
 use Rattle.cf_layout.specs.declared.parts.Parts.{Parts}
 use Rattle.cf_layout.specs.Layout.{computed_classes}
 use Rattle.cf_layout.proofs.Asking.{unit_for, units_for}
-use Rattle.layout_file.specs.declared.form.Form.{Form}
-use Rattle.layout_file.specs.declared.form.Form.TheVariants as form
-use Rattle.layout_file.specs.declared.form.Shape.TheVariants.{Integer, Text, Table}
-use Rattle.layout_file.specs.Names.{class_name, class_of}
-use Rattle.layout_file.specs.Tables.{knows, fits, all_have, item_count, is_list_of, first_unknown, first_misfit, form_fault}
-use Rattle.layout_file.specs.Reading.{integers_of, units_among, first_nameless, classes_of, integer_at, items_at, members_at, truth_at, siding_fault, siding_in, sidings_fault, sidings_in, format_fault, is_second, tables_fault, parts_in}
+use Rattle.layout_file.specs.declared.format.Format.{Format}
+use Rattle.layout_file.specs.declared.format.Format.TheVariants.{First, Second}
+use Rattle.layout_file.specs.declared.kinds.TableKind.{TableKind}
+use Rattle.layout_file.specs.declared.kinds.TableKind.TheVariants as kind
+use Rattle.layout_file.specs.declared.kinds.Shape.TheVariants.{Integer, Text, Table}
+use Rattle.layout_file.specs.Names.{class_name, class_by_name}
+use Rattle.layout_file.specs.Tables.{knows, fits, all_have, item_count, is_list_of, first_unknown_key, first_misfit_key, entries_fault}
+use Rattle.layout_file.specs.Reading.{integers_of, units_among, first_nameless, classes_of, integer_at, items_at, members_at, siding_fault, siding_in, sidings_fault, sidings_in, cache_in, format_in, format_fault, tables_fault, parts_in}
 use Rattle.layout_file.proofs.Documents.{integers, names, place, unit_table, siding_table, siding_items, top_table, table_of}
 use Rattle.layout_file.proofs.Filling.{get-place-other}
 
@@ -35,41 +36,41 @@ integers-array : (zs : List ℤ) → length zs ≤ 1000 → is_list_of Integer (
 integers-array zs few = let (a, b) = integers-fit zs in rw (b, le-leb (length zs) 1000 few, a)
 
 -- the name of a class is read as that class, in this format
-abbrev pub IsWord : Bool → Class → Type 0
-IsWord second c = class_of second (class_name c) ≡ Some c
+abbrev pub IsWord : Format → Class → Type 0
+IsWord format c = class_by_name format (class_name c) ≡ Some c
 
-abbrev pub AreWords : Bool → List Class → Type 0
-AreWords second [] = Unit {0}
-AreWords second (c ∷ cs) = IsWord second c × AreWords second cs
+abbrev pub AreWords : Format → List Class → Type 0
+AreWords format [] = Unit {0}
+AreWords format (c ∷ cs) = IsWord format c × AreWords format cs
 
-names-back : (second : Bool) (cs : List Class) → AreWords second cs → (classes_of second (names cs) ≡ cs) × (first_nameless second (names cs) ≡ None)
+names-back : (format : Format) (cs : List Class) → AreWords format cs → (classes_of format (names cs) ≡ cs) × (first_nameless format (names cs) ≡ None)
     × (all_have Text (names cs) ≡ true) × (item_count (names cs) ≡ length cs)
-names-back second [] words = (refl, refl, refl, refl)
-names-back second (c ∷ cs) words = let (a, b, t, n) = names-back second cs words.1 in (rw (words.0, a), rw words.0 b, t, rw n)
+names-back format [] words = (refl, refl, refl, refl)
+names-back format (c ∷ cs) words = let (a, b, t, n) = names-back format cs words.1 in (rw (words.0, a), rw words.0 b, t, rw n)
 
-names-array : (second : Bool) (cs : List Class) → AreWords second cs → length cs ≤ 1000 → is_list_of Text (array (names cs)) ≡ true
-names-array second cs words few = let (a, b, t, n) = names-back second cs words in rw (n, le-leb (length cs) 1000 few, t)
+names-array : (format : Format) (cs : List Class) → AreWords format cs → length cs ≤ 1000 → is_list_of Text (array (names cs)) ≡ true
+names-array format cs words few = let (a, b, t, n) = names-back format cs words in rw (n, le-leb (length cs) 1000 few, t)
 
 -- a siding's table
-siding-back : (second : Bool) (s : Siding) → AreWords second s.classes → siding_in second (siding_table s) ≡ s
+siding-back : (format : Format) (s : Siding) → AreWords format s.classes → siding_in format (siding_table s) ≡ s
 unfolding siding_in
-siding-back second s words = let (a, b, t, n) = names-back second s.classes words in rw a
+siding-back format s words = let (a, b, t, n) = names-back format s.classes words in rw a
 
-siding-right : (second : Bool) (s : Siding) → AreWords second s.classes → length s.classes ≤ 1000 → siding_fault second (siding_table s) ≡ None
-unfolding siding_fault form_fault knows fits
-siding-right second s words few = let (a, b, t, n) = names-back second s.classes words in rw (names-array second s.classes words few, b)
+siding-right : (format : Format) (s : Siding) → AreWords format s.classes → length s.classes ≤ 1000 → siding_fault format (siding_table s) ≡ None
+unfolding siding_fault entries_fault knows fits
+siding-right format s words few = let (a, b, t, n) = names-back format s.classes words in rw (names-array format s.classes words few, b)
 
 -- each siding's classes are few, and have names in the format
-abbrev pub AreRight : Bool → List Siding → Type 0
-AreRight second [] = Unit {0}
-AreRight second (s ∷ ss) = ((length s.classes ≤ 1000) × AreWords second s.classes) × AreRight second ss
+abbrev pub AreRight : Format → List Siding → Type 0
+AreRight format [] = Unit {0}
+AreRight format (s ∷ ss) = ((length s.classes ≤ 1000) × AreWords format s.classes) × AreRight format ss
 
-sidings-back : (second : Bool) (ss : List Siding) → AreRight second ss → (sidings_in second (siding_items ss) ≡ ss)
-    × (sidings_fault second (siding_items ss) ≡ None) × (all_have Table (siding_items ss) ≡ true) × (item_count (siding_items ss) ≡ length ss)
-sidings-back second [] right = (refl, refl, refl, refl)
-sidings-back second (s ∷ ss) right =
-    let (a, b, t, n) = sidings-back second ss right.1 in
-    (rw (siding-back second s right.0.1, a), rw (siding-right second s right.0.1 right.0.0, b), t, rw n)
+sidings-back : (format : Format) (ss : List Siding) → AreRight format ss → (sidings_in format (siding_items ss) ≡ ss)
+    × (sidings_fault format (siding_items ss) ≡ None) × (all_have Table (siding_items ss) ≡ true) × (item_count (siding_items ss) ≡ length ss)
+sidings-back format [] right = (refl, refl, refl, refl)
+sidings-back format (s ∷ ss) right =
+    let (a, b, t, n) = sidings-back format ss right.1 in
+    (rw (siding-back format s right.0.1, a), rw (siding-right format s right.0.1 right.0.0, b), t, rw n)
 
 -- the units' table
 same-step : (o : Ordering) (k l : List ℕ) (d e : Data) (ms : Members) → o ≡ slice_cmp nat_cmp k l → get_member k (place k d ms) ≡ Some d
@@ -157,70 +158,71 @@ rest-none : (b : Bool) (l : List ℕ) (x : Option (List ℕ)) → cond b x (Some
 rest-none true l x h = h
 rest-none false l x h = absurd (none-some l (sym h))
 
-known-step : (o : Ordering) (f : Form) (k l : List ℕ) (d e : Data) (ms : Members) → knows f k ≡ true → first_unknown f (member l e ms) ≡ None →
-    first_unknown f (place k d ms) ≡ None
-    → first_unknown f (match_ordering o (member k d (member l e ms)) (member l d ms) (member l e (place k d ms))) ≡ None
+known-step : (o : Ordering) (f : TableKind) (k l : List ℕ) (d e : Data) (ms : Members) → knows f k ≡ true → first_unknown_key f (member l e ms) ≡ None →
+    first_unknown_key f (place k d ms) ≡ None
+    → first_unknown_key f (match_ordering o (member k d (member l e ms)) (member l d ms) (member l e (place k d ms))) ≡ None
 known-step Less f k l d e ms known h ih = rw known h
 known-step Equal f k l d e ms known h ih = h
-known-step Greater f k l d e ms known h ih = known-more (knows f l) l (first_unknown f ms) (first_unknown f (place k d ms)) h ih
+known-step Greater f k l d e ms known h ih = known-more (knows f l) l (first_unknown_key f ms) (first_unknown_key f (place k d ms)) h ih
 
-known-place : (f : Form) (k : List ℕ) (d : Data) (ms : Members) → knows f k ≡ true → first_unknown f ms ≡ None → first_unknown f (place k d ms) ≡ None
+known-place : (f : TableKind) (k : List ℕ) (d : Data) (ms : Members) → knows f k ≡ true → first_unknown_key f ms ≡ None →
+    first_unknown_key f (place k d ms) ≡ None
 known-place f k d no_members known h = rw known
 known-place f k d (member l e ms) known h = known-step (slice_cmp nat_cmp k l) f k l d e ms known h
-    (known-place f k d ms known (rest-none (knows f l) l (first_unknown f ms) h))
+    (known-place f k d ms known (rest-none (knows f l) l (first_unknown_key f ms) h))
 
-fit-step : (o : Ordering) (f : Form) (k l : List ℕ) (d e : Data) (ms : Members) → fits f k d ≡ true →
-    match_ordering o (get_member k ms) (Some e) (get_member k ms) ≡ None → first_misfit f (member l e ms) ≡ None
-    → (get_member k ms ≡ None → first_misfit f (place k d ms) ≡ None)
-    → first_misfit f (match_ordering o (member k d (member l e ms)) (member l d ms) (member l e (place k d ms))) ≡ None
+fit-step : (o : Ordering) (f : TableKind) (k l : List ℕ) (d e : Data) (ms : Members) → fits f k d ≡ true →
+    match_ordering o (get_member k ms) (Some e) (get_member k ms) ≡ None → first_misfit_key f (member l e ms) ≡ None
+    → (get_member k ms ≡ None → first_misfit_key f (place k d ms) ≡ None)
+    → first_misfit_key f (match_ordering o (member k d (member l e ms)) (member l d ms) (member l e (place k d ms))) ≡ None
 fit-step Less f k l d e ms fit gone h ih = rw fit h
 fit-step Equal f k l d e ms fit gone h ih = absurd (none-some e (sym gone))
-fit-step Greater f k l d e ms fit gone h ih = known-more (fits f l e) l (first_misfit f ms) (first_misfit f (place k d ms)) h (ih gone)
+fit-step Greater f k l d e ms fit gone h ih = known-more (fits f l e) l (first_misfit_key f ms) (first_misfit_key f (place k d ms)) h (ih gone)
 
-fit-place : (f : Form) (k : List ℕ) (d : Data) (ms : Members) → fits f k d ≡ true → get_member k ms ≡ None → first_misfit f ms ≡ None →
-    first_misfit f (place k d ms) ≡ None
+fit-place : (f : TableKind) (k : List ℕ) (d : Data) (ms : Members) → fits f k d ≡ true → get_member k ms ≡ None → first_misfit_key f ms ≡ None →
+    first_misfit_key f (place k d ms) ≡ None
 fit-place f k d no_members fit gone h = rw fit
 fit-place f k d (member l e ms) fit gone h =
-    fit-step (slice_cmp nat_cmp k l) f k l d e ms fit gone h (λ none. fit-place f k d ms fit none (rest-none (fits f l e) l (first_misfit f ms) h))
+    fit-step (slice_cmp nat_cmp k l) f k l d e ms fit gone h (λ none. fit-place f k d ms fit none (rest-none (fits f l e) l (first_misfit_key f ms) h))
 
-knows-class : (second : Bool) (c : Class) → IsWord second c → knows (form.Units second) (class_name c) ≡ true
+knows-class : (format : Format) (c : Class) → IsWord format c → knows (kind.Units format) (class_name c) ≡ true
 unfolding knows
-knows-class second c word = rw word
+knows-class format c word = rw word
 
-fits-class : (second : Bool) (c : Class) (zs : List ℤ) → length zs ≤ 1000 → fits (form.Units second) (class_name c) (array (integers zs)) ≡ true
+fits-class : (format : Format) (c : Class) (zs : List ℤ) → length zs ≤ 1000 → fits (kind.Units format) (class_name c) (array (integers zs)) ≡ true
 unfolding fits
-fits-class second c zs few = integers-array zs few
+fits-class format c zs few = integers-array zs few
 
-abbrev RightUnits : Bool → Members → Type 0
-RightUnits second ms = (first_unknown (form.Units second) ms ≡ None) × (first_misfit (form.Units second) ms ≡ None)
+abbrev RightUnits : Format → Members → Type 0
+RightUnits format ms = (first_unknown_key (kind.Units format) ms ≡ None) × (first_misfit_key (kind.Units format) ms ≡ None)
 
 -- the stages are few, and the class has a name in the format where it has some
-abbrev pub IsRightUnit : Bool → Class → List ℕ → Type 0
-IsRightUnit second c stages = (length stages ≤ 1000) × (1 ≤ length stages → IsWord second c)
+abbrev pub IsRightUnit : Format → Class → List ℕ → Type 0
+IsRightUnit format c stages = (length stages ≤ 1000) × (1 ≤ length stages → IsWord format c)
 
-abbrev pub AreRightUnits : Bool → (Class → List ℕ) → List Class → Type 0
-AreRightUnits second f [] = Unit {0}
-AreRightUnits second f (c ∷ cs) = IsRightUnit second c (f c) × AreRightUnits second f cs
+abbrev pub AreRightUnits : Format → (Class → List ℕ) → List Class → Type 0
+AreRightUnits format f [] = Unit {0}
+AreRightUnits format f (c ∷ cs) = IsRightUnit format c (f c) × AreRightUnits format f cs
 
 few_integers : (is : List ℕ) → length is ≤ 1000 → length (map (λ n. pos n) is) ≤ 1000
 few_integers is few = rw length-map few
 
-right-one : (second : Bool) (f : Class → List ℕ) (cs : List Class) (c : Class) (stages : List ℕ) (ms : Members) →
-    ((n : Members) → NoneIn cs n → RightUnits second n → RightUnits second (unit_table (units_for f cs) n))
-    → IsRightUnit second c stages → AllDiffer (c ∷ cs) → NoneIn (c ∷ cs) ms → RightUnits second ms →
-    RightUnits second (unit_table (unit_for c stages ++ units_for f cs) ms)
-right-one second f cs c [] ms ih unit all gone right = ih ms gone.1 right
-right-one second f cs c (i ∷ is) ms ih unit all gone right =
+right-one : (format : Format) (f : Class → List ℕ) (cs : List Class) (c : Class) (stages : List ℕ) (ms : Members) →
+    ((n : Members) → NoneIn cs n → RightUnits format n → RightUnits format (unit_table (units_for f cs) n))
+    → IsRightUnit format c stages → AllDiffer (c ∷ cs) → NoneIn (c ∷ cs) ms → RightUnits format ms →
+    RightUnits format (unit_table (unit_for c stages ++ units_for f cs) ms)
+right-one format f cs c [] ms ih unit all gone right = ih ms gone.1 right
+right-one format f cs c (i ∷ is) ms ih unit all gone right =
     let d = array (integers (map (λ n. pos n) (i ∷ is))) in
     ih (place (class_name c) d ms) (none-place cs c d ms all.0 gone.0 gone.1) (
-      known-place (form.Units second) (class_name c) d ms (knows-class second c (unit.1 (omega arith))) right.0,
-      fit-place (form.Units second) (class_name c) d ms (fits-class second c (map (λ n. pos n) (i ∷ is)) (few_integers (i ∷ is) unit.0)) gone.0 right.1,
+      known-place (kind.Units format) (class_name c) d ms (knows-class format c (unit.1 (omega arith))) right.0,
+      fit-place (kind.Units format) (class_name c) d ms (fits-class format c (map (λ n. pos n) (i ∷ is)) (few_integers (i ∷ is) unit.0)) gone.0 right.1,
     )
 
-units-right : (second : Bool) (f : Class → List ℕ) (cs : List Class) (ms : Members) → AreRightUnits second f cs → AllDiffer cs → NoneIn cs ms →
-    RightUnits second ms → RightUnits second (unit_table (units_for f cs) ms)
-units-right second f [] ms units all gone right = right
-units-right second f (c ∷ cs) ms units all gone right = right-one second f cs c (f c) ms (λ n none r. units-right second f cs n units.1 all.1 none r) units.0
+units-right : (format : Format) (f : Class → List ℕ) (cs : List Class) (ms : Members) → AreRightUnits format f cs → AllDiffer cs → NoneIn cs ms →
+    RightUnits format ms → RightUnits format (unit_table (units_for f cs) ms)
+units-right format f [] ms units all gone right = right
+units-right format f (c ∷ cs) ms units all gone right = right-one format f cs c (f c) ms (λ n none r. units-right format f cs n units.1 all.1 none r) units.0
     all gone right
 
 pub classes-differ : AllDiffer computed_classes
@@ -239,82 +241,82 @@ classes-differ = (
 )
 
 -- what makes parts readable in a format
-pub record AreReadable (second : Bool) (f : Class → List ℕ) (p : Parts) : Type 0 where
+pub record AreReadable (format : Format) (f : Class → List ℕ) (p : Parts) : Type 0 where
   pub units : p.units ≡ units_for f computed_classes
-  pub stages : AreRightUnits second f computed_classes
-  pub sidings : AreRight second p.sidings
+  pub stages : AreRightUnits format f computed_classes
+  pub sidings : AreRight format p.sidings
   pub few : length p.sidings ≤ 1000
-  pub cache : second ≡ false → p.cache ≡ false
+  pub cache : format ≡ First → p.cache ≡ false
 
-units-form : (second : Bool) (f : Class → List ℕ) → AreRightUnits second f computed_classes →
-    form_fault (form.Units second) (unit_table (units_for f computed_classes) no_members) ≡ None
-unfolding form_fault
-units-form second f right = let (a, b) = units-right second f computed_classes no_members right classes-differ (none-empty computed_classes) (refl, refl) in
+units-form : (format : Format) (f : Class → List ℕ) → AreRightUnits format f computed_classes →
+    entries_fault (kind.Units format) (unit_table (units_for f computed_classes) no_members) ≡ None
+unfolding entries_fault
+units-form format f right = let (a, b) = units-right format f computed_classes no_members right classes-differ (none-empty computed_classes) (refl, refl) in
     rw (a, b)
 
-sidings-fit : (second : Bool) (ss : List Siding) → AreRight second ss → length ss ≤ 1000 → is_list_of Table (array (siding_items ss)) ≡ true
-sidings-fit second ss right few = let (a, b, t, n) = sidings-back second ss right in rw (n, le-leb (length ss) 1000 few, t)
+sidings-fit : (format : Format) (ss : List Siding) → AreRight format ss → length ss ≤ 1000 → is_list_of Table (array (siding_items ss)) ≡ true
+sidings-fit format ss right few = let (a, b, t, n) = sidings-back format ss right in rw (n, le-leb (length ss) 1000 few, t)
 
-top-form : (ss : List Siding) (second : Bool) (p : Parts) (units : Members) → p.sidings ≡ ss → is_list_of Table (array (siding_items ss)) ≡ true →
-    form_fault (form.Top second) (top_table second p units) ≡ None
-unfolding form_fault knows fits
-top-form [] false p units e fit = rw e
-top-form [] true p units e fit = rw e
-top-form (s ∷ ss) false p units e fit = rw (e, fit)
-top-form (s ∷ ss) true p units e fit = rw (e, fit)
+top-form : (ss : List Siding) (format : Format) (p : Parts) (units : Members) → p.sidings ≡ ss → is_list_of Table (array (siding_items ss)) ≡ true →
+    entries_fault (kind.Top format) (top_table format p units) ≡ None
+unfolding entries_fault knows fits
+top-form [] First p units e fit = rw e
+top-form [] Second p units e fit = rw e
+top-form (s ∷ ss) First p units e fit = rw (e, fit)
+top-form (s ∷ ss) Second p units e fit = rw (e, fit)
 
 -- what is at the keys
-top-siding : (ss : List Siding) (second : Bool) (p : Parts) (units : Members) → p.sidings ≡ ss →
-    items_at (codes "siding") (top_table second p units) ≡ siding_items ss
-top-siding [] false p units e = rw e
-top-siding [] true p units e = rw e
-top-siding (s ∷ ss) false p units e = rw e
-top-siding (s ∷ ss) true p units e = rw e
+top-siding : (ss : List Siding) (format : Format) (p : Parts) (units : Members) → p.sidings ≡ ss →
+    items_at (codes "siding") (top_table format p units) ≡ siding_items ss
+top-siding [] First p units e = rw e
+top-siding [] Second p units e = rw e
+top-siding (s ∷ ss) First p units e = rw e
+top-siding (s ∷ ss) Second p units e = rw e
 
-top-rest : (ss : List Siding) (second : Bool) (p : Parts) (units : Members) → p.sidings ≡ ss
-    → (integer_at (codes "lane") (top_table second p units) ≡ p.lane) × (integer_at (codes "stages") (top_table second p units) ≡ p.stages)
-    × (members_at (codes "units") (top_table second p units) ≡ units)
-top-rest [] false p units e = rw e (refl, refl, refl)
-top-rest [] true p units e = rw e (refl, refl, refl)
-top-rest (s ∷ ss) false p units e = rw e (refl, refl, refl)
-top-rest (s ∷ ss) true p units e = rw e (refl, refl, refl)
+top-rest : (ss : List Siding) (format : Format) (p : Parts) (units : Members) → p.sidings ≡ ss
+    → (integer_at (codes "lane") (top_table format p units) ≡ p.lane) × (integer_at (codes "stages") (top_table format p units) ≡ p.stages)
+    × (members_at (codes "units") (top_table format p units) ≡ units)
+top-rest [] First p units e = rw e (refl, refl, refl)
+top-rest [] Second p units e = rw e (refl, refl, refl)
+top-rest (s ∷ ss) First p units e = rw e (refl, refl, refl)
+top-rest (s ∷ ss) Second p units e = rw e (refl, refl, refl)
 
-top-format : (second : Bool) (p : Parts) (units : Members) → format_fault second (integer_at (codes "format") (top_table second p units)) ≡ None
-top-format false p units = refl
-top-format true p units = refl
+top-format : (format : Format) (p : Parts) (units : Members) → format_fault format (integer_at (codes "format") (top_table format p units)) ≡ None
+top-format First p units = refl
+top-format Second p units = refl
 
-pub table_second : (second : Bool) (p : Parts) → is_second (table_of second p) ≡ second
-unfolding is_second
-table_second false p = refl
-table_second true p = refl
+pub table_format : (format : Format) (p : Parts) → format_in (table_of format p) ≡ format
+unfolding format_in
+table_format First p = refl
+table_format Second p = refl
 
-top-cache : (second : Bool) (p : Parts) (units : Members) → (second ≡ false → p.cache ≡ false) →
-    (second && truth_at (codes "cache") (top_table second p units)) ≡ p.cache
-top-cache false p units none = sym (none refl)
-top-cache true p units none = refl
+top-cache : (format : Format) (p : Parts) (units : Members) → (format ≡ First → p.cache ≡ false) →
+    cache_in format (top_table format p units) ≡ p.cache
+top-cache First p units none = sym (none refl)
+top-cache Second p units none = refl
 
-pub table_right : (second : Bool) (f : Class → List ℕ) (p : Parts) → AreReadable second f p → tables_fault second (table_of second p) ≡ None
+pub table_right : (format : Format) (f : Class → List ℕ) (p : Parts) → AreReadable format f p → tables_fault format (table_of format p) ≡ None
 unfolding tables_fault
-table_right second f p r =
+table_right format f p r =
     let units = unit_table p.units no_members in
-    let (la, st, un) = top-rest p.sidings second p units refl in
-    let (a, b, t, n) = sidings-back second p.sidings r.sidings in
+    let (la, st, un) = top-rest p.sidings format p units refl in
+    let (a, b, t, n) = sidings-back format p.sidings r.sidings in
     rw (
-      top-form p.sidings second p units refl (sidings-fit second p.sidings r.sidings r.few),
-      top-format second p units,
-      top-siding p.sidings second p units refl,
+      top-form p.sidings format p units refl (sidings-fit format p.sidings r.sidings r.few),
+      top-format format p units,
+      top-siding p.sidings format p units refl,
       b,
       un,
       r.units,
-      units-form second f r.stages,
+      units-form format f r.stages,
     )
 
-pub table_back : (second : Bool) (f : Class → List ℕ) (p : Parts) → AreReadable second f p → parts_in second (table_of second p) ≡ p
+pub table_back : (format : Format) (f : Class → List ℕ) (p : Parts) → AreReadable format f p → parts_in format (table_of format p) ≡ p
 unfolding parts_in
-table_back second f p r =
+table_back format f p r =
     let units = unit_table p.units no_members in
-    let (la, st, un) = top-rest p.sidings second p units refl in
-    let (a, b, t, n) = sidings-back second p.sidings r.sidings in
+    let (la, st, un) = top-rest p.sidings format p units refl in
+    let (a, b, t, n) = sidings-back format p.sidings r.sidings in
     let units_same : units_among computed_classes (unit_table p.units no_members) ≡ p.units =
     rw r.units (units-back f computed_classes no_members classes-differ (none-empty computed_classes)) in
-    rw (la, st, un, units_same, top-siding p.sidings second p units refl, a, top-cache second p units r.cache)
+    rw (la, st, un, units_same, top-siding p.sidings format p units refl, a, top-cache format p units r.cache)

@@ -1,6 +1,5 @@
 -- The tables of a layout's file: in the order of its text, and in byte order.
 use Rattle.std.proofs.Common.{◌≡◌, ℕ, ℤ, pos, Bool, true, false, List, [], ◌∷◌, codes, refl}
-use Rattle.std.specs.Prelude.{if◌then◌else◌}
 use Rattle.std.specs.Ordering.{nat_cmp, match_ordering}
 use Rattle.std.specs.Cmp.Lexicographic.{slice_cmp}
 use Rattle.toml.specs.Data.{Data, string, integer, boolean, array, table, Items, no_items, item, Members, no_members, member}
@@ -8,6 +7,8 @@ use Rattle.toml.specs.Text.{is_section, are_tables}
 use Rattle.rv_inst.specs.declared.classes.Class.{Class}
 use Rattle.cf_layout.specs.declared.parts.Siding.{Siding}
 use Rattle.cf_layout.specs.declared.parts.Parts.{Parts}
+use Rattle.layout_file.specs.declared.format.Format.{Format}
+use Rattle.layout_file.specs.declared.format.Format.TheVariants.{First, Second}
 use Rattle.layout_file.specs.Names.{class_name}
 
 -- arrays of integers and of the names of classes
@@ -20,13 +21,14 @@ names [] = no_items
 names (c ∷ cs) = item (string (class_name c)) (names cs)
 
 -- the number of the format
-abbrev pub format_number : Bool → ℤ
-format_number second = if second then pos 2 else pos 1
+abbrev pub format_number : Format → ℤ
+format_number First = pos 1
+format_number Second = pos 2
 
 -- the members and that of the cache, which exists only in format 2
-abbrev pub cache_member : Bool → Bool → Members → Members
-cache_member false cache rest = rest
-cache_member true cache rest = member (codes "cache") (boolean cache) rest
+abbrev pub cache_member : Format → Bool → Members → Members
+cache_member First cache rest = rest
+cache_member Second cache rest = member (codes "cache") (boolean cache) rest
 
 -- in the order of the text: the units
 abbrev pub unit_members : List (Class × List ℤ) → Members
@@ -48,9 +50,9 @@ sidings_last [] = no_members
 sidings_last (s ∷ ss) = member (codes "siding") (array (item (table (siding_members s)) (siding_tables ss))) no_members
 
 -- the whole file
-abbrev pub file_members : Bool → Parts → Members
-file_members second p = member (codes "format") (integer (format_number second)) (member (codes "stages") (integer p.stages)
-    (member (codes "lane") (integer p.lane) (cache_member second p.cache (member (codes "units") (table (unit_members p.units)) (sidings_last p.sidings)))))
+abbrev pub file_members : Format → Parts → Members
+file_members format p = member (codes "format") (integer (format_number format)) (member (codes "stages") (integer p.stages)
+    (member (codes "lane") (integer p.lane) (cache_member format p.cache (member (codes "units") (table (unit_members p.units)) (sidings_last p.sidings)))))
 
 -- in byte order: the members with one more, at its position
 abbrev pub place : List ℕ → Data → Members → Members
@@ -81,13 +83,13 @@ abbrev pub top_end : Parts → Members → Members
 top_end p units = member (codes "stages") (integer p.stages) (member (codes "units") (table units) no_members)
 
 -- the whole table, with this table of units
-abbrev pub top_table : Bool → Parts → Members → Members
-top_table second p units = cache_member second p.cache (member (codes "format") (integer (format_number second))
+abbrev pub top_table : Format → Parts → Members → Members
+top_table format p units = cache_member format p.cache (member (codes "format") (integer (format_number format))
     (member (codes "lane") (integer p.lane) (siding_member p.sidings (top_end p units))))
 
 -- the whole table of a layout
-abbrev pub table_of : Bool → Parts → Members
-table_of second p = top_table second p (unit_table p.units no_members)
+abbrev pub table_of : Format → Parts → Members
+table_of format p = top_table format p (unit_table p.units no_members)
 
 -- no array of integers or of names is an array of tables
 pub integers_pair : (zs : List ℤ) → is_section (array (integers zs)) ≡ false

@@ -12,6 +12,8 @@ use Rattle.toml.proofs.Fill.{fill, fill_pairs, fill_sections, fill_section, fill
 use Rattle.rv_inst.specs.declared.classes.Class.{Class}
 use Rattle.cf_layout.specs.declared.parts.Siding.{Siding}
 use Rattle.cf_layout.specs.declared.parts.Parts.{Parts}
+use Rattle.layout_file.specs.declared.format.Format.{Format}
+use Rattle.layout_file.specs.declared.format.Format.TheVariants.{First, Second}
 use Rattle.layout_file.specs.Names.{class_name}
 use Rattle.layout_file.proofs.Documents.{integers, names, format_number, unit_members, siding_members, siding_tables, sidings_last, file_members, place, unit_table, siding_table, siding_items, top_table, table_of, integers_pair, names_pair, sidings_tables}
 
@@ -109,113 +111,113 @@ unfolding along_dots at_key
 siding_filled s = rw (names_pair s.classes)
 
 -- the nodes and that of the cache, which exists only in format 2
-abbrev cache_node : Bool → Bool → Nodes → Nodes
-cache_node false cache rest = rest
-cache_node true cache rest = node (codes "cache") (value (boolean cache)) rest
+abbrev cache_node : Format → Bool → Nodes → Nodes
+cache_node First cache rest = rest
+cache_node Second cache rest = node (codes "cache") (value (boolean cache)) rest
 
 -- the root while the sidings are read
-abbrev root_with : Bool → Parts → Nodes → Items → Nodes → Nodes
-root_with second p units done last = cache_node second p.cache (node (codes "format") (value (integer (format_number second)))
+abbrev root_with : Format → Parts → Nodes → Items → Nodes → Nodes
+root_with format p units done last = cache_node format p.cache (node (codes "format") (value (integer (format_number format)))
     (node (codes "lane") (value (integer p.lane)) (node (codes "siding") (open_array done last)
     (node (codes "stages") (value (integer p.stages)) (node (codes "units") (open_table header units) no_nodes)))))
 
-next_siding : (second : Bool) (p : Parts) (units : Nodes) (done : Items) (last : Nodes) → at_key (codes "siding") array_table
-    (root_with second p units done last) ≡ Some (root_with second p units (push_item done (table (close last))) no_nodes)
+next_siding : (format : Format) (p : Parts) (units : Nodes) (done : Items) (last : Nodes) → at_key (codes "siding") array_table
+    (root_with format p units done last) ≡ Some (root_with format p units (push_item done (table (close last))) no_nodes)
 unfolding at_key
-next_siding false p units done last = refl
-next_siding true p units done last = refl
+next_siding First p units done last = refl
+next_siding Second p units done last = refl
 
-into_siding : (second : Bool) (p : Parts) (units : Nodes) (done : Items) (s : Siding) → along_header (codes "siding" ∷ []) (fill (siding_members s))
-    (root_with second p units done no_nodes) ≡ Some (root_with second p units done (siding_nodes s))
+into_siding : (format : Format) (p : Parts) (units : Nodes) (done : Items) (s : Siding) → along_header (codes "siding" ∷ []) (fill (siding_members s))
+    (root_with format p units done no_nodes) ≡ Some (root_with format p units done (siding_nodes s))
 unfolding along_header
-into_siding false p units done s = rw (siding_filled s) refl
-into_siding true p units done s = rw (siding_filled s) refl
+into_siding First p units done s = rw (siding_filled s) refl
+into_siding Second p units done s = rw (siding_filled s) refl
 
-sidings_filled : (ss : List Siding) (second : Bool) (p : Parts) (units : Nodes) (done : Items) (last : Nodes)
-    → (all_done : Items) × (all_last : Nodes) × (fill_elements (codes "siding") (siding_tables ss) (root_with second p units done last)
-    ≡ Some (root_with second p units all_done all_last))
+sidings_filled : (ss : List Siding) (format : Format) (p : Parts) (units : Nodes) (done : Items) (last : Nodes)
+    → (all_done : Items) × (all_last : Nodes) × (fill_elements (codes "siding") (siding_tables ss) (root_with format p units done last)
+    ≡ Some (root_with format p units all_done all_last))
     × (push_item all_done (table (close all_last)) ≡ item_join (push_item done (table (close last))) (siding_items ss))
-sidings_filled [] second p units done last = (done, last, refl, sym (item_join-none _))
-sidings_filled (s ∷ ss) second p units done last =
+sidings_filled [] format p units done last = (done, last, refl, sym (item_join-none _))
+sidings_filled (s ∷ ss) format p units done last =
     let pushed = push_item done (table (close last)) in
-    let (all_done, all_last, rest, shape) = sidings_filled ss second p units pushed (siding_nodes s) in (
+    let (all_done, all_last, rest, shape) = sidings_filled ss format p units pushed (siding_nodes s) in (
       all_done,
       all_last,
-      rw (next_siding second p units done last, into_siding second p units pushed s, rest),
+      rw (next_siding format p units done last, into_siding format p units pushed s, rest),
       shape
           ∙ item_join-push pushed (table (siding_table s)) (siding_items ss),
     )
 
 -- the root before the units, and after them
-abbrev root_top : Bool → Parts → Nodes
-root_top second p = cache_node second p.cache (node (codes "format") (value (integer (format_number second)))
+abbrev root_top : Format → Parts → Nodes
+root_top format p = cache_node format p.cache (node (codes "format") (value (integer (format_number format)))
     (node (codes "lane") (value (integer p.lane)) (node (codes "stages") (value (integer p.stages)) no_nodes)))
 
-abbrev root_units : Bool → Parts → Nodes → Nodes
-root_units second p units = cache_node second p.cache (node (codes "format") (value (integer (format_number second)))
+abbrev root_units : Format → Parts → Nodes → Nodes
+root_units format p units = cache_node format p.cache (node (codes "format") (value (integer (format_number format)))
     (node (codes "lane") (value (integer p.lane)) (node (codes "stages") (value (integer p.stages)) (node (codes "units") (open_table header units) no_nodes))))
 
 no_top_pair : (ss : List Siding) (ns : Nodes) → fill_pairs (sidings_last ss) ns ≡ Some ns
 no_top_pair [] ns = refl
 no_top_pair (s ∷ ss) ns = rw (sidings_tables ss)
 
-pairs_filled : (second : Bool) (p : Parts) → fill_pairs (file_members second p) no_nodes ≡ Some (root_top second p)
+pairs_filled : (format : Format) (p : Parts) → fill_pairs (file_members format p) no_nodes ≡ Some (root_top format p)
 unfolding along_dots at_key
-pairs_filled false p = rw (no_top_pair p.sidings (root_top false p))
-pairs_filled true p = rw (no_top_pair p.sidings (root_top true p))
+pairs_filled First p = rw (no_top_pair p.sidings (root_top First p))
+pairs_filled Second p = rw (no_top_pair p.sidings (root_top Second p))
 
-open_units : (second : Bool) (p : Parts) → at_key (codes "units") std_table (root_top second p) ≡ Some (root_units second p no_nodes)
+open_units : (format : Format) (p : Parts) → at_key (codes "units") std_table (root_top format p) ≡ Some (root_units format p no_nodes)
 unfolding at_key
-open_units false p = refl
-open_units true p = refl
+open_units First p = refl
+open_units Second p = refl
 
-into_units : (second : Bool) (p : Parts) (n : Nodes) → fill (unit_members p.units) no_nodes ≡ Some n →
-    along_header (codes "units" ∷ []) (fill (unit_members p.units)) (root_units second p no_nodes) ≡ Some (root_units second p n)
+into_units : (format : Format) (p : Parts) (n : Nodes) → fill (unit_members p.units) no_nodes ≡ Some n →
+    along_header (codes "units" ∷ []) (fill (unit_members p.units)) (root_units format p no_nodes) ≡ Some (root_units format p n)
 unfolding along_header
-into_units false p n filled = rw filled
-into_units true p n filled = rw filled
+into_units First p n filled = rw filled
+into_units Second p n filled = rw filled
 
-units_step : (second : Bool) (p : Parts) (n : Nodes) → fill (unit_members p.units) no_nodes ≡ Some n →
-    fill_section (codes "units") (table (unit_members p.units)) (root_top second p) ≡ Some (root_units second p n)
-units_step second p n filled = rw (units_header p.units, open_units second p) (into_units second p n filled)
+units_step : (format : Format) (p : Parts) (n : Nodes) → fill (unit_members p.units) no_nodes ≡ Some n →
+    fill_section (codes "units") (table (unit_members p.units)) (root_top format p) ≡ Some (root_units format p n)
+units_step format p n filled = rw (units_header p.units, open_units format p) (into_units format p n filled)
 
-first_siding : (second : Bool) (p : Parts) (units : Nodes) → at_key (codes "siding") array_table (root_units second p units)
-    ≡ Some (root_with second p units no_items no_nodes)
+first_siding : (format : Format) (p : Parts) (units : Nodes) → at_key (codes "siding") array_table (root_units format p units)
+    ≡ Some (root_with format p units no_items no_nodes)
 unfolding at_key
-first_siding false p units = refl
-first_siding true p units = refl
+first_siding First p units = refl
+first_siding Second p units = refl
 
 -- what the root is closed to, while sidings are read and where there is no siding
-close_with : (second : Bool) (p : Parts) (units : Nodes) (s : Siding) (ss : List Siding) (done : Items) (last : Nodes) → p.sidings ≡ s ∷ ss →
-    push_item done (table (close last)) ≡ siding_items (s ∷ ss) → close (root_with second p units done last) ≡ top_table second p (close units)
-close_with false p units s ss done last e shape = rw (e, shape) refl
-close_with true p units s ss done last e shape = rw (e, shape) refl
+close_with : (format : Format) (p : Parts) (units : Nodes) (s : Siding) (ss : List Siding) (done : Items) (last : Nodes) → p.sidings ≡ s ∷ ss →
+    push_item done (table (close last)) ≡ siding_items (s ∷ ss) → close (root_with format p units done last) ≡ top_table format p (close units)
+close_with First p units s ss done last e shape = rw (e, shape) refl
+close_with Second p units s ss done last e shape = rw (e, shape) refl
 
-close_units : (second : Bool) (p : Parts) (units : Nodes) → p.sidings ≡ [] → close (root_units second p units) ≡ top_table second p (close units)
-close_units false p units e = rw e refl
-close_units true p units e = rw e refl
+close_units : (format : Format) (p : Parts) (units : Nodes) → p.sidings ≡ [] → close (root_units format p units) ≡ top_table format p (close units)
+close_units First p units e = rw e refl
+close_units Second p units e = rw e refl
 
-sidings_step : (ss : List Siding) (second : Bool) (p : Parts) (units : Nodes) → p.sidings ≡ ss →
-    (n : Nodes) × (fill_sections (sidings_last ss) (root_units second p units) ≡ Some n) × (close n ≡ top_table second p (close units))
-sidings_step [] second p units e = (root_units second p units, refl, close_units second p units e)
-sidings_step (s ∷ ss) second p units e =
-    let (all_done, all_last, rest, shape) = sidings_filled ss second p units no_items (siding_nodes s) in (
-      root_with second p units all_done all_last,
-      rw (sidings_tables ss, first_siding second p units, into_siding second p units no_items s, rest),
-      close_with second p units s ss all_done all_last e shape,
+sidings_step : (ss : List Siding) (format : Format) (p : Parts) (units : Nodes) → p.sidings ≡ ss →
+    (n : Nodes) × (fill_sections (sidings_last ss) (root_units format p units) ≡ Some n) × (close n ≡ top_table format p (close units))
+sidings_step [] format p units e = (root_units format p units, refl, close_units format p units e)
+sidings_step (s ∷ ss) format p units e =
+    let (all_done, all_last, rest, shape) = sidings_filled ss format p units no_items (siding_nodes s) in (
+      root_with format p units all_done all_last,
+      rw (sidings_tables ss, first_siding format p units, into_siding format p units no_items s, rest),
+      close_with format p units s ss all_done all_last e shape,
     )
 
 -- the sections of the file
-sections_filled : (second : Bool) (p : Parts) (n m : Nodes) → fill_section (codes "units") (table (unit_members p.units)) (root_top second p) ≡ Some n →
-    fill_sections (sidings_last p.sidings) n ≡ Some m → fill_sections (file_members second p) (root_top second p) ≡ Some m
-sections_filled false p n m units sidings = rw (units, sidings)
-sections_filled true p n m units sidings = rw (units, sidings)
+sections_filled : (format : Format) (p : Parts) (n m : Nodes) → fill_section (codes "units") (table (unit_members p.units)) (root_top format p) ≡ Some n →
+    fill_sections (sidings_last p.sidings) n ≡ Some m → fill_sections (file_members format p) (root_top format p) ≡ Some m
+sections_filled First p n m units sidings = rw (units, sidings)
+sections_filled Second p n m units sidings = rw (units, sidings)
 
 -- all the lines of a layout fill in its table
-pub layout_filled : (second : Bool) (p : Parts) → AreDistinct p.units → (n : Nodes) × (fill (file_members second p) no_nodes ≡ Some n)
-    × (close n ≡ table_of second p)
-layout_filled second p distinct =
+pub layout_filled : (format : Format) (p : Parts) → AreDistinct p.units → (n : Nodes) × (fill (file_members format p) no_nodes ≡ Some n)
+    × (close n ≡ table_of format p)
+layout_filled format p distinct =
     let (u, filled, closed) = units_filled p.units no_nodes distinct (absent-none p.units) in
-    let (n, all, same) = sidings_step p.sidings second p u refl in
+    let (n, all, same) = sidings_step p.sidings format p u refl in
     let units_all : fill (unit_members p.units) no_nodes ≡ Some u = rw filled (units_sections p.units u) in
-    (n, rw (pairs_filled second p) (sections_filled second p (root_units second p u) n (units_step second p u units_all) all), same ∙ rw closed)
+    (n, rw (pairs_filled format p) (sections_filled format p (root_units format p u) n (units_step format p u units_all) all), same ∙ rw closed)

@@ -1,6 +1,6 @@
 -- The text of an accepted layout is read as that layout.
 use Rattle.std.proofs.Common.{◌≡◌, inl, inr, ℕ, ◌+◌, ◌<◌, ◌≤◌, List, [], ◌∷◌, ◌++◌, All, Bool, true, false, None, length, map, get_or, refl, ap, sym, subst, ◌∙◌, arith}
-use Rattle.std.specs.Prelude.{IsUtf8, nat_lt, filter, ◌||◌, ◌&&◌, Result, Ok, Err, IfErr}
+use Rattle.std.specs.Prelude.{IsUtf8, nat_lt, filter, if◌then◌else◌, ◌||◌, ◌&&◌, Result, Ok, Err, IfErr}
 use Rattle.std.proofs.lemmas.Option.{none-some, same_Some}
 use Rattle.std.proofs.lemmas.List.{length-map}
 use Rattle.std.proofs.lemmas.List.Elements.{All-tail}
@@ -18,15 +18,17 @@ use Rattle.cf_layout.proofs.Counts.{same_self, any_kept}
 use Rattle.cf_layout.proofs.Passing.{lt_true}
 use Rattle.cf_layout.proofs.Ordered.{few_classes}
 use Rattle.cf_layout.proofs.Asking.{unit_for, units_for, asking_siding, asking, class_stages_few, plan_back, asking_passes}
+use Rattle.layout_file.specs.declared.format.Format.{Format}
+use Rattle.layout_file.specs.declared.format.Format.TheVariants.{First, Second}
 use Rattle.layout_file.specs.declared.fault.FileErr.{FileErr}
 use Rattle.layout_file.specs.declared.fault.FileErr.TheVariants.{NoMemory}
-use Rattle.layout_file.specs.Names.{class_name, class_of}
-use Rattle.layout_file.specs.Reading.{fault_of, asked_by}
+use Rattle.layout_file.specs.Names.{class_name, class_by_name}
+use Rattle.layout_file.specs.Reading.{fault_of, requested_parts}
 use Rattle.layout_file.specs.Answers.{IsNotToml, HasFault, FailsWithin, LayoutFails, Describes, ReadsAs}
-use Rattle.layout_file.specs.Text.{needs_second, text_of}
+use Rattle.layout_file.specs.Text.{needed_format, layout_text}
 use Rattle.layout_file.proofs.Documents.{table_of}
 use Rattle.layout_file.proofs.Filling.{AreOthers, AreDistinct}
-use Rattle.layout_file.proofs.Back.{IsWord, AreWords, AreRight, IsRightUnit, AreRightUnits, ClassesDiffer, AllDiffer, classes-differ, AreReadable, table_second, table_right, table_back}
+use Rattle.layout_file.proofs.Back.{IsWord, AreWords, AreRight, IsRightUnit, AreRightUnits, ClassesDiffer, AllDiffer, classes-differ, AreReadable, table_format, table_right, table_back}
 use Rattle.layout_file.proofs.Texts.{text_read}
 use Rattle.layout_file.proofs.Sizes.{accepted_small, text_short}
 
@@ -50,44 +52,46 @@ distinct_from f [] differ = tt
 distinct_from f (c ∷ cs) differ = distinct_one f c cs (f c) (others_from f c cs differ.0) (distinct_from f cs differ.1)
 
 -- the names of `mul` and `div` need format 2
-abbrev NeedsSecond : Bool → Class → Type 0
-NeedsSecond second c = ((c ≡ Mul) → second ≡ true) × ((c ≡ Div) → second ≡ true)
+abbrev NeedsSecond : Format → Class → Type 0
+NeedsSecond format c = ((c ≡ Mul) → format ≡ Second) × ((c ≡ Div) → format ≡ Second)
 
-word_of : (second : Bool) (c : Class) → IsComputed c → NeedsSecond second c → IsWord second c
-unfolding class_of
-word_of true Add small needs = refl
-word_of true Logic small needs = refl
-word_of true Shift small needs = refl
-word_of true Compare small needs = refl
-word_of true Branch small needs = refl
-word_of true Jump small needs = refl
-word_of true Memory small needs = refl
-word_of true Mul small needs = refl
-word_of true Div small needs = refl
-word_of false Add small needs = refl
-word_of false Logic small needs = refl
-word_of false Shift small needs = refl
-word_of false Compare small needs = refl
-word_of false Branch small needs = refl
-word_of false Jump small needs = refl
-word_of false Memory small needs = refl
-word_of false Mul small needs = absurd (cc (needs.0 refl))
-word_of false Div small needs = absurd (cc (needs.1 refl))
-word_of second Serial small needs = absurd (omega arith)
-word_of second Free small needs = absurd (omega arith)
+word_of : (format : Format) (c : Class) → IsComputed c → NeedsSecond format c → IsWord format c
+unfolding class_by_name
+word_of Second Add small needs = refl
+word_of Second Logic small needs = refl
+word_of Second Shift small needs = refl
+word_of Second Compare small needs = refl
+word_of Second Branch small needs = refl
+word_of Second Jump small needs = refl
+word_of Second Memory small needs = refl
+word_of Second Mul small needs = refl
+word_of Second Div small needs = refl
+word_of First Add small needs = refl
+word_of First Logic small needs = refl
+word_of First Shift small needs = refl
+word_of First Compare small needs = refl
+word_of First Branch small needs = refl
+word_of First Jump small needs = refl
+word_of First Memory small needs = refl
+word_of First Mul small needs = absurd (cc (needs.0 refl))
+word_of First Div small needs = absurd (cc (needs.1 refl))
+word_of format Serial small needs = absurd (omega arith)
+word_of format Free small needs = absurd (omega arith)
 
 -- a layout in which one of them has a home multiplies and divides
 both_homed : (m d : ℕ) → m ≡ d → 1 ≤ m → (nat_lt 0 m && nat_lt 0 d) ≡ true
 both_homed m d same some = grind (arith, nat_tests)
 
-mul_homed : (plan : Plan) → IsAccepted plan → 1 ≤ homes plan Mul → needs_second plan ≡ true
+mul_homed : (plan : Plan) → IsAccepted plan → 1 ≤ homes plan Mul → needed_format plan ≡ Second
 unfolding has_mul
-mul_homed plan a some = ap (λ (b : Bool). plan.cache || b) (both_homed (homes plan Mul) (homes plan Div) a.pair some) ∙ or-true plan.cache
+mul_homed plan a some =
+    let mul : has_mul plan ≡ true = both_homed (homes plan Mul) (homes plan Div) a.pair some in
+    rw (mul, or-true plan.cache) refl
 
-div_homed : (plan : Plan) → IsAccepted plan → 1 ≤ homes plan Div → needs_second plan ≡ true
+div_homed : (plan : Plan) → IsAccepted plan → 1 ≤ homes plan Div → needed_format plan ≡ Second
 div_homed plan a some = let same = a.pair in mul_homed plan a (omega arith)
 
-homed_needs : (plan : Plan) → IsAccepted plan → (c : Class) → 1 ≤ homes plan c → NeedsSecond (needs_second plan) c
+homed_needs : (plan : Plan) → IsAccepted plan → (c : Class) → 1 ≤ homes plan c → NeedsSecond (needed_format plan) c
 homed_needs plan a c some =
     ((λ e. mul_homed plan a (subst (λ (k : Class). 1 ≤ homes plan k) e some)), (λ e. div_homed plan a (subst (λ (k : Class). 1 ≤ homes plan k) e some)))
 
@@ -96,25 +100,25 @@ stage_home : (stages : List ℕ) (n : ℕ) → 1 ≤ length stages → 1 ≤ uni
 stage_home [] n some = absurd (omega arith)
 stage_home (i ∷ is) n some = omega arith
 
-unit_needs : (plan : Plan) → IsAccepted plan → (c : Class) → 1 ≤ length (stages_of plan c) → NeedsSecond (needs_second plan) c
+unit_needs : (plan : Plan) → IsAccepted plan → (c : Class) → 1 ≤ length (stages_of plan c) → NeedsSecond (needed_format plan) c
 unfolding homes
 unit_needs plan a c some = homed_needs plan a c (stage_home (stages_of plan c) (length (filter (λ siding. serves siding c) plan.sidings)) some)
 
 -- the units are readable
-right_unit : (plan : Plan) → IsAccepted plan → (c : Class) → IsComputed c → IsRightUnit (needs_second plan) c (stages_of plan c)
-right_unit plan a c small = let few = class_stages_few plan a c in (omega arith, (λ some. word_of (needs_second plan) c small (unit_needs plan a c some)))
+right_unit : (plan : Plan) → IsAccepted plan → (c : Class) → IsComputed c → IsRightUnit (needed_format plan) c (stages_of plan c)
+right_unit plan a c small = let few = class_stages_few plan a c in (omega arith, (λ some. word_of (needed_format plan) c small (unit_needs plan a c some)))
 
 abbrev AreComputed : List Class → Type 0
 AreComputed [] = Unit {0}
 AreComputed (c ∷ cs) = IsComputed c × AreComputed cs
 
-right_units : (plan : Plan) → IsAccepted plan → (cs : List Class) → AreComputed cs → AreRightUnits (needs_second plan) (stages_of plan) cs
+right_units : (plan : Plan) → IsAccepted plan → (cs : List Class) → AreComputed cs → AreRightUnits (needed_format plan) (stages_of plan) cs
 right_units plan a [] small = tt
 right_units plan a (c ∷ cs) small = (right_unit plan a c small.0, right_units plan a cs small.1)
 
 -- a class that goes through a siding has a home
 siding_needs : (plan : Plan) → IsAccepted plan → (k : ℕ) (d : SidingPlan) → k < length plan.sidings → (c : Class) → serves (get_or plan.sidings k d) c ≡ true →
-    NeedsSecond (needs_second plan) c
+    NeedsSecond (needed_format plan) c
 unfolding homes
 siding_needs plan a k d within c served =
     let some : 0 < length (filter (λ siding. serves siding c) plan.sidings) = lt_true 0 _ (sym (any_kept (λ siding. serves siding c) plan.sidings)
@@ -122,69 +126,69 @@ siding_needs plan a k d within c served =
     homed_needs plan a c (omega arith)
 
 -- the words of classes that are named
-named_words : (second : Bool) (classes : List Class) → All IsComputed classes → ((c : Class) → names classes c ≡ true → NeedsSecond second c) →
-    AreWords second classes
-named_words second [] small needs = tt
-named_words second (c ∷ cs) small needs = (
-  word_of second c (small 0 c (omega arith)) (needs c (rw (same_self c) refl)),
-  named_words second cs (All-tail IsComputed c cs small) (λ d named. needs d (ap (λ (b : Bool). same_class d c || b) named ∙ or-true (same_class d c))),
+named_words : (format : Format) (classes : List Class) → All IsComputed classes → ((c : Class) → names classes c ≡ true → NeedsSecond format c) →
+    AreWords format classes
+named_words format [] small needs = tt
+named_words format (c ∷ cs) small needs = (
+  word_of format c (small 0 c (omega arith)) (needs c (rw (same_self c) refl)),
+  named_words format cs (All-tail IsComputed c cs small) (λ d named. needs d (ap (λ (b : Bool). same_class d c || b) named ∙ or-true (same_class d c))),
 )
 
-siding_words : (plan : Plan) → IsAccepted plan → All (λ s. AreWords (needs_second plan) s.classes) plan.sidings
+siding_words : (plan : Plan) → IsAccepted plan → All (λ s. AreWords (needed_format plan) s.classes) plan.sidings
 unfolding serves
-siding_words plan a = λ k d within. named_words (needs_second plan) (get_or plan.sidings k d).classes (a.sidings k d within).computed
+siding_words plan a = λ k d within. named_words (needed_format plan) (get_or plan.sidings k d).classes (a.sidings k d within).computed
     (λ c named. siding_needs plan a k d within c named)
 
 -- the sidings are readable
-right_sidings : (second : Bool) (plan : Plan) (ss : List SidingPlan) → All (IsSiding plan) ss → All (λ s. AreWords second s.classes) ss →
-    AreRight second (map asking_siding ss)
-right_sidings second plan [] all words = tt
-right_sidings second plan (s ∷ ss) all words =
+right_sidings : (format : Format) (plan : Plan) (ss : List SidingPlan) → All (IsSiding plan) ss → All (λ s. AreWords format s.classes) ss →
+    AreRight format (map asking_siding ss)
+right_sidings format plan [] all words = tt
+right_sidings format plan (s ∷ ss) all words =
     let here = all 0 s (omega arith) in
     let few = few_classes s.classes here.ordered here.computed in (
       (omega arith, words 0 s (omega arith)),
-      right_sidings second plan ss (All-tail (IsSiding plan) s ss all)
-          (All-tail (λ (t : SidingPlan). AreWords second t.classes) s ss words),
+      right_sidings format plan ss (All-tail (IsSiding plan) s ss all)
+          (All-tail (λ (t : SidingPlan). AreWords format t.classes) s ss words),
     )
 
 -- format 1 has no cache
-no_cache : (cache mul : Bool) → (cache || mul) ≡ false → cache ≡ false
-no_cache true mul e = e
+no_cache : (cache mul : Bool) → (if cache || mul then Second else First) ≡ First → cache ≡ false
+no_cache true mul e = absurd (cc e)
 no_cache false mul e = refl
 
 -- the parts that request an accepted layout are readable in its format
-readable : (plan : Plan) → IsAccepted plan → AreReadable (needs_second plan) (stages_of plan) (asking plan)
+readable : (plan : Plan) → IsAccepted plan → AreReadable (needed_format plan) (stages_of plan) (asking plan)
 readable plan a = record {
   units = refl;
   stages = right_units plan a computed_classes
       (omega arith, (omega arith, (omega arith, (omega arith, (omega arith, (omega arith, (omega arith, (omega arith, (omega arith, tt)))))))));
-  sidings = right_sidings (needs_second plan) plan plan.sidings a.sidings (siding_words plan a);
+  sidings = right_sidings (needed_format plan) plan plan.sidings a.sidings (siding_words plan a);
   few = let few = a.few_sidings in omega (arith, length-map plan.sidings asking_siding);
   cache = no_cache plan.cache (has_mul plan);
 }
 
 -- so its table requests it, and has no fault
-table_asks : (plan : Plan) → IsAccepted plan → asked_by (table_of (needs_second plan) (asking plan)) ≡ asking plan
-table_asks plan a = rw (table_second (needs_second plan) (asking plan)) (table_back (needs_second plan) (stages_of plan) (asking plan) (readable plan a))
+table_asks : (plan : Plan) → IsAccepted plan → requested_parts (table_of (needed_format plan) (asking plan)) ≡ asking plan
+table_asks plan a = rw (table_format (needed_format plan) (asking plan)) (table_back (needed_format plan) (stages_of plan) (asking plan) (readable plan a))
 
-table_faultless : (plan : Plan) → IsAccepted plan → fault_of (table_of (needs_second plan) (asking plan)) ≡ None
+table_faultless : (plan : Plan) → IsAccepted plan → fault_of (table_of (needed_format plan) (asking plan)) ≡ None
 unfolding fault_of
 table_faultless plan a =
     rw (
-      table_second (needs_second plan) (asking plan),
-      table_right (needs_second plan) (stages_of plan) (asking plan) (readable plan a),
-      table_back (needs_second plan) (stages_of plan) (asking plan) (readable plan a),
+      table_format (needed_format plan) (asking plan),
+      table_right (needed_format plan) (stages_of plan) (asking plan) (readable plan a),
+      table_back (needed_format plan) (stages_of plan) (asking plan) (readable plan a),
       asking_passes plan a,
     ) refl
 
 -- its text describes it, where it is UTF-8
-pub text_describes : (plan : Plan) → IsAccepted plan → IsUtf8 (text_of plan) → Describes (text_of plan) plan
-unfolding text_of
+pub text_describes : (plan : Plan) → IsAccepted plan → IsUtf8 (layout_text plan) → Describes (layout_text plan) plan
+unfolding layout_text
 text_describes plan a utf8 = (
-  text_short (needs_second plan) plan a,
+  text_short (needed_format plan) plan a,
   (
-    table_of (needs_second plan) (asking plan),
-    (utf8, text_read (needs_second plan) plan (distinct_from (stages_of plan) computed_classes classes-differ) (accepted_small plan a)),
+    table_of (needed_format plan) (asking plan),
+    (utf8, text_read (needed_format plan) plan (distinct_from (stages_of plan) computed_classes classes-differ) (accepted_small plan a)),
     table_faultless plan a,
     sym (ap plan_of (table_asks plan a) ∙ plan_back plan a),
   ),
@@ -196,10 +200,10 @@ one_described file plan other d e =
     let (short, (ms, read, right, is)) = d in
     let (same_short, (ns, again, well, its)) = e in
     let same : ns ≡ ms = same_Some ns ms (sym again.1 ∙ read.1) in
-    its ∙ (ap (λ m. plan_of (asked_by m)) same ∙ sym is)
+    its ∙ (ap (λ m. plan_of (requested_parts m)) same ∙ sym is)
 
 -- and a file that describes a layout has no fault
-no_fault : (file : List ℕ) (plan : Plan) (e : FileErr) → Describes file plan → HasFault file e → e ≡ NoMemory
+no_fault : (file : List ℕ) (plan : Plan) (e : FileErr) → Describes file plan → HasFault fault_of file e → e ≡ NoMemory
 no_fault file plan e d h =
     let (short, (ms, read, right, is)) = d in
     let (ns, again, fault) = h in
@@ -209,7 +213,7 @@ no_fault file plan e d h =
 is_toml : (file : List ℕ) (plan : Plan) (e : FileErr) → Describes file plan → IsNotToml file → e ≡ NoMemory
 is_toml file plan e d h = let (short, (ms, read, right, is)) = d in absurd (none-some ms (sym (h read.0) ∙ read.1))
 
-fails_within : (file : List ℕ) (plan : Plan) (e : FileErr) → Describes file plan → FailsWithin file e → e ≡ NoMemory
+fails_within : (file : List ℕ) (plan : Plan) (e : FileErr) → Describes file plan → FailsWithin fault_of file e → e ≡ NoMemory
 fails_within file plan e d (inl memory) = memory
 fails_within file plan e d (inr (inl other)) = is_toml file plan e d other.1
 fails_within file plan e d (inr (inr fault)) = no_fault file plan e d fault
@@ -219,7 +223,7 @@ fails_by file plan e d (inl long) = let short = d.0 in let over = long.1 in absu
 fails_by file plan e d (inr within) = fails_within file plan e d within.1
 
 -- so it is read as that layout
-pub text_reads : (plan : Plan) (file : List ℕ) → IsAccepted plan → file ≡ text_of plan → IsUtf8 file → ReadsAs file plan
+pub text_reads : (plan : Plan) (file : List ℕ) → IsAccepted plan → file ≡ layout_text plan → IsUtf8 file → ReadsAs file plan
 text_reads plan file a is utf8 =
     let d : Describes file plan = subst (λ (f : List ℕ). Describes f plan) (sym is) (text_describes plan a (subst IsUtf8 is utf8)) in
     record {

@@ -10,8 +10,10 @@ use Rattle.cf_layout.specs.Layout.{Plan, SidingPlan, computed_classes, stages_of
 use Rattle.cf_layout.specs.Accepted.{IsSiding, IsAccepted}
 use Rattle.cf_layout.proofs.Ordered.{few_classes}
 use Rattle.cf_layout.proofs.Asking.{class_within, class_stages_few}
+use Rattle.layout_file.specs.declared.format.Format.{Format}
+use Rattle.layout_file.specs.declared.format.Format.TheVariants.{First, Second}
 use Rattle.layout_file.specs.Names.{class_name}
-use Rattle.layout_file.specs.Text.{pair_line, rest_text, array_text, quoted_name, unit_line, unit_lines, siding_lines, siding_text, numbers_text, cache_line, format_text, head_text, body_text}
+use Rattle.layout_file.specs.Text.{pair_line, array_rest, array_text, quoted_name, unit_line, unit_lines, siding_texts, siding_text, numbers_text, cache_key_line, format_text, top_text, body_text}
 use Rattle.layout_file.specs.Limits.{most_layout_bytes}
 use Rattle.layout_file.proofs.Texts.{AreSmall, UnitsAreSmall, SidingsAreSmall, IsSmall}
 
@@ -20,19 +22,19 @@ abbrev UpToTen : List (List ℕ) → Type 0
 UpToTen [] = Unit {0}
 UpToTen (t ∷ ts) = (length t ≤ 10) × UpToTen ts
 
-rest_length : (ts : List (List ℕ)) → UpToTen ts → length (rest_text ts) ≤ 1 + 12 * length ts
+rest_length : (ts : List (List ℕ)) → UpToTen ts → length (array_rest ts) ≤ 1 + 12 * length ts
 rest_length [] h = omega arith
 rest_length (t ∷ ts) h =
     let more = rest_length ts h.1 in
     let here = h.0 in
-    omega (arith, length-append t (rest_text ts))
+    omega (arith, length-append t (array_rest ts))
 
 array_length : (ts : List (List ℕ)) → UpToTen ts → length (array_text ts) ≤ 2 + 12 * length ts
 array_length [] h = omega arith
 array_length (t ∷ ts) h =
     let more = rest_length ts h.1 in
     let here = h.0 in
-    omega (arith, length-append t (rest_text ts))
+    omega (arith, length-append t (array_rest ts))
 
 pair_length : (k v : List ℕ) → length (pair_line k v) ≡ length k + length v + 4
 unfolding pair_line
@@ -111,36 +113,36 @@ abbrev AreShort : List SidingPlan → Type 0
 AreShort [] = Unit {0}
 AreShort (s ∷ ss) = (length s.classes ≤ 9) × AreShort ss
 
-sidings_length : (ss : List SidingPlan) → AreShort ss → SidingsAreSmall ss → length (siding_lines ss) ≤ 400 * length ss
+sidings_length : (ss : List SidingPlan) → AreShort ss → SidingsAreSmall ss → length (siding_texts ss) ≤ 400 * length ss
 sidings_length [] few small = omega arith
 sidings_length (s ∷ ss) few small =
     let here = siding_length s few.0 small.0 in
     let more = sidings_length ss few.1 small.1 in
-    omega (arith, length-append (siding_text s) (siding_lines ss))
+    omega (arith, length-append (siding_text s) (siding_texts ss))
 
 -- the first lines
-cache_length : (second cache : Bool) → length (cache_line second cache) ≤ 20
+cache_length : (format : Format) (cache : Bool) → length (cache_key_line format cache) ≤ 20
 unfolding pair_line
-cache_length false cache = omega arith
-cache_length true true = omega arith
-cache_length true false = omega arith
+cache_length First cache = omega arith
+cache_length Second true = omega arith
+cache_length Second false = omega arith
 
-format_length : (second : Bool) → length (pair_line (codes "format") (format_text second)) ≤ 20
+format_length : (format : Format) → length (pair_line (codes "format") (format_text format)) ≤ 20
 unfolding pair_line
-format_length false = omega arith
-format_length true = omega arith
+format_length First = omega arith
+format_length Second = omega arith
 
-head_length : (second : Bool) (plan : Plan) → plan.stages < 4294967296 → plan.lane < 4294967296 → length (head_text second plan) ≤ 100
-unfolding head_text
-head_length second plan stages lane =
-    let l1 = pair_line (codes "format") (format_text second) in
+head_length : (format : Format) (plan : Plan) → plan.stages < 4294967296 → plan.lane < 4294967296 → length (top_text format plan) ≤ 100
+unfolding top_text
+head_length format plan stages lane =
+    let l1 = pair_line (codes "format") (format_text format) in
     let l2 = pair_line (codes "stages") (decimal plan.stages) in
     let l3 = pair_line (codes "lane") (decimal plan.lane) in
-    let l4 = cache_line second plan.cache in
-    let n1 = format_length second in
+    let l4 = cache_key_line format plan.cache in
+    let n1 = format_length format in
     let n2 = number_length plan.stages stages in
     let n3 = number_length plan.lane lane in
-    let n4 = cache_length second plan.cache in
+    let n4 = cache_length format plan.cache in
     omega (
       arith,
       length-append l1 (l2 ++ (l3 ++ l4)),
@@ -151,18 +153,18 @@ head_length second plan stages lane =
     )
 
 -- the whole text
-whole_length : (second : Bool) (plan : Plan) → ((c : Class) → length (stages_of plan c) ≤ 32) → length plan.sidings ≤ 8 → AreShort plan.sidings → IsSmall plan →
-    length (head_text second plan ++ body_text plan) ≤ most_layout_bytes
+whole_length : (format : Format) (plan : Plan) → ((c : Class) → length (stages_of plan c) ≤ 32) → length plan.sidings ≤ 8 →
+    AreShort plan.sidings → IsSmall plan → length (top_text format plan ++ body_text plan) ≤ most_layout_bytes
 unfolding body_text
-whole_length second plan few eight short small =
+whole_length format plan few eight short small =
     let units = unit_lines plan computed_classes in
-    let sidings = siding_lines plan.sidings in
-    let n1 = head_length second plan small.stages small.lane in
+    let sidings = siding_texts plan.sidings in
+    let n1 = head_length format plan small.stages small.lane in
     let n2 = units_length plan computed_classes few small.units in
     let n3 = sidings_length plan.sidings short small.sidings in
     omega (
       arith,
-      length-append (head_text second plan) (codes "\n[units]\n" ++ (units ++ sidings)),
+      length-append (top_text format plan) (codes "\n[units]\n" ++ (units ++ sidings)),
       length-append (codes "\n[units]\n") (units ++ sidings),
       length-append units sidings,
     )
@@ -198,6 +200,6 @@ accepted_small plan a =
     }
 
 -- so its text is short
-pub text_short : (second : Bool) (plan : Plan) → IsAccepted plan → length (head_text second plan ++ body_text plan) ≤ most_layout_bytes
-text_short second plan a = whole_length second plan (class_stages_few plan a) a.few_sidings (sidings_small plan plan.sidings a.stages.1 a.sidings).1
+pub text_short : (format : Format) (plan : Plan) → IsAccepted plan → length (top_text format plan ++ body_text plan) ≤ most_layout_bytes
+text_short format plan a = whole_length format plan (class_stages_few plan a) a.few_sidings (sidings_small plan plan.sidings a.stages.1 a.sidings).1
     (accepted_small plan a)

@@ -17,8 +17,10 @@ use Rattle.cf_layout.specs.declared.parts.Siding.{Siding}
 use Rattle.cf_layout.specs.declared.parts.Parts.{Parts}
 use Rattle.cf_layout.specs.Layout.{Plan, SidingPlan, computed_classes, stages_of}
 use Rattle.cf_layout.proofs.Asking.{unit_for, units_for, asking_siding, asking}
+use Rattle.layout_file.specs.declared.format.Format.{Format}
+use Rattle.layout_file.specs.declared.format.Format.TheVariants.{First, Second}
 use Rattle.layout_file.specs.Names.{class_name}
-use Rattle.layout_file.specs.Text.{pair_line, rest_text, array_text, quoted_name, unit_line, unit_lines, siding_lines, siding_text, numbers_text, truth_text, head_text, body_text}
+use Rattle.layout_file.specs.Text.{pair_line, array_rest, array_text, quoted_name, unit_line, unit_lines, siding_texts, siding_text, numbers_text, truth_text, top_text, body_text}
 use Rattle.layout_file.proofs.Documents.{integers, names, unit_members, siding_tables, sidings_last, file_members, table_of, integers_pair, names_pair, sidings_tables}
 use Rattle.layout_file.proofs.Filling.{AreDistinct, units_header, layout_filled}
 use Rattle.layout_file.proofs.Unsorted.{parse_document-filled}
@@ -51,17 +53,17 @@ one_line (item d no_items) = refl
 one_line (item d (item e ds)) = refl
 
 -- the text of an array of numbers
-rest_numbers : (ns : List ℕ) → AreSmall ns → IsItemsText false false false (integers (map (λ n. pos n) ns)) (rest_text (map decimal ns))
+rest_numbers : (ns : List ℕ) → AreSmall ns → IsItemsText false false false (integers (map (λ n. pos n) ns)) (array_rest (map decimal ns))
 rest_numbers [] small = refl
-rest_numbers (n ∷ ns) small = (decimal n, rest_text (map decimal ns), refl, (refl, number_fits n small.0), rest_numbers ns small.1)
+rest_numbers (n ∷ ns) small = (decimal n, array_rest (map decimal ns), refl, (refl, number_fits n small.0), rest_numbers ns small.1)
 
 numbers_array : (n : ℕ) (ns : List ℕ) → AreSmall (n ∷ ns) → IsValueText false (array (integers (map (λ m. pos m) (n ∷ ns)))) (array_text (map decimal (n ∷ ns)))
 numbers_array n ns small = (
-  decimal n ++ rest_text (map decimal ns),
+  decimal n ++ array_rest (map decimal ns),
   refl,
   rw (one_line (integers (map (λ m. pos m) (n ∷ ns)))) (
     decimal n,
-    rest_text (map decimal ns),
+    array_rest (map decimal ns),
     refl,
     (refl, number_fits n small.0),
     rest_numbers ns small.1,
@@ -83,18 +85,18 @@ name_text Free = refl
 name_text Mul = refl
 name_text Div = refl
 
-rest_names : (cs : List Class) → IsItemsText false false false (names cs) (rest_text (map quoted_name cs))
+rest_names : (cs : List Class) → IsItemsText false false false (names cs) (array_rest (map quoted_name cs))
 rest_names [] = refl
-rest_names (c ∷ cs) = (quoted_name c, rest_text (map quoted_name cs), refl, name_text c, rest_names cs)
+rest_names (c ∷ cs) = (quoted_name c, array_rest (map quoted_name cs), refl, name_text c, rest_names cs)
 
 names_text : (cs : List Class) → IsValueText false (array (names cs)) (array_text (map quoted_name cs))
 names_text [] = (codes "]", refl, refl)
 names_text (c ∷ cs) = (
-  quoted_name c ++ rest_text (map quoted_name cs),
+  quoted_name c ++ array_rest (map quoted_name cs),
   refl,
   rw (one_line (names (c ∷ cs))) (
     quoted_name c,
-    rest_text (map quoted_name cs),
+    array_rest (map quoted_name cs),
     refl,
     name_text c,
     rest_names cs,
@@ -162,8 +164,8 @@ units_text us lines text =
 
 -- the lines of one siding, before those of the others
 one_siding : (s : SidingPlan) (ss : List SidingPlan) → (s.launch < 4294967296) × (s.recover < 4294967296) × (s.cells < 4294967296)
-    → IsLinesText false true (elements ([], codes "siding") (siding_tables (map asking_siding ss))) (siding_lines ss)
-    → IsLinesText false true (elements ([], codes "siding") (siding_tables (map asking_siding (s ∷ ss)))) (siding_lines (s ∷ ss))
+    → IsLinesText false true (elements ([], codes "siding") (siding_tables (map asking_siding ss))) (siding_texts ss)
+    → IsLinesText false true (elements ([], codes "siding") (siding_tables (map asking_siding (s ∷ ss)))) (siding_texts (s ∷ ss))
 unfolding key_text siding_text numbers_text
 one_siding s ss small more =
     let head = codes "\n[[siding]]\n" in
@@ -171,42 +173,42 @@ one_siding s ss small more =
     let l2 = pair_line (codes "launch") (decimal s.launch) in
     let l3 = pair_line (codes "recover") (decimal s.recover) in
     let l4 = pair_line (codes "cells") (decimal s.cells) in
-    let same : siding_text s ++ siding_lines ss ≡ head ++ (l1 ++ (l2 ++ (l3 ++ (l4 ++ siding_lines ss)))) = simp append_assoc refl in
+    let same : siding_text s ++ siding_texts ss ≡ head ++ (l1 ++ (l2 ++ (l3 ++ (l4 ++ siding_texts ss)))) = simp append_assoc refl in
     rw (names_pair s.classes, no_names_section s.classes (codes "siding" ∷ []) (codes "classes")) (
       head,
-      l1 ++ (l2 ++ (l3 ++ (l4 ++ siding_lines ss))),
+      l1 ++ (l2 ++ (l3 ++ (l4 ++ siding_texts ss))),
       same,
       refl,
       (
         l1,
-        l2 ++ (l3 ++ (l4 ++ siding_lines ss)),
+        l2 ++ (l3 ++ (l4 ++ siding_texts ss)),
         refl,
         line_of true (codes "classes") _ (array (names s.classes)) refl (names_text s.classes),
         (
           l2,
-          l3 ++ (l4 ++ siding_lines ss),
+          l3 ++ (l4 ++ siding_texts ss),
           refl,
           line_of true (codes "launch") _ (integer (pos s.launch)) refl (refl, number_fits s.launch small.0),
           (
             l3,
-            l4 ++ siding_lines ss,
+            l4 ++ siding_texts ss,
             refl,
             line_of true (codes "recover") _ (integer (pos s.recover)) refl (refl, number_fits s.recover small.1),
-            (l4, siding_lines ss, refl, line_of true (codes "cells") _ (integer (pos s.cells)) refl (refl, number_fits s.cells small.2), more),
+            (l4, siding_texts ss, refl, line_of true (codes "cells") _ (integer (pos s.cells)) refl (refl, number_fits s.cells small.2), more),
           ),
         ),
       ),
     )
 
 each_siding : (ss : List SidingPlan) → SidingsAreSmall ss → IsLinesText false true (elements ([], codes "siding") (siding_tables (map asking_siding ss)))
-    (siding_lines ss)
+    (siding_texts ss)
 each_siding [] small = refl
 each_siding (s ∷ ss) small = one_siding s ss small.0 (each_siding ss small.1)
 
 last_section : (s : Siding) (ss : List Siding) → sections [] (sidings_last (s ∷ ss)) ≡ elements ([], codes "siding") (siding_tables (s ∷ ss))
 last_section s ss = rw (sidings_tables ss) (append-nil _)
 
-sidings_text : (ss : List SidingPlan) → SidingsAreSmall ss → IsLinesText false true (sections [] (sidings_last (map asking_siding ss))) (siding_lines ss)
+sidings_text : (ss : List SidingPlan) → SidingsAreSmall ss → IsLinesText false true (sections [] (sidings_last (map asking_siding ss))) (siding_texts ss)
 sidings_text [] small = refl
 sidings_text (s ∷ ss) small = rw (last_section (asking_siding s) (map asking_siding ss)) (each_siding (s ∷ ss) small)
 
@@ -230,28 +232,28 @@ body_written : (plan : Plan) → IsSmall plan → IsLinesText false true (sectio
     ++ sections [] (sidings_last (asking plan).sidings)) (body_text plan)
 unfolding body_text
 body_written plan small =
-    let same : codes "\n[units]\n" ++ (unit_lines plan computed_classes ++ siding_lines plan.sidings)
-    ≡ (codes "\n[units]\n" ++ unit_lines plan computed_classes) ++ siding_lines plan.sidings = refl in
+    let same : codes "\n[units]\n" ++ (unit_lines plan computed_classes ++ siding_texts plan.sidings)
+    ≡ (codes "\n[units]\n" ++ unit_lines plan computed_classes) ++ siding_texts plan.sidings = refl in
     rw same (IsLinesText-append false true _ _ _ _ (units_text (asking plan).units _ (unit_pairs_text plan computed_classes small.units))
     (rw (started (asking plan).units) (sidings_text plan.sidings small.sidings)))
 
 -- the first lines, one after the other, and what follows them
-head_first : (plan : Plan) (rest : List ℕ) → head_text false plan ++ rest ≡ pair_line (codes "format") (codes "1")
+head_first : (plan : Plan) (rest : List ℕ) → top_text First plan ++ rest ≡ pair_line (codes "format") (codes "1")
     ++ (pair_line (codes "stages") (decimal plan.stages) ++ (pair_line (codes "lane") (decimal plan.lane) ++ rest))
-unfolding head_text
+unfolding top_text
 head_first plan rest = simp append_assoc refl
 
-head_second : (plan : Plan) (rest : List ℕ) → head_text true plan ++ rest ≡ pair_line (codes "format") (codes "2")
+head_second : (plan : Plan) (rest : List ℕ) → top_text Second plan ++ rest ≡ pair_line (codes "format") (codes "2")
     ++ (pair_line (codes "stages") (decimal plan.stages) ++ (pair_line (codes "lane") (decimal plan.lane)
     ++ (pair_line (codes "cache") (truth_text plan.cache) ++ rest)))
-unfolding head_text
+unfolding top_text
 head_second plan rest = simp append_assoc refl
 
 -- the whole text, in either format
-pub text_written : (second : Bool) (plan : Plan) → IsSmall plan → IsDocumentText false (file_members second (asking plan)) (head_text second plan
+pub text_written : (format : Format) (plan : Plan) → IsSmall plan → IsDocumentText false (file_members format (asking plan)) (top_text format plan
     ++ body_text plan)
 unfolding key_text
-text_written false plan small =
+text_written First plan small =
     let l1 = pair_line (codes "format") (codes "1") in
     let l2 = pair_line (codes "stages") (decimal plan.stages) in
     let l3 = pair_line (codes "lane") (decimal plan.lane) in
@@ -269,7 +271,7 @@ text_written false plan small =
         (l3, tail, refl, line_of true (codes "lane") _ (integer (pos plan.lane)) refl (refl, number_fits plan.lane small.lane), body_written plan small),
       ),
     )
-text_written true plan small =
+text_written Second plan small =
     let l1 = pair_line (codes "format") (codes "2") in
     let l2 = pair_line (codes "stages") (decimal plan.stages) in
     let l3 = pair_line (codes "lane") (decimal plan.lane) in
@@ -324,21 +326,21 @@ last_flat (s ∷ ss) =
     let (d, v) = sidings_flat (s ∷ ss) in
     (grind (arith, nat_tests), rw v)
 
-file_flat : (second : Bool) (p : Parts) → (members_depth (file_members second p) ≤ 80) × (members_have_valid_dates (file_members second p) ≡ true)
-file_flat false p =
+file_flat : (format : Format) (p : Parts) → (members_depth (file_members format p) ≤ 80) × (members_have_valid_dates (file_members format p) ≡ true)
+file_flat First p =
     let (d, v) = units_flat p.units in
     let (e, w) = last_flat p.sidings in
     (grind (arith, nat_tests), rw (v, w))
-file_flat true p =
+file_flat Second p =
     let (d, v) = units_flat p.units in
     let (e, w) = last_flat p.sidings in
     (grind (arith, nat_tests), rw (v, w))
 
 -- the text of a layout is read as its table
-pub text_read : (second : Bool) (plan : Plan) → AreDistinct (asking plan).units → IsSmall plan →
-    parse_document (head_text second plan ++ body_text plan) ≡ Some (table_of second (asking plan))
-text_read second plan distinct small =
-    let (n, filled, closed) = layout_filled second (asking plan) distinct in
-    let (deep, valid) = file_flat second (asking plan) in
-    parse_document-filled (file_members second (asking plan)) n (head_text second plan ++ body_text plan) (text_written second plan small) deep valid filled
+pub text_read : (format : Format) (plan : Plan) → AreDistinct (asking plan).units → IsSmall plan →
+    parse_document (top_text format plan ++ body_text plan) ≡ Some (table_of format (asking plan))
+text_read format plan distinct small =
+    let (n, filled, closed) = layout_filled format (asking plan) distinct in
+    let (deep, valid) = file_flat format (asking plan) in
+    parse_document-filled (file_members format (asking plan)) n (top_text format plan ++ body_text plan) (text_written format plan small) deep valid filled
     ∙ ap Some closed

@@ -1,16 +1,16 @@
 -- What the tests of a table's entries say of the table.
 use Rattle.std.proofs.Common.{◌≡◌, ℕ, ◌+◌, ◌<◌, List, [], ◌∷◌, Bool, true, false, cond, Option, Some, None, find, length, get_or, drop, drop-cons, add-one, refl, ap, ◌∙◌, String, Bor}
-use Rattle.std.specs.Prelude.{not, option_map, string_bytes}
+use Rattle.std.specs.Prelude.{is_none, map, not, option_map, string_bytes}
 use Rattle.std.specs.Option.{option_copied}
 use Rattle.std.specs.List.{list_all}
 use Rattle.std.specs.Map.{keys_of}
 use Rattle.std.specs.Global.{Global}
-use Rattle.toml.specs.Data.{item}
+use Rattle.toml.specs.Data.{item, Members, get_member}
 use Rattle.toml.specs.View.{view, items_view, members_view}
 use Rattle.toml.specs.declared.value.Value.{Value}
-use Rattle.layout_file.specs.declared.form.Form.{Form}
-use Rattle.layout_file.specs.declared.form.Shape.{Shape}
-use Rattle.layout_file.specs.Tables.{knows, has_shape, all_have, item_count, first_unknown}
+use Rattle.layout_file.specs.declared.kinds.TableKind.{TableKind}
+use Rattle.layout_file.specs.declared.kinds.Shape.{Shape}
+use Rattle.layout_file.specs.Tables.{knows, has_shape, all_have, item_count, first_missing_key, first_unknown_key}
 
 -- all elements are of a type where each value is
 pub all_have_view : (s : Shape) (vs : List Value) → all_have s (items_view vs) ≡ list_all (λ v. has_shape s (view v)) vs
@@ -34,10 +34,10 @@ chosen f true k rest d e = e
 chosen f false k rest d e = refl
 
 -- the first key that is not known
-unknown_in : (form : Form) (es : List (String Global × Value)) → option_map string_bytes (find (λ k. not (knows form (string_bytes k))) (keys_of es))
-    ≡ first_unknown form (members_view es)
-unknown_in form [] = refl
-unknown_in form (e ∷ es) = chosen string_bytes (knows form (string_bytes e.0)) e.0 _ _ (unknown_in form es)
+unknown_in : (kind : TableKind) (es : List (String Global × Value)) → option_map string_bytes (find (λ k. not (knows kind (string_bytes k))) (keys_of es))
+    ≡ first_unknown_key kind (members_view es)
+unknown_in kind [] = refl
+unknown_in kind (e ∷ es) = chosen string_bytes (knows kind (string_bytes e.0)) e.0 _ _ (unknown_in kind es)
 
 -- what is lent, seen
 seen : (r : Option (Bor (String Global))) → option_map (λ k. string_bytes k.now) r ≡ option_map string_bytes (option_copied r)
@@ -45,6 +45,19 @@ seen None = refl
 seen (Some k) = refl
 
 -- the first unknown key of a table's entries is that of its members
-pub unknown_of : (form : Form) (r : Option (Bor (String Global))) (es : List (String Global × Value)) →
-    option_copied r ≡ find (λ k. not (knows form (string_bytes k))) (keys_of es) → option_map (λ k. string_bytes k.now) r ≡ first_unknown form (members_view es)
-unknown_of form r es e = seen r ∙ ap (option_map string_bytes) e ∙ unknown_in form es
+pub unknown_of : (kind : TableKind) (r : Option (Bor (String Global))) (es : List (String Global × Value)) →
+    option_copied r ≡ find (λ k. not (knows kind (string_bytes k))) (keys_of es) →
+    option_map (λ k. string_bytes k.now) r ≡ first_unknown_key kind (members_view es)
+unknown_of kind r es e = seen r ∙ ap (option_map string_bytes) e ∙ unknown_in kind es
+
+-- one step of the search among keys that are seen
+found : {A : Type 0} (f : A → List ℕ) (b : Bool) (k : A) (rest : Option A) (d : Option (List ℕ)) → option_map f rest ≡ d →
+    option_map f (cond b (Some k) rest) ≡ cond b (Some (f k)) d
+found f true k rest d e = refl
+found f false k rest d e = e
+
+-- the first key that is missing, seen, is the first of the keys as they are seen
+pub missing_seen : (keys : List (Bor (List ℕ))) (ms : Members) →
+    option_map (λ k. k.now) (find (λ k. is_none (get_member k.now ms)) keys) ≡ first_missing_key (map (λ k. k.now) keys) ms
+missing_seen [] ms = refl
+missing_seen (k ∷ ks) ms = found (λ (l : Bor (List ℕ)). l.now) (is_none (get_member k.now ms)) k _ _ (missing_seen ks ms)

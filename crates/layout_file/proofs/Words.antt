@@ -4,7 +4,9 @@ use Rattle.std.specs.Prelude.{unwrap_or, IfSome}
 use Rattle.rv_inst.specs.declared.classes.Class.{Class}
 use Rattle.rv_inst.specs.declared.classes.Class.TheVariants.{Add}
 use Rattle.cf_layout.specs.Acceptable.{IsComputed}
-use Rattle.layout_file.specs.Names.{class_among, class_name, same_text, classes_in, class_of}
+use Rattle.layout_file.specs.declared.format.Format.{Format}
+use Rattle.layout_file.specs.declared.format.Format.TheVariants.{First, Second}
+use Rattle.layout_file.specs.Names.{class_among, class_name, same_text, classes_in, class_by_name}
 
 -- all of these classes are computed
 abbrev pub AllSmall : List Class → Type 0
@@ -22,19 +24,19 @@ found_computed [] word small = tt
 found_computed (c ∷ cs) word small = either (same_text (class_name c) word) c _ small.0 (found_computed cs word small.1)
 
 -- all classes that a file may name
-pub all_small : (second : Bool) → AllSmall (classes_in second)
-all_small true = (omega arith, (omega arith, (omega arith, (omega arith, (omega arith, (omega arith, (omega arith, (omega arith, (omega arith, tt)))))))))
-all_small false = (omega arith, (omega arith, (omega arith, (omega arith, (omega arith, (omega arith, (omega arith, tt)))))))
+pub all_small : (format : Format) → AllSmall (classes_in format)
+all_small Second = (omega arith, (omega arith, (omega arith, (omega arith, (omega arith, (omega arith, (omega arith, (omega arith, (omega arith, tt)))))))))
+all_small First = (omega arith, (omega arith, (omega arith, (omega arith, (omega arith, (omega arith, (omega arith, tt)))))))
 
 -- each word names a computed class
-pub class_computed : (second : Bool) (word : List ℕ) → IfSome (class_of second word) IsComputed
-unfolding class_of
-class_computed second word = found_computed (classes_in second) word (all_small second)
+pub class_computed : (format : Format) (word : List ℕ) → IfSome (class_by_name format word) IsComputed
+unfolding class_by_name
+class_computed format word = found_computed (classes_in format) word (all_small format)
 
 -- where it names no class, `add` is computed too
 or_add : (o : Option Class) → IfSome o IsComputed → IsComputed (unwrap_or o Add)
 or_add None h = omega arith
 or_add (Some c) h = h
 
-pub word_computed : (second : Bool) (word : List ℕ) → IsComputed (unwrap_or (class_of second word) Add)
-word_computed second word = or_add (class_of second word) (class_computed second word)
+pub word_computed : (format : Format) (word : List ℕ) → IsComputed (unwrap_or (class_by_name format word) Add)
+word_computed format word = or_add (class_by_name format word) (class_computed format word)

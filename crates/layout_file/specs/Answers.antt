@@ -7,7 +7,7 @@ use Rattle.cf_layout.specs.Asked.{plan_of}
 use Rattle.layout_file.specs.declared.fault.FileErr.{FileErr}
 use Rattle.layout_file.specs.declared.fault.FileErr.TheVariants.{TooLong, NotToml, NoMemory}
 use Rattle.layout_file.specs.Limits.{most_layout_bytes}
-use Rattle.layout_file.specs.Reading.{asked_by, fault_of}
+use Rattle.layout_file.specs.Reading.{requested_parts, fault_of, loose_fault_of}
 
 -- the error is this fault, or memory ran out
 abbrev pub ReportsFault : FileErr → Option FileErr → Type 0
@@ -21,22 +21,42 @@ IsNotToml file = IsUtf8 file → parse_document file ≡ None
 abbrev pub IsDocument : List ℕ → Members → Type 0
 IsDocument file ms = IsUtf8 file × (parse_document file ≡ Some ms)
 
--- the file is a document with a fault
-abbrev pub HasFault : List ℕ → FileErr → Type 0
-HasFault file e = (ms : Members) × IsDocument file ms × (fault_of ms ≡ Some e)
+-- the file is not read as a document: it is too long, memory ran out, or it is no TOML document
+abbrev pub LacksDocument : List ℕ → FileErr → Type 0
+LacksDocument file e = ((e ≡ TooLong) × (most_layout_bytes < length file))
+    ⊎ ((length file ≤ most_layout_bytes) × ((e ≡ NoMemory) ⊎ ((e ≡ NotToml) × IsNotToml file)))
+
+-- the file is a document in which a test finds this fault
+abbrev pub HasFault : (Members → Option FileErr) → List ℕ → FileErr → Type 0
+HasFault fault_in file e = (ms : Members) × IsDocument file ms × (fault_in ms ≡ Some e)
 
 -- why reading a file that is not too long fails: it is out of memory, or the file is no document or a document with a
 -- fault
-abbrev pub FailsWithin : List ℕ → FileErr → Type 0
-FailsWithin file e = (e ≡ NoMemory) ⊎ (((e ≡ NotToml) × IsNotToml file) ⊎ HasFault file e)
+abbrev pub FailsWithin : (Members → Option FileErr) → List ℕ → FileErr → Type 0
+FailsWithin fault_in file e = (e ≡ NoMemory) ⊎ (((e ≡ NotToml) × IsNotToml file) ⊎ HasFault fault_in file e)
 
--- why reading fails
+-- why reading fails, by a test of documents
+abbrev pub FailsBy : (Members → Option FileErr) → List ℕ → FileErr → Type 0
+FailsBy fault_in file e = ((e ≡ TooLong) × (most_layout_bytes < length file)) ⊎ ((length file ≤ most_layout_bytes) × FailsWithin fault_in file e)
+
+-- the file is a document in which a test finds no fault, and describes the layout
+abbrev pub DescribesBy : (Members → Option FileErr) → List ℕ → Plan → Type 0
+DescribesBy fault_in file plan = (length file ≤ most_layout_bytes)
+    × ((ms : Members) × IsDocument file ms × (fault_in ms ≡ None) × (plan ≡ plan_of (requested_parts ms)))
+
+-- why reading fails, and what the file describes
 abbrev pub LayoutFails : List ℕ → FileErr → Type 0
-LayoutFails file e = ((e ≡ TooLong) × (most_layout_bytes < length file)) ⊎ ((length file ≤ most_layout_bytes) × FailsWithin file e)
+LayoutFails = FailsBy fault_of
 
--- the file is a document without a fault, and describes the layout
 abbrev pub Describes : List ℕ → Plan → Type 0
-Describes file plan = (length file ≤ most_layout_bytes) × ((ms : Members) × IsDocument file ms × (fault_of ms ≡ None) × (plan ≡ plan_of (asked_by ms)))
+Describes = DescribesBy fault_of
+
+-- the same, where the layout may break the rule on where control turns
+abbrev pub LooseLayoutFails : List ℕ → FileErr → Type 0
+LooseLayoutFails = FailsBy loose_fault_of
+
+abbrev pub DescribesLoosely : List ℕ → Plan → Type 0
+DescribesLoosely = DescribesBy loose_fault_of
 
 -- the file is read as the layout: it describes this layout and no other, and reading it fails only where memory runs
 -- out

@@ -1,5 +1,5 @@
 -- What a layout file says, and the first of its faults.
-use Rattle.std.specs.Prelude.{ℕ, ℤ, pos, ◌++◌, List, [], ◌∷◌, codes, Bool, false, ◌&&◌, if◌then◌else◌, Option, Some, None, is_some, option_map, unwrap_or}
+use Rattle.std.specs.Prelude.{ℕ, ℤ, pos, ◌++◌, List, [], ◌∷◌, codes, Bool, false, if◌then◌else◌, Option, Some, None, is_some, option_map, unwrap_or}
 use Rattle.std.specs.Option.{option_or}
 use Rattle.toml.specs.Data.{Data, Items, no_items, item, Members, no_members, get_member, as_integer, as_str, as_bool, as_array, as_table}
 use Rattle.rv_inst.specs.declared.classes.Class.{Class}
@@ -8,12 +8,14 @@ use Rattle.cf_layout.specs.declared.parts.Siding.{Siding}
 use Rattle.cf_layout.specs.declared.parts.Parts.{Parts}
 use Rattle.cf_layout.specs.Layout.{computed_classes}
 use Rattle.cf_layout.specs.Asked.{is_number}
-use Rattle.cf_layout.specs.Refusal.{refusal}
-use Rattle.layout_file.specs.declared.form.Form.TheVariants as form
+use Rattle.cf_layout.specs.Refusal.{loose_refusal, refusal}
+use Rattle.layout_file.specs.declared.format.Format.{Format}
+use Rattle.layout_file.specs.declared.format.Format.TheVariants.{First, Second}
+use Rattle.layout_file.specs.declared.kinds.TableKind.TheVariants as kind
 use Rattle.layout_file.specs.declared.fault.FileErr.{FileErr}
 use Rattle.layout_file.specs.declared.fault.FileErr.TheVariants.{UnknownClass, UnknownFormat, Refused}
-use Rattle.layout_file.specs.Names.{class_name, class_of}
-use Rattle.layout_file.specs.Tables.{form_fault}
+use Rattle.layout_file.specs.Names.{class_name, class_by_name}
+use Rattle.layout_file.specs.Tables.{entries_fault}
 
 -- the value where it is of the type, or else 0, false or empty
 abbrev pub integer_in : Data → ℤ
@@ -50,14 +52,14 @@ integers_of no_items = []
 integers_of (item d ds) = integer_in d ∷ integers_of ds
 
 -- the classes that an array names
-abbrev pub classes_of : Bool → Items → List Class
-classes_of second no_items = []
-classes_of second (item d ds) = unwrap_or (class_of second (text_in d)) Add ∷ classes_of second ds
+abbrev pub classes_of : Format → Items → List Class
+classes_of format no_items = []
+classes_of format (item d ds) = unwrap_or (class_by_name format (text_in d)) Add ∷ classes_of format ds
 
 -- the first string of an array that is no class's name
-abbrev pub first_nameless : Bool → Items → Option (List ℕ)
-first_nameless second no_items = None
-first_nameless second (item d ds) = if is_some (class_of second (text_in d)) then first_nameless second ds else Some (text_in d)
+abbrev pub first_nameless : Format → Items → Option (List ℕ)
+first_nameless format no_items = None
+first_nameless format (item d ds) = if is_some (class_by_name format (text_in d)) then first_nameless format ds else Some (text_in d)
 
 -- the entry of a class, where the table has one
 abbrev pub unit_in : Class → Option Data → List (Class × List ℤ)
@@ -70,73 +72,78 @@ units_among [] ms = []
 units_among (c ∷ cs) ms = unit_in c (get_member (class_name c) ms) ++ units_among cs ms
 
 -- a siding's table
-unfoldable pub siding_fault : Bool → Members → Option FileErr
-siding_fault second ms = option_or (form_fault form.Siding ms) (option_map UnknownClass (first_nameless second (items_at (codes "classes") ms)))
+unfoldable pub siding_fault : Format → Members → Option FileErr
+siding_fault format ms = option_or (entries_fault kind.Siding ms) (option_map UnknownClass (first_nameless format (items_at (codes "classes") ms)))
 
-unfoldable pub siding_in : Bool → Members → Siding
-siding_in second ms = record {
-  classes = classes_of second (items_at (codes "classes") ms);
+unfoldable pub siding_in : Format → Members → Siding
+siding_in format ms = record {
+  classes = classes_of format (items_at (codes "classes") ms);
   launch = integer_at (codes "launch") ms;
   recover = integer_at (codes "recover") ms;
   cells = integer_at (codes "cells") ms;
 }
 
 -- an element of the array of sidings, where it is a table
-abbrev pub siding_fault_in : Bool → Option Members → Option FileErr
-siding_fault_in second None = None
-siding_fault_in second (Some ms) = siding_fault second ms
+abbrev pub siding_fault_in : Format → Option Members → Option FileErr
+siding_fault_in format None = None
+siding_fault_in format (Some ms) = siding_fault format ms
 
-abbrev pub sidings_of : Bool → Option Members → List Siding
-sidings_of second None = []
-sidings_of second (Some ms) = siding_in second ms ∷ []
+abbrev pub sidings_of : Format → Option Members → List Siding
+sidings_of format None = []
+sidings_of format (Some ms) = siding_in format ms ∷ []
 
 -- the array of sidings
-abbrev pub sidings_fault : Bool → Items → Option FileErr
-sidings_fault second no_items = None
-sidings_fault second (item d ds) = option_or (siding_fault_in second (as_table d)) (sidings_fault second ds)
+abbrev pub sidings_fault : Format → Items → Option FileErr
+sidings_fault format no_items = None
+sidings_fault format (item d ds) = option_or (siding_fault_in format (as_table d)) (sidings_fault format ds)
 
-abbrev pub sidings_in : Bool → Items → List Siding
-sidings_in second no_items = []
-sidings_in second (item d ds) = sidings_of second (as_table d) ++ sidings_in second ds
+abbrev pub sidings_in : Format → Items → List Siding
+sidings_in format no_items = []
+sidings_in format (item d ds) = sidings_of format (as_table d) ++ sidings_in format ds
 
--- the file is of format 2
-abbrev pub is_two : Option ℤ → Bool
-is_two None = false
-is_two (Some z) = is_number 2 z
+-- the format: 2 where the document says so, otherwise 1
+abbrev pub format_of : ℤ → Format
+format_of z = if is_number 2 z then Second else First
 
-abbrev pub integer_of : Option Data → Option ℤ
-integer_of None = None
-integer_of (Some d) = as_integer d
+unfoldable pub format_in : Members → Format
+format_in ms = format_of (integer_at (codes "format") ms)
 
-unfoldable pub is_second : Members → Bool
-is_second ms = is_two (integer_of (get_member (codes "format") ms))
-
--- the format is 2, or else has to be 1
-abbrev pub format_fault : Bool → ℤ → Option FileErr
-format_fault second z = if second then None else if is_number 1 z then None else Some (UnknownFormat z)
+-- the fault of the number at `format`: a document that is read in format 1 has to say 1
+abbrev pub format_fault : Format → ℤ → Option FileErr
+format_fault First z = if is_number 1 z then None else Some (UnknownFormat z)
+format_fault Second z = None
 
 -- the first fault of the tables, in a format
-unfoldable pub tables_fault : Bool → Members → Option FileErr
-tables_fault second ms =
-    option_or (form_fault (form.Top second) ms)
-    (option_or (format_fault second (integer_at (codes "format") ms))
-    (option_or (form_fault (form.Units second) (members_at (codes "units") ms))
-    (sidings_fault second (items_at (codes "siding") ms))))
+unfoldable pub tables_fault : Format → Members → Option FileErr
+tables_fault format ms =
+    option_or (entries_fault (kind.Top format) ms)
+    (option_or (format_fault format (integer_at (codes "format") ms))
+    (option_or (entries_fault (kind.Units format) (members_at (codes "units") ms))
+    (sidings_fault format (items_at (codes "siding") ms))))
 
--- the parts that the tables request, in a format: there is no cache in format 1
-unfoldable pub parts_in : Bool → Members → Parts
-parts_in second ms = record {
+-- there is a cache: in format 2 where the document says so, in format 1 never
+abbrev pub cache_in : Format → Members → Bool
+cache_in First ms = false
+cache_in Second ms = truth_at (codes "cache") ms
+
+-- the parts that the tables request, in a format
+unfoldable pub parts_in : Format → Members → Parts
+parts_in format ms = record {
   stages = integer_at (codes "stages") ms;
   lane = integer_at (codes "lane") ms;
-  cache = second && truth_at (codes "cache") ms;
+  cache = cache_in format ms;
   units = units_among computed_classes (members_at (codes "units") ms);
-  sidings = sidings_in second (items_at (codes "siding") ms);
+  sidings = sidings_in format (items_at (codes "siding") ms);
 }
 
 -- the parts that a document requests
-abbrev pub asked_by : Members → Parts
-asked_by ms = parts_in (is_second ms) ms
+abbrev pub requested_parts : Members → Parts
+requested_parts ms = parts_in (format_in ms) ms
 
 -- the first fault of a document: of its tables, or else of the layout that they request
 unfoldable pub fault_of : Members → Option FileErr
-fault_of ms = option_or (tables_fault (is_second ms) ms) (option_map Refused (refusal (asked_by ms)))
+fault_of ms = option_or (tables_fault (format_in ms) ms) (option_map Refused (refusal (requested_parts ms)))
+
+-- the same, where the layout may break the rule on where control turns
+unfoldable pub loose_fault_of : Members → Option FileErr
+loose_fault_of ms = option_or (tables_fault (format_in ms) ms) (option_map Refused (loose_refusal (requested_parts ms)))

@@ -1,16 +1,17 @@
 -- The tables of a layout file: which keys each table may have and must have, and the types of their values. The crate
 -- `toml` reads TOML 1.1.
-use Rattle.std.specs.Prelude.{ℕ, suc, nat_le, List, [], ◌∷◌, codes, Bool, true, false, ◌||◌, ◌&&◌, if◌then◌else◌, Option, Some, None, is_some, option_map}
+use Rattle.std.specs.Prelude.{ℕ, suc, nat_le, List, [], ◌∷◌, codes, find, Bool, true, false, ◌||◌, ◌&&◌, if◌then◌else◌, Option, Some, None, is_none, is_some, option_map}
 use Rattle.std.specs.List.{list_any}
 use Rattle.std.specs.Option.{option_or}
 use Rattle.toml.specs.Data.{Data, Items, no_items, item, Members, no_members, member, get_member, as_integer, as_str, as_bool, as_array, as_table}
-use Rattle.layout_file.specs.declared.form.Form.{Form}
-use Rattle.layout_file.specs.declared.form.Form.TheVariants.{Top, Units, Siding}
-use Rattle.layout_file.specs.declared.form.Shape.{Shape}
-use Rattle.layout_file.specs.declared.form.Shape.TheVariants.{Integer, Text, Truth, Table}
+use Rattle.layout_file.specs.declared.format.Format.TheVariants.{First, Second}
+use Rattle.layout_file.specs.declared.kinds.TableKind.{TableKind}
+use Rattle.layout_file.specs.declared.kinds.TableKind.TheVariants.{Top, Units, Siding}
+use Rattle.layout_file.specs.declared.kinds.Shape.{Shape}
+use Rattle.layout_file.specs.declared.kinds.Shape.TheVariants.{Integer, Text, Truth, Table}
 use Rattle.layout_file.specs.declared.fault.FileErr.{FileErr}
 use Rattle.layout_file.specs.declared.fault.FileErr.TheVariants.{UnknownKey, MissingKey, WrongType, UnknownClass}
-use Rattle.layout_file.specs.Names.{same_text, class_of}
+use Rattle.layout_file.specs.Names.{same_text, class_by_name}
 
 -- the key is one of these
 abbrev pub is_among : List ℕ → List (List ℕ) → Bool
@@ -24,16 +25,17 @@ abbrev pub siding_keys : List (List ℕ)
 siding_keys = codes "classes" ∷ codes "launch" ∷ codes "recover" ∷ codes "cells" ∷ []
 
 -- the keys that a table may have: `cache` only in format 2
-unfoldable pub knows : Form → List ℕ → Bool
-knows (Top second) k = is_among k top_keys || (second && same_text k (codes "cache"))
-knows (Units second) k = is_some (class_of second k)
+unfoldable pub knows : TableKind → List ℕ → Bool
+knows (Top First) k = is_among k top_keys
+knows (Top Second) k = is_among k top_keys || same_text k (codes "cache")
+knows (Units format) k = is_some (class_by_name format k)
 knows Siding k = is_among k siding_keys
 
 -- the keys that a table must have, in byte order
-abbrev pub needed_keys : Form → List (List ℕ)
-needed_keys (Top true) = codes "cache" ∷ codes "format" ∷ codes "lane" ∷ codes "stages" ∷ codes "units" ∷ []
-needed_keys (Top false) = codes "format" ∷ codes "lane" ∷ codes "stages" ∷ codes "units" ∷ []
-needed_keys (Units second) = []
+abbrev pub needed_keys : TableKind → List (List ℕ)
+needed_keys (Top First) = codes "format" ∷ codes "lane" ∷ codes "stages" ∷ codes "units" ∷ []
+needed_keys (Top Second) = codes "cache" ∷ codes "format" ∷ codes "lane" ∷ codes "stages" ∷ codes "units" ∷ []
+needed_keys (Units format) = []
 needed_keys Siding = codes "cells" ∷ codes "classes" ∷ codes "launch" ∷ codes "recover" ∷ []
 
 -- the value is of a type
@@ -63,39 +65,38 @@ abbrev pub is_list_of : Shape → Data → Bool
 is_list_of s d = are_list_of s (as_array d)
 
 -- the value at a key is of its type
-unfoldable pub fits : Form → List ℕ → Data → Bool
-fits (Top second) k d =
+unfoldable pub fits : TableKind → List ℕ → Data → Bool
+fits (Top format) k d =
     if same_text k (codes "units") then has_shape Table d
     else if same_text k (codes "siding") then is_list_of Table d
     else if same_text k (codes "cache") then has_shape Truth d
     else has_shape Integer d
-fits (Units second) k d = is_list_of Integer d
+fits (Units format) k d = is_list_of Integer d
 fits Siding k d = if same_text k (codes "classes") then is_list_of Text d else has_shape Integer d
 
 -- the first key in byte order that is not allowed in the table
-abbrev pub first_unknown : Form → Members → Option (List ℕ)
-first_unknown f no_members = None
-first_unknown f (member k d ms) = if knows f k then first_unknown f ms else Some k
+abbrev pub first_unknown_key : TableKind → Members → Option (List ℕ)
+first_unknown_key f no_members = None
+first_unknown_key f (member k d ms) = if knows f k then first_unknown_key f ms else Some k
 
 -- the first of these keys that is missing in the table
-abbrev pub first_absent : List (List ℕ) → Members → Option (List ℕ)
-first_absent [] ms = None
-first_absent (k ∷ ks) ms = if is_some (get_member k ms) then first_absent ks ms else Some k
+abbrev pub first_missing_key : List (List ℕ) → Members → Option (List ℕ)
+first_missing_key keys ms = find (λ k. is_none (get_member k ms)) keys
 
 -- the first key in byte order whose value is of the wrong type
-abbrev pub first_misfit : Form → Members → Option (List ℕ)
-first_misfit f no_members = None
-first_misfit f (member k d ms) = if fits f k d then first_misfit f ms else Some k
+abbrev pub first_misfit_key : TableKind → Members → Option (List ℕ)
+first_misfit_key f no_members = None
+first_misfit_key f (member k d ms) = if fits f k d then first_misfit_key f ms else Some k
 
 -- the fault of a key that is not allowed: among the units it names no class
-abbrev pub unknown_in : Form → List ℕ → FileErr
-unknown_in (Top second) k = UnknownKey k
-unknown_in (Units second) k = UnknownClass k
+abbrev pub unknown_in : TableKind → List ℕ → FileErr
+unknown_in (Top format) k = UnknownKey k
+unknown_in (Units format) k = UnknownClass k
 unknown_in Siding k = UnknownKey k
 
 -- the first fault in the keys and the types of one table
-unfoldable pub form_fault : Form → Members → Option FileErr
-form_fault f ms =
-    option_or (option_map (unknown_in f) (first_unknown f ms))
-    (option_or (option_map MissingKey (first_absent (needed_keys f) ms))
-    (option_map WrongType (first_misfit f ms)))
+unfoldable pub entries_fault : TableKind → Members → Option FileErr
+entries_fault f ms =
+    option_or (option_map (unknown_in f) (first_unknown_key f ms))
+    (option_or (option_map MissingKey (first_missing_key (needed_keys f) ms))
+    (option_map WrongType (first_misfit_key f ms)))

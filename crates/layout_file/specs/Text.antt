@@ -2,6 +2,8 @@
 use Rattle.std.specs.Prelude.{ℕ, List, [], ◌∷◌, ◌++◌, map, codes, decimal, Bool, ◌||◌, if◌then◌else◌}
 use Rattle.rv_inst.specs.declared.classes.Class.{Class}
 use Rattle.cf_layout.specs.Layout.{SidingPlan, Plan, computed_classes, stages_of, has_mul}
+use Rattle.layout_file.specs.declared.format.Format.{Format}
+use Rattle.layout_file.specs.declared.format.Format.TheVariants.{First, Second}
 use Rattle.layout_file.specs.Names.{class_name}
 
 -- `key = value` and a line feed
@@ -9,14 +11,14 @@ unfoldable pub pair_line : List ℕ → List ℕ → List ℕ
 pair_line key value = key ++ (codes " = " ++ (value ++ codes "\n"))
 
 -- what follows the first element of an array, with the closing bracket
-abbrev pub rest_text : List (List ℕ) → List ℕ
-rest_text [] = codes "]"
-rest_text (t ∷ ts) = codes ", " ++ (t ++ rest_text ts)
+abbrev pub array_rest : List (List ℕ) → List ℕ
+array_rest [] = codes "]"
+array_rest (t ∷ ts) = codes ", " ++ (t ++ array_rest ts)
 
 -- an array of these texts
 abbrev pub array_text : List (List ℕ) → List ℕ
 array_text [] = codes "[]"
-array_text (t ∷ ts) = codes "[" ++ (t ++ rest_text ts)
+array_text (t ∷ ts) = codes "[" ++ (t ++ array_rest ts)
 
 -- the name of a class in quotes
 abbrev pub quoted_name : Class → List ℕ
@@ -42,38 +44,40 @@ unfoldable pub siding_text : SidingPlan → List ℕ
 siding_text s = codes "\n[[siding]]\n" ++ (pair_line (codes "classes") (array_text (map quoted_name s.classes)) ++ numbers_text s)
 
 -- the lines of all sidings
-abbrev pub siding_lines : List SidingPlan → List ℕ
-siding_lines [] = []
-siding_lines (s ∷ ss) = siding_text s ++ siding_lines ss
+abbrev pub siding_texts : List SidingPlan → List ℕ
+siding_texts [] = []
+siding_texts (s ∷ ss) = siding_text s ++ siding_texts ss
 
--- a layout needs format 2 where it has the cache, or multiplies and divides
-abbrev pub needs_second : Plan → Bool
-needs_second plan = plan.cache || has_mul plan
+-- the lowest format that has what the layout has: format 2 where it has the cache, or multiplies and divides
+abbrev pub needed_format : Plan → Format
+needed_format plan = if plan.cache || has_mul plan then Second else First
 
 -- a boolean
 abbrev pub truth_text : Bool → List ℕ
 truth_text b = if b then codes "true" else codes "false"
 
 -- the line of the cache, only in format 2
-abbrev pub cache_line : Bool → Bool → List ℕ
-cache_line second cache = if second then pair_line (codes "cache") (truth_text cache) else []
+abbrev pub cache_key_line : Format → Bool → List ℕ
+cache_key_line First cache = []
+cache_key_line Second cache = pair_line (codes "cache") (truth_text cache)
 
 -- the number of the format
-abbrev pub format_text : Bool → List ℕ
-format_text second = if second then codes "2" else codes "1"
+abbrev pub format_text : Format → List ℕ
+format_text First = codes "1"
+format_text Second = codes "2"
 
 -- the lines before the units
-unfoldable pub head_text : Bool → Plan → List ℕ
-head_text second plan =
-    pair_line (codes "format") (format_text second)
+unfoldable pub top_text : Format → Plan → List ℕ
+top_text format plan =
+    pair_line (codes "format") (format_text format)
     ++ (pair_line (codes "stages") (decimal plan.stages)
     ++ (pair_line (codes "lane") (decimal plan.lane)
-    ++ cache_line second plan.cache))
+    ++ cache_key_line format plan.cache))
 
 -- the lines of units and sidings
 unfoldable pub body_text : Plan → List ℕ
-body_text plan = codes "\n[units]\n" ++ (unit_lines plan computed_classes ++ siding_lines plan.sidings)
+body_text plan = codes "\n[units]\n" ++ (unit_lines plan computed_classes ++ siding_texts plan.sidings)
 
 -- the text of a layout
-unfoldable pub text_of : Plan → List ℕ
-text_of plan = head_text (needs_second plan) plan ++ body_text plan
+unfoldable pub layout_text : Plan → List ℕ
+layout_text plan = top_text (needed_format plan) plan ++ body_text plan

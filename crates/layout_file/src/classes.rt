@@ -1,9 +1,10 @@
 //! The names of classes in a layout file.
 
 ghost use Rattle.std.specs.Prelude.{◌≡◌, IfSome};
-ghost use Rattle.layout_file.specs.Names.{class_name, class_among, class_of};
+ghost use Rattle.layout_file.specs.Names.{class_name, class_among, class_by_name};
 ghost use Rattle.cf_layout.specs.Acceptable.{IsComputed};
 
+use crate::format::Format;
 use cf_layout::CLASSES;
 use rv_inst::Class;
 
@@ -39,15 +40,14 @@ fn class_among(classes: &[Class], word: &str) -> Option<Class>
 /// How many of the classes, in class order, a file of format 1 may name. `mul` and `div` come after them.
 const FIRST_FORMAT: usize = 7;
 
-/// The class of a name: in format 2 where `second` is set, otherwise in format 1.
-#[tactic(auto, unfolding(crate::specs::Names::class_of))]
-pub(crate) fn class_of(second: bool, word: &str) -> Option<Class>
-    ensures class { result ≡ class_of second word.now }
+/// The class of a name in a format.
+#[tactic(auto, unfolding(crate::specs::Names::class_by_name))]
+pub(crate) fn class_by_name(format: Format, word: &str) -> Option<Class>
+    ensures class { result ≡ class_by_name format word.now }
     ensures computed { IfSome result (λ c. IsComputed c) }
 {
-    if second {
-        class_among(&CLASSES, word)
-    } else {
-        class_among(&CLASSES[..FIRST_FORMAT], word)
+    match format {
+        Format::First => class_among(&CLASSES[..FIRST_FORMAT], word),
+        Format::Second => class_among(&CLASSES, word),
     }
 }

@@ -3,7 +3,8 @@
 
 mod classes;
 mod fault;
-mod form;
+mod format;
+mod kinds;
 pub mod laws;
 mod reading;
 mod tables;
@@ -11,6 +12,6 @@ mod writing;
 
 pub use classes::class_name;
 pub use fault::FileErr;
-pub use reading::{MOST_LAYOUT, read_layout};
+pub use reading::{MOST_LAYOUT, read_layout, read_layout_loosely};
 pub use texts::Name;
 pub use writing::write_layout;

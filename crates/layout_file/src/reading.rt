@@ -1,25 +1,27 @@
 //! Reading a layout file.
 
-ghost use Rattle.std.specs.Prelude.{◌≡◌, ◌++◌, ◌≤◌, ◌⊎◌, All, IfOk, IfErr, Some, None, codes, option_map, unwrap_or};
+ghost use Rattle.std.specs.Prelude.{◌≡◌, ◌++◌, ◌≤◌, ◌⊎◌, length, All, IfOk, IfErr, Some, None, codes, option_map, unwrap_or};
 ghost use Rattle.std.specs.Option.{option_or};
-ghost use Rattle.layout_file.specs.Names.{class_name, class_of};
-ghost use Rattle.layout_file.specs.Tables.{form_fault};
-ghost use Rattle.layout_file.specs.Reading.{integer_in, text_in, integer_at, truth_at, items_in, items_at, members_at, integers_of, classes_of, first_nameless, unit_in, units_among, siding_fault, siding_in, sidings_fault, sidings_in, is_second, format_fault, tables_fault, parts_in, asked_by, fault_of};
-ghost use Rattle.layout_file.specs.Answers.{ReportsFault, LayoutFails, Describes};
-ghost use Rattle.layout_file.specs.declared.form.Form.TheVariants.{Units as TheUnits};
+ghost use Rattle.layout_file.specs.Names.{class_name, class_by_name};
+ghost use Rattle.layout_file.specs.Tables.{entries_fault};
+ghost use Rattle.layout_file.specs.Reading.{integer_in, text_in, integer_at, truth_at, items_in, items_at, members_at, integers_of, classes_of, first_nameless, unit_in, units_among, siding_fault, siding_in, sidings_fault, sidings_in, cache_in, format_of, format_in, format_fault, tables_fault, parts_in, requested_parts, fault_of, loose_fault_of};
+ghost use Rattle.layout_file.specs.Answers.{ReportsFault, IsDocument, LacksDocument, LayoutFails, LooseLayoutFails, Describes, DescribesLoosely};
+ghost use Rattle.layout_file.specs.Limits.{most_layout_bytes};
+ghost use Rattle.layout_file.specs.declared.kinds.TableKind.TheVariants.{Units as TheUnits};
 ghost use Rattle.layout_file.specs.declared.fault.FileErr.TheVariants.{UnknownClass as NoClass, NoMemory as OutOfMemory};
 ghost use Rattle.cf_layout.specs.Layout.{computed_classes};
 ghost use Rattle.cf_layout.specs.Asked.{plan_of};
 ghost use Rattle.cf_layout.specs.Acceptable.{IsComputed, AreComputed};
-ghost use Rattle.cf_layout.specs.Refusal.{refusal};
+ghost use Rattle.cf_layout.specs.Refusal.{loose_refusal, refusal};
 ghost use Rattle.toml.specs.Data.{get_member, no_members};
 ghost use Rattle.toml.specs.View.{view, table_view, items_view};
 
-use crate::classes::{class_name, class_of};
-use crate::form::Form;
-use crate::tables::{check_form, value_at};
+use crate::classes::{class_by_name, class_name};
+use crate::format::Format;
+use crate::kinds::TableKind;
+use crate::tables::{check_entries, value_at};
 use crate::{FileErr, Name};
-use cf_layout::{CLASSES, Layout, Listed, Parts, Siding, check};
+use cf_layout::{CLASSES, Layout, Listed, LooseLayout, Parts, Siding, check, check_loosely};
 use rv_inst::Class;
 use std::alloc::{AllocError, Global};
 use toml::{Table, Value};
@@ -100,38 +102,38 @@ fn text_in(value: &Value) -> &str
 }
 
 /// The class of a name.
-fn class_named(alloc: Global, second: bool, word: &str) -> Result<Class, FileErr>
-    ensures class { IfOk result (λ class. class_of second word.now ≡ Some class) }
-    ensures refused { IfErr result (λ error. (error ≡ OutOfMemory) ⊎ ((class_of second word.now ≡ None) × (error ≡ NoClass word.now))) }
+fn class_named(alloc: Global, format: Format, word: &str) -> Result<Class, FileErr>
+    ensures class { IfOk result (λ class. class_by_name format word.now ≡ Some class) }
+    ensures refused { IfErr result (λ error. (error ≡ OutOfMemory) ⊎ ((class_by_name format word.now ≡ None) × (error ≡ NoClass word.now))) }
 {
-    match class_of(second, word) {
+    match class_by_name(format, word) {
         Some(class) => Ok(class),
         None => Err(FileErr::UnknownClass(Name::new(String::from_str(alloc, word)?))),
     }
 }
 
 /// The classes that an array names.
-fn class_list(alloc: Global, second: bool, array: &[Value]) -> Result<Vec<Class>, FileErr>
-    ensures named { IfOk result (λ list. first_nameless second (items_view array.now) ≡ None) }
-    ensures classes { IfOk result (λ list. list.items ≡ classes_of second (items_view array.now)) }
-    ensures refused { IfErr result (λ error. ReportsFault error (option_map NoClass (first_nameless second (items_view array.now)))) }
+fn class_list(alloc: Global, format: Format, array: &[Value]) -> Result<Vec<Class>, FileErr>
+    ensures named { IfOk result (λ list. first_nameless format (items_view array.now) ≡ None) }
+    ensures classes { IfOk result (λ list. list.items ≡ classes_of format (items_view array.now)) }
+    ensures refused { IfErr result (λ error. ReportsFault error (option_map NoClass (first_nameless format (items_view array.now)))) }
 {
     let mut list = Vec::new(alloc);
     for value in array {
-        list.push(class_named(alloc, second, text_in(value))?)?;
+        list.push(class_named(alloc, format, text_in(value))?)?;
     }
     Ok(list)
 }
 
 /// The siding of a table.
 #[tactic(auto, unfolding(crate::specs::Reading::siding_fault, crate::specs::Reading::siding_in))]
-fn siding(alloc: Global, second: bool, table: &Table) -> Result<Siding, FileErr>
-    ensures right { IfOk result (λ siding. siding_fault second (table_view table.now) ≡ None) }
-    ensures siding { IfOk result (λ siding. siding ≡ siding_in second (table_view table.now)) }
-    ensures refused { IfErr result (λ error. ReportsFault error (siding_fault second (table_view table.now))) }
+fn siding(alloc: Global, format: Format, table: &Table) -> Result<Siding, FileErr>
+    ensures right { IfOk result (λ siding. siding_fault format (table_view table.now) ≡ None) }
+    ensures siding { IfOk result (λ siding. siding ≡ siding_in format (table_view table.now)) }
+    ensures refused { IfErr result (λ error. ReportsFault error (siding_fault format (table_view table.now))) }
 {
-    check_form(alloc, Form::Siding, table)?;
-    let classes = class_list(alloc, second, elements(table, "classes"))?;
+    check_entries(alloc, TableKind::Siding, table)?;
+    let classes = class_list(alloc, format, elements(table, "classes"))?;
     Ok(Siding {
         classes: Listed::new(classes),
         launch: integer_at(table, "launch"),
@@ -141,15 +143,15 @@ fn siding(alloc: Global, second: bool, table: &Table) -> Result<Siding, FileErr>
 }
 
 /// The sidings of an array.
-fn siding_list(alloc: Global, second: bool, array: &[Value]) -> Result<Vec<Siding>, FileErr>
-    ensures right { IfOk result (λ list. sidings_fault second (items_view array.now) ≡ None) }
-    ensures sidings { IfOk result (λ list. list.items ≡ sidings_in second (items_view array.now)) }
-    ensures refused { IfErr result (λ error. ReportsFault error (sidings_fault second (items_view array.now))) }
+fn siding_list(alloc: Global, format: Format, array: &[Value]) -> Result<Vec<Siding>, FileErr>
+    ensures right { IfOk result (λ list. sidings_fault format (items_view array.now) ≡ None) }
+    ensures sidings { IfOk result (λ list. list.items ≡ sidings_in format (items_view array.now)) }
+    ensures refused { IfErr result (λ error. ReportsFault error (sidings_fault format (items_view array.now))) }
 {
     let mut list = Vec::new(alloc);
     for value in array {
         match value.as_table() {
-            Some(table) => list.push(siding(alloc, second, table)?)?,
+            Some(table) => list.push(siding(alloc, format, table)?)?,
             None => {}
         }
     }
@@ -188,66 +190,80 @@ fn unit_list(
 }
 
 /// The units of a document.
-#[tactic(auto, unfolding(crate::specs::Tables::form_fault))]
+#[tactic(auto, unfolding(crate::specs::Tables::entries_fault))]
 fn checked_units(
     alloc: Global,
-    second: bool,
+    format: Format,
     table: &Table,
 ) -> Result<Vec<(Class, Listed<i64>)>, FileErr>
-    ensures right { IfOk result (λ list. form_fault (TheUnits second) (members_at (codes "units") (table_view table.now)) ≡ None) }
+    ensures right { IfOk result (λ list. entries_fault (TheUnits format) (members_at (codes "units") (table_view table.now)) ≡ None) }
     ensures units { IfOk result (λ list. list.items ≡ units_among computed_classes (members_at (codes "units") (table_view table.now))) }
-    ensures refused { IfErr result (λ error. ReportsFault error (form_fault (TheUnits second) (members_at (codes "units") (table_view table.now)))) }
+    ensures refused { IfErr result (λ error. ReportsFault error (entries_fault (TheUnits format) (members_at (codes "units") (table_view table.now)))) }
 {
     match table_at(table, "units") {
         Some(units) => {
-            check_form(alloc, Form::Units(second), units)?;
+            check_entries(alloc, TableKind::Units(format), units)?;
             Ok(unit_list(alloc, &CLASSES, units)?)
         }
         None => Ok(Vec::new(alloc)),
     }
 }
 
-/// Whether the document is of format 2.
-#[tactic(auto, unfolding(crate::specs::Reading::is_second))]
-fn is_second(table: &Table) -> bool
-    ensures { result ≡ is_second (table_view table.now) }
+/// The format that the number at the key `format` gives.
+fn format_of(number: i64) -> Format
+    ensures { result ≡ format_of number }
 {
-    match value_at(table, "format") {
-        Some(value) => match value.as_integer() {
-            Some(format) => format == 2,
-            None => false,
-        },
-        None => false,
+    if number == 2 {
+        Format::Second
+    } else {
+        Format::First
     }
 }
 
-/// Tests that the format is 1 or 2.
-fn check_format(second: bool, format: i64) -> Result<(), FileErr>
-    ensures ok { IfOk result (λ done. format_fault second format ≡ None) }
-    ensures refused { IfErr result (λ error. format_fault second format ≡ Some error) }
+/// The format of the document: 2 where its key `format` says so, otherwise 1.
+#[tactic(auto, unfolding(crate::specs::Reading::format_in))]
+fn format_in(table: &Table) -> Format
+    ensures { result ≡ format_in (table_view table.now) }
 {
-    if second || format == 1 {
-        Ok(())
-    } else {
-        Err(FileErr::UnknownFormat(format))
+    format_of(integer_at(table, "format"))
+}
+
+/// Tests that the format is 1 or 2.
+fn check_format(format: Format, number: i64) -> Result<(), FileErr>
+    ensures ok { IfOk result (λ done. format_fault format number ≡ None) }
+    ensures refused { IfErr result (λ error. format_fault format number ≡ Some error) }
+{
+    match format {
+        Format::First if number != 1 => Err(FileErr::UnknownFormat(number)),
+        Format::First | Format::Second => Ok(()),
+    }
+}
+
+/// Whether there is a cache: in format 2 where its key says so, in format 1 never.
+fn cache_in(format: Format, table: &Table) -> bool
+    ensures { result ≡ cache_in format (table_view table.now) }
+{
+    match format {
+        Format::First => false,
+        Format::Second => truth_at(table, "cache"),
     }
 }
 
 /// The parts that the tables of a document request, in a format.
 #[tactic(auto, unfolding(crate::specs::Reading::tables_fault, crate::specs::Reading::parts_in))]
-fn read_tables(alloc: Global, second: bool, table: &Table) -> Result<Parts, FileErr>
-    ensures right { IfOk result (λ parts. tables_fault second (table_view table.now) ≡ None) }
-    ensures parts { IfOk result (λ parts. parts ≡ parts_in second (table_view table.now)) }
-    ensures refused { IfErr result (λ error. ReportsFault error (tables_fault second (table_view table.now))) }
+fn read_tables(alloc: Global, format: Format, table: &Table) -> Result<Parts, FileErr>
+    ensures right { IfOk result (λ parts. tables_fault format (table_view table.now) ≡ None) }
+    ensures parts { IfOk result (λ parts. parts ≡ parts_in format (table_view table.now)) }
+    ensures refused { IfErr result (λ error. ReportsFault error (tables_fault format (table_view table.now))) }
 {
-    check_form(alloc, Form::Top(second), table)?;
-    check_format(second, integer_at(table, "format"))?;
-    let units = checked_units(alloc, second, table)?;
-    let sidings = siding_list(alloc, second, elements(table, "siding"))?;
+    check_entries(alloc, TableKind::Top(format), table)?;
+    check_format(format, integer_at(table, "format"))?;
+    let units = checked_units(alloc, format, table)?;
+    let sidings = siding_list(alloc, format, elements(table, "siding"))?;
     Ok(Parts {
         stages: integer_at(table, "stages"),
         lane: integer_at(table, "lane"),
-        cache: second && truth_at(table, "cache"),
+        cache: cache_in(format, table),
         units: Listed::new(units),
         sidings: Listed::new(sidings),
     })
@@ -257,11 +273,25 @@ fn read_tables(alloc: Global, second: bool, table: &Table) -> Result<Parts, File
 #[tactic(auto, unfolding(crate::specs::Reading::fault_of))]
 fn layout_in(alloc: Global, table: &Table) -> Result<Layout, FileErr>
     ensures right { IfOk result (λ layout. fault_of (table_view table.now) ≡ None) }
-    ensures layout { IfOk result (λ layout. layout ≡ plan_of (asked_by (table_view table.now))) }
+    ensures layout { IfOk result (λ layout. layout ≡ plan_of (requested_parts (table_view table.now))) }
     ensures refused { IfErr result (λ error. ReportsFault error (fault_of (table_view table.now))) }
 {
-    let parts = read_tables(alloc, is_second(table), table)?;
+    let parts = read_tables(alloc, format_in(table), table)?;
     match check(&parts) {
+        Ok(layout) => Ok(layout),
+        Err(error) => Err(FileErr::Refused(error)),
+    }
+}
+
+/// The same, where the layout may break the rule on where control turns.
+#[tactic(auto, unfolding(crate::specs::Reading::loose_fault_of))]
+fn loose_layout_in(alloc: Global, table: &Table) -> Result<LooseLayout, FileErr>
+    ensures right { IfOk result (λ layout. loose_fault_of (table_view table.now) ≡ None) }
+    ensures layout { IfOk result (λ layout. layout ≡ plan_of (requested_parts (table_view table.now))) }
+    ensures refused { IfErr result (λ error. ReportsFault error (loose_fault_of (table_view table.now))) }
+{
+    let parts = read_tables(alloc, format_in(table), table)?;
+    match check_loosely(&parts) {
         Ok(layout) => Ok(layout),
         Err(error) => Err(FileErr::Refused(error)),
     }
@@ -269,6 +299,25 @@ fn layout_in(alloc: Global, table: &Table) -> Result<Layout, FileErr>
 
 /// The greatest length of a layout file, in bytes.
 pub const MOST_LAYOUT: usize = 65_536;
+
+/// The document that the file is.
+fn document(alloc: Global, file: &[u8]) -> Result<Table, FileErr>
+    ensures short { IfOk result (λ table. length file.now ≤ most_layout_bytes) }
+    ensures document { IfOk result (λ table. IsDocument file.now (table_view table)) }
+    ensures refused { IfErr result (λ error. LacksDocument file.now error) }
+{
+    if file.len() > MOST_LAYOUT {
+        return Err(FileErr::TooLong);
+    }
+    match toml::table_from_slice(alloc, file) {
+        Ok(table) => Ok(table),
+        Err(error) => Err(if error.is_memory() {
+            FileErr::NoMemory
+        } else {
+            FileErr::NotToml
+        }),
+    }
+}
 
 /// Reads a layout file of format 1 or 2: a TOML document with the keys `format`, `stages`, `lane`, the table `units`,
 /// and the array of tables `siding`; format 2 also has the key `cache`, and the classes `mul` and `div`.
@@ -280,15 +329,16 @@ pub fn read_layout(alloc: Global, file: &[u8]) -> Result<Layout, FileErr>
     ensures ok { IfOk result (λ layout. Describes file.now layout) }
     ensures refused { IfErr result (λ error. LayoutFails file.now error) }
 {
-    if file.len() > MOST_LAYOUT {
-        return Err(FileErr::TooLong);
-    }
-    match toml::table_from_slice(alloc, file) {
-        Ok(table) => layout_in(alloc, &table),
-        Err(error) => Err(if error.is_memory() {
-            FileErr::NoMemory
-        } else {
-            FileErr::NotToml
-        }),
-    }
+    let table = document(alloc, file)?;
+    layout_in(alloc, &table)
+}
+
+/// Reads a layout file as `read_layout` does, but accepts a layout that breaks no rule but the one on where control
+/// turns.
+pub fn read_layout_loosely(alloc: Global, file: &[u8]) -> Result<LooseLayout, FileErr>
+    ensures ok { IfOk result (λ layout. DescribesLoosely file.now layout) }
+    ensures refused { IfErr result (λ error. LooseLayoutFails file.now error) }
+{
+    let table = document(alloc, file)?;
+    loose_layout_in(alloc, &table)
 }

@@ -1,17 +1,18 @@
 //! The keys and the types of one table.
 
-ghost use Rattle.std.specs.Prelude.{◌≡◌, ◌∷◌, [], IfOk, IfErr, Some, None, codes, option_map, find, not, string_bytes};
+ghost use Rattle.std.specs.Prelude.{◌≡◌, ◌∷◌, [], IfOk, IfErr, Some, None, codes, option_map, find, is_none, map, not, string_bytes};
 ghost use Rattle.std.specs.Option.{option_copied};
 ghost use Rattle.std.specs.BTreeMap.{keys};
 ghost use Rattle.std.specs.List.{list_all, list_any};
 ghost use Rattle.layout_file.specs.Names.{same_text};
-ghost use Rattle.layout_file.specs.Tables.{knows, needed_keys, fits, has_shape, is_list_of, all_have, first_unknown, first_absent, first_misfit, form_fault};
+ghost use Rattle.layout_file.specs.Tables.{knows, needed_keys, fits, has_shape, is_list_of, all_have, first_unknown_key, first_missing_key, first_misfit_key, entries_fault};
 ghost use Rattle.layout_file.specs.Answers.{ReportsFault};
 ghost use Rattle.toml.specs.Data.{get_member};
 ghost use Rattle.toml.specs.View.{view, table_view, items_view};
 
-use crate::classes::class_of;
-use crate::form::{Form, Shape};
+use crate::classes::class_by_name;
+use crate::format::Format;
+use crate::kinds::{Shape, TableKind};
 use crate::{FileErr, Name};
 use std::alloc::Global;
 use toml::{Table, Value};
@@ -31,13 +32,14 @@ fn is_among(key: &str, keys: &[&str]) -> bool
 
 /// Whether the table may have the key.
 #[tactic(auto, unfolding(crate::specs::Tables::knows))]
-fn is_known(form: Form, key: &str) -> bool
-    ensures { result ≡ knows form key.now }
+fn is_known(kind: TableKind, key: &str) -> bool
+    ensures { result ≡ knows kind key.now }
 {
-    match form {
-        Form::Top(second) => is_among(key, &TOP_KEYS) || (second && key == "cache"),
-        Form::Units(second) => class_of(second, key).is_some(),
-        Form::Siding => is_among(key, &SIDING_KEYS),
+    match kind {
+        TableKind::Top(Format::First) => is_among(key, &TOP_KEYS),
+        TableKind::Top(Format::Second) => is_among(key, &TOP_KEYS) || key == "cache",
+        TableKind::Units(format) => class_by_name(format, key).is_some(),
+        TableKind::Siding => is_among(key, &SIDING_KEYS),
     }
 }
 
@@ -80,11 +82,11 @@ fn is_list_of(shape: Shape, value: &Value) -> bool
 
 /// Whether the value at the key is of its type.
 #[tactic(auto, unfolding(crate::specs::Tables::fits))]
-fn is_fit(form: Form, key: &str, value: &Value) -> bool
-    ensures { result ≡ fits form key.now (view value.now) }
+fn is_fit(kind: TableKind, key: &str, value: &Value) -> bool
+    ensures { result ≡ fits kind key.now (view value.now) }
 {
-    match form {
-        Form::Top(_) => {
+    match kind {
+        TableKind::Top(_) => {
             if key == "units" {
                 has_shape(Shape::Table, value)
             } else if key == "siding" {
@@ -95,8 +97,8 @@ fn is_fit(form: Form, key: &str, value: &Value) -> bool
                 has_shape(Shape::Integer, value)
             }
         }
-        Form::Units(_) => is_list_of(Shape::Integer, value),
-        Form::Siding => {
+        TableKind::Units(_) => is_list_of(Shape::Integer, value),
+        TableKind::Siding => {
             if key == "classes" {
                 is_list_of(Shape::Text, value)
             } else {
@@ -113,64 +115,53 @@ pub(crate) fn value_at<'a>(table: &'a Table, key: &str) -> Option<&'a Value>
     table.get(key)
 }
 
-fn unknown_name(form: Form, table: &Table) -> Option<&String>
-    ensures { option_copied result ≡ find (λ k. not (knows form (string_bytes k))) (keys table.now) }
+fn unknown_name(kind: TableKind, table: &Table) -> Option<&String>
+    ensures { option_copied result ≡ find (λ k. not (knows kind (string_bytes k))) (keys table.now) }
 {
-    table.keys().find(|key| !is_known(form, key.as_str()))
+    table.keys().find(|key| !is_known(kind, key.as_str()))
 }
 
 /// The first key in byte order that is not allowed in the table.
-fn unknown_key(form: Form, table: &Table) -> Option<&String>
-    ensures { option_map (λ k. string_bytes k.now) result ≡ first_unknown form (table_view table.now) }
+fn unknown_key(kind: TableKind, table: &Table) -> Option<&String>
+    ensures { option_map (λ k. string_bytes k.now) result ≡ first_unknown_key kind (table_view table.now) }
 {
-    unknown_name(form, table)
+    unknown_name(kind, table)
 }
 
-fn first_missing(
-    table: &Table,
-    a: &'static str,
-    b: &'static str,
-    c: &'static str,
-    d: &'static str,
-) -> Option<&'static str>
-    ensures { option_map (λ k. k.now) result ≡ first_absent (a.now ∷ b.now ∷ c.now ∷ d.now ∷ []) (table_view table.now) }
+/// The keys that the table must have, in byte order.
+fn needed_keys(kind: TableKind) -> &'static [&'static str]
+    ensures { map (λ k. k.now) result.now ≡ needed_keys kind }
 {
-    if value_at(table, a).is_none() {
-        Some(a)
-    } else if value_at(table, b).is_none() {
-        Some(b)
-    } else if value_at(table, c).is_none() {
-        Some(c)
-    } else if value_at(table, d).is_none() {
-        Some(d)
-    } else {
-        None
+    match kind {
+        TableKind::Top(Format::First) => &["format", "lane", "stages", "units"],
+        TableKind::Top(Format::Second) => &["cache", "format", "lane", "stages", "units"],
+        TableKind::Units(_) => &[],
+        TableKind::Siding => &["cells", "classes", "launch", "recover"],
     }
+}
+
+/// The first of these keys that is missing in the table.
+fn first_missing(table: &Table, keys: &[&'static str]) -> Option<&'static str>
+    ensures { result ≡ find (λ k. is_none (get_member k.now (table_view table.now))) keys.now }
+{
+    keys.iter()
+        .copied()
+        .find(|key| value_at(table, key).is_none())
 }
 
 /// The first key in byte order that is missing in the table.
-fn missing_key(form: Form, table: &Table) -> Option<&'static str>
-    ensures { option_map (λ k. k.now) result ≡ first_absent (needed_keys form) (table_view table.now) }
+fn missing_key(kind: TableKind, table: &Table) -> Option<&'static str>
+    ensures { option_map (λ k. k.now) result ≡ first_missing_key (needed_keys kind) (table_view table.now) }
 {
-    match form {
-        Form::Top(second) => {
-            if second && value_at(table, "cache").is_none() {
-                Some("cache")
-            } else {
-                first_missing(table, "format", "lane", "stages", "units")
-            }
-        }
-        Form::Units(_) => None,
-        Form::Siding => first_missing(table, "cells", "classes", "launch", "recover"),
-    }
+    first_missing(table, needed_keys(kind))
 }
 
 /// The first key in byte order whose value is of the wrong type.
-fn misfit_key(form: Form, table: &Table) -> Option<&String>
-    ensures { option_map (λ k. string_bytes k.now) result ≡ first_misfit form (table_view table.now) }
+fn misfit_key(kind: TableKind, table: &Table) -> Option<&String>
+    ensures { option_map (λ k. string_bytes k.now) result ≡ first_misfit_key kind (table_view table.now) }
 {
     for (key, value) in table {
-        if !is_fit(form, key.as_str(), value) {
+        if !is_fit(kind, key.as_str(), value) {
             return Some(key);
         }
     }
@@ -178,22 +169,22 @@ fn misfit_key(form: Form, table: &Table) -> Option<&String>
 }
 
 /// Tests the keys and the types of one table.
-#[tactic(auto, unfolding(crate::specs::Tables::form_fault))]
-pub(crate) fn check_form(alloc: Global, form: Form, table: &Table) -> Result<(), FileErr>
-    ensures ok { IfOk result (λ done. form_fault form (table_view table.now) ≡ None) }
-    ensures refused { IfErr result (λ error. ReportsFault error (form_fault form (table_view table.now))) }
+#[tactic(auto, unfolding(crate::specs::Tables::entries_fault))]
+pub(crate) fn check_entries(alloc: Global, kind: TableKind, table: &Table) -> Result<(), FileErr>
+    ensures ok { IfOk result (λ done. entries_fault kind (table_view table.now) ≡ None) }
+    ensures refused { IfErr result (λ error. ReportsFault error (entries_fault kind (table_view table.now))) }
 {
-    if let Some(key) = unknown_key(form, table) {
+    if let Some(key) = unknown_key(kind, table) {
         let name = Name::new(key.clone()?);
-        return match form {
-            Form::Units(_) => Err(FileErr::UnknownClass(name)),
-            Form::Top(_) | Form::Siding => Err(FileErr::UnknownKey(name)),
+        return match kind {
+            TableKind::Units(_) => Err(FileErr::UnknownClass(name)),
+            TableKind::Top(_) | TableKind::Siding => Err(FileErr::UnknownKey(name)),
         };
     }
-    if let Some(key) = missing_key(form, table) {
+    if let Some(key) = missing_key(kind, table) {
         return Err(FileErr::MissingKey(Name::new(String::from_str(alloc, key)?)));
     }
-    if let Some(key) = misfit_key(form, table) {
+    if let Some(key) = misfit_key(kind, table) {
         return Err(FileErr::WrongType(Name::new(key.clone()?)));
     }
     Ok(())

@@ -4,11 +4,12 @@
 ghost use Rattle.std.specs.Prelude.{◌≡◌, ◌<◌, ◌≤◌, ◌++◌, IfOk, codes, decimal, drop, length, map, string_bytes, IsUtf8};
 ghost use Rattle.layout_file.specs.Names.{class_name};
 ghost use Rattle.layout_file.specs.Answers.{ReadsAs};
-ghost use Rattle.layout_file.specs.Text.{pair_line, rest_text, array_text, quoted_name, unit_line, unit_lines, numbers_text, siding_text, siding_lines, needs_second, truth_text, cache_line, format_text, head_text, body_text, text_of};
+ghost use Rattle.layout_file.specs.Text.{pair_line, array_rest, array_text, quoted_name, unit_line, unit_lines, numbers_text, siding_text, siding_texts, needed_format, truth_text, cache_key_line, format_text, top_text, body_text, layout_text};
 ghost use Rattle.cf_layout.specs.Layout.{computed_classes, siding_at, stages_of};
 ghost use Rattle.cf_layout.specs.Accepted.{IsAccepted};
 
 use crate::classes::class_name;
+use crate::format::Format;
 use cf_layout::{CLASSES, Layout};
 use itoa::Buffer;
 use rv_inst::Class;
@@ -31,7 +32,7 @@ fn push_pair(text: &mut String, key: &str, number: u32) -> Result<(), AllocError
 }
 
 fn push_rest(text: &mut String, numbers: &[u32]) -> Result<(), AllocError>
-    ensures { IfOk result (λ done. string_bytes text.new ≡ string_bytes text.old ++ rest_text (map decimal numbers.now)) }
+    ensures { IfOk result (λ done. string_bytes text.new ≡ string_bytes text.old ++ array_rest (map decimal numbers.now)) }
 {
     for number in numbers {
         text.push_str(", ")?;
@@ -74,7 +75,7 @@ fn push_name(text: &mut String, class: Class) -> Result<(), AllocError>
 }
 
 fn push_more_names(text: &mut String, classes: &[Class]) -> Result<(), AllocError>
-    ensures { IfOk result (λ done. string_bytes text.new ≡ string_bytes text.old ++ rest_text (map quoted_name classes.now)) }
+    ensures { IfOk result (λ done. string_bytes text.new ≡ string_bytes text.old ++ array_rest (map quoted_name classes.now)) }
 {
     for class in classes {
         text.push_str(", ")?;
@@ -169,7 +170,7 @@ fn push_siding(
 
 #[tactic(auto, using(std::proofs::lemmas::List::append_assoc, crate::proofs::Lines::next_siding, crate::proofs::Lines::no_siding_left))]
 fn push_sidings(text: &mut String, alloc: Global, layout: &Layout) -> Result<(), AllocError>
-    ensures { IfOk result (λ done. string_bytes text.new ≡ string_bytes text.old ++ siding_lines layout.now.sidings) }
+    ensures { IfOk result (λ done. string_bytes text.new ≡ string_bytes text.old ++ siding_texts layout.now.sidings) }
 {
     for siding in 0..layout.siding_count() {
         push_siding(text, alloc, layout, siding)?;
@@ -178,39 +179,35 @@ fn push_sidings(text: &mut String, alloc: Global, layout: &Layout) -> Result<(),
 }
 
 #[tactic(auto, unfolding(crate::specs::Text::pair_line))]
-fn push_format(text: &mut String, second: bool) -> Result<(), AllocError>
-    ensures { IfOk result (λ done. string_bytes text.new ≡ string_bytes text.old ++ pair_line (codes "format") (format_text second)) }
+fn push_format(text: &mut String, format: Format) -> Result<(), AllocError>
+    ensures { IfOk result (λ done. string_bytes text.new ≡ string_bytes text.old ++ pair_line (codes "format") (format_text format)) }
 {
-    if second {
-        text.push_str("format = 2\n")
-    } else {
-        text.push_str("format = 1\n")
+    match format {
+        Format::First => text.push_str("format = 1\n"),
+        Format::Second => text.push_str("format = 2\n"),
     }
 }
 
 #[tactic(auto, unfolding(crate::specs::Text::pair_line))]
-fn push_cache(text: &mut String, second: bool, cache: bool) -> Result<(), AllocError>
-    ensures { IfOk result (λ done. string_bytes text.new ≡ string_bytes text.old ++ cache_line second cache) }
+fn push_cache(text: &mut String, format: Format, cache: bool) -> Result<(), AllocError>
+    ensures { IfOk result (λ done. string_bytes text.new ≡ string_bytes text.old ++ cache_key_line format cache) }
 {
-    if !second {
-        return Ok(());
-    }
-    if cache {
-        text.push_str("cache = true\n")
-    } else {
-        text.push_str("cache = false\n")
+    match (format, cache) {
+        (Format::First, _) => Ok(()),
+        (Format::Second, true) => text.push_str("cache = true\n"),
+        (Format::Second, false) => text.push_str("cache = false\n"),
     }
 }
 
-#[tactic(auto, using(std::proofs::lemmas::List::append_assoc), unfolding(crate::specs::Text::head_text))]
-fn push_head(text: &mut String, layout: &Layout, second: bool) -> Result<(), AllocError>
+#[tactic(auto, using(std::proofs::lemmas::List::append_assoc), unfolding(crate::specs::Text::top_text))]
+fn push_top(text: &mut String, layout: &Layout, format: Format) -> Result<(), AllocError>
     ensures accepted { IfOk result (λ done. IsAccepted layout.now) }
-    ensures head { IfOk result (λ done. string_bytes text.new ≡ string_bytes text.old ++ head_text second layout.now) }
+    ensures head { IfOk result (λ done. string_bytes text.new ≡ string_bytes text.old ++ top_text format layout.now) }
 {
-    push_format(text, second)?;
+    push_format(text, format)?;
     push_pair(text, "stages", layout.stages())?;
     push_pair(text, "lane", layout.lane())?;
-    push_cache(text, second, layout.cache())?;
+    push_cache(text, format, layout.cache())?;
     Ok(())
 }
 
@@ -224,16 +221,27 @@ fn push_body(text: &mut String, alloc: Global, layout: &Layout) -> Result<(), Al
     Ok(())
 }
 
+/// The lowest format that has what the layout has: the cache, and units or sidings that multiply and divide, need
+/// format 2.
+fn needed_format(layout: &Layout) -> Format
+    ensures { result ≡ needed_format layout.now }
+{
+    if layout.cache() || layout.has_mul() {
+        Format::Second
+    } else {
+        Format::First
+    }
+}
+
 /// The canonical form of a layout.
-#[tactic(auto, using(std::proofs::lemmas::List::append_assoc), unfolding(crate::specs::Text::text_of))]
+#[tactic(auto, using(std::proofs::lemmas::List::append_assoc), unfolding(crate::specs::Text::layout_text))]
 fn layout_text(alloc: Global, layout: &Layout) -> Result<String, AllocError>
-    ensures text { IfOk result (λ text. string_bytes text ≡ text_of layout.now) }
+    ensures text { IfOk result (λ text. string_bytes text ≡ layout_text layout.now) }
     ensures accepted { IfOk result (λ text. IsAccepted layout.now) }
     ensures utf8 { IfOk result (λ text. IsUtf8 (string_bytes text)) }
 {
-    let second = layout.cache() || layout.has_mul();
     let mut text = String::new(alloc);
-    push_head(&mut text, layout, second)?;
+    push_top(&mut text, layout, needed_format(layout))?;
     push_body(&mut text, alloc, layout)?;
     let _ = text.as_str();
     Ok(text)
@@ -243,7 +251,7 @@ fn layout_text(alloc: Global, layout: &Layout) -> Result<String, AllocError>
 /// divides. [`read_layout`](crate::read_layout) gives the layout back, unless memory runs out.
 #[tactic(auto, using(crate::proofs::ReadBack::text_reads))]
 pub fn write_layout(alloc: Global, layout: &Layout) -> Result<Vec<u8>, AllocError>
-    ensures text { IfOk result (λ file. file.items ≡ text_of layout.now) }
+    ensures text { IfOk result (λ file. file.items ≡ layout_text layout.now) }
     ensures read_back { IfOk result (λ file. ReadsAs file.items layout.now) }
 {
     let text = layout_text(alloc, layout)?;

@@ -9,19 +9,19 @@ use Rattle.cf_bind.specs.declared.moves.Move.{Move}
 use Rattle.cf_semantics.specs.moves.Candidates.{counted_from}
 use Rattle.cf_semantics.specs.state.State.{State}
 use Rattle.report_closing.specs.Moves.{cell_moves, siding_moves, every_move, line_in, moves_text}
-use Rattle.report_closing.specs.Parts.{part_moves, lines_in}
+use Rattle.report_closing.specs.Parts.{part_moves, move_lines}
 use Rattle.report_closing.specs.declared.parts.ClosingPart.{ClosingPart}
 use Rattle.report_closing.specs.declared.parts.TheConstants.{PARTS}
 
 -- the lines of some moves and then of others
 pub lines-append : (plan : Plan) (s : State) (xs ys : List Move) →
-    lines_in plan s (xs ++ ys) ≡ lines_in plan s xs ++ lines_in plan s ys
+    move_lines plan s (xs ++ ys) ≡ move_lines plan s xs ++ move_lines plan s ys
 lines-append plan s [] ys = refl
 lines-append plan s (mv ∷ xs) ys =
     ap (λ (text : List ℕ). line_in plan s mv ++ text) (lines-append plan s xs ys)
-    ∙ sym (append_assoc (line_in plan s mv) (lines_in plan s xs) (lines_in plan s ys))
+    ∙ sym (append_assoc (line_in plan s mv) (move_lines plan s xs) (move_lines plan s ys))
 
-lines-one : (plan : Plan) (s : State) (mv : Move) → lines_in plan s (mv ∷ []) ≡ line_in plan s mv
+lines-one : (plan : Plan) (s : State) (mv : Move) → move_lines plan s (mv ∷ []) ≡ line_in plan s mv
 lines-one plan s mv = append-nil (line_in plan s mv)
 
 -- numbers one after another, in two parts
@@ -41,13 +41,13 @@ map-both f (x ∷ xs) ys = ap (λ (ms : List Move). f x ∷ ms) (map-both f xs y
 
 -- the lines of the moves with the numbers from a on, n of them
 abbrev pub lines_from : Plan → State → (ℕ → Move) → ℕ → ℕ → List ℕ
-lines_from plan s f a n = lines_in plan s (map f (counted_from a n))
+lines_from plan s f a n = move_lines plan s (map f (counted_from a n))
 
 lines-split : (plan : Plan) (s : State) (f : ℕ → Move) (a n m : ℕ) →
     lines_from plan s f a (n + m) ≡ lines_from plan s f a n ++ lines_from plan s f (a + n) m
 lines-split plan s f a n m =
-    ap (λ (ns : List ℕ). lines_in plan s (map f ns)) (counted-split a n m)
-    ∙ (ap (lines_in plan s) (map-both f (counted_from a n) (counted_from (a + n) m))
+    ap (λ (ns : List ℕ). move_lines plan s (map f ns)) (counted-split a n m)
+    ∙ (ap (move_lines plan s) (map-both f (counted_from a n) (counted_from (a + n) m))
     ∙ lines-append plan s (map f (counted_from a n)) (map f (counted_from (a + n) m)))
 
 -- with the line of the next number there is one more
@@ -101,8 +101,8 @@ siding-next k (siding ∷ sidings) (suc i) h =
 
 -- with the lines of the next siding there are those of one more
 pub sidings-next : (plan : Plan) (s : State) (i : ℕ) → i < length plan.sidings →
-    lines_in plan s (siding_moves 0 (take i plan.sidings)) ++ lines_in plan s (cell_moves i (cells_of plan i))
-    ≡ lines_in plan s (siding_moves 0 (take (i + 1) plan.sidings))
+    move_lines plan s (siding_moves 0 (take i plan.sidings)) ++ move_lines plan s (cell_moves i (cells_of plan i))
+    ≡ move_lines plan s (siding_moves 0 (take (i + 1) plan.sidings))
 unfolding cells_of
 sidings-next plan s i below =
     let e : 0 + i ≡ i = omega arith in
@@ -112,18 +112,18 @@ sidings-next plan s i below =
     siding-next 0 plan.sidings i below
     ∙ ap (λ (k : ℕ). siding_moves 0 (take i plan.sidings) ++ cell_moves k (unwrap_or (slice_get plan.sidings i) no_siding).cells) e in
     rw one (sym (lines-append plan s (siding_moves 0 (take i plan.sidings))
-    (cell_moves i (unwrap_or (slice_get plan.sidings i) no_siding).cells)) ∙ ap (lines_in plan s) (sym next))
+    (cell_moves i (unwrap_or (slice_get plan.sidings i) no_siding).cells)) ∙ ap (move_lines plan s) (sym next))
 
 -- after them come those of the others
 pub sidings-after : (plan : Plan) (s : State) (i : ℕ) → i < length plan.sidings →
-    (rest : List ℕ) × ((lines_in plan s (siding_moves 0 (take i plan.sidings))
-    ++ lines_in plan s (cell_moves i (cells_of plan i))) ++ rest ≡ lines_in plan s (siding_moves 0 plan.sidings))
+    (rest : List ℕ) × ((move_lines plan s (siding_moves 0 (take i plan.sidings))
+    ++ move_lines plan s (cell_moves i (cells_of plan i))) ++ rest ≡ move_lines plan s (siding_moves 0 plan.sidings))
 sidings-after plan s i below =
     let rest : List Move = siding_moves (0 + (i + 1)) (drop (i + 1) plan.sidings) in (
-      lines_in plan s rest,
-      ap (λ (text : List ℕ). text ++ lines_in plan s rest) (sidings-next plan s i below)
+      move_lines plan s rest,
+      ap (λ (text : List ℕ). text ++ move_lines plan s rest) (sidings-next plan s i below)
           ∙ (sym (lines-append plan s (siding_moves 0 (take (i + 1) plan.sidings)) rest)
-          ∙ ap (lines_in plan s) (sym (siding-split 0 (i + 1) plan.sidings))),
+          ∙ ap (move_lines plan s) (sym (siding-split 0 (i + 1) plan.sidings))),
     )
 
 -- the moves of the first parts, and of those after them
@@ -136,40 +136,40 @@ part-more plan parts i none below =
 
 pub parts-next : (plan : Plan) (s : State) (i : ℕ) (none : ClosingPart) (items : List ClosingPart) → items ≡ PARTS →
     i < length items →
-    lines_in plan s (flat_map (part_moves plan) (take i PARTS))
-    ++ lines_in plan s (part_moves plan (get_or items i none))
-    ≡ lines_in plan s (flat_map (part_moves plan) (take (i + 1) PARTS))
+    move_lines plan s (flat_map (part_moves plan) (take i PARTS))
+    ++ move_lines plan s (part_moves plan (get_or items i none))
+    ≡ move_lines plan s (flat_map (part_moves plan) (take (i + 1) PARTS))
 parts-next plan s i none items same below =
     let here : i < length PARTS = subst (λ (parts : List ClosingPart). i < length parts) same below in
     rw same (sym (lines-append plan s (flat_map (part_moves plan) (take i PARTS))
-    (part_moves plan (get_or PARTS i none))) ∙ ap (lines_in plan s) (part-more plan PARTS i none here))
+    (part_moves plan (get_or PARTS i none))) ∙ ap (move_lines plan s) (part-more plan PARTS i none here))
 
 -- the parts in their order are all moves
 parts-all : (plan : Plan) → flat_map (part_moves plan) PARTS ≡ every_move plan
 unfolding every_move
 parts-all plan = simp append_assoc
 
-pub all-parts : (plan : Plan) (s : State) → lines_in plan s (flat_map (part_moves plan) PARTS) ≡ moves_text plan s
+pub all-parts : (plan : Plan) (s : State) → move_lines plan s (flat_map (part_moves plan) PARTS) ≡ moves_text plan s
 unfolding moves_text
-all-parts plan s = ap (lines_in plan s) (parts-all plan)
+all-parts plan s = ap (move_lines plan s) (parts-all plan)
 
 pub parts-after : (plan : Plan) (s : State) (i : ℕ) (none : ClosingPart) (items : List ClosingPart) → items ≡ PARTS →
     i < length items →
-    (rest : List ℕ) × ((lines_in plan s (flat_map (part_moves plan) (take i PARTS))
-    ++ lines_in plan s (part_moves plan (get_or items i none))) ++ rest ≡ moves_text plan s)
+    (rest : List ℕ) × ((move_lines plan s (flat_map (part_moves plan) (take i PARTS))
+    ++ move_lines plan s (part_moves plan (get_or items i none))) ++ rest ≡ moves_text plan s)
 parts-after plan s i none items same below =
     let rest : List Move = flat_map (part_moves plan) (drop (i + 1) PARTS) in (
-      lines_in plan s rest,
-      ap (λ (text : List ℕ). text ++ lines_in plan s rest) (parts-next plan s i none items same below)
+      move_lines plan s rest,
+      ap (λ (text : List ℕ). text ++ move_lines plan s rest) (parts-next plan s i none items same below)
           ∙ (sym (lines-append plan s (flat_map (part_moves plan) (take (i + 1) PARTS)) rest)
-          ∙ (ap (lines_in plan s) (sym (flat_map-append (part_moves plan) (take (i + 1) PARTS) (drop (i + 1) PARTS))
+          ∙ (ap (move_lines plan s) (sym (flat_map-append (part_moves plan) (take (i + 1) PARTS) (drop (i + 1) PARTS))
           ∙ ap (flat_map (part_moves plan)) (take-append-drop (i + 1) PARTS))
           ∙ all-parts plan s)),
     )
 
 pub parts-done : (plan : Plan) (s : State) (i : ℕ) (items : List ClosingPart) → items ≡ PARTS → length items ≤ i →
-    lines_in plan s (flat_map (part_moves plan) (take i PARTS)) ≡ moves_text plan s
+    move_lines plan s (flat_map (part_moves plan) (take i PARTS)) ≡ moves_text plan s
 parts-done plan s i items same done =
     let here : length PARTS ≤ i = subst (λ (parts : List ClosingPart). length parts ≤ i) same done in
-    ap (λ (parts : List ClosingPart). lines_in plan s (flat_map (part_moves plan) parts)) (take_all i PARTS here)
+    ap (λ (parts : List ClosingPart). move_lines plan s (flat_map (part_moves plan) parts)) (take_all i PARTS here)
     ∙ all-parts plan s

@@ -5,10 +5,10 @@ use Rattle.run_scripts.specs.declared.refusal.ScriptErr.{ScriptErr}
 use Rattle.texts.specs.Lines.{line, counted_line, trap_line}
 use Rattle.report_refusals.specs.Bars.{bar_text}
 use Rattle.report_refusals.specs.Scripts.{script_refusal}
-use Rattle.cf_run.specs.declared.answer.Ran.{Ran as Answer}
-use Rattle.cf_run.specs.declared.answer.Ran.TheVariants as ran
-use Rattle.cf_run.specs.declared.answer.Scripted.{Scripted}
-use Rattle.cf_run.specs.declared.answer.Scripted.TheVariants.{Ran, ScriptEnd, BadScript, BarredAt}
+use Rattle.run_finishes.specs.declared.finish.Ran.{Ran as Answer}
+use Rattle.run_finishes.specs.declared.finish.Ran.TheVariants as ran
+use Rattle.run_finishes.specs.declared.finish.Scripted.{Scripted}
+use Rattle.run_finishes.specs.declared.finish.Scripted.TheVariants.{Ran, ScriptEnd, BadScript, BarredAt}
 
 -- what happened at this line of a script, before the cause
 unfoldable pub place_in_script : List ℕ → ℕ → List ℕ

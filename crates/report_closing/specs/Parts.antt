@@ -29,5 +29,5 @@ part_moves plan (part.Stages kind) = at_stages plan (move_at kind)
 part_moves plan part.Slides = siding_moves 0 plan.sidings
 
 -- the lines of some moves
-abbrev pub lines_in : Plan → State → List Move → List ℕ
-lines_in plan s moves = flat_map (line_in plan s) moves
+abbrev pub move_lines : Plan → State → List Move → List ℕ
+move_lines plan s moves = flat_map (line_in plan s) moves

@@ -10,7 +10,7 @@ use crate::first_line::push_first_line;
 use cf_core::Core;
 use cf_io::{Failed, Sink, put_all};
 use cf_report::{Tally, put_picture, put_registers, put_tally};
-use cf_run::{Ran, Scripted};
+use run_finishes::{Ran, Scripted};
 use texts::Page;
 
 /// How the run finished, and how many instructions have retired.

@@ -7,8 +7,8 @@ ghost use Rattle.texts.specs.Room.{page_room};
 ghost use Rattle.report_closing.specs.Lines.{place_in_script, bad_line, barred_line, line_of_run, first_line};
 
 use cf_bind::Bar;
-use cf_run::{Ran, Scripted};
 use report_refusals::{push_bar, push_script};
+use run_finishes::{Ran, Scripted};
 use run_scripts::ScriptErr;
 use texts::Page;
 

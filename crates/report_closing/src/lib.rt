@@ -9,4 +9,4 @@ mod parts;
 
 pub use closing::{put_closing, put_closing_in_rounds, put_machine_closing};
 pub use first_line::run_line;
-pub use moves::put_moves;
+pub use moves::{put_moves, put_standing};

@@ -7,7 +7,7 @@ ghost use Rattle.cf_semantics.specs.moves.Candidates.{at_stages};
 ghost use Rattle.cf_report.specs.Putting.{PutsText};
 ghost use Rattle.report_refusals.specs.Bars.{bar_text};
 ghost use Rattle.report_closing.specs.Moves.{between, cell_moves, siding_moves, line_in, moves_text};
-ghost use Rattle.report_closing.specs.Parts.{move_at, part_moves, lines_in};
+ghost use Rattle.report_closing.specs.Parts.{move_at, part_moves, move_lines};
 
 use crate::parts::{ClosingPart, PARTS, StageMove};
 use cf_bind::{Bar, Move, MoveLine, move_text};
@@ -47,8 +47,9 @@ fn put_between<R: Sink>(before: &[u8], mv: Move, after: &[u8], report: &mut R) -
     put_move(mv, after, report)
 }
 
-/// Writes the line of a move.
-fn put_line<R: Sink>(core: &Core, mv: Move, report: &mut R) -> Result<(), Failed>
+/// Writes the line of a move: that the processor can make it now, or its bar. After `Failed` a prefix of the line was
+/// written.
+pub fn put_standing<R: Sink>(core: &Core, mv: Move, report: &mut R) -> Result<(), Failed>
     ensures { PutsText (R.written report.old) (R.written report.new)
         (R.faults report.old) (R.faults report.new) (line_in core.now.plan core.now.state mv) result }
 {
@@ -65,10 +66,10 @@ fn put_line<R: Sink>(core: &Core, mv: Move, report: &mut R) -> Result<(), Failed
 fn put_stages<R: Sink>(core: &Core, kind: StageMove, report: &mut R) -> Result<(), Failed>
     ensures { PutsText (R.written report.old) (R.written report.new)
         (R.faults report.old) (R.faults report.new)
-        (lines_in core.now.plan core.now.state (at_stages core.now.plan (move_at kind))) result }
+        (move_lines core.now.plan core.now.state (at_stages core.now.plan (move_at kind))) result }
 {
     for below in 0..core.layout().stages() {
-        put_line(core, kind.at(below + 1), report)?;
+        put_standing(core, kind.at(below + 1), report)?;
     }
     Ok(())
 }
@@ -77,10 +78,10 @@ fn put_stages<R: Sink>(core: &Core, kind: StageMove, report: &mut R) -> Result<(
 fn put_cells<R: Sink>(core: &Core, siding: u32, cells: u32, report: &mut R) -> Result<(), Failed>
     ensures { PutsText (R.written report.old) (R.written report.new)
         (R.faults report.old) (R.faults report.new)
-        (lines_in core.now.plan core.now.state (cell_moves siding cells)) result }
+        (move_lines core.now.plan core.now.state (cell_moves siding cells)) result }
 {
     for cell in 0..cells {
-        put_line(core, Move::Slide(siding, cell), report)?;
+        put_standing(core, Move::Slide(siding, cell), report)?;
     }
     Ok(())
 }
@@ -89,7 +90,7 @@ fn put_cells<R: Sink>(core: &Core, siding: u32, cells: u32, report: &mut R) -> R
 fn put_slides<R: Sink>(core: &Core, report: &mut R) -> Result<(), Failed>
     ensures { PutsText (R.written report.old) (R.written report.new)
         (R.faults report.old) (R.faults report.new)
-        (lines_in core.now.plan core.now.state (siding_moves 0 core.now.plan.sidings)) result }
+        (move_lines core.now.plan core.now.state (siding_moves 0 core.now.plan.sidings)) result }
 {
     for siding in 0..core.layout().siding_count() {
         put_cells(core, siding, core.layout().cells_of(siding), report)?;
@@ -101,10 +102,10 @@ fn put_slides<R: Sink>(core: &Core, report: &mut R) -> Result<(), Failed>
 fn put_part<R: Sink>(core: &Core, part: ClosingPart, report: &mut R) -> Result<(), Failed>
     ensures { PutsText (R.written report.old) (R.written report.new)
         (R.faults report.old) (R.faults report.new)
-        (lines_in core.now.plan core.now.state (part_moves core.now.plan part)) result }
+        (move_lines core.now.plan core.now.state (part_moves core.now.plan part)) result }
 {
     match part {
-        ClosingPart::One(mv) => put_line(core, mv, report),
+        ClosingPart::One(mv) => put_standing(core, mv, report),
         ClosingPart::Stages(kind) => put_stages(core, kind, report),
         ClosingPart::Slides => put_slides(core, report),
     }

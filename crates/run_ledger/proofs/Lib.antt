@@ -7,5 +7,8 @@ pub mod Placed
 pub mod Putting
 pub mod Growing
 pub mod Keeping
+pub mod Gapped
+pub mod StageTimes
+pub mod Passed
 pub mod Longest
 pub mod Noted

@@ -5,6 +5,7 @@ use Rattle.std.specs.List.{AllByRecursion}
 use Rattle.std.proofs.lemmas.Bool.Decides.{nat_tests}
 use Rattle.cf_semantics.specs.moves.Sites.{Site, Stage, SidingCell, Lane, Fetching, Memory, Code, among, same_site}
 use Rattle.cf_timed.proofs.Following.{IsKept}
+use Rattle.cf_timed.proofs.Numbered.{set_length}
 use Rattle.run_ledger.specs.Ledgers.{mark_at, place_number, put_marks, with_marks}
 use Rattle.run_ledger.specs.declared.ledger.Ledger.{Ledger}
 use Rattle.run_ledger.specs.declared.mark.ChainMark.{ChainMark}
@@ -78,14 +79,9 @@ at_put (m ∷ marks) (suc i) (suc j) mark within = let e : nat_eq (suc j) (suc i
     rw e (at_put marks i j mark (omega arith))
 
 -- their number is unchanged
-set_size : (marks : List ChainMark) (i : ℕ) (mark : ChainMark) → length (slice_set marks i mark) ≡ length marks
-set_size [] i mark = refl
-set_size (m ∷ marks) zero mark = refl
-set_size (m ∷ marks) (suc i) mark = ap suc (set_size marks i mark)
-
 pub put_size : (mark : ChainMark) (marks : List ChainMark) (places : List ℕ) → length (put_marks mark marks places) ≡ length marks
 put_size mark marks [] = refl
-put_size mark marks (place ∷ places) = put_size mark (slice_set marks place mark) places ∙ set_size marks place mark
+put_size mark marks (place ∷ places) = put_size mark (slice_set marks place mark) places ∙ set_length marks place mark
 
 -- the mark at a site, after one was put at some sites
 pub marks_put : (mark : ChainMark) (marks : List ChainMark) (ys : List Site) (x : Site) → length marks ≡ 102 → AllByRecursion IsKept ys → IsKept x →
@@ -93,7 +89,7 @@ pub marks_put : (mark : ChainMark) (marks : List ChainMark) (ys : List Site) (x 
 marks_put mark marks [] x room kept here = refl
 marks_put mark marks (y ∷ ys) x room kept here =
     let w = number_within y kept.0 in
-    marks_put mark (slice_set marks (place_number y) mark) ys x (set_size marks (place_number y) mark ∙ room) kept.1 here
+    marks_put mark (slice_set marks (place_number y) mark) ys x (set_length marks (place_number y) mark ∙ room) kept.1 here
     ∙ ap (λ (m : ChainMark). cond (among x ys) mark m) (at_put marks (place_number y) (place_number x) mark (omega (arith, w, room))
     ∙ ap (λ (b : Bool). cond b mark (mark_at marks (place_number x))) (same_number x y here kept.0))
     ∙ both (same_site x y) (among x ys)

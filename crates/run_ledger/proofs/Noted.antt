@@ -1,193 +1,254 @@
--- A run with a ledger is a timed run, and its ledger has recorded the moves of it.
-use Rattle.std.proofs.Common.{◌≡◌, ◌≢◌, ◌∙◌, refl, sym, ap, subst, ℕ, suc, ◌≤◌, List, [], ◌∷◌, ◌++◌, length, Some, None, arith, append-nil}
-use Rattle.std.specs.Prelude.{slice_get}
+-- The ledger of a timed run has recorded its moves.
+use Rattle.std.proofs.Common.{◌≡◌, ◌∙◌, refl, sym, ap, subst, ℕ, ◌+◌, ◌-◌, ◌*◌, ◌^◌, ◌<◌, List, [], ◌∷◌, length, map, suc, Option, arith}
+use Rattle.std.specs.Prelude.{min, replicate}
 use Rattle.std.specs.List.{AllByRecursion}
-use Rattle.run_options.specs.Limits.{most_limit}
-use Rattle.run_options.specs.declared.show.Show.TheVariants as show
+use Rattle.run_options.specs.declared.guess_rule.GuessRule.{GuessRule}
 use Rattle.rv_machine.specs.Streams.{Streams}
 use Rattle.cf_layout.specs.Layout.{Plan}
 use Rattle.cf_layout.specs.Accepted.{IsAccepted}
-use Rattle.cf_bind.specs.declared.moves.Move.{Move}
-use Rattle.cf_semantics.specs.moves.Holding.{offered}
+use Rattle.cf_semantics.specs.moves.Candidates.{counted_from}
 use Rattle.cf_semantics.specs.state.State.{State}
 use Rattle.cf_core.specs.Processors.{Processor}
-use Rattle.cf_report.specs.declared.tally.Tally.{Tally}
-use Rattle.cf_run.specs.declared.answer.Ran.{Ran as Answer}
-use Rattle.cf_run.specs.declared.answer.Ran.TheVariants as ran
-use Rattle.cf_run.specs.declared.answer.Scripted.TheVariants.{Ran}
-use Rattle.cf_run.specs.Ending.{EndsSequentially}
-use Rattle.cf_run.specs.Made.{Made, moves_of}
-use Rattle.cf_run.specs.Moving.{RunPlace, place_of}
-use Rattle.cf_run.specs.Policies.{Chooser, StopsAtPick, IsOpened, Picks, RunsPolicy, RunsRight, StopsPolicy, after_choice, chooser, fresh, made_last, offered_to}
-use Rattle.cf_timed.specs.Clocks.{SiteTimes, started}
-use Rattle.cf_timed.specs.Delays.{AreDelays}
-use Rattle.cf_timed.specs.Timings.{PendingMove, after_pick, clock_after, pending_pick}
-use Rattle.cf_timed.specs.TimedRuns.{answer_of, begins}
+use Rattle.cf_run.specs.Made.{Made}
+use Rattle.cf_run.specs.Policies.{fresh}
 use Rattle.cf_timed.specs.declared.answer.Timed.{Timed}
+use Rattle.cf_timed.specs.declared.timed_move.TimedMove.{TimedMove}
+use Rattle.cf_timed.specs.Clocks.{SiteTimes}
+use Rattle.cf_timed.specs.Delays.{AreDelays}
+use Rattle.cf_timed.specs.DelayedRuns.{DelayRule, delayed_at, delays_after, visits_of}
+use Rattle.cf_timed.specs.Earliest.{TimedTurn, turned}
+use Rattle.cf_timed.specs.TimedRuns.{CanRunTimed, RunsWatched, begins, first_turn}
+use Rattle.cf_timed.specs.Times.{DelayedMove, done_after, greatest_time}
+use Rattle.cf_timed.specs.Watching.{watched}
+use Rattle.cf_timed.proofs.Delaying.{all_time}
+use Rattle.cf_timed.proofs.Numbered.{numbered_length}
+use Rattle.cf_timed.proofs.Few.{delays-length, delays-short, moves-few, moves-kept}
 use Rattle.cf_timed.proofs.Following.{AreKept}
-use Rattle.cf_timed.proofs.Rightly.{moves-few, runs-timed-so}
-use Rattle.cf_timed.proofs.Room.{offered_kept, one_of_all}
 use Rattle.run_ledger.specs.Breakdowns.{breakdown}
-use Rattle.run_ledger.specs.Ledgers.{noted, noted_all, opened, told_by}
+use Rattle.run_ledger.specs.ClassCounts.{latencies_noted, no_latencies}
+use Rattle.run_ledger.specs.GapCounts.{empty_until, gaps_at, gaps_noted, no_gaps, waiting_until, with_gap}
+use Rattle.run_ledger.specs.Gaps.{empty, gaps, waiting}
+use Rattle.run_ledger.specs.Latencies.{latency, of_class, passages, passages_after, retired, total_ticks}
+use Rattle.run_ledger.specs.Ledgers.{noted, noted_all, opened}
 use Rattle.run_ledger.specs.NotedRuns.{RunsNoted}
-use Rattle.run_ledger.specs.Watchings.{Watched, after_watched, ledger_after, ledger_told, watched_pick}
-use Rattle.run_ledger.specs.declared.ledger.Ledger.{Ledger}
-use Rattle.run_ledger.proofs.Keeping.{told-all}
+use Rattle.run_ledger.specs.RunLedgers.{begun, move_noted, moves_noted, told_by}
+use Rattle.run_ledger.specs.SeenMoves.{SeenMove, seen, seen_from, seen_in, time_of, untimed_all}
+use Rattle.run_ledger.specs.declared.gaps.StageGaps.{StageGaps}
+use Rattle.run_ledger.specs.declared.latencies.Latencies.{Latencies}
+use Rattle.run_ledger.specs.declared.run_ledger.RunLedger.{RunLedger}
+use Rattle.run_ledger.proofs.Gapped.{all_over, at_number, empty-over, gaps_over, over_each, waiting-over}
+use Rattle.run_ledger.proofs.Growing.{AreShort, time_short, times_few}
+use Rattle.run_ledger.proofs.Keeping.{KnowsSites, knows-all}
+use Rattle.run_ledger.proofs.Numbered.{numbered_same}
+use Rattle.run_ledger.proofs.Passed.{grown-all, latencies_over, latency-short, no-issues-yet, raised, raised-each, retired-few, total_of, total_one, total_same}
+use Rattle.run_ledger.proofs.StageTimes.{whole-time}
 
--- the policy without its ledger
-abbrev timing : Chooser Watched → Chooser PendingMove
-timing at = chooser at.policy.pending at.count
+-- how a ledger notes a move
+abbrev pub notes : RunLedger → Made → TimedMove → RunLedger
+notes l made done = move_noted l (seen done made)
 
-picks-timed : (plan : Plan) (at : Chooser Watched) (s : State) (trace : List Made) (last : Chooser Watched) →
-    Picks watched_pick after_watched plan at s trace last → Picks pending_pick after_pick plan (timing at) s trace (timing last)
-unfolding Picks
-picks-timed plan at s [] last same = ap timing same
-picks-timed plan at s (made ∷ trace) last (pick, picks) = (pick, picks-timed plan (after_choice after_watched plan at s made) made.state trace last picks)
+-- and it writes nothing
+abbrev pub silent : RunLedger → Made → TimedMove → List ℕ
+silent l made done = []
 
-chooses-timed : (limit : ℕ) (now new : RunPlace) (at : Chooser Watched) (later : Watched) (answer : Answer) →
-    StopsAtPick watched_pick after_watched limit show.Report at now new later answer → StopsAtPick pending_pick after_pick limit show.Report
-    (timing at) now new later.pending answer
-chooses-timed limit now new at later answer h = record {
-  goes = h.goes;
-  move = h.move;
-  choice_is = h.choice_is;
-  later_is = ap (λ (w : Watched). w.pending) h.later_is;
-  does = h.does;
-}
+-- it records the moves that are made, each with its time and what it leaves
+watched-all : (plan : Plan) (rule : DelayRule) (t : TimedTurn) (l : RunLedger) (trace : List Made) →
+    watched notes plan rule t l trace ≡ moves_noted l (seen_from plan rule t trace)
+unfolding watched
+watched-all plan rule t l [] = refl
+watched-all plan rule t l (made ∷ trace) =
+    watched-all plan rule (turned plan rule t made)
+    (notes l made (done_after plan t.earlier (delayed_at rule t.state t.earlier made.move))) trace
 
-stops-timed : (limit : ℕ) (now new : RunPlace) (at : Chooser Watched) (later : Watched) (answer : Answer) →
-    StopsPolicy watched_pick after_watched limit show.Report at now new later answer → StopsPolicy pending_pick after_pick limit show.Report
-    (timing at) now new later.pending answer
-stops-timed limit now new at later (ran.Exit status) h = (h.0, h.1, ap (λ (w : Watched). w.pending) h.2)
-stops-timed limit now new at later (ran.Trap cause pc detail) h = (h.0, h.1, ap (λ (w : Watched). w.pending) h.2)
-stops-timed limit now new at later ran.Limit h = (h.0, h.1, ap (λ (w : Watched). w.pending) h.2)
-stops-timed limit now new at later ran.ReadFault h = chooses-timed limit now new at later ran.ReadFault h
-stops-timed limit now new at later ran.WriteFault h = chooses-timed limit now new at later ran.WriteFault h
-stops-timed limit now new at later ran.ReportFault h = chooses-timed limit now new at later ran.ReportFault h
+-- without their times they are the moves with their delays
+untimed-seen : (plan : Plan) (rule : DelayRule) (t : TimedTurn) (trace : List Made) →
+    untimed_all (seen_from plan rule t trace) ≡ delays_after plan rule t.earlier (visits_of t.state trace)
+untimed-seen plan rule t [] = refl
+untimed-seen plan rule t (made ∷ trace) =
+    ap (λ (more : List DelayedMove). delayed_at rule t.state t.earlier made.move ∷ more) (untimed-seen plan rule (turned plan rule t made) trace)
 
--- where the report does not fail, no move comes after those that lead to the end
-none-last : {P : Type 0} (picked : P → List Move → ℕ) (onward : P → List Move → P) (limit : ℕ) (at : Chooser P) (now new : RunPlace) (later : P)
-    (answer : Answer) (stops : StopsPolicy picked onward limit show.Report at now new later answer) → answer ≢ ran.ReportFault →
-    made_last picked onward limit show.Report at now new later answer stops ≡ []
-none-last picked onward limit at now new later (ran.Exit status) stops none = refl
-none-last picked onward limit at now new later (ran.Trap cause pc detail) stops none = refl
-none-last picked onward limit at now new later ran.Limit stops none = refl
-none-last picked onward limit at now new later ran.ReadFault stops none = refl
-none-last picked onward limit at now new later ran.WriteFault stops none = refl
-none-last picked onward limit at now new later ran.ReportFault stops none = absurd (none refl)
+-- each part of the ledger has recorded them
+sites-noted : (l : RunLedger) (moves : List SeenMove) → (moves_noted l moves).sites ≡ noted_all l.sites (untimed_all moves)
+unfolding move_noted
+sites-noted l [] = refl
+sites-noted l (m ∷ moves) = sites-noted (move_noted l m) moves
 
--- the ledger records the moves that are made
-told-next : (w : Watched) (moves : List Move) (mv : Move) → slice_get moves (pending_pick w.pending moves) ≡ Some mv →
-    ledger_told (after_watched w moves) ≡ noted (ledger_told w) mv
-unfolding ledger_told after_pick
-told-next w moves mv e = rw e refl
+layout-kept : (plan : Plan) (l : RunLedger) (m : SeenMove) → l.sites.layout ≡ plan → (move_noted l m).sites.layout ≡ plan
+unfolding move_noted noted
+layout-kept plan l m is = is
 
-told-trace : (plan : Plan) (at : Chooser Watched) (s : State) (trace : List Made) (last : Chooser Watched) →
-    Picks watched_pick after_watched plan at s trace last → ledger_told last.policy ≡ noted_all (ledger_told at.policy) (moves_of trace)
-unfolding Picks
-told-trace plan at s [] last same = ap (λ (c : Chooser Watched). ledger_told c.policy) same
-told-trace plan at s (made ∷ trace) last (pick, picks) =
-    told-trace plan (after_choice after_watched plan at s made) made.state trace last picks
-    ∙ ap (λ (l : Ledger). noted_all l (moves_of trace)) (told-next at.policy (offered_to plan at s) made.move pick)
+layout-begun : (plan : Plan) → (begun plan).sites.layout ≡ plan
+unfolding begun opened
+layout-begun plan = refl
 
--- it has room for their sites
-kept-trace : (plan : Plan) (at : Chooser Watched) (s : State) (trace : List Made) (last : Chooser Watched) → IsAccepted plan →
-    Picks watched_pick after_watched plan at s trace last → AllByRecursion (AreKept plan) (moves_of trace)
-unfolding Picks
-kept-trace plan at s [] last acc same = tt
-kept-trace plan at s (made ∷ trace) last acc (pick, picks) = (
-  one_of_all (AreKept plan) (offered plan at.count s) (watched_pick at.policy (offered plan at.count s)) made.move (offered_kept plan at.count s acc) pick,
-  kept-trace plan (after_choice after_watched plan at s made) made.state trace last acc picks,
-)
+gaps-noted : (plan : Plan) (l : RunLedger) (moves : List SeenMove) → l.sites.layout ≡ plan → (moves_noted l moves).gaps ≡ all_over plan moves l.gaps
+unfolding move_noted
+gaps-noted plan l [] is = refl
+gaps-noted plan l (m ∷ moves) is =
+    gaps-noted plan (move_noted l m) moves (layout-kept plan l m is) ∙ ap (λ (p : Plan). all_over plan moves (gaps_noted p m.done m.state l.gaps)) is
 
--- and it records no others
-stopped-told : (limit : ℕ) (now new : RunPlace) (at : Chooser Watched) (later : Watched) (answer : Answer) →
-    StopsPolicy watched_pick after_watched limit show.Report at now new later answer → ledger_after later answer ≡ ledger_told at.policy
-unfolding ledger_after
-stopped-told limit now new at later (ran.Exit status) h = ap ledger_told h.2
-stopped-told limit now new at later (ran.Trap cause pc detail) h = ap ledger_told h.2
-stopped-told limit now new at later ran.Limit h = ap ledger_told h.2
-stopped-told limit now new at later ran.ReadFault h = ap (λ (w : Watched). w.ledger) h.later_is
-stopped-told limit now new at later ran.WriteFault h = ap (λ (w : Watched). w.ledger) h.later_is
-stopped-told limit now new at later ran.ReportFault h = ap (λ (w : Watched). w.ledger) h.later_is
+latencies-noted : (plan : Plan) (l : RunLedger) (moves : List SeenMove) → l.sites.layout ≡ plan →
+    (moves_noted l moves).latencies ≡ latencies_over plan moves l.latencies
+unfolding move_noted
+latencies-noted plan l [] is = refl
+latencies-noted plan l (m ∷ moves) is =
+    latencies-noted plan (move_noted l m) moves (layout-kept plan l m is)
+    ∙ ap (λ (p : Plan). latencies_over plan moves (latencies_noted p m.done m.event l.latencies)) is
 
--- before the first pick
-abbrev first_watched : Plan → List ℕ → Watched
-first_watched plan delays = record { pending = record { clock = started plan delays; last = None }; ledger = opened plan delays }
+-- the gaps of a stage, up to the end of the run
+waiting-is : (plan : Plan) (moves : List SeenMove) (i : ℕ) → waiting plan moves i < 2 ^ 64 →
+    (with_gap (gaps_over plan i moves no_gaps) (time_of plan moves)).waiting ≡ waiting plan moves i
+unfolding waiting gaps
+waiting-is plan moves i small = waiting-over plan i moves no_gaps (time_of plan moves) (omega arith) ∙ omega (arith, small)
 
-pub first-is : (plan : Plan) (delays : List ℕ) (clock : SiteTimes) (ledger : Ledger) (first : Watched) →
-    first ≡ record { pending = record { clock = clock; last = None }; ledger = ledger } → clock ≡ started plan delays → ledger ≡ opened plan delays →
-    first ≡ first_watched plan delays
-first-is plan delays clock ledger first same a b = rw (a, b) at same
+empty-is : (plan : Plan) (moves : List SeenMove) (i : ℕ) → empty plan moves i < 2 ^ 64 →
+    (with_gap (gaps_over plan i moves no_gaps) (time_of plan moves)).empty ≡ empty plan moves i
+unfolding empty gaps
+empty-is plan moves i small = empty-over plan i moves no_gaps (time_of plan moves) (omega arith) ∙ omega (arith, small)
 
-told-first : (plan : Plan) (delays : List ℕ) → ledger_told (first_watched plan delays) ≡ opened plan delays
-unfolding ledger_told
-told-first plan delays = refl
+gaps-each : (plan : Plan) (moves : List SeenMove) → all_over plan moves (replicate 33 no_gaps) ≡ map (λ i. gaps_over plan i moves no_gaps) (counted_from 0 33)
+gaps-each plan moves = over_each plan 33 moves (λ i. no_gaps)
 
-trace-length : (trace : List Made) → length (moves_of trace) ≡ length trace
-trace-length [] = refl
-trace-length (made ∷ trace) = ap suc (trace-length trace)
+-- those of each
+each-until : (field : StageGaps → ℕ) (plan : Plan) (moves : List SeenMove) (f : ℕ → ℕ) →
+    ((i : ℕ) → field (with_gap (gaps_over plan i moves no_gaps) (time_of plan moves)) ≡ f i) →
+    map (λ i. field (with_gap (gaps_at (all_over plan moves (replicate 33 no_gaps)) i) (time_of plan moves)))
+    (counted_from 0 (length (all_over plan moves (replicate 33 no_gaps)))) ≡ map f (counted_from 0 33)
+each-until field plan moves f each =
+    let end : ℕ = time_of plan moves in
+    ap (λ (all : List StageGaps). map (λ i. field (with_gap (gaps_at all i) end)) (counted_from 0 (length all))) (gaps-each plan moves)
+    ∙ ap (λ (n : ℕ). map (λ i. field (with_gap (gaps_at (map (λ k. gaps_over plan k moves no_gaps) (counted_from 0 33)) i) end)) (counted_from 0 n))
+    (numbered_length (λ k. gaps_over plan k moves no_gaps) 0 33)
+    ∙ numbered_same (λ i. field (with_gap (gaps_at (map (λ k. gaps_over plan k moves no_gaps) (counted_from 0 33)) i) end)) f 33
+    (λ i within. ap (λ (g : StageGaps). field (with_gap g end)) (at_number (λ k. gaps_over plan k moves no_gaps) 33 i within) ∙ each i)
 
--- the moves of the run are those that lead to its end
-moves-are : (plan : Plan) (delays : List ℕ) (limit : ℕ) (begin new : RunPlace) (later : Watched) (answer : Answer) → answer ≢ ran.ReportFault →
-    (r : RunsRight watched_pick after_watched limit show.Report begin new (first_watched plan delays) later answer) → r.moves ≡ moves_of r.runs.reaches.trace
-moves-are plan delays limit begin new later answer none r =
-    r.runs.made ∙ ap (λ (l : List Move). moves_of r.runs.reaches.trace ++ l) (none-last watched_pick after_watched limit r.runs.at r.runs.now new later answer
-    r.runs.stops none) ∙ append-nil (moves_of r.runs.reaches.trace)
+waiting-each : (plan : Plan) (moves : List SeenMove) → ((i : ℕ) → waiting plan moves i < 2 ^ 64) →
+    waiting_until (time_of plan moves) (all_over plan moves (replicate 33 no_gaps)) ≡ map (waiting plan moves) (counted_from 0 33)
+waiting-each plan moves small = each-until (λ g. g.waiting) plan moves (waiting plan moves) (λ i. waiting-is plan moves i (small i))
 
--- so the ledger knows what their time is made of
-run-told : (delays : List ℕ) (limit : ℕ) (begin new : RunPlace) (later : Watched) (answer : Answer) → IsAccepted begin.core.plan →
-    length begin.core.state.regs ≡ 32 → IsOpened begin.core → AreDelays delays → limit ≤ most_limit → begin.core.state.retired ≤ limit →
-    answer ≢ ran.ReportFault
-    → (r : RunsRight watched_pick after_watched limit show.Report begin new (first_watched begin.core.plan delays) later answer) →
-    told_by (ledger_after later answer) ≡ breakdown begin.core.plan delays r.moves
-run-told delays limit begin new later answer acc wide o few small within none r =
-    let plan : Plan = begin.core.plan in
-    let runs = r.runs in
+empty-each : (plan : Plan) (moves : List SeenMove) → ((i : ℕ) → empty plan moves i < 2 ^ 64) →
+    empty_until (time_of plan moves) (all_over plan moves (replicate 33 no_gaps)) ≡ map (empty plan moves) (counted_from 0 33)
+empty-each plan moves small = each-until (λ g. g.empty) plan moves (empty plan moves) (λ i. empty-is plan moves i (small i))
+
+-- the instructions of each class
+retired-each : (plan : Plan) (moves : List SeenMove) → length moves < 2 ^ 64 →
+    raised (2 ^ 64 - 1) (λ p. 1) (replicate 11 0) (passages_after plan [] moves) ≡ map (retired plan moves) (counted_from 0 11)
+unfolding retired passages
+retired-each plan moves small =
+    raised-each (2 ^ 64 - 1) (λ p. 1) (λ place. 0) (passages_after plan [] moves) (λ place. omega arith)
+    ∙ numbered_same (λ place. min (0 + total_of (λ p. 1) (of_class place (passages_after plan [] moves))) (2 ^ 64 - 1))
+    (λ place. length (of_class place (passages_after plan [] moves))) 11
+    (λ place within.
+    let a = total_one (of_class place (passages_after plan [] moves)) in
+    let b = retired-few plan [] moves place in
+    omega (arith, a, b, small))
+
+latency-each : (plan : Plan) (moves : List SeenMove) → AllByRecursion (λ m. m.done.time < 2 ^ 64) moves → length moves < 2 ^ 63 →
+    raised (2 ^ 128 - 1) (λ p. p.ticks) (replicate 11 0) (passages_after plan [] moves) ≡ map (latency plan moves) (counted_from 0 11)
+unfolding latency passages
+latency-each plan moves few small =
+    raised-each (2 ^ 128 - 1) (λ p. p.ticks) (λ place. 0) (passages_after plan [] moves) (λ place. omega arith)
+    ∙ numbered_same (λ place. min (0 + total_of (λ p. p.ticks) (of_class place (passages_after plan [] moves))) (2 ^ 128 - 1))
+    (λ place. total_ticks (of_class place (passages_after plan [] moves))) 11
+    (λ place within.
+    let a = total_same (of_class place (passages_after plan [] moves)) in
+    let b = latency-short plan [] moves place few in
+    omega (arith, a, b, small))
+
+-- no move finishes later than all delays together
+seen-short : (plan : Plan) (rule : DelayRule) (t : TimedTurn) (trace : List Made) → AreShort (untimed_all (seen_from plan rule t trace)) →
+    greatest_time t.earlier + 1000 * length (seen_from plan rule t trace) < 2 ^ 64 → AllByRecursion (λ m. m.done.time < 2 ^ 64) (seen_from plan rule t trace)
+seen-short plan rule t [] short few = tt
+seen-short plan rule t (made ∷ trace) short few =
+    let d : DelayedMove = delayed_at rule t.state t.earlier made.move in
+    let s = time_short plan t.earlier d short.0 in
+    let f : greatest_time t.earlier + 1000 * suc (length (seen_from plan rule (turned plan rule t made) trace)) < 2 ^ 64 = few in
+    let a = all_time (done_after plan t.earlier d) t.earlier in
+    (omega (arith, s, f), seen-short plan rule (turned plan rule t made) trace short.1 (omega (arith, s, a, f)))
+
+-- the same of moves with and without their times
+kept-seen : (plan : Plan) (moves : List SeenMove) → AllByRecursion (λ d. AreKept plan d.mv) (untimed_all moves) →
+    AllByRecursion (λ m. AreKept plan m.done.mv) moves
+kept-seen plan [] kept = tt
+kept-seen plan (m ∷ moves) kept = (kept.0, kept-seen plan moves kept.1)
+
+untimed-length : (moves : List SeenMove) → length (untimed_all moves) ≡ length moves
+untimed-length [] = refl
+untimed-length (m ∷ moves) = let r = untimed-length moves in omega (arith, r)
+
+none-done : greatest_time [] ≡ 0
+unfolding greatest_time
+none-done = refl
+
+-- the parts of a ledger that begins
+sites-begun : (plan : Plan) (moves : List SeenMove) → (moves_noted (begun plan) moves).sites ≡ noted_all (opened plan) (untimed_all moves)
+unfolding begun
+sites-begun plan moves = sites-noted (begun plan) moves
+
+gaps-begun : (plan : Plan) (moves : List SeenMove) → (moves_noted (begun plan) moves).gaps ≡ all_over plan moves (replicate 33 no_gaps)
+unfolding begun
+gaps-begun plan moves = gaps-noted plan (begun plan) moves (layout-begun plan)
+
+latencies-begun : (plan : Plan) (moves : List SeenMove) → (moves_noted (begun plan) moves).latencies ≡ latencies_over plan moves no_latencies
+unfolding begun
+latencies-begun plan moves = latencies-noted plan (begun plan) moves (layout-begun plan)
+
+-- they make up its breakdown
+told-parts : (plan : Plan) (moves : List SeenMove) (l : RunLedger) → KnowsSites plan (untimed_all moves) l.sites →
+    waiting_until l.sites.last.time l.gaps ≡ map (waiting plan moves) (counted_from 0 33) →
+    empty_until l.sites.last.time l.gaps ≡ map (empty plan moves) (counted_from 0 33) →
+    l.latencies.retired ≡ map (retired plan moves) (counted_from 0 11) → l.latencies.ticks ≡ map (latency plan moves) (counted_from 0 11) →
+    told_by l ≡ breakdown plan moves
+unfolding told_by breakdown
+told-parts plan moves l k waits empties counts sums =
+    let a = k.layout_is in
+    let b = k.stages_are in
+    let c = k.sidings_are in
+    let d = k.kinds_are in
+    let e = k.chain_is in
+    rw (a, b, c, d, e, waits, empties, counts, sums) refl
+
+-- so it knows what their time is made of
+told-seen : (plan : Plan) (rule : DelayRule) (s : State) (trace : List Made) → plan.stages < 34 → AreShort (untimed_all (seen_in plan rule s trace)) →
+    AllByRecursion (λ d. AreKept plan d.mv) (untimed_all (seen_in plan rule s trace)) → 1000 * length (untimed_all (seen_in plan rule s trace)) < 2 ^ 64 →
+    told_by (moves_noted (begun plan) (seen_in plan rule s trace)) ≡ breakdown plan (seen_in plan rule s trace)
+told-seen plan rule s trace low short kept small =
+    let moves : List SeenMove = seen_in plan rule s trace in
+    let l : RunLedger = moves_noted (begun plan) moves in
+    let n = untimed-length moves in
+    let f = times_few plan (untimed_all moves) short in
+    let k : KnowsSites plan (untimed_all moves) l.sites =
+    subst (KnowsSites plan (untimed_all moves)) (sym (sites-begun plan moves)) (knows-all plan (untimed_all moves) short kept small) in
+    let g = gaps-begun plan moves in
+    let c = latencies-begun plan moves in
+    let grown = grown-all plan [] moves no_latencies low no-issues-yet (kept-seen plan moves kept) in
+    told-parts plan moves l k
+    (ap (λ (end : ℕ). waiting_until end l.gaps) k.end_is ∙ ap (waiting_until (time_of plan moves)) g
+    ∙ waiting-each plan moves (λ i. let w = whole-time plan rule s trace i in omega (arith, w, f, small)))
+    (ap (λ (end : ℕ). empty_until end l.gaps) k.end_is ∙ ap (empty_until (time_of plan moves)) g
+    ∙ empty-each plan moves (λ i. let w = whole-time plan rule s trace i in omega (arith, w, f, small)))
+    (ap (λ (counts : Latencies). counts.retired) c ∙ grown.retired ∙ retired-each plan moves (omega (arith, n, small)))
+    (ap (λ (counts : Latencies). counts.ticks) c ∙ grown.ticks
+    ∙ latency-each plan moves (seen-short plan rule (first_turn s) trace short (let z = none-done in omega (arith, n, small, z))) (omega (arith, n, small)))
+
+pub runs-noted : (r : GuessRule) (rule : DelayRule) (limit : ℕ) (core new : Processor) (before after : Streams) (clock : SiteTimes) (first later : RunLedger)
+    (blank full : Option (List ℕ)) (moves : ℕ) (answer : Timed) → IsAccepted core.plan → length core.state.regs ≡ 32 → CanRunTimed limit core → AreDelays rule.spans → first ≡ begun core.plan →
+    RunsWatched notes silent r rule limit (begins core before) new after clock first later blank full moves answer →
+    RunsNoted r rule limit (begins core before) new after clock later moves answer
+runs-noted r rule limit core new before after clock first later blank full moves answer acc wide can few begun_so h =
+    let plan : Plan = core.plan in
+    let runs = h.run.right.runs in
     let trace : List Made = runs.reaches.trace in
-    let first : Chooser Watched = fresh (first_watched plan delays) in
-    let count = moves-few limit begin runs.now (first_watched plan delays).pending (timing runs.at) acc wide o small within runs.reaches
-    (picks-timed plan first begin.core.state trace runs.at runs.picks) in
-    let n = trace-length trace in
-    let told : ledger_after later answer ≡ noted_all (opened plan delays) (moves_of trace) =
-    stopped-told limit runs.now new runs.at later answer runs.stops
-    ∙ told-trace plan first begin.core.state trace runs.at runs.picks
-    ∙ ap (λ (l : Ledger). noted_all l (moves_of trace)) (told-first plan delays) in
-    ap told_by told
-    ∙ told-all plan delays (moves_of trace) few (kept-trace plan first begin.core.state trace runs.at acc runs.picks) (omega (arith, n, count))
-    ∙ ap (breakdown plan delays) (sym (moves-are plan delays limit begin new later answer none r))
-
--- and the run is a run by the clock
-right-timed : (plan : Plan) (delays : List ℕ) (limit : ℕ) (begin new : RunPlace) (later : Watched) (answer : Answer) → answer ≢ ran.ReportFault →
-    (r : RunsRight watched_pick after_watched limit show.Report begin new (first_watched plan delays) later answer)
-    → RunsPolicy pending_pick after_pick limit show.Report begin new (record { clock = started plan delays; last = None }) later.pending r.moves answer
-right-timed plan delays limit begin new later answer none r =
-    let stops = stops-timed limit r.runs.now new r.runs.at later answer r.runs.stops in
+    let t : TimedTurn = first_turn core.state in
+    let small = moves-few r limit (begins core before) runs.now h.run.picks runs.at acc wide can runs.reaches runs.picks in
+    let n = delays-length plan rule [] core.state trace in
+    let u = untimed-seen plan rule t trace in
+    let top = acc.stages in
     record {
-      now = r.runs.now;
-      reaches = r.runs.reaches;
-      at = timing r.runs.at;
-      picks = picks-timed begin.core.plan (fresh (first_watched plan delays)) begin.core.state r.runs.reaches.trace r.runs.at r.runs.picks;
-      stops = stops;
-      made = moves-are plan delays limit begin new later answer none r
-          ∙ sym (ap (λ (l : List Move). moves_of r.runs.reaches.trace ++ l) (none-last pending_pick after_pick limit
-          (timing r.runs.at) r.runs.now new later.pending answer stops none) ∙ append-nil (moves_of r.runs.reaches.trace));
+      timed = h.run;
+      tells = ap told_by (h.noted_all ∙ ap (λ (l : RunLedger). watched notes plan rule t l trace) begun_so ∙ watched-all plan rule t (begun plan) trace)
+          ∙ told-seen plan rule core.state trace (omega (arith, top))
+          (subst AreShort (sym u) (delays-short plan rule [] (visits_of core.state trace) few))
+          (subst (AllByRecursion (λ d. AreKept plan d.mv)) (sym u) (moves-kept plan rule (fresh r h.run.picks) runs.at core.state trace acc runs.picks))
+          (subst (λ (ms : List DelayedMove). 1000 * length ms < 2 ^ 64) (sym u) (omega (arith, small, n)));
     }
-
-pub runs-noted : (delays : List ℕ) (limit : ℕ) (core new : Processor) (before after : Streams) (tally : Tally) (first later : Watched) (answer : Answer)
-    (timed : Timed) (clock : SiteTimes) (ledger : Ledger) → IsAccepted core.plan → length core.state.regs ≡ 32 → IsOpened core → AreDelays delays →
-    limit ≤ most_limit → core.state.retired ≤ limit → answer ≢ ran.ReportFault
-    → first ≡ first_watched core.plan delays → RunsRight watched_pick after_watched limit show.Report (begins core before)
-    (place_of new after None tally) first later answer → EndsSequentially limit (begins core before) (place_of new after None tally) (Ran answer)
-    → answer_of timed ≡ answer → clock ≡ clock_after later.pending answer → ledger ≡ ledger_after later answer →
-    RunsNoted delays limit (begins core before) new after clock ledger tally.moves timed
-runs-noted delays limit core new before after tally first later answer timed clock ledger acc wide o few small within none fresh_is right ends e clock_is
-    ledger_is =
-    let begin : RunPlace = begins core before in
-    let there : RunPlace = place_of new after None tally in
-    let r = subst (λ (w : Watched). RunsRight watched_pick after_watched limit show.Report begin there w later answer) fresh_is right in
-    let told = run-told delays limit begin there later answer acc wide o few small within none r in
-    let so = runs-timed-so (λ moves. told_by (ledger_after later answer) ≡ breakdown core.plan delays moves) delays limit core new before after tally
-    later.pending answer timed clock acc wide o few small within none
-    (record { moves = r.moves; runs = right-timed core.plan delays limit begin there later answer none r; sequential = r.sequential }) told ends e clock_is in
-    record { timed = so.timed; tells = ap told_by ledger_is ∙ so.holds }

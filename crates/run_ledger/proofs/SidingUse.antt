@@ -11,7 +11,7 @@ use Rattle.cf_semantics.specs.state.Layouts.{port}
 use Rattle.cf_semantics.specs.moves.Sites.{Site, SidingCell}
 use Rattle.cf_index.proofs.Counted.{map_choice}
 use Rattle.cf_index.specs.Sites.{ways_in, ways_out}
-use Rattle.run_ledger.specs.Breakdowns.{is_cell_of, uses_siding}
+use Rattle.run_ledger.specs.Using.{is_cell_of, uses_siding}
 
 -- the first of a list that may begin with one more cell
 chosen : (a k c : ℕ) (set : Bool) (xs : List Site) → list_any (is_cell_of a) (cond set (SidingCell k c ∷ xs) xs)

@@ -1,4 +1,4 @@
--- How a ledger of a run is kept: each site of the processor has a mark of the last move that used it.
+-- How the sites of a processor are recorded: each has a mark of the last move that used it.
 use Rattle.std.specs.Prelude.{ℕ, ◌+◌, ◌-◌, ◌*◌, ◌^◌, List, [], ◌∷◌, length, map, min, replicate, slice_get, slice_set, unwrap_or, Bool, ◌&&◌, ◌||◌, nat_lt, nat_eq, if◌then◌else◌}
 use Rattle.cf_layout.specs.Layout.{Plan}
 use Rattle.cf_bind.specs.declared.moves.Move.{Move}
@@ -6,10 +6,9 @@ use Rattle.cf_semantics.specs.moves.Candidates.{counted_from}
 use Rattle.cf_semantics.specs.moves.Sites.{Site, Stage, SidingCell, Lane, Fetching, Memory, Code}
 use Rattle.cf_index.specs.Order.{kind_place}
 use Rattle.cf_index.specs.Sites.{used}
-use Rattle.cf_timed.specs.Clocks.{number_at}
-use Rattle.cf_timed.specs.Delays.{delay}
-use Rattle.run_ledger.specs.Breakdowns.{uses_siding, uses_stage}
-use Rattle.run_ledger.specs.declared.breakdown.Breakdown.{Breakdown}
+use Rattle.cf_timed.specs.Numbers.{number_at}
+use Rattle.cf_timed.specs.Times.{DelayedMove}
+use Rattle.run_ledger.specs.Using.{uses_siding, uses_stage}
 use Rattle.run_ledger.specs.declared.ledger.Ledger.{Ledger}
 use Rattle.run_ledger.specs.declared.mark.ChainMark.{ChainMark}
 
@@ -70,10 +69,9 @@ abbrev pub with_marks : Ledger → List ChainMark → Ledger
 with_marks l marks = record l { marks = marks }
 
 -- the ledger before the first move
-unfoldable pub opened : Plan → List ℕ → Ledger
-opened plan delays = record {
+unfoldable pub opened : Plan → Ledger
+opened plan = record {
   layout = plan;
-  delays = delays;
   count = 0;
   marks = replicate 102 no_mark;
   last = no_mark;
@@ -91,31 +89,26 @@ unfoldable pub followed : Ledger → Move → ChainMark
 followed l mv = latest_of no_mark (map (mark_at l.marks) (place_numbers l.layout mv))
 
 -- the mark of a move that is made now
-unfoldable pub mark_of : Ledger → Move → ChainMark
-mark_of l mv = record {
-  time = plus (followed l mv).time (delay l.delays mv);
+unfoldable pub mark_of : Ledger → DelayedMove → ChainMark
+mark_of l d = record {
+  time = plus (followed l d.mv).time d.delay;
   number = plus l.count 1;
-  kinds = one_more (followed l mv).kinds mv;
+  kinds = one_more (followed l d.mv).kinds d.mv;
 }
 
 -- the ledger after a move
-unfoldable pub noted : Ledger → Move → Ledger
-noted l mv = record {
+unfoldable pub noted : Ledger → DelayedMove → Ledger
+noted l d = record {
   layout = l.layout;
-  delays = l.delays;
   count = plus l.count 1;
-  marks = put_marks (mark_of l mv) l.marks (place_numbers l.layout mv);
-  last = later l.last (mark_of l mv);
-  stages = charged (λ i. uses_stage l.layout i mv) (delay l.delays mv) l.stages;
-  sidings = charged (λ k. uses_siding l.layout k mv) (delay l.delays mv) l.sidings;
-  kinds = one_more l.kinds mv;
+  marks = put_marks (mark_of l d) l.marks (place_numbers l.layout d.mv);
+  last = later l.last (mark_of l d);
+  stages = charged (λ i. uses_stage l.layout i d.mv) d.delay l.stages;
+  sidings = charged (λ k. uses_siding l.layout k d.mv) d.delay l.sidings;
+  kinds = one_more l.kinds d.mv;
 }
 
 -- and after some moves
-abbrev pub noted_all : Ledger → List Move → Ledger
+abbrev pub noted_all : Ledger → List DelayedMove → Ledger
 noted_all l [] = l
-noted_all l (mv ∷ moves) = noted_all (noted l mv) moves
-
--- its breakdown
-unfoldable pub told_by : Ledger → Breakdown
-told_by l = record { layout = l.layout; stages = l.stages; sidings = l.sidings; moves = l.kinds; chain = l.last.kinds }
+noted_all l (d ∷ moves) = noted_all (noted l d) moves

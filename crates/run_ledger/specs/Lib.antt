@@ -1,4 +1,10 @@
 pub mod Breakdowns
+pub mod ClassCounts
+pub mod GapCounts
+pub mod Gaps
+pub mod Latencies
 pub mod Ledgers
-pub mod Watchings
 pub mod NotedRuns
+pub mod RunLedgers
+pub mod SeenMoves
+pub mod Using

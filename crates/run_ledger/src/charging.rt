@@ -1,7 +1,7 @@
 //! Adding a move to the counts.
 
 ghost use Rattle.std.specs.Prelude.{◌≡◌, map, take};
-ghost use Rattle.run_ledger.specs.Breakdowns.{uses_siding as at_siding, uses_stage as at_stage};
+ghost use Rattle.run_ledger.specs.Using.{uses_siding as at_siding, uses_stage as at_stage};
 ghost use Rattle.run_ledger.specs.Ledgers.{charged, one_more as one_more_of, plus_if as plus_where};
 
 use crate::uses::{uses_siding, uses_stage};
@@ -11,7 +11,7 @@ use cf_timed::kind_place;
 
 /// The number, increased by this many where the move counts, capped at the greatest `u64`.
 #[inline(always)]
-fn plus_if(counts: bool, number: u64, more: u64) -> u64
+pub(crate) fn plus_if(counts: bool, number: u64, more: u64) -> u64
     ensures { result ≡ plus_where counts number more }
 {
     if counts {

@@ -1,17 +1,30 @@
-//! The law of the chain in a breakdown: what holds of every run. It is the contract of a function that does nothing.
+//! The laws of a breakdown: what holds of every run. Each is the contract of a function that does nothing.
 
-ghost use Rattle.std.specs.Prelude.{◌≡◌, ℕ, List};
+ghost use Rattle.std.specs.Prelude.{◌≡◌, ◌+◌, ℕ, List};
 ghost use Rattle.cf_layout.specs.Layout.{Plan};
-ghost use Rattle.cf_bind.specs.declared.moves.Move.{Move};
 ghost use Rattle.cf_timed.specs.Chains.{IsChain, sum_of_delays};
-ghost use Rattle.cf_timed.specs.Times.{greatest_time, times};
-ghost use Rattle.run_ledger.specs.Breakdowns.{longest_chain};
+ghost use Rattle.cf_semantics.specs.state.State.{State};
+ghost use Rattle.cf_run.specs.Made.{Made};
+ghost use Rattle.cf_timed.specs.DelayedRuns.{DelayRule};
+ghost use Rattle.cf_timed.specs.Times.{DelayedMove, greatest_time, times};
+ghost use Rattle.run_ledger.specs.Breakdowns.{busy, longest_chain};
+ghost use Rattle.run_ledger.specs.Gaps.{empty, waiting};
+ghost use Rattle.run_ledger.specs.SeenMoves.{seen_in, time_of, untimed_all};
+ghost use Rattle.run_ledger.specs.Using.{uses_stage};
 
 /// The chain that is followed back from the last of the moves that finish last is a chain of the run. The sum of its
 /// delays is the run's time, so no chain has a greater sum.
 pub fn chain_is_longest()
-    ensures chain { (plan : Plan) (delays : List ℕ) (moves : List Move) →
-        IsChain plan moves (longest_chain plan delays moves) }
-    ensures sum { (plan : Plan) (delays : List ℕ) (moves : List Move) →
-        sum_of_delays delays (longest_chain plan delays moves) ≡ greatest_time (times plan delays moves) }
+    ensures chain { (plan : Plan) (moves : List DelayedMove) →
+        IsChain plan moves (longest_chain plan moves) }
+    ensures sum { (plan : Plan) (moves : List DelayedMove) →
+        sum_of_delays (longest_chain plan moves) ≡ greatest_time (times plan moves) }
+{}
+
+/// How long each stage is in use, waits and is empty adds up to the run's time. So no two moves use a stage at one time,
+/// and no time is counted twice or left out.
+pub fn stages_add_up()
+    ensures { (plan : Plan) (rule : DelayRule) (s : State) (trace : List Made) (i : ℕ) →
+        busy (uses_stage plan i) (untimed_all (seen_in plan rule s trace)) + waiting plan (seen_in plan rule s trace) i
+        + empty plan (seen_in plan rule s trace) i ≡ time_of plan (seen_in plan rule s trace) }
 {}

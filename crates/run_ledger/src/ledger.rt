@@ -1,23 +1,20 @@
-//! A ledger of the moves of a run.
+//! Which moves used the sites of a processor last, and how long each was in use.
 
 ghost use Rattle.std.specs.Prelude.{◌≡◌, map, slice_set};
-ghost use Rattle.cf_timed.specs.Delays.{delay};
-ghost use Rattle.run_ledger.specs.Ledgers.{followed, latest_of, mark_at, mark_of, no_mark, noted, opened, place_numbers, put_marks, told_by, with_marks};
+ghost use Rattle.cf_timed.specs.Times.{delayed};
+ghost use Rattle.run_ledger.specs.Ledgers.{followed, latest_of, mark_at, mark_of, no_mark, noted, opened, place_numbers, put_marks, with_marks};
 
-use crate::breakdown::Breakdown;
 use crate::charging::{charge_sidings, charge_stages, one_more};
 use crate::mark::{ChainMark, later};
 use crate::places::places_of;
 use cf_bind::Move;
 use cf_layout::Layout;
-use cf_timed::Delays;
 
 /// For each site of a processor the last move that used it, with the counts by kind of the chain that ends with it; how
 /// long each stage and siding was in use; and the counts of moves by kind. It allocates no memory.
 #[derive(Clone, Copy)]
-pub struct Ledger {
+pub(crate) struct Ledger {
     pub(crate) layout: Layout,
-    pub(crate) delays: Delays,
     /// How many moves were made.
     pub(crate) count: u64,
     /// The mark of each site, by its number.
@@ -32,12 +29,11 @@ pub struct Ledger {
 impl Ledger {
     /// A ledger before the first move.
     #[tactic(auto, unfolding(crate::specs::Ledgers::opened))]
-    pub fn new(layout: &Layout, delays: Delays) -> Ledger
-        ensures { result ≡ opened layout.now delays }
+    pub(crate) fn new(layout: &Layout) -> Ledger
+        ensures { result ≡ opened layout.now }
     {
         Ledger {
             layout: *layout,
-            delays,
             count: 0,
             marks: [ChainMark::none(); 102],
             last: ChainMark::none(),
@@ -45,14 +41,6 @@ impl Ledger {
             sidings: [0; 8],
             kinds: [0; 14],
         }
-    }
-
-    /// How many ticks the move takes.
-    #[inline(always)]
-    fn delay(&self, mv: Move) -> u64
-        ensures { result ≡ delay self.now.delays mv }
-    {
-        u64::from(self.delays.of(mv))
     }
 
     /// The mark at a site.
@@ -93,47 +81,32 @@ impl Ledger {
         }
     }
 
-    /// The mark of a move that is made now.
+    /// The mark of a move that is made now, and takes so many ticks.
     #[tactic(auto, unfolding(crate::specs::Ledgers::followed, crate::specs::Ledgers::mark_of))]
-    fn mark_of(&self, mv: Move, places: &[usize]) -> ChainMark
+    fn mark_of(&self, mv: Move, ticks: u64, places: &[usize]) -> ChainMark
         requires { places.now ≡ place_numbers self.now.layout mv }
-        ensures { result ≡ mark_of self.now mv }
+        ensures { result ≡ mark_of self.now (delayed mv ticks) }
     {
         let followed = self.latest(places);
         ChainMark {
-            time: followed.time.saturating_add(self.delay(mv)),
+            time: followed.time.saturating_add(ticks),
             number: self.count.saturating_add(1),
             kinds: one_more(followed.kinds, mv),
         }
     }
 
-    /// Records a move that is made now. Numbers are capped at the greatest `u64`.
+    /// Records a move that is made now, and takes so many ticks. Numbers are capped at the greatest `u64`.
     #[tactic(auto, unfolding(crate::specs::Ledgers::noted))]
-    pub fn note(&mut self, mv: Move)
-        ensures { self.new ≡ noted self.old mv }
+    pub(crate) fn record(&mut self, mv: Move, ticks: u64)
+        ensures { self.new ≡ noted self.old (delayed mv ticks) }
     {
         let places = places_of(&self.layout, mv);
-        let mark = self.mark_of(mv, places.as_slice());
-        let ticks = self.delay(mv);
+        let mark = self.mark_of(mv, ticks, places.as_slice());
         self.put(mark, places.as_slice());
         self.last = later(self.last, mark);
         self.count = self.count.saturating_add(1);
         self.stages = charge_stages(&self.layout, mv, ticks, &self.stages);
         self.sidings = charge_sidings(&self.layout, mv, ticks, &self.sidings);
         self.kinds = one_more(self.kinds, mv);
-    }
-
-    /// What the time of the run is made of.
-    #[tactic(auto, unfolding(crate::specs::Ledgers::told_by))]
-    pub fn breakdown(&self) -> Breakdown
-        ensures { result ≡ told_by self.now }
-    {
-        Breakdown {
-            layout: self.layout,
-            stages: self.stages,
-            sidings: self.sidings,
-            moves: self.kinds,
-            chain: self.last.kinds,
-        }
     }
 }

@@ -3,14 +3,16 @@
 
 mod breakdown;
 mod charging;
+mod gaps;
+mod latencies;
 pub mod laws;
 mod ledger;
 mod mark;
 mod places;
 mod run;
+mod run_ledger;
 mod uses;
-mod watching;
 
 pub use breakdown::Breakdown;
-pub use ledger::Ledger;
 pub use run::run_noted;
+pub use run_ledger::RunLedger;

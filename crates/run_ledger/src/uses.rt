@@ -3,7 +3,7 @@
 ghost use Rattle.std.specs.Prelude.{◌≡◌, ◌<◌, ◌≤◌, ◌^◌, length};
 ghost use Rattle.cf_layout.specs.Layout.{Plan};
 ghost use Rattle.cf_semantics.specs.state.Layouts.{port as port_of};
-ghost use Rattle.run_ledger.specs.Breakdowns.{uses_siding as at_siding, uses_stage as at_stage};
+ghost use Rattle.run_ledger.specs.Using.{uses_siding as at_siding, uses_stage as at_stage};
 
 use cf_bind::Move;
 use cf_layout::Layout;

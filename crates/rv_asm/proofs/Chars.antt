@@ -3,10 +3,10 @@ use Rattle.std.proofs.Common.{◌≡◌, ℕ, ◌+◌, Bool, true, false, Option
 use Rattle.std.specs.Prelude.{option_map, if◌then◌else◌}
 use Rattle.std.proofs.lemmas.Bool.Decides.{nat_tests}
 use Rattle.std.proofs.lemmas.List.{append-nil}
-use Rattle.rv_asm.specs.Strings.{onto, ended, string_from}
+use Rattle.rv_asm.specs.Strings.{onto, end_of_string, string_from}
 
 -- a `"` ends a string only at the end of the text
-pub quote_alone : (rest : List ℕ) → string_from false (34 ∷ rest) ≡ ended (34 ∷ rest)
+pub quote_alone : (rest : List ℕ) → string_from false (34 ∷ rest) ≡ end_of_string (34 ∷ rest)
 quote_alone [] = refl
 quote_alone (byte ∷ rest) = grind (arith, nat_tests)
 

@@ -19,10 +19,10 @@ use Rattle.rv_text.specs.Lines.{is_line_feed, without_return, lines_from, lines_
 use Rattle.rv_asm.specs.Scanning.{is_name_start, is_name_byte, begins_name, name_length, comment_at, said, has_label, label_in, statement_in}
 use Rattle.rv_asm.specs.declared.scanning.Quote.TheVariants.{Outside}
 use Rattle.rv_asm.specs.Items.{SourceItem, Nothing, Section, Export, Single, Double, Near, Distant, Numbers, Chars, Zeros}
-use Rattle.rv_asm.specs.Places.{address_of, place_after, item_at, start}
-use Rattle.rv_asm.specs.Labels.{LabelView, value_of, exported, exported_as}
+use Rattle.rv_asm.specs.Places.{address_of, place_after, item_at, start_of_text}
+use Rattle.rv_asm.specs.Labels.{LabelView, value_of_label, exported, exported_as}
 use Rattle.rv_asm.specs.Pieces.{Piece, pieces_of}
-use Rattle.rv_asm.specs.Assembling.{at_line, with_label, drafted, draft_from, Sections, marked, placed, filled, sections_from, empty, sections_of}
+use Rattle.rv_asm.specs.Assembling.{at_line, with_label, drafted, draft_from, Sections, with_export, sections_after_item, sections_after_line, sections_from, empty, sections_of}
 use Rattle.rv_asm.specs.Objects.{IsObject, Objects}
 use Rattle.rv_asm.specs.Small.{HasNoNul, joined_names, IsSmallObject}
 use Rattle.rv_asm.specs.Sized.{AreSized}
@@ -152,7 +152,8 @@ few-by true labels next place text m h e f =
     let name = take (name_length text) text in
     let sizes = label-length text h in
     let long : length name ≡ name_length text = length-prefix_len is_name_byte text in
-    let same = labelled-by (is_some (value_of labels name)) (labels ++ record { name = name; value = address_of place; in_text = place.in_text; global = false }
+    let same = labelled-by (is_some (value_of_label labels name))
+    (labels ++ record { name = name; value = address_of place; in_text = place.in_text; global = false }
     ∷ []) next (with_label labels place (Some name)) refl e in
     rw (← same) (one-more labels (record { name = name; value = address_of place; in_text = place.in_text; global = false }) m (length text)
     (omega (arith, long, sizes.0)) (omega (arith, long, sizes.1)) (name-no-nul text) f)
@@ -207,7 +208,7 @@ exported-few labels name m f =
       clean = subst HasNoNul (sym names) f.clean;
     }
 
-marked-few : (labels : List LabelView) (item : SourceItem) (m : ℕ) → AreFew labels m → AreFew (marked labels item) m
+marked-few : (labels : List LabelView) (item : SourceItem) (m : ℕ) → AreFew labels m → AreFew (with_export labels item) m
 marked-few labels Nothing m f = f
 marked-few labels (Section b) m f = f
 marked-few labels (Export name) m f = exported-few labels name m f
@@ -219,20 +220,21 @@ marked-few labels (Numbers width operands) m f = f
 marked-few labels (Chars bytes zero) m f = f
 marked-few labels (Zeros count) m f = f
 
-filled-few : (s t : Sections) (text : List ℕ) (m : ℕ) → filled s text ≡ Ok t → AreFew s.labels m → AreFew t.labels m
-unfolding filled
+filled-few : (s t : Sections) (text : List ℕ) (m : ℕ) → sections_after_line s text ≡ Ok t → AreFew s.labels m → AreFew t.labels m
+unfolding sections_after_line
 filled-few s t text m e f =
     let r = passes (item_at s.place (statement_in text)) (λ (item : SourceItem). and_then (pieces_of s.labels (address_of s.place) item)
-    (λ ps. Ok (placed s item ps))) t e in
-    let p = passes (pieces_of s.labels (address_of s.place) r.first) (λ (ps : List Piece). Ok (placed s r.first ps)) t r.goes in
-    let same : placed s r.first p.first ≡ t = cc p.goes in
+    (λ ps. Ok (sections_after_item s item ps))) t e in
+    let p = passes (pieces_of s.labels (address_of s.place) r.first) (λ (ps : List Piece). Ok (sections_after_item s r.first ps)) t r.goes in
+    let same : sections_after_item s r.first p.first ≡ t = cc p.goes in
     rw (← same) (marked-few s.labels r.first m f)
 
 sections-few : (above : ℕ) (s t : Sections) (lines : List (List ℕ)) (m : ℕ) → sections_from above s lines ≡ Ok t → AreFew s.labels m → AreFew t.labels m
 sections-few above s t [] m e f = let same : s ≡ t = cc in rw (← same) f
 sections-few above s t (line ∷ lines) m e f =
-    let r = passes (at_line (above + 1) (filled s (said line))) (λ (next : Sections). sections_from (above + 1) next lines) t e in
-    sections-few (above + 1) r.first t lines m r.goes (filled-few s r.first (said line) m (passes_line (above + 1) (filled s (said line)) r.first r.is) f)
+    let r = passes (at_line (above + 1) (sections_after_line s (said line))) (λ (next : Sections). sections_from (above + 1) next lines) t e in
+    sections-few (above + 1) r.first t lines m r.goes
+    (filled-few s r.first (said line) m (passes_line (above + 1) (sections_after_line s (said line)) r.first r.is) f)
 
 no-labels : AreFew [] 0
 no-labels = record { count = omega arith; names = omega arith; clean = All-nil IsNoNul }
@@ -241,7 +243,7 @@ looked-few : (lines : List (List ℕ)) (sections : Sections) → sections_of lin
 looked-few lines sections e =
     let l = looks lines sections e in
     let last : Draft = record { place = l.drafted.0; labels = l.labels } in
-    let few = draft-few 0 (record { place = start; labels = [] }) last lines 0 l.drafted.1 no-labels in
+    let few = draft-few 0 (record { place = start_of_text; labels = [] }) last lines 0 l.drafted.1 no-labels in
     sections-few 0 (empty l.labels) sections lines (bytes_of lines) l.filled (more-bytes l.labels (0 + bytes_of lines) (bytes_of lines) (omega arith) few)
 
 -- an object with few and short labels and with sized sections is small

@@ -12,7 +12,7 @@ use Rattle.rv_asm.specs.Places.{address_of, place_after, item_at}
 use Rattle.rv_asm.specs.Labels.{LabelView}
 use Rattle.rv_asm.specs.Pieces.{Piece, pieces_of}
 use Rattle.rv_asm.specs.Spelling.{Spells, GivesBytes, IsRefusal}
-use Rattle.rv_asm.specs.Assembling.{Sections, marked, placed, filled, sections_from}
+use Rattle.rv_asm.specs.Assembling.{Sections, with_export, sections_after_item, sections_after_line, sections_from}
 use Rattle.rv_asm.specs.Filling.{line_pieces, IsFilled, HoldsSections, Outputs}
 
 spells-append : (ps qs : List Piece) (bs cs : List ℕ) → Spells ps bs → Spells qs cs → Spells (ps ++ qs) (bs ++ cs)
@@ -48,11 +48,11 @@ has_pieces bytes (Err kind) h = absurd h
 -- the sections after a line
 record GoesOn (sections : Sections) (text : List ℕ) (new : Output) : Type 0 where
   next : Sections
-  goes : filled sections text ≡ Ok next
+  goes : sections_after_line sections text ≡ Ok next
   shows : HoldsSections next new
 
 goes_on : (s : Sections) (out new : Output) (text : List ℕ) → HoldsSections s out → IsFilled out text new → GoesOn s text new
-unfolding filled
+unfolding sections_after_line
 goes_on s out new text h f =
     let p = has_pieces f.bytes (pieces_of out.labels (address_of out.place) f.item) f.gives in
     let read : item_at s.place (statement_in text) ≡ Ok f.item = subst (λ place. item_at place (statement_in text) ≡ Ok f.item) h.place f.read in
@@ -65,11 +65,11 @@ goes_on s out new text h f =
     let data_is : new.data.items ≡ (if s.place.in_text then out.data.items else out.data.items ++ f.bytes)
     = f.data_bytes ∙ ap (λ (place : SectionPlace). if place.in_text then out.data.items else out.data.items ++ f.bytes) h.place in
     record {
-      next = placed s f.item p.pieces;
+      next = sections_after_item s f.item p.pieces;
       goes = rw (read, pieces) refl;
       shows = record {
         place = f.place ∙ ap (λ (place : SectionPlace). place_after place f.item) h.place;
-        labels = f.labels ∙ ap (λ (labels : List LabelView). marked labels f.item) h.labels;
+        labels = f.labels ∙ ap (λ (labels : List LabelView). with_export labels f.item) h.labels;
         text_bytes = rw text_is (spells-then s.place.in_text s.text p.pieces out.text.items f.bytes h.text_bytes p.spells);
         data_bytes = rw data_is (spells-else s.place.in_text s.data_pieces p.pieces out.data.items f.bytes h.data_bytes p.spells);
       };
@@ -93,8 +93,8 @@ step-refused (Ok a) f g k e = rw e refl
 step-refused (Err j) f g k e = let same : j ≡ k = cc in ap Err same
 
 filled-refused : (s : Sections) (out : Output) (text : List ℕ) (kind : AsmKind) → HoldsSections s out
-    → line_pieces out.labels out.place text ≡ Err kind → filled s text ≡ Err kind
-unfolding filled line_pieces
+    → line_pieces out.labels out.place text ≡ Err kind → sections_after_line s text ≡ Err kind
+unfolding sections_after_line line_pieces
 filled-refused s out text kind h e =
     let at_place : and_then (item_at s.place (statement_in text)) (λ item. pieces_of out.labels (address_of s.place) item) ≡ Err kind
     = subst (λ (place : SectionPlace). and_then (item_at place (statement_in text)) (λ item. pieces_of out.labels (address_of place) item)
@@ -102,7 +102,8 @@ filled-refused s out text kind h e =
     let refused : and_then (item_at s.place (statement_in text)) (λ item. pieces_of s.labels (address_of s.place) item) ≡ Err kind
     = subst (λ (labels : List LabelView). and_then (item_at s.place (statement_in text)) (λ item. pieces_of labels (address_of s.place) item)
     ≡ Err kind) h.labels at_place in
-    step-refused (item_at s.place (statement_in text)) (λ item. pieces_of s.labels (address_of s.place) item) (λ item pieces. placed s item pieces) kind refused
+    step-refused (item_at s.place (statement_in text)) (λ item. pieces_of s.labels (address_of s.place) item)
+    (λ item pieces. sections_after_item s item pieces) kind refused
 
 pub refused : (above : ℕ) (out : Output) (line : List ℕ) (lines : List (List ℕ)) (answer : Result Sections AsmErr) (kind : AsmKind)
     → IsReached above out (line ∷ lines) answer → IsRefusal kind (line_pieces out.labels out.place (said line))

@@ -12,8 +12,8 @@ use Rattle.std.proofs.lemmas.Bool.Decides.{nat_tests}
 use Rattle.std.proofs.lemmas.List.{get_or-map, get_or_append_left, length-append, length-map, map-append, map-set}
 use Rattle.std.proofs.Math.Seq.{get_or-append_seam, map-set_same}
 use Rattle.std.proofs.lemmas.Map.Text.{is_eq-slice_cmp}
-use Rattle.rv_asm.specs.LabelTables.{FindsNames, names_of, place_of}
-use Rattle.rv_asm.specs.Labels.{LabelView, exported, exported_as, named, value_of}
+use Rattle.rv_asm.specs.LabelTables.{FindsNames, names_of, index_of_name}
+use Rattle.rv_asm.specs.Labels.{LabelView, exported, exported_as, label_view, value_of_label}
 use Rattle.rv_asm.specs.declared.label.Label.{Label}
 
 -- ---- a name is put into the map
@@ -42,9 +42,9 @@ by_name f g name w here others other =
 -- the name is found at its index, and any other as before
 pub found_after : {Z : Type 0} (name : List ℕ) (m n : BTreeMap (Vec ℕ Z) ℕ) (w : Option ℕ)
     → UpdatesBy (λ x y. slice_cmp nat_cmp x.items y.items) (λ k. slice_cmp nat_cmp name k.items) m n w
-    → (other : List ℕ) → place_of n other ≡ cond (bytes_eq name other) w (place_of m other)
+    → (other : List ℕ) → index_of_name n other ≡ cond (bytes_eq name other) w (index_of_name m other)
 found_after name m n w h =
-    by_name (place_of m) (place_of n) name w h.1
+    by_name (index_of_name m) (index_of_name n) name w h.1
     (λ other e. others_stay _ _ _ _ h.3 _ (λ x y. (eq_by_cmp_equiv nat_list_cmp_total).congr other x.items y.items) (λ k. apart_in_order name other k.items e))
 
 -- ---- names and what is found
@@ -169,8 +169,8 @@ that_label labels found name place d finds told =
 -- the value of the label that is found is that of the name
 pub value_found : (labels : List LabelView) (found : List ℕ → Option ℕ) (name : List ℕ) (place : ℕ) (d : LabelView) → FindsNames (names_of labels) found →
     found name ≡ Some place
-    → value_of labels name ≡ Some (slice_index_or labels place d).value
-unfolding value_of
+    → value_of_label labels name ≡ Some (slice_index_or labels place d).value
+unfolding value_of_label
 value_found labels found name place d finds told =
     let within = found_within labels found name place finds told in
     let first = find_at (λ label. bytes_eq label.name name) labels place d within (that_label labels found name place d finds told)
@@ -180,19 +180,19 @@ value_found labels found name place d finds told =
 
 -- a name that is not found has no value
 pub value_missing : (labels : List LabelView) (found : List ℕ → Option ℕ) (name : List ℕ) → FindsNames (names_of labels) found → found name ≡ None →
-    value_of labels name ≡ None
-unfolding value_of
+    value_of_label labels name ≡ None
+unfolding value_of_label
 value_missing labels found name finds told =
     ap (option_map (λ (label : LabelView). label.value))
     (find_none (λ label. bytes_eq label.name name) labels blank (λ i within. other_label labels found name finds i blank within (λ e. absurd (cc))))
 
 -- and the other way round
 pub unknown_missing : (labels : List LabelView) (found : List ℕ → Option ℕ) (name : List ℕ) (answer : Option ℕ) → found name ≡ answer →
-    FindsNames (names_of labels) found → value_of labels name ≡ None
+    FindsNames (names_of labels) found → value_of_label labels name ≡ None
     → answer ≡ None
 unknown_missing labels found name None e finds unknown = refl
 unknown_missing labels found name (Some place) e finds unknown =
-    let told : value_of labels name ≡ Some (slice_index_or labels place blank).value = value_found labels found name place blank finds e in
+    let told : value_of_label labels name ≡ Some (slice_index_or labels place blank).value = value_found labels found name place blank finds e in
     absurd (cc)
 
 -- ---- a label is exported
@@ -234,64 +234,70 @@ exported_missing labels found name finds told =
 
 -- ---- the labels that are kept
 
-pub place_within : (items : List Label) (found : List ℕ → Option ℕ) (name : List ℕ) (place : ℕ) → FindsNames (names_of (map named items)) found
+pub place_within : (items : List Label) (found : List ℕ → Option ℕ) (name : List ℕ) (place : ℕ) → FindsNames (names_of (map label_view items)) found
     → found name ≡ Some place → place < length items
 place_within items found name place finds told =
-    let within = found_within (map named items) found name place finds told in
-    omega (arith, length-map items named)
+    let within = found_within (map label_view items) found name place finds told in
+    omega (arith, length-map items label_view)
 
 named_at : (items : List Label) (place : ℕ) (label : Label) → place < length items → label ≡ slice_index_or items place label
-    → slice_index_or (map named items) place (named label) ≡ named label
-named_at items place label within e = get_or-map named items place label (named label) within ∙ ap named (sym e)
+    → slice_index_or (map label_view items) place (label_view label) ≡ label_view label
+named_at items place label within e = get_or-map label_view items place label (label_view label) within ∙ ap label_view (sym e)
 
-pub kept_value : (items : List Label) (found : List ℕ → Option ℕ) (name : List ℕ) (place : ℕ) (label : Label) → FindsNames (names_of (map named items)) found
-    → found name ≡ Some place → label ≡ slice_index_or items place label → value_of (map named items) name ≡ Some label.value
+pub kept_value : (items : List Label) (found : List ℕ → Option ℕ) (name : List ℕ) (place : ℕ) (label : Label) →
+    FindsNames (names_of (map label_view items)) found
+    → found name ≡ Some place → label ≡ slice_index_or items place label → value_of_label (map label_view items) name ≡ Some label.value
 kept_value items found name place label finds told e =
-    value_found (map named items) found name place (named label) finds told
+    value_found (map label_view items) found name place (label_view label) finds told
     ∙ ap (λ (l : LabelView). Some l.value) (named_at items place label (place_within items found name place finds told) e)
 
 -- the label is exported where it is
-pub kept_exported : (items : List Label) (found : List ℕ → Option ℕ) (name : List ℕ) (place : ℕ) (label : Label) → FindsNames (names_of (map named items)) found
+pub kept_exported : (items : List Label) (found : List ℕ → Option ℕ) (name : List ℕ) (place : ℕ) (label : Label) →
+    FindsNames (names_of (map label_view items)) found
     → found name ≡ Some place → label ≡ slice_index_or items place label
-    → exported (map named items) name ≡ map named (slice_set items place (record label { global = true }))
+    → exported (map label_view items) name ≡ map label_view (slice_set items place (record label { global = true }))
 kept_exported items found name place label finds told e =
-    exported_found (map named items) found name place (named label) finds told
-    ∙ ap (λ (l : LabelView). slice_set (map named items) place (record l { global = true }))
+    exported_found (map label_view items) found name place (label_view label) finds told
+    ∙ ap (λ (l : LabelView). slice_set (map label_view items) place (record l { global = true }))
     (named_at items place label (place_within items found name place finds told) e)
-    ∙ sym (map-set named items place (record label { global = true }))
+    ∙ sym (map-set label_view items place (record label { global = true }))
 
 -- which leaves the names
-pub kept_names : (items : List Label) (found : List ℕ → Option ℕ) (name : List ℕ) (place : ℕ) (label : Label) → FindsNames (names_of (map named items)) found
+pub kept_names : (items : List Label) (found : List ℕ → Option ℕ) (name : List ℕ) (place : ℕ) (label : Label) →
+    FindsNames (names_of (map label_view items)) found
     → found name ≡ Some place → label ≡ slice_index_or items place label
-    → FindsNames (names_of (map named (slice_set items place (record label { global = true })))) found
+    → FindsNames (names_of (map label_view (slice_set items place (record label { global = true })))) found
 kept_names items found name place label finds told e =
     let at = named_at items place label (place_within items found name place finds told) e in
-    let same : names_of (map named (slice_set items place (record label { global = true }))) ≡ names_of (map named items) =
-    ap names_of (map-set named items place (record label { global = true }))
-    ∙ map-set_same (λ (l : LabelView). l.name) (map named items) place (named (record label { global = true })) (named label)
+    let same : names_of (map label_view (slice_set items place (record label { global = true }))) ≡ names_of (map label_view items) =
+    ap names_of (map-set label_view items place (record label { global = true }))
+    ∙ map-set_same (λ (l : LabelView). l.name) (map label_view items) place (label_view (record label { global = true })) (label_view label)
     (ap (λ (l : LabelView). l.name) (sym at)) in
     subst (λ (names : List (List ℕ)). FindsNames names found) (sym same) finds
 
 -- a map with the same entries finds the same
 pub same_entries : {Z : Type 0} (names : List (List ℕ)) (m n : BTreeMap (Vec ℕ Z) ℕ) → n.entries ≡ m.entries
-    → FindsNames names (place_of m) → FindsNames names (place_of n)
+    → FindsNames names (index_of_name m) → FindsNames names (index_of_name n)
 same_entries {Z = Z} names m n e finds =
     subst (λ (entries : List (Vec ℕ Z × ℕ)). FindsNames names (λ name. lookup (is_at (λ key. slice_cmp nat_cmp name key.items)) entries)) (sym e) finds
 
 -- one more label, whose name is new
 pub defined : {Z : Type 0} (items : List Label) (label : Label) (name key : List ℕ) (place : ℕ) (m n : BTreeMap (Vec ℕ Z) ℕ)
-    → label.name ≡ name → key ≡ name → place ≡ length items → FindsNames (names_of (map named items)) (place_of m) → value_of (map named items) name ≡ None
+    → label.name ≡ name → key ≡ name → place ≡ length items → FindsNames (names_of (map label_view items)) (index_of_name m)
+    → value_of_label (map label_view items) name ≡ None
     → UpdatesBy (λ x y. slice_cmp nat_cmp x.items y.items) (λ k. slice_cmp nat_cmp key k.items) m n (Some place)
-    → FindsNames (names_of (map named (items ++ label ∷ []))) (place_of n)
+    → FindsNames (names_of (map label_view (items ++ label ∷ []))) (index_of_name n)
 defined items label name key place m n is_name is_key is_place finds unknown updates =
-    let missing : place_of m name ≡ None = unknown_missing (map named items) (place_of m) name (place_of m name) refl finds unknown in
-    let long : length (names_of (map named items)) ≡ place = omega (arith, length-map (map named items) (λ (l : LabelView). l.name), length-map items named) in
-    let after : (other : List ℕ) → place_of n other ≡ cond (bytes_eq name other) (Some (length (names_of (map named items)))) (place_of m other) =
+    let missing : index_of_name m name ≡ None = unknown_missing (map label_view items) (index_of_name m) name (index_of_name m name) refl finds unknown in
+    let long : length (names_of (map label_view items)) ≡ place =
+    omega (arith, length-map (map label_view items) (λ (l : LabelView). l.name), length-map items label_view) in
+    let after : (other : List ℕ) → index_of_name n other
+    ≡ cond (bytes_eq name other) (Some (length (names_of (map label_view items)))) (index_of_name m other) =
     rw (long, ← is_key) (found_after key m n (Some place) updates) in
-    let names : names_of (map named (items ++ label ∷ [])) ≡ names_of (map named items) ++ name ∷ [] =
-    ap names_of (map-append named items (label ∷ [])) ∙ map-append (λ (l : LabelView). l.name) (map named items) (named label ∷ [])
-    ∙ ap (λ (text : List ℕ). names_of (map named items) ++ text ∷ []) is_name in
-    subst (λ (all : List (List ℕ)). FindsNames all (place_of n)) (sym names)
-    (finds_after (names_of (map named items)) (place_of m) (place_of n) name finds missing after)
+    let names : names_of (map label_view (items ++ label ∷ [])) ≡ names_of (map label_view items) ++ name ∷ [] =
+    ap names_of (map-append label_view items (label ∷ [])) ∙ map-append (λ (l : LabelView). l.name) (map label_view items) (label_view label ∷ [])
+    ∙ ap (λ (text : List ℕ). names_of (map label_view items) ++ text ∷ []) is_name in
+    subst (λ (all : List (List ℕ)). FindsNames all (index_of_name n)) (sym names)
+    (finds_after (names_of (map label_view items)) (index_of_name m) (index_of_name n) name finds missing after)
 
 pub ruleset tables = (value_missing, exported_missing)

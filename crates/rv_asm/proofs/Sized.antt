@@ -19,14 +19,14 @@ use Rattle.rv_asm.specs.Operands.{bytes_of_width}
 use Rattle.rv_asm.specs.Scanning.{said, statement_in}
 use Rattle.rv_asm.specs.Items.{SourceItem, Nothing, Section, Export, Single, Double, Near, Distant, Numbers, Chars, Zeros, size_of, is_code}
 use Rattle.rv_asm.specs.Pseudos.{word_modulo, reaching}
-use Rattle.rv_asm.specs.Places.{IsPlaceInLimits, start, address_of, length_at, grown, place_after, fits_at, item_at}
+use Rattle.rv_asm.specs.Places.{IsPlaceInLimits, start_of_text, address_of, length_at, grown, place_after, fits_at, item_at}
 use Rattle.rv_asm.specs.Labels.{LabelView}
-use Rattle.rv_asm.specs.Pieces.{Piece, Word, Bytes, label_value, near_instr, operand_value, bytes_from, code_of, pieces_of}
+use Rattle.rv_asm.specs.Pieces.{Piece, Word, Bytes, label_value, near_instr, operand_value, bytes_from, instruction_pieces, pieces_of}
 use Rattle.rv_asm.specs.Spelling.{SpellsPiece, Spells}
-use Rattle.rv_asm.specs.Sized.{piece_size, pieces_size, AreSized, IsSized}
+use Rattle.rv_asm.specs.Sized.{piece_length, pieces_size, AreSized, IsSized}
 use Rattle.rv_asm.specs.Reading.{statement_read}
 use Rattle.rv_text.specs.Lines.{text_lines}
-use Rattle.rv_asm.specs.Assembling.{Sections, placed, filled, at_line, are_ascii, draft_from, sections_from, empty, sections_of, assembled}
+use Rattle.rv_asm.specs.Assembling.{Sections, sections_after_item, sections_after_line, at_line, are_ascii, draft_from, sections_from, empty, sections_of, assembled}
 use Rattle.rv_asm.proofs.Passing.{Passes, passes, passes_line}
 
 pub size-append : (ps qs : List Piece) → pieces_size (ps ++ qs) ≡ pieces_size ps + pieces_size qs
@@ -34,7 +34,7 @@ size-append [] qs = omega arith
 size-append (p ∷ ps) qs = omega (arith, size-append ps qs)
 
 -- bytes are as long as the pieces that they spell
-piece-length : (p : Piece) (bytes : List ℕ) → SpellsPiece p bytes → length bytes ≡ piece_size p
+piece-length : (p : Piece) (bytes : List ℕ) → SpellsPiece p bytes → length bytes ≡ piece_length p
 piece-length (Word i) bytes h = h.0
 piece-length (Bytes own) bytes h = ap (λ (l : List ℕ). length l) h
 
@@ -42,7 +42,7 @@ pub spelt-length : (ps : List Piece) (bytes : List ℕ) → Spells ps bytes → 
 spelt-length [] bytes h = ap (λ (l : List ℕ). length l) h
 spelt-length (p ∷ ps) bytes h =
     ap (λ (l : List ℕ). length l) h.whole ∙ length-append h.front h.back
-    ∙ ap (λ (n : ℕ). n + length h.back) (piece-length p h.front h.first) ∙ ap (λ (n : ℕ). piece_size p + n) (spelt-length ps h.back h.others)
+    ∙ ap (λ (n : ℕ). n + length h.back) (piece-length p h.front h.first) ∙ ap (λ (n : ℕ). piece_length p + n) (spelt-length ps h.back h.others)
 
 length-low : (width : Width) (w : ℕ) → length (bytes_low_first 0 (bytes_of_width width) w) ≡ bytes_of_width width
 length-low width.Byte w = refl
@@ -66,7 +66,7 @@ numbers-length labels width bytes (o ∷ os) all e =
     omega (arith, rest, more, length-append bytes low, length-low width (word_modulo p.first))
 
 -- two instructions reach any distance
-code-size : (f : Far) (v : ℕ) → pieces_size (code_of (reaching f v)) ≡ 8
+code-size : (f : Far) (v : ℕ) → pieces_size (instruction_pieces (reaching f v)) ≡ 8
 unfolding reaching
 code-size (far.Address rd) v = refl
 code-size far.Call v = refl
@@ -88,8 +88,8 @@ item-sized labels pc (Near jump label) ps e =
     let p = passes (near_instr labels pc jump label) (λ (i : Instr). Ok (Word i ∷ [])) ps e in
     let same : (Word p.first ∷ []) ≡ ps = cc p.goes in rw (← same) refl
 item-sized labels pc (Distant f label) ps e =
-    let p = passes (label_value labels label) (λ (v : ℕ). Ok (code_of (reaching f (word_difference v pc)))) ps e in
-    let same : code_of (reaching f (word_difference p.first pc)) ≡ ps = cc p.goes in rw (← same) (code-size f (word_difference p.first pc))
+    let p = passes (label_value labels label) (λ (v : ℕ). Ok (instruction_pieces (reaching f (word_difference v pc)))) ps e in
+    let same : instruction_pieces (reaching f (word_difference p.first pc)) ≡ ps = cc p.goes in rw (← same) (code-size f (word_difference p.first pc))
 item-sized labels pc (Numbers width operands) ps e =
     let p = passes (bytes_from labels width [] operands) (λ (bytes : List ℕ). Ok (Bytes bytes ∷ [])) ps e in
     let same : (Bytes p.first ∷ []) ≡ ps = cc p.goes in rw (← same) (omega (arith, numbers-length labels width [] operands p.first p.is))
@@ -171,7 +171,7 @@ size-else true ps qs = omega arith
 size-else false ps qs = size-append ps qs
 
 pub placed-sized : (s : Sections) (item : SourceItem) (ps : List Piece) → AreSized s → fits_at s.place item ≡ Ok tt → pieces_size ps ≡ size_of item →
-    AreSized (placed s item ps)
+    AreSized (sections_after_item s item ps)
 placed-sized s item ps h e n = record {
   text = size-then s.place.in_text s.text ps ∙ rw (h.text, n) (sym (text-after s.place item));
   data_section = size-else s.place.in_text s.data_pieces ps ∙ rw (h.data_section, n) (sym (data-after s.place item));
@@ -187,33 +187,34 @@ item-fits p text item e =
     let same : r.first ≡ item = cc f.goes in
     rw (← same) f.is
 
-filled-sized : (s t : Sections) (text : List ℕ) → AreSized s → filled s text ≡ Ok t → AreSized t
-unfolding filled
+filled-sized : (s t : Sections) (text : List ℕ) → AreSized s → sections_after_line s text ≡ Ok t → AreSized t
+unfolding sections_after_line
 filled-sized s t text h e =
     let r = passes (item_at s.place (statement_in text)) (λ (item : SourceItem). and_then (pieces_of s.labels (address_of s.place) item)
-    (λ ps. Ok (placed s item ps))) t e in
-    let p = passes (pieces_of s.labels (address_of s.place) r.first) (λ (ps : List Piece). Ok (placed s r.first ps)) t r.goes in
-    let same : placed s r.first p.first ≡ t = cc p.goes in
+    (λ ps. Ok (sections_after_item s item ps))) t e in
+    let p = passes (pieces_of s.labels (address_of s.place) r.first) (λ (ps : List Piece). Ok (sections_after_item s r.first ps)) t r.goes in
+    let same : sections_after_item s r.first p.first ≡ t = cc p.goes in
     rw (← same) (placed-sized s r.first p.first h (item-fits s.place (statement_in text) r.first r.is)
     (item-sized s.labels (address_of s.place) r.first p.first p.is))
 
 lines-sized : (above : ℕ) (s t : Sections) (lines : List (List ℕ)) → AreSized s → sections_from above s lines ≡ Ok t → AreSized t
 lines-sized above s t [] h e = let same : s ≡ t = cc in rw (← same) h
 lines-sized above s t (line ∷ lines) h e =
-    let r = passes (at_line (above + 1) (filled s (said line))) (λ (next : Sections). sections_from (above + 1) next lines) t e in
-    lines-sized (above + 1) r.first t lines (filled-sized s r.first (said line) h (passes_line (above + 1) (filled s (said line)) r.first r.is)) r.goes
+    let r = passes (at_line (above + 1) (sections_after_line s (said line))) (λ (next : Sections). sections_from (above + 1) next lines) t e in
+    lines-sized (above + 1) r.first t lines
+    (filled-sized s r.first (said line) h (passes_line (above + 1) (sections_after_line s (said line)) r.first r.is)) r.goes
 
 -- what the first pass knows, and what the second makes of it
 pub record Looks (lines : List (List ℕ)) (sections : Sections) : Type 0 where
   pub labels : List LabelView
-  pub drafted : (place : SectionPlace) × (draft_from 0 (record { place = start; labels = [] }) lines ≡ Ok (record { place = place; labels = labels }))
+  pub drafted : (place : SectionPlace) × (draft_from 0 (record { place = start_of_text; labels = [] }) lines ≡ Ok (record { place = place; labels = labels }))
   pub filled : sections_from 0 (empty labels) lines ≡ Ok sections
 
 pub looks : (lines : List (List ℕ)) (sections : Sections) → sections_of lines ≡ Ok sections → Looks lines sections
 looks lines sections e =
-    let a = passes (are_ascii 0 lines) (λ (u : Unit {0}). and_then (draft_from 0 (record { place = start; labels = [] }) lines)
+    let a = passes (are_ascii 0 lines) (λ (u : Unit {0}). and_then (draft_from 0 (record { place = start_of_text; labels = [] }) lines)
     (λ draft. sections_from 0 (empty draft.labels) lines)) sections e in
-    let d = passes (draft_from 0 (record { place = start; labels = [] }) lines) (λ draft. sections_from 0 (empty draft.labels) lines) sections a.goes in
+    let d = passes (draft_from 0 (record { place = start_of_text; labels = [] }) lines) (λ draft. sections_from 0 (empty draft.labels) lines) sections a.goes in
     record { labels = d.first.labels; drafted = (d.first.place, d.is); filled = d.goes }
 
 pub empty-sized : (labels : List LabelView) → AreSized (empty labels)

@@ -11,8 +11,8 @@ use Rattle.texts.specs.Answers.{and_then}
 use Rattle.rv_text.specs.Lines.{text_lines}
 use Rattle.rv_asm.specs.Scanning.{said, label_in, statement_in}
 use Rattle.rv_asm.specs.Items.{SourceItem, Export}
-use Rattle.rv_asm.specs.Places.{start, address_of, place_after, item_at}
-use Rattle.rv_asm.specs.Labels.{LabelView, value_of, exported}
+use Rattle.rv_asm.specs.Places.{start_of_text, address_of, place_after, item_at}
+use Rattle.rv_asm.specs.Labels.{LabelView, value_of_label, exported}
 use Rattle.rv_asm.specs.Pieces.{Piece, pieces_of}
 
 -- a refusal with the number of its line
@@ -31,7 +31,7 @@ are_ascii above (line ∷ lines) =
 abbrev pub with_label : List LabelView → SectionPlace → Option (List ℕ) → Result (List LabelView) AsmKind
 with_label labels place None = Ok labels
 with_label labels place (Some name) =
-    if is_some (value_of labels name) then Err LabelTwice
+    if is_some (value_of_label labels name) then Err LabelTwice
     else Ok (labels ++ record { name = name; value = address_of place; in_text = place.in_text; global = false } ∷ [])
 
 -- what is known after a line with this text: first its label is defined, then its statement is read
@@ -55,41 +55,41 @@ pub record Sections : Type 0 where
   pub labels : List LabelView
 
 -- an export marks its label
-abbrev pub marked : List LabelView → SourceItem → List LabelView
-marked labels (Export name) = exported labels name
-marked labels item = labels
+abbrev pub with_export : List LabelView → SourceItem → List LabelView
+with_export labels (Export name) = exported labels name
+with_export labels item = labels
 
 -- the contents of the sections after an item, whose pieces are appended to its section
-abbrev pub placed : Sections → SourceItem → List Piece → Sections
-placed sections item pieces = record {
+abbrev pub sections_after_item : Sections → SourceItem → List Piece → Sections
+sections_after_item sections item pieces = record {
   place = place_after sections.place item;
   text = if sections.place.in_text then sections.text ++ pieces else sections.text;
   data_pieces = if sections.place.in_text then sections.data_pieces else sections.data_pieces ++ pieces;
-  labels = marked sections.labels item;
+  labels = with_export sections.labels item;
 }
 
 -- the contents of the sections after a line with this text
-unfoldable pub filled : Sections → List ℕ → Result Sections AsmKind
-filled sections text =
+unfoldable pub sections_after_line : Sections → List ℕ → Result Sections AsmKind
+sections_after_line sections text =
     and_then (item_at sections.place (statement_in text)) (λ item.
     and_then (pieces_of sections.labels (address_of sections.place) item) (λ pieces.
-    Ok (placed sections item pieces)))
+    Ok (sections_after_item sections item pieces)))
 
 -- the contents of the sections after all lines
 abbrev pub sections_from : ℕ → Sections → List (List ℕ) → Result Sections AsmErr
 sections_from above sections [] = Ok sections
 sections_from above sections (line ∷ lines) =
-    and_then (at_line (above + 1) (filled sections (said line))) (λ next. sections_from (above + 1) next lines)
+    and_then (at_line (above + 1) (sections_after_line sections (said line))) (λ next. sections_from (above + 1) next lines)
 
 -- empty sections
 abbrev pub empty : List LabelView → Sections
-empty labels = record { place = start; text = []; data_pieces = []; labels = labels }
+empty labels = record { place = start_of_text; text = []; data_pieces = []; labels = labels }
 
 -- the sections of the lines, in which every label has its value
 abbrev pub sections_of : List (List ℕ) → Result Sections AsmErr
 sections_of lines =
     and_then (are_ascii 0 lines) (λ u.
-    and_then (draft_from 0 (record { place = start; labels = [] }) lines) (λ draft.
+    and_then (draft_from 0 (record { place = start_of_text; labels = [] }) lines) (λ draft.
     sections_from 0 (empty draft.labels) lines))
 
 -- what a source stands for

@@ -11,7 +11,7 @@ use Rattle.rv_asm.specs.Places.{address_of, place_after, item_at}
 use Rattle.rv_asm.specs.Labels.{LabelView}
 use Rattle.rv_asm.specs.Pieces.{Piece, pieces_of}
 use Rattle.rv_asm.specs.Spelling.{Spells, GivesBytes}
-use Rattle.rv_asm.specs.Assembling.{Sections, marked}
+use Rattle.rv_asm.specs.Assembling.{Sections, with_export}
 
 -- what a line with this text places
 unfoldable pub line_pieces : List LabelView → SectionPlace → List ℕ → Result (List Piece) AsmKind
@@ -25,7 +25,7 @@ pub record IsFilled (old : Output) (text : List ℕ) (new : Output) : Type 0 whe
   pub read : item_at old.place (statement_in text) ≡ Ok item
   pub gives : GivesBytes bytes (pieces_of old.labels (address_of old.place) item)
   pub place : new.place ≡ place_after old.place item
-  pub labels : new.labels ≡ marked old.labels item
+  pub labels : new.labels ≡ with_export old.labels item
   pub text_bytes : new.text.items ≡ (if old.place.in_text then old.text.items ++ bytes else old.text.items)
   pub data_bytes : new.data.items ≡ (if old.place.in_text then old.data.items else old.data.items ++ bytes)
 

@@ -6,8 +6,8 @@ use Rattle.std.specs.Ordering.{nat_cmp}
 use Rattle.rv_asm.specs.Labels.{LabelView}
 
 -- the index that a map has for a name
-abbrev pub place_of : {Z : Type 0} → BTreeMap (Vec ℕ Z) ℕ → List ℕ → Option ℕ
-place_of places name = get_by (λ key. slice_cmp nat_cmp name key.items) places
+abbrev pub index_of_name : {Z : Type 0} → BTreeMap (Vec ℕ Z) ℕ → List ℕ → Option ℕ
+index_of_name places name = get_by (λ key. slice_cmp nat_cmp name key.items) places
 
 abbrev pub names_of : List LabelView → List (List ℕ)
 names_of labels = map (λ label. label.name) labels

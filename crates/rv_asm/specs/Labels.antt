@@ -11,8 +11,8 @@ pub record LabelView : Type 0 where
   pub global : Bool
 
 -- the value of the label with this name
-unfoldable pub value_of : List LabelView → List ℕ → Option ℕ
-value_of labels name = option_map (λ label. label.value) (find (λ label. bytes_eq label.name name) labels)
+unfoldable pub value_of_label : List LabelView → List ℕ → Option ℕ
+value_of_label labels name = option_map (λ label. label.value) (find (λ label. bytes_eq label.name name) labels)
 
 -- a label, exported where it has this name
 abbrev pub exported_as : List ℕ → LabelView → LabelView
@@ -23,9 +23,9 @@ unfoldable pub exported : List LabelView → List ℕ → List LabelView
 exported labels name = map (exported_as name) labels
 
 -- where a program is entered: at the label `_start`, or else at the start of the text
-unfoldable pub entry_of : List LabelView → ℕ
-entry_of labels = unwrap_or (value_of labels (codes "_start")) 0x10000
+unfoldable pub entry_point : List LabelView → ℕ
+entry_point labels = unwrap_or (value_of_label labels (codes "_start")) 0x10000
 
 -- a label, as contracts see it
-abbrev pub named : Label → LabelView
-named label = record { name = label.name; value = label.value; in_text = label.in_text; global = label.global }
+abbrev pub label_view : Label → LabelView
+label_view label = record { name = label.name; value = label.value; in_text = label.in_text; global = label.global }

@@ -16,13 +16,13 @@ count_is wanted text =
     if operand_count text == wanted then Ok tt else Err (WrongCount (counted (operand_count text)) wanted)
 
 -- the operands of a text that has some: the pieces between its commas, without the blanks around them
-abbrev pub operands_of : List ℕ → List (List ℕ)
-operands_of text = map trimmed (pieces text)
+abbrev pub operand_texts : List ℕ → List (List ℕ)
+operand_texts text = map trimmed (pieces text)
 
 -- the operands that are left, where a text is left
 abbrev pub operands_left : Option (List ℕ) → List (List ℕ)
 operands_left None = []
-operands_left (Some text) = operands_of text
+operands_left (Some text) = operand_texts text
 
 -- how much is left, with the comma before it
 abbrev pub left_length : Option (List ℕ) → ℕ

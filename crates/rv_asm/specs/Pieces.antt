@@ -15,7 +15,7 @@ use Rattle.rv_asm.specs.Answers.{as_text}
 use Rattle.rv_asm.specs.Operands.{names_label, number_of_width, bytes_of_width}
 use Rattle.rv_asm.specs.Items.{SourceItem, Nothing, Section, Export, Single, Double, Near, Distant, Numbers, Chars, Zeros}
 use Rattle.rv_asm.specs.Pseudos.{word_modulo, reaching}
-use Rattle.rv_asm.specs.Labels.{LabelView, value_of}
+use Rattle.rv_asm.specs.Labels.{LabelView, value_of_label}
 
 -- a part of a section: the word of an instruction, or bytes
 pub data Piece : Type 0 where
@@ -24,7 +24,7 @@ pub data Piece : Type 0 where
 
 -- the value of a label, or a refusal where it is not defined
 abbrev pub label_value : List LabelView → List ℕ → Result ℕ AsmKind
-label_value labels name = needed NoLabel (value_of labels name)
+label_value labels name = needed NoLabel (value_of_label labels name)
 
 -- the instruction over a distance, or a refusal where that is too far
 abbrev pub nearby : Result Instr TextErr → Result Instr AsmKind
@@ -51,10 +51,10 @@ bytes_from labels width bytes (operand ∷ operands) =
     (λ z. bytes_from labels width (bytes ++ bytes_low_first 0 (bytes_of_width width) (word_modulo z)) operands)
 
 -- the instructions of an item
-abbrev pub code_of : SourceItem → List Piece
-code_of (Single i) = Word i ∷ []
-code_of (Double i j) = Word i ∷ Word j ∷ []
-code_of _ = []
+abbrev pub instruction_pieces : SourceItem → List Piece
+instruction_pieces (Single i) = Word i ∷ []
+instruction_pieces (Double i j) = Word i ∷ Word j ∷ []
+instruction_pieces _ = []
 
 -- what an item places at an address
 unfoldable pub pieces_of : List LabelView → ℕ → SourceItem → Result (List Piece) AsmKind
@@ -64,7 +64,7 @@ pieces_of labels pc (Export name) = and_then (label_value labels name) (λ v. Ok
 pieces_of labels pc (Single i) = Ok (Word i ∷ [])
 pieces_of labels pc (Double i j) = Ok (Word i ∷ Word j ∷ [])
 pieces_of labels pc (Near jump label) = and_then (near_instr labels pc jump label) (λ i. Ok (Word i ∷ []))
-pieces_of labels pc (Distant far label) = and_then (label_value labels label) (λ v. Ok (code_of (reaching far (word_difference v pc))))
+pieces_of labels pc (Distant far label) = and_then (label_value labels label) (λ v. Ok (instruction_pieces (reaching far (word_difference v pc))))
 pieces_of labels pc (Numbers width operands) = and_then (bytes_from labels width [] operands) (λ bytes. Ok (Bytes bytes ∷ []))
 pieces_of labels pc (Chars bytes zero) = Ok (Bytes (bytes ++ (if zero then 0 ∷ [] else [])) ∷ [])
 pieces_of labels pc (Zeros count) = Ok (Bytes (replicate count 0) ∷ [])

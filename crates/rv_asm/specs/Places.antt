@@ -8,8 +8,8 @@ use Rattle.rv_asm.specs.Items.{SourceItem, Section, size_of, is_code}
 use Rattle.rv_asm.specs.Reading.{statement_read}
 
 -- the beginning of an empty text
-abbrev pub start : SectionPlace
-start = record { in_text = true; text_len = 0; data_len = 0 }
+abbrev pub start_of_text : SectionPlace
+start_of_text = record { in_text = true; text_len = 0; data_len = 0 }
 
 -- the text starts at 0x10000, the data at 0x200000
 unfoldable pub address_of : SectionPlace → ℕ

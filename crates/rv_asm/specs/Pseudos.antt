@@ -68,8 +68,8 @@ jumped j pc operand =
     if begins_name operand then Ok (Near j operand) else and_then (aimed_at j operand pc) (λ i. Ok (Single i))
 
 -- a register and a number of 32 bits, signed or unsigned: the instructions that load the number into the register
-unfoldable pub loaded : List ℕ → Result SourceItem TextErr
-loaded text =
+unfoldable pub load_immediate : List ℕ → Result SourceItem TextErr
+load_immediate text =
     and_then (count_is 2 text) (λ u.
     and_then (register_in (operand_at text 0)) (λ rd.
     and_then (number_in (negsuc 0x7fffffff) (pos 0xffffffff) (operand_at text 1)) (λ v. Ok (loading rd (word_modulo v)))))
@@ -87,8 +87,8 @@ branch_read c pc text =
     and_then (register_in (operand_at text 0)) (λ rs. jumped (jump.Branch c rs 0) pc (operand_at text 1)))
 
 -- two registers
-unfoldable pub two_registers : List ℕ → Result (ℕ × ℕ) TextErr
-two_registers text =
+unfoldable pub register_pair : List ℕ → Result (ℕ × ℕ) TextErr
+register_pair text =
     and_then (count_is 2 text) (λ u.
     and_then (register_in (operand_at text 0)) (λ rd.
     and_then (register_in (operand_at text 1)) (λ rs. Ok (rd, rs))))
@@ -96,11 +96,11 @@ two_registers text =
 -- what a pseudo-instruction at an address stands for
 unfoldable pub pseudo_read : Pseudo → ℕ → List ℕ → Result SourceItem TextErr
 pseudo_read pseudo.Nop pc text = and_then (count_is 0 text) (λ u. Ok (Single (addi 0 0 (pos 0))))
-pseudo_read pseudo.Li pc text = loaded text
+pseudo_read pseudo.Li pc text = load_immediate text
 pseudo_read pseudo.La pc text = address_read pc text
-pseudo_read pseudo.Mv pc text = and_then (two_registers text) (λ (rd, rs). Ok (Single (addi rd rs (pos 0))))
-pseudo_read pseudo.Not pc text = and_then (two_registers text) (λ (rd, rs). Ok (Single (instr.OpImm immop.Xor rd rs (negsuc 0))))
-pseudo_read pseudo.Neg pc text = and_then (two_registers text) (λ (rd, rs). Ok (Single (instr.Op regop.Sub rd 0 rs)))
+pseudo_read pseudo.Mv pc text = and_then (register_pair text) (λ (rd, rs). Ok (Single (addi rd rs (pos 0))))
+pseudo_read pseudo.Not pc text = and_then (register_pair text) (λ (rd, rs). Ok (Single (instr.OpImm immop.Xor rd rs (negsuc 0))))
+pseudo_read pseudo.Neg pc text = and_then (register_pair text) (λ (rd, rs). Ok (Single (instr.Op regop.Sub rd 0 rs)))
 pseudo_read pseudo.J pc text = and_then (count_is 1 text) (λ u. jumped (jump.Link 0) pc (operand_at text 0))
 pseudo_read pseudo.Jr pc text =
     and_then (count_is 1 text) (λ u.

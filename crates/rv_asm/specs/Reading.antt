@@ -20,7 +20,7 @@ use Rattle.texts.specs.Answers.{and_then, needed}
 use Rattle.rv_asm.specs.Answers.{as_text}
 use Rattle.rv_asm.specs.Scanning.{is_name}
 use Rattle.rv_asm.specs.Strings.{string_of}
-use Rattle.rv_asm.specs.Operands.{count_is, operands_of, are_placeable}
+use Rattle.rv_asm.specs.Operands.{count_is, operand_texts, are_placeable}
 use Rattle.rv_asm.specs.Operations.{directive_named, pseudo_named}
 use Rattle.rv_asm.specs.Items.{SourceItem, Nothing, Section, Export, Single, Numbers, Chars, Zeros}
 use Rattle.rv_asm.specs.Pseudos.{jumped, pseudo_read}
@@ -35,7 +35,7 @@ export_read text =
 unfoldable pub numbers_read : Width → List ℕ → Result SourceItem TextErr
 numbers_read width text =
     if operand_count text == 0 then Err (WrongCount 0 1)
-    else and_then (are_placeable width (operands_of text)) (λ u. Ok (Numbers width (operands_of text)))
+    else and_then (are_placeable width (operand_texts text)) (λ u. Ok (Numbers width (operand_texts text)))
 
 -- one number from 0 to the greatest
 unfoldable pub one_number : ℕ → List ℕ → Result ℕ TextErr
@@ -72,21 +72,21 @@ unfoldable pub instruction_read : Mnemonic → ℕ → List ℕ → Result Sourc
 instruction_read mnemonic pc text = and_then (statement_by mnemonic text) (targeted pc)
 
 -- the refusal of an unknown name
-unfoldable pub unknown : List ℕ → AsmKind
-unknown name = if starts_with nat_eq name (codes ".") then UnknownDirective else Text UnknownName
+unfoldable pub unknown_name : List ℕ → AsmKind
+unknown_name name = if starts_with nat_eq name (codes ".") then UnknownDirective else Text UnknownName
 
 -- what operands stand for after a name that may name a directive, a pseudo-instruction or an instruction: of several
 -- the first counts
-abbrev pub meant : Option Directive → Option Pseudo → Option Mnemonic → List ℕ → ℕ → List ℕ → Result SourceItem AsmKind
-meant (Some directive) p m name pc text = directive_read directive pc text
-meant None (Some pseudo) m name pc text = as_text (pseudo_read pseudo pc text)
-meant None None (Some mnemonic) name pc text = as_text (instruction_read mnemonic pc text)
-meant None None None name pc text = Err (unknown name)
+abbrev pub meaning_after_name : Option Directive → Option Pseudo → Option Mnemonic → List ℕ → ℕ → List ℕ → Result SourceItem AsmKind
+meaning_after_name (Some directive) p m name pc text = directive_read directive pc text
+meaning_after_name None (Some pseudo) m name pc text = as_text (pseudo_read pseudo pc text)
+meaning_after_name None None (Some mnemonic) name pc text = as_text (instruction_read mnemonic pc text)
+meaning_after_name None None None name pc text = Err (unknown_name name)
 
 -- what operands stand for after a name
 unfoldable pub named_read : List ℕ → ℕ → List ℕ → Result SourceItem AsmKind
 named_read name pc text =
-    meant (directive_named name) (pseudo_named name) (mnemonic_named name) name pc text
+    meaning_after_name (directive_named name) (pseudo_named name) (mnemonic_named name) name pc text
 
 -- what a statement at an address stands for
 unfoldable pub statement_read : ℕ → List ℕ → Result SourceItem AsmKind

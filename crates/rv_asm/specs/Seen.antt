@@ -8,25 +8,25 @@ use Rattle.rv_asm.specs.declared.item.Far.TheVariants as far
 use Rattle.rv_asm.specs.declared.item.SourceItem.{SourceItem as Read}
 use Rattle.rv_asm.specs.declared.item.SourceItem.TheVariants as read
 use Rattle.rv_asm.specs.Strings.{string_of}
-use Rattle.rv_asm.specs.Operands.{operands_of}
+use Rattle.rv_asm.specs.Operands.{operand_texts}
 use Rattle.rv_asm.specs.Items.{SourceItem, Nothing, Section, Export, Single, Double, Near, Distant, Numbers, Chars, Zeros}
 
 -- an item, with the texts that it keeps
-abbrev pub seen : Read → SourceItem
-seen read.Nothing = Nothing
-seen (read.Section in_text) = Section in_text
-seen (read.Export name) = Export name.now
-seen (read.Single i) = Single i
-seen (read.Double i j) = Double i j
-seen (read.Near jump label) = Near jump label.now
-seen (read.Distant f label) = Distant f label.now
-seen (read.Numbers width text) = Numbers width (operands_of text.now)
-seen (read.Chars text zero) = Chars (unwrap_or (string_of text.now) []) zero
-seen (read.Zeros count) = Zeros count
+abbrev pub item_view : Read → SourceItem
+item_view read.Nothing = Nothing
+item_view (read.Section in_text) = Section in_text
+item_view (read.Export name) = Export name.now
+item_view (read.Single i) = Single i
+item_view (read.Double i j) = Double i j
+item_view (read.Near jump label) = Near jump label.now
+item_view (read.Distant f label) = Distant f label.now
+item_view (read.Numbers width text) = Numbers width (operand_texts text.now)
+item_view (read.Chars text zero) = Chars (unwrap_or (string_of text.now) []) zero
+item_view (read.Zeros count) = Zeros count
 
 -- the result is this answer
 abbrev pub ReadsItem : {E : Type 0} → Result Read E → Result SourceItem E → Type 0
-ReadsItem result answer = MatchResult result (λ item. answer ≡ Ok (seen item)) (λ e. answer ≡ Err e)
+ReadsItem result answer = MatchResult result (λ item. answer ≡ Ok (item_view item)) (λ e. answer ≡ Err e)
 
 -- the registers of a jump or a branch
 abbrev pub JumpFits : Jump → Type 0

@@ -6,13 +6,13 @@ use Rattle.rv_asm.specs.Pieces.{Piece, Word, Bytes}
 use Rattle.rv_asm.specs.Assembling.{Sections}
 
 -- how many bytes a piece has
-abbrev pub piece_size : Piece → ℕ
-piece_size (Word i) = 4
-piece_size (Bytes bytes) = length bytes
+abbrev pub piece_length : Piece → ℕ
+piece_length (Word i) = 4
+piece_length (Bytes bytes) = length bytes
 
 abbrev pub pieces_size : List Piece → ℕ
 pieces_size [] = 0
-pieces_size (piece ∷ pieces) = piece_size piece + pieces_size pieces
+pieces_size (piece ∷ pieces) = piece_length piece + pieces_size pieces
 
 -- each section is as long as the final position says, and at most 1,048,576 bytes long
 pub record AreSized (sections : Sections) : Type 0 where

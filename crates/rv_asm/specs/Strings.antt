@@ -28,8 +28,8 @@ string_from false (byte ∷ rest) =
     else onto (Some byte) (string_from false rest)
 
 -- the bytes of a string that ends here: none, where only its last `"` is left of the text
-abbrev pub ended : List ℕ → Option (List ℕ)
-ended text = if bytes_eq text (codes "\"") then Some [] else None
+abbrev pub end_of_string : List ℕ → Option (List ℕ)
+end_of_string text = if bytes_eq text (codes "\"") then Some [] else None
 
 -- the bytes of the string that makes up a text
 unfoldable pub string_of : List ℕ → Option (List ℕ)

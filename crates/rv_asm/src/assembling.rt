@@ -2,7 +2,7 @@
 
 ghost use Rattle.std.specs.Prelude.{◌≡◌, ◌≤◌, length, IfOk, IfErr};
 ghost use Rattle.rv_text.specs.Lines.{text_lines};
-ghost use Rattle.rv_asm.specs.Labels.{entry_of};
+ghost use Rattle.rv_asm.specs.Labels.{entry_point};
 ghost use Rattle.rv_asm.specs.Assembling.{are_ascii, sections_of, assembled};
 ghost use Rattle.rv_asm.specs.Objects.{Objects, RefusesSource};
 ghost use Rattle.rv_asm.specs.Small.{IsSmallObject};
@@ -38,9 +38,9 @@ fn check_ascii(source: &[u8]) -> Result<(), AsmErr>
     Ok(())
 }
 
-#[tactic(auto, unfolding(crate::specs::Labels::entry_of))]
+#[tactic(auto, unfolding(crate::specs::Labels::entry_point))]
 fn entry(labels: &LabelTable) -> u32
-    ensures { result ≡ entry_of labels.now }
+    ensures { result ≡ entry_point labels.now }
 {
     labels.value_of(b"_start").unwrap_or(0x1_0000)
 }

@@ -3,10 +3,10 @@
 ghost use Rattle.std.specs.Prelude.{◌≡◌, ◌≤◌, ◌⊎◌, [], length, Ok, Err, IfOk, IfErr, OnOk};
 ghost use Rattle.rv_text.specs.Lines.{text_lines};
 ghost use Rattle.rv_asm.specs.Scanning.{label_in};
-ghost use Rattle.rv_asm.specs.Places.{IsPlaceInLimits, start, fits_at, item_at};
+ghost use Rattle.rv_asm.specs.Places.{IsPlaceInLimits, start_of_text, fits_at, item_at};
 ghost use Rattle.rv_asm.specs.Assembling.{with_label, drafted, draft_from};
 ghost use Rattle.rv_asm.specs.Spelling.{IsRefusal};
-ghost use Rattle.rv_asm.specs.Seen.{seen, ReadsItem, IsSoundStatement};
+ghost use Rattle.rv_asm.specs.Seen.{item_view, ReadsItem, IsSoundStatement};
 
 use crate::item::SourceItem;
 use crate::label_table::LabelTable;
@@ -31,7 +31,7 @@ pub fn item_at(place: SectionPlace, text: &[u8]) -> Result<SourceItem<'_>, AsmKi
     requires text { length text.now ≤ 1048576 }
     ensures item { ReadsItem result (item_at place text.now) }
     ensures sound { IfOk result (λ item. IsSoundStatement item) }
-    ensures fits { IfOk result (λ item. fits_at place (seen item) ≡ Ok tt) }
+    ensures fits { IfOk result (λ item. fits_at place (item_view item) ≡ Ok tt) }
 {
     let item = read_statement(place.address(), text)?;
     place.check(item)?;
@@ -78,8 +78,8 @@ impl Draft {
 /// What is known after all lines of a source.
 pub fn first_look(alloc: Global, source: &[u8]) -> Result<Draft, AsmErr>
     requires { length source.now ≤ 1048576 }
-    ensures ok { IfOk result (λ draft. draft_from 0 (record { place = start; labels = [] }) (text_lines source.now) ≡ Ok draft) }
-    ensures err { IfErr result (λ e. (e.kind ≡ AsmKind.NoMemory) ⊎ (draft_from 0 (record { place = start; labels = [] }) (text_lines source.now) ≡ Err e)) }
+    ensures ok { IfOk result (λ draft. draft_from 0 (record { place = start_of_text; labels = [] }) (text_lines source.now) ≡ Ok draft) }
+    ensures err { IfErr result (λ e. (e.kind ≡ AsmKind.NoMemory) ⊎ (draft_from 0 (record { place = start_of_text; labels = [] }) (text_lines source.now) ≡ Err e)) }
 {
     let mut draft = Draft {
         place: SectionPlace::start(),

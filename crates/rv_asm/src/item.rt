@@ -1,9 +1,9 @@
 //! What a statement stands for, before the labels' values are known.
 
 ghost use Rattle.std.specs.Prelude.{◌≡◌, ◌≤◌, ◌<◌, ◌^◌, ◌+◌, length};
-ghost use Rattle.rv_asm.specs.Operands.{operands_of};
+ghost use Rattle.rv_asm.specs.Operands.{operand_texts};
 ghost use Rattle.rv_asm.specs.Items.{is_code, size_of};
-ghost use Rattle.rv_asm.specs.Seen.{seen, IsSoundStatement};
+ghost use Rattle.rv_asm.specs.Seen.{item_view, IsSoundStatement};
 
 use crate::operations::Width;
 use crate::strings::string_len;
@@ -43,7 +43,7 @@ pub enum SourceItem<'a> {
 
 /// Whether the item places instructions.
 pub fn is_code(item: SourceItem<'_>) -> bool
-    ensures { result ≡ is_code (seen item.entry) }
+    ensures { result ≡ is_code (item_view item.entry) }
 {
     match item {
         SourceItem::Single(_)
@@ -57,7 +57,7 @@ pub fn is_code(item: SourceItem<'_>) -> bool
 /// The number of pieces between the commas of a text.
 #[tactic(auto, using(crate::proofs::Splits::counts))]
 fn count_numbers(text: &[u8]) -> usize
-    ensures count { result ≡ length (operands_of text.now) }
+    ensures count { result ≡ length (operand_texts text.now) }
     ensures within { result ≤ length text.now + 1 }
 {
     text.iter().filter(|byte| **byte == b',').count() + 1
@@ -66,7 +66,7 @@ fn count_numbers(text: &[u8]) -> usize
 /// How many bytes the item places.
 pub fn size_of(item: SourceItem<'_>) -> usize
     requires { IsSoundStatement item }
-    ensures size { result ≡ size_of (seen item.entry) }
+    ensures size { result ≡ size_of (item_view item.entry) }
     ensures bounded { result < 2 ^ 32 }
 {
     match item {

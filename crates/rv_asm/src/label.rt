@@ -3,7 +3,7 @@
 
 ghost use Rattle.std.specs.Prelude.{◌≡◌, map, IfOk};
 ghost use Rattle.std.specs.Str.{IsUtf8};
-ghost use Rattle.rv_asm.specs.Labels.{named};
+ghost use Rattle.rv_asm.specs.Labels.{label_view};
 
 use std::alloc::{AllocError, Global};
 use std::marker::Model;
@@ -39,24 +39,24 @@ pub struct Labels {
 impl Model for Labels {
     ghost use Rattle.std.specs.Prelude.{List, map};
     ghost use Rattle.std.specs.Str.{IsUtf8};
-    ghost use Rattle.rv_asm.specs.Labels.{LabelView, named};
+    ghost use Rattle.rv_asm.specs.Labels.{LabelView, label_view};
 
     ghost Value = { List LabelView };
 
-    ghost view = { λ labels. map named labels.list.items };
+    ghost view = { λ labels. map label_view labels.list.items };
 }
 
 impl Labels {
     /// The labels of a list.
     pub fn new(list: Vec<Label>) -> Labels
-        ensures { result ≡ map named list.items }
+        ensures { result ≡ map label_view list.items }
     {
         Labels { list }
     }
 
     /// The list.
     pub fn as_slice(&self) -> &[Label]
-        ensures { map named result.now ≡ self.now }
+        ensures { map label_view result.now ≡ self.now }
     {
         self.list.as_slice()
     }

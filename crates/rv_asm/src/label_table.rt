@@ -3,8 +3,8 @@
 
 ghost use Rattle.std.specs.Prelude.{◌≡◌, ◌++◌, ◌∷◌, [], map, None, OnOk, false};
 ghost use Rattle.std.specs.Str.{IsUtf8};
-ghost use Rattle.rv_asm.specs.LabelTables.{FindsNames, names_of, place_of};
-ghost use Rattle.rv_asm.specs.Labels.{named, value_of, exported};
+ghost use Rattle.rv_asm.specs.LabelTables.{FindsNames, names_of, index_of_name};
+ghost use Rattle.rv_asm.specs.Labels.{label_view, value_of_label, exported};
 
 use crate::label::{Label, Labels, name_of};
 use std::alloc::{AllocError, Global};
@@ -21,14 +21,14 @@ pub struct LabelTable {
 
 impl Model for LabelTable {
     ghost use Rattle.std.specs.Prelude.{List, map};
-    ghost use Rattle.rv_asm.specs.LabelTables.{FindsNames, names_of, place_of};
-    ghost use Rattle.rv_asm.specs.Labels.{LabelView, named};
+    ghost use Rattle.rv_asm.specs.LabelTables.{FindsNames, names_of, index_of_name};
+    ghost use Rattle.rv_asm.specs.Labels.{LabelView, label_view};
 
     ghost Value = { List LabelView };
 
-    ghost view = { λ table. map named table.list.items };
+    ghost view = { λ table. map label_view table.list.items };
 
-    ghost invariant = { λ table. FindsNames (names_of (map named table.list.items)) (place_of table.places) };
+    ghost invariant = { λ table. FindsNames (names_of (map label_view table.list.items)) (index_of_name table.places) };
 }
 
 impl LabelTable {
@@ -51,7 +51,7 @@ impl LabelTable {
         in_text: bool,
     ) -> Result<(), AllocError>
         requires utf8 { IsUtf8 name.now }
-        requires unknown { value_of self.old name.now ≡ None }
+        requires unknown { value_of_label self.old name.now ≡ None }
         ensures { OnOk result (self.new ≡ self.old ++ record { name = name.now; value = value; in_text = in_text; global = false } ∷ []) }
     {
         self.list.reserve(1)?;
@@ -69,7 +69,7 @@ impl LabelTable {
 
     /// The value of the label with this name.
     pub fn value_of(&self, name: &[u8]) -> Option<u32>
-        ensures { result ≡ value_of self.now name.now }
+        ensures { result ≡ value_of_label self.now name.now }
     {
         match self.places.get(name) {
             Some(place) => Some(self.list[*place].value),

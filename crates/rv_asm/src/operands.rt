@@ -4,7 +4,7 @@ ghost use Rattle.std.specs.Prelude.{◌≡◌, ◌≤ℤ◌, ◌∷◌, ◌<◌,
 ghost use Rattle.std.specs.Option.{option_map};
 ghost use Rattle.rv_text.specs.Pieces.{pieces};
 ghost use Rattle.rv_text.specs.Fields.{number_in};
-ghost use Rattle.rv_asm.specs.Operands.{count_is, operands_of, number_of_width, names_label, operands_left, left_length, is_placeable, are_placeable};
+ghost use Rattle.rv_asm.specs.Operands.{count_is, operand_texts, number_of_width, names_label, operands_left, left_length, is_placeable, are_placeable};
 
 use crate::operations::Width;
 use crate::scanning::begins_name;
@@ -72,7 +72,7 @@ fn check_placeable(width: Width, text: &[u8]) -> Result<(), TextErr>
 /// The operand at the start of a text, and the text after its comma, where there is one.
 #[tactic(auto, using(crate::proofs::Splits::commas))]
 pub fn cut_operand(text: &[u8]) -> (&[u8], Option<&[u8]>)
-    ensures operands { operands_of text.now ≡ result.0.now ∷ operands_left (option_map (λ rest. rest.now) result.1) }
+    ensures operands { operand_texts text.now ≡ result.0.now ∷ operands_left (option_map (λ rest. rest.now) result.1) }
     ensures shorter { left_length (option_map (λ rest. rest.now) result.1) < length text.now + 1 }
 {
     let comma = find_byte(text, b',');
@@ -86,7 +86,7 @@ pub fn cut_operand(text: &[u8]) -> (&[u8], Option<&[u8]>)
 
 /// The first refusal of the operands of a directive that places numbers, from left to right.
 pub fn check_numbers(width: Width, text: &[u8]) -> Result<(), TextErr>
-    ensures { result ≡ are_placeable width (operands_of text.now) }
+    ensures { result ≡ are_placeable width (operand_texts text.now) }
 {
     let mut rest = Some(text);
     while let Some(operands) = rest {

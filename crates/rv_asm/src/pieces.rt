@@ -6,10 +6,10 @@ ghost use Rattle.rv_asm.specs.Strings.{string_of};
 ghost use Rattle.std.specs.Int.{bytes_low_first};
 ghost use Rattle.rv_inst.specs.Ranges.{Fits};
 ghost use Rattle.rv_asm.specs.Items.{Near, Distant};
-ghost use Rattle.rv_asm.specs.Operands.{operands_of, bytes_of_width};
+ghost use Rattle.rv_asm.specs.Operands.{operand_texts, bytes_of_width};
 ghost use Rattle.rv_asm.specs.Pieces.{Word, label_value, near_instr, operand_value, bytes_from, pieces_of};
 ghost use Rattle.rv_asm.specs.Spelling.{SpellsPiece, Spells, GivesBytes, IsRefusal};
-ghost use Rattle.rv_asm.specs.Seen.{seen, IsSoundStatement, JumpFits, FarFits};
+ghost use Rattle.rv_asm.specs.Seen.{item_view, IsSoundStatement, JumpFits, FarFits};
 
 use crate::item::{Far, SourceItem};
 use crate::label_table::LabelTable;
@@ -129,8 +129,8 @@ fn numbers(
     width: Width,
     text: &[u8],
 ) -> Result<Vec<u8>, AsmKind>
-    ensures ok { IfOk result (λ bytes. bytes_from labels.now width [] (operands_of text.now) ≡ Ok bytes.items) }
-    ensures err { IfErr result (λ kind. IsRefusal kind (bytes_from labels.now width [] (operands_of text.now))) }
+    ensures ok { IfOk result (λ bytes. bytes_from labels.now width [] (operand_texts text.now) ≡ Ok bytes.items) }
+    ensures err { IfErr result (λ kind. IsRefusal kind (bytes_from labels.now width [] (operand_texts text.now))) }
 {
     let mut bytes = Vec::new(alloc);
     let mut rest = Some(text);
@@ -172,8 +172,8 @@ pub fn item_bytes(
     item: SourceItem<'_>,
 ) -> Result<Vec<u8>, AsmKind>
     requires { IsSoundStatement item }
-    ensures ok { IfOk result (λ bytes. GivesBytes bytes.items (pieces_of labels.now pc (seen item.entry))) }
-    ensures err { IfErr result (λ kind. IsRefusal kind (pieces_of labels.now pc (seen item.entry))) }
+    ensures ok { IfOk result (λ bytes. GivesBytes bytes.items (pieces_of labels.now pc (item_view item.entry))) }
+    ensures err { IfErr result (λ kind. IsRefusal kind (pieces_of labels.now pc (item_view item.entry))) }
 {
     match item {
         SourceItem::Nothing | SourceItem::Section(_) => Ok(Vec::new(alloc)),

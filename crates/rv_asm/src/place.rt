@@ -3,8 +3,8 @@
 
 ghost use Rattle.std.specs.Prelude.{◌≡◌, ◌≤◌, ◌+◌, ◌<◌, ◌^◌, Ok};
 ghost use Rattle.rv_asm.specs.Items.{size_of};
-ghost use Rattle.rv_asm.specs.Places.{IsPlaceInLimits, start, address_of, length_at, grown, place_after, fits_at};
-ghost use Rattle.rv_asm.specs.Seen.{seen, IsSoundStatement};
+ghost use Rattle.rv_asm.specs.Places.{IsPlaceInLimits, start_of_text, address_of, length_at, grown, place_after, fits_at};
+ghost use Rattle.rv_asm.specs.Seen.{item_view, IsSoundStatement};
 
 use crate::item::{SourceItem, is_code, size_of};
 use crate::refusal::AsmKind;
@@ -23,7 +23,7 @@ pub struct SectionPlace {
 impl SectionPlace {
     /// The beginning of an empty text.
     pub fn start() -> SectionPlace
-        ensures { result ≡ start }
+        ensures { result ≡ start_of_text }
     {
         SectionPlace {
             in_text: true,
@@ -76,8 +76,8 @@ impl SectionPlace {
     pub fn after(self, item: SourceItem<'_>) -> SectionPlace
         requires place { IsPlaceInLimits self }
         requires sound { IsSoundStatement item }
-        requires fits { fits_at self (seen item) ≡ Ok tt }
-        ensures place { result ≡ place_after self (seen item.entry) }
+        requires fits { fits_at self (item_view item) ≡ Ok tt }
+        ensures place { result ≡ place_after self (item_view item.entry) }
         ensures within { IsPlaceInLimits result }
     {
         match item {
@@ -91,7 +91,7 @@ impl SectionPlace {
     pub fn check(self, item: SourceItem<'_>) -> Result<(), AsmKind>
         requires place { IsPlaceInLimits self }
         requires sound { IsSoundStatement item }
-        ensures { result ≡ fits_at self (seen item.entry) }
+        ensures { result ≡ fits_at self (item_view item.entry) }
     {
         if is_code(item) && (!self.in_text || self.address() % 4 != 0) {
             return Err(AsmKind::Misplaced);

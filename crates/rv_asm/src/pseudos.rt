@@ -1,12 +1,12 @@
 //! What each pseudo-instruction stands for.
-#![tactic(auto, unfolding(crate::specs::Pseudos::word_modulo, crate::specs::Pseudos::loading, crate::specs::Pseudos::reaching, crate::specs::Pseudos::reached, crate::specs::Pseudos::jumped, crate::specs::Pseudos::two_registers, crate::specs::Pseudos::loaded, crate::specs::Pseudos::address_read, crate::specs::Pseudos::branch_read))]
+#![tactic(auto, unfolding(crate::specs::Pseudos::word_modulo, crate::specs::Pseudos::loading, crate::specs::Pseudos::reaching, crate::specs::Pseudos::reached, crate::specs::Pseudos::jumped, crate::specs::Pseudos::register_pair, crate::specs::Pseudos::load_immediate, crate::specs::Pseudos::address_read, crate::specs::Pseudos::branch_read))]
 
 ghost use Rattle.std.specs.Prelude.{◌≡◌, ◌<◌, ◌≤◌, ◌^◌, ◌-◌, ◌*◌, ◌%◌, ◌≤ℤ◌, ◌<ℤ◌, negsuc, pos, Ok, Err, IfOk};
 ghost use Rattle.rv_inst.specs.Words.{word_difference, signed};
 ghost use Rattle.rv_inst.specs.Ranges.{Fits, IsRegister};
-ghost use Rattle.rv_asm.specs.Pseudos.{word_modulo, upper_part, lower_part, is_short, loading, reaching, reached, jumped, two_registers, loaded, address_read, branch_read, pseudo_read};
+ghost use Rattle.rv_asm.specs.Pseudos.{word_modulo, upper_part, lower_part, is_short, loading, reaching, reached, jumped, register_pair, load_immediate, address_read, branch_read, pseudo_read};
 ghost use Rattle.rv_asm.specs.Items.{Double};
-ghost use Rattle.rv_asm.specs.Seen.{seen, ReadsItem, IsSoundStatement, JumpFits, FarFits};
+ghost use Rattle.rv_asm.specs.Seen.{item_view, ReadsItem, IsSoundStatement, JumpFits, FarFits};
 
 use crate::item::{Far, SourceItem};
 use crate::operands::{expect_count, number_between};
@@ -54,7 +54,7 @@ fn lower_part(word: u32) -> i32
 /// The instructions that put a word into a register.
 fn loading(rd: u8, word: u32) -> SourceItem<'static>
     requires { IsRegister rd }
-    ensures item { seen result ≡ loading rd word }
+    ensures item { item_view result ≡ loading rd word }
     ensures sound { IsSoundStatement result }
 {
     let short = word.cast_signed();
@@ -124,7 +124,7 @@ pub fn jumped(jump: Jump, pc: u32, operand: &[u8]) -> Result<SourceItem<'_>, Tex
 }
 
 fn two_registers(text: &[u8]) -> Result<(u8, u8), TextErr>
-    ensures registers { result ≡ two_registers text.now }
+    ensures registers { result ≡ register_pair text.now }
     ensures fit { IfOk result (λ pair. IsRegister pair.0 × IsRegister pair.1) }
 {
     expect_count(2, text)?;
@@ -134,7 +134,7 @@ fn two_registers(text: &[u8]) -> Result<(u8, u8), TextErr>
 }
 
 fn li(text: &[u8]) -> Result<SourceItem<'_>, TextErr>
-    ensures item { ReadsItem result (loaded text.now) }
+    ensures item { ReadsItem result (load_immediate text.now) }
     ensures sound { IfOk result (λ item. IsSoundStatement item) }
 {
     expect_count(2, text)?;

@@ -1,5 +1,5 @@
 //! What a statement stands for.
-#![tactic(auto, unfolding(crate::specs::Reading::export_read, crate::specs::Reading::numbers_read, crate::specs::Reading::one_number, crate::specs::Reading::string_read, crate::specs::Reading::instruction_read, crate::specs::Reading::unknown))]
+#![tactic(auto, unfolding(crate::specs::Reading::export_read, crate::specs::Reading::numbers_read, crate::specs::Reading::one_number, crate::specs::Reading::string_read, crate::specs::Reading::instruction_read, crate::specs::Reading::unknown_name))]
 
 ghost use Rattle.std.specs.Prelude.{◌≡◌, ◌≤◌, ◌<◌, ◌^◌, pos, ◌≤ℤ◌, Ok, Err, IfOk, length};
 ghost use Rattle.std.specs.Int.RustNames.{unsigned_abs};
@@ -7,7 +7,7 @@ ghost use Rattle.texts.specs.Answers.{and_then};
 ghost use Rattle.rv_asm.specs.Answers.{as_text};
 ghost use Rattle.rv_asm.specs.Operands.{count_is};
 ghost use Rattle.rv_asm.specs.Items.{Section, Zeros};
-ghost use Rattle.rv_asm.specs.Reading.{export_read, numbers_read, one_number, padding, string_read, directive_read, instruction_read, unknown, named_read, statement_read};
+ghost use Rattle.rv_asm.specs.Reading.{export_read, numbers_read, one_number, padding, string_read, directive_read, instruction_read, unknown_name, named_read, statement_read};
 ghost use Rattle.rv_asm.specs.Seen.{ReadsItem, IsSoundStatement};
 
 use crate::item::SourceItem;
@@ -137,7 +137,7 @@ fn read_instruction(mnemonic: Mnemonic, pc: u32, text: &[u8]) -> Result<SourceIt
 }
 
 fn unknown(name: &[u8]) -> AsmKind
-    ensures { result ≡ unknown name.now }
+    ensures { result ≡ unknown_name name.now }
 {
     if name.starts_with(b".") {
         AsmKind::UnknownDirective

@@ -3,10 +3,10 @@
 ghost use Rattle.std.specs.Prelude.{◌≡◌, ◌≤◌, ◌⊎◌, ◌++◌, length, Ok, Err, IfOk, IfErr, OnOk, if◌then◌else◌};
 ghost use Rattle.rv_text.specs.Lines.{text_lines};
 ghost use Rattle.rv_asm.specs.Places.{IsPlaceInLimits};
-ghost use Rattle.rv_asm.specs.Assembling.{marked, empty, sections_from};
+ghost use Rattle.rv_asm.specs.Assembling.{with_export, empty, sections_from};
 ghost use Rattle.rv_asm.specs.Spelling.{IsRefusal};
 ghost use Rattle.rv_asm.specs.Filling.{line_pieces, IsFilled, Outputs};
-ghost use Rattle.rv_asm.specs.Seen.{seen};
+ghost use Rattle.rv_asm.specs.Seen.{item_view};
 
 use crate::draft::item_at;
 use crate::item::SourceItem;
@@ -29,7 +29,7 @@ pub struct Output {
 
 /// Marks the label that an item exports.
 fn mark(labels: &mut LabelTable, item: SourceItem<'_>)
-    ensures { labels.new ≡ marked labels.old (seen item.entry) }
+    ensures { labels.new ≡ with_export labels.old (item_view item.entry) }
 {
     if let SourceItem::Export(name) = item {
         labels.export(name);

@@ -3,7 +3,7 @@
 
 ghost use Rattle.std.specs.Prelude.{◌≡◌, ◌≤◌, ◌<◌, true, false, [], Some, None, ◌++◌, IfSome, IsSome, IfOk, OnOk, MatchOption, length, unwrap_or, if◌then◌else◌};
 ghost use Rattle.std.specs.Option.{option_map};
-ghost use Rattle.rv_asm.specs.Strings.{escapes, onto, ended, string_from, string_of};
+ghost use Rattle.rv_asm.specs.Strings.{escapes, onto, end_of_string, string_from, string_of};
 
 use std::alloc::AllocError;
 
@@ -38,7 +38,7 @@ fn cut_escaped(text: &[u8]) -> Option<(u8, &[u8])>
 /// not begin with a byte of the string.
 #[tactic(auto, using(crate::proofs::Chars::quote_alone))]
 fn cut_char(text: &[u8]) -> Option<(u8, &[u8])>
-    ensures cut { MatchOption result (string_from false text.now ≡ ended text.now)
+    ensures cut { MatchOption result (string_from false text.now ≡ end_of_string text.now)
         (λ cut. string_from false text.now ≡ onto (Some cut.0) (string_from false cut.1.now)) }
     ensures shorter { IfSome result (λ cut. length cut.1.now < length text.now) }
 {

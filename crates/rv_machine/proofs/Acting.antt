@@ -64,7 +64,7 @@ alone (Exit status) calls outcome old new s result is does =
     })
 
 -- an outcome that is the hart's own, whatever the input has left
-acts-alone : (calls : Type 0) (outcome : List ℕ → Outcome Machine) (o : Outcome Hart)
+pub acts-alone : (calls : Type 0) (outcome : List ℕ → Outcome Machine) (o : Outcome Hart)
     (old new : Hart) (s : Streams) (result : Stepped) →
     ((rest : List ℕ) → outcome rest ≡ beside rest [] o) → HartDoes o old new result →
     Acts calls outcome old new s s result
@@ -115,7 +115,7 @@ acts-as calls more outcome other old new before after stepped.WriteFault f is ac
     (f acts.0, acts.1, acts.2)
 
 -- what the classes whose instructions compute have in common
-executed : (c : Class) (h : Hart) (word : ℕ) (i : Instr) → IsTrue (computes c) →
+pub executed : (c : Class) (h : Hart) (word : ℕ) (i : Instr) → IsTrue (computes c) →
     (rest : List ℕ) → execute c h rest word i ≡ beside rest [] (compute h word i)
 unfolding execute
 executed class.Add h word i a rest = refl

@@ -39,7 +39,7 @@ read_as-misaligned v None e = grind arith
 read_as-misaligned v (Some j) e = grind arith
 
 -- what was read, by what was fetched
-read_from-instruction : (r : Result ℕ MemErr) (w : ℕ) (i : Instr) → read_from r ≡ found.Instruction w i → (r ≡ Ok w) × (decoded_m w ≡ Some i)
+pub read_from-instruction : (r : Result ℕ MemErr) (w : ℕ) (i : Instr) → read_from r ≡ found.Instruction w i → (r ≡ Ok w) × (decoded_m w ≡ Some i)
 read_from-instruction (Ok v) w i e = let f = read_as-instruction v w i (decoded_m v) e in (ap Ok f.0, ap decoded_m (sym f.0) ∙ f.1)
 read_from-instruction (Err Misaligned) w i e = grind arith
 read_from-instruction (Err NoAccess) w i e = grind arith

@@ -11,10 +11,11 @@ use Rattle.mem_regions.proofs.Kept.{fetch_at-stored}
 use Rattle.rv_inst.specs.declared.instruction.Instr.{Instr}
 use Rattle.rv_machine.specs.declared.decode_cache.Found.TheVariants as found
 use Rattle.rv_machine.specs.declared.decode_cache.Decoded.{Decoded}
+use Rattle.rv_machine.specs.Quick.{HasSameCode}
 use Rattle.rv_machine.specs.Decoded.{read_from, found_at, is_instruction, IsEmpty, IsKeptOf, IsCacheOf, place_at, nothing_kept, keeps}
 
 -- what is at an address depends only on the word that is fetched there
-found_at-same : (m n : Memory) (pc : ℕ) → fetch_at n pc ≡ fetch_at m pc → found_at n pc ≡ found_at m pc
+pub found_at-same : (m n : Memory) (pc : ℕ) → fetch_at n pc ≡ fetch_at m pc → found_at n pc ≡ found_at m pc
 unfolding found_at
 found_at-same m n pc e = ap read_from e
 
@@ -24,6 +25,10 @@ pub cache-same : (m n : Memory) (places : List Decoded) → ((pc : ℕ) → fetc
 unfolding IsCacheOf
 cache-same m n places same cache = λ k d below small.
     found_at-same m n _ (same _) ∙ cache k d below small
+
+pub cache-same-code : (m n : Memory) (places : List Decoded) → HasSameCode m n → IsCacheOf m places → IsCacheOf n places
+unfolding HasSameCode
+cache-same-code m n places same = cache-same m n places same
 
 -- a store keeps it
 pub cache-stored : (m : Memory) (addr width number : ℕ) (places : List Decoded) → IsCacheOf m places →

@@ -11,7 +11,11 @@ use Rattle.rv_machine.specs.Call.{Called, Value, Exit, answered, bad_file, bad_a
 use Rattle.rv_machine.specs.Streams.{Streams}
 use Rattle.rv_machine.specs.Acts.{Serves}
 use Rattle.rv_machine.specs.Decoded.{IsCacheOf}
+use Rattle.rv_machine.specs.declared.flat_lines.FlatLine.{FlatLine}
+use Rattle.rv_machine.specs.Lines.{AreLinesOf}
+use Rattle.rv_machine.specs.Quick.{HasSameCode}
 use Rattle.rv_machine.proofs.Keeping.{cache-same}
+use Rattle.rv_machine.proofs.Lines.{lines-same}
 
 -- the memory after a call
 abbrev memory_after : Memory → Called → Memory
@@ -83,4 +87,10 @@ pub cache-served : (regs : List ℕ) (mem new : Memory) (before after : Streams)
 cache-served regs mem new before after result places serves =
     cache-same mem new places (λ pc. served-leaves regs mem new before after result pc serves)
 
-pub ruleset leaving = (cache-served)
+pub lines-served : (regs : List ℕ) (mem new : Memory) (before after : Streams) (result : Served) (lines : List FlatLine) →
+    AreLinesOf mem lines → Serves regs mem new before after result → AreLinesOf new lines
+unfolding HasSameCode
+lines-served regs mem new before after result lines h serves =
+    lines-same mem new lines (λ pc. served-leaves regs mem new before after result pc serves) h
+
+pub ruleset leaving = (cache-served, lines-served)

@@ -7,3 +7,8 @@ pub mod Keeping
 pub mod Leaving
 pub mod Sets
 pub mod InputKnown
+pub mod Flattening
+pub mod Quick
+pub mod Lines
+pub mod Steps
+pub mod LineSteps

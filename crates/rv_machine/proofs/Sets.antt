@@ -52,7 +52,7 @@ set-unknown Rv32im w e = e
 of_some : {A : Type 0} (o : Option A) (x : A) (P : A → Type 0) → IfSome o P → o ≡ Some x → P x
 of_some {A = A} o x P h e = let Q : Option A → Type 0 = λ u. IfSome u P in subst Q e h
 
-set-fits : (w : ℕ) (i : Instr) → decoded_m w ≡ Some i → Fits i
+pub set-fits : (w : ℕ) (i : Instr) → decoded_m w ≡ Some i → Fits i
 set-fits w i e = of_some (decoded_m w) i (λ j. Fits j) (decoded_m_fits w) e
 
 part-fits : (i : Instr) (b : Bool) (o : Option Instr) → Fits i → IfSome o (λ j. Fits j) →

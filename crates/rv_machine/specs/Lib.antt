@@ -9,3 +9,6 @@ pub mod Buffers
 pub mod Faults
 pub mod Acts
 pub mod Decoded
+pub mod Flat
+pub mod Quick
+pub mod Lines

@@ -24,9 +24,9 @@ fn synchronizes(i: Instr) -> bool
 }
 
 impl Machine {
-    /// FENCE.I: from now on code is fetched from memory as it is, and the cache of decoded instructions is empty.
+    /// FENCE.I: from now on code is fetched from memory as it is, and no instruction is known.
     #[inline(always)]
-    #[tactic(auto, using(crate::proofs::Keeping::still), unfolding(crate::specs::Step::retire, crate::specs::Step::synchronize))]
+    #[tactic(auto, using(crate::proofs::Keeping::still, crate::proofs::Lines::still_lines), unfolding(crate::specs::Step::retire, crate::specs::Step::synchronize))]
     fn synchronize(&mut self, word: u32) -> Stepped
         requires count { self.old.retired + 1 < 2 ^ 64 }
         ensures does { HartDoes (synchronization self.old word) self.old self.new result }
@@ -34,6 +34,7 @@ impl Machine {
     {
         self.mem.sync_code();
         self.cache.clear();
+        self.lines.clear();
         self.retire(word, self.pc.wrapping_add(4), 0, 0)
     }
 

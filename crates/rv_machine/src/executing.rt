@@ -25,8 +25,9 @@ fn breaks(i: Instr) -> bool
     matches!(i, Instr::Ebreak)
 }
 
+/// Writes a register; x0 stays zero.
 #[inline(always)]
-fn write_register(regs: &mut [u32; 32], r: u8, value: u32)
+pub(crate) fn write_register(regs: &mut [u32; 32], r: u8, value: u32)
     requires { r < 32 }
     ensures value { regs.new ≡ with_register regs.old r value }
     ensures length { length regs.new ≡ 32 }
@@ -119,7 +120,7 @@ impl Machine {
 
     /// A store, as `access` says.
     #[inline(always)]
-    #[tactic(auto, using(crate::proofs::Keeping::still), unfolding(crate::specs::Step::retire))]
+    #[tactic(auto, using(crate::proofs::Keeping::still, crate::proofs::Lines::still_lines), unfolding(crate::specs::Step::retire))]
     fn store(&mut self, word: u32, access: Access) -> Stepped
         requires width { IsWidth access.width }
         requires count { self.old.retired + 1 < 2 ^ 64 }

@@ -4,9 +4,13 @@
 mod calling;
 mod decode_cache;
 mod executing;
+mod flat;
+mod flat_acting;
+mod flat_lines;
 mod instruction_sets;
 mod machine;
 mod outcome;
+mod quiet;
 mod serving;
 mod stepping;
 

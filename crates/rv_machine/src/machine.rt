@@ -4,6 +4,7 @@ ghost use Rattle.std.specs.Prelude.{◌≡◌, slice_index};
 ghost use Rattle.rv_machine.specs.Machine.{start_hart};
 
 use crate::decode_cache::DecodeCache;
+use crate::flat_lines::FlatLines;
 use mem_regions::Regions;
 use std::marker::Model;
 
@@ -15,6 +16,7 @@ pub struct Machine {
     pub(crate) mem: Regions,
     pub(crate) retired: u64,
     pub(crate) cache: DecodeCache,
+    pub(crate) lines: FlatLines,
 }
 
 /// What a machine consists of.
@@ -37,18 +39,19 @@ impl Model for Machine {
     ghost use Rattle.std.specs.Prelude.{◌≡◌, slice_index};
     ghost use Rattle.rv_machine.specs.Hart.{Hart};
     ghost use Rattle.rv_machine.specs.Decoded.{IsCacheOf};
+    ghost use Rattle.rv_machine.specs.Lines.{AreLinesOf};
 
     ghost Value = { Hart };
 
     ghost view = { λ m. record { pc = m.pc; regs = m.regs; mem = m.mem; retired = m.retired } };
 
-    ghost invariant = { λ m. (slice_index m.regs 0 ≡ 0) × IsCacheOf m.mem m.cache.places };
+    ghost invariant = { λ m. (slice_index m.regs 0 ≡ 0) × IsCacheOf m.mem m.cache.places × AreLinesOf m.mem m.lines.lines };
 }
 
 impl Machine {
     /// A machine at its start: at the entry, with x2 below the top of the stack, all other registers 0, and nothing
     /// retired.
-    #[tactic(auto, using(crate::proofs::Keeping::still))]
+    #[tactic(auto, using(crate::proofs::Keeping::still, crate::proofs::Lines::still_lines))]
     pub fn new(mem: Regions, entry: u32) -> Machine
         ensures { result ≡ start_hart mem entry }
     {
@@ -60,6 +63,7 @@ impl Machine {
             mem,
             retired: 0,
             cache: DecodeCache::new(),
+            lines: FlatLines::new(),
         }
     }
 

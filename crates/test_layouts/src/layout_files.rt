@@ -1,7 +1,7 @@
 //! What no clause says: that files are read, and that the definitions mean what is wanted.
 use cf_layout::{Layout, LayoutErr, plain};
 use layout_file::laws::read_back;
-use layout_file::{FileErr, read_layout, write_layout};
+use layout_file::{FileErr, read_layout, read_layout_loosely, write_layout};
 use rv_inst::Class;
 use std::alloc::Global;
 
@@ -18,6 +18,14 @@ const SECOND: &str =
 /// Tiny in another order, with stages that are listed twice.
 const SHUFFLED: &str =
     "units = {jump = [1], branch = [1], compare = [1, 1], shift = [2], logic = [1], add = [2, 1, 2]}\nsiding = [{cells = 1, recover = 2, launch = 1, classes = [\"memory\"]}]\nlane = 4\nstages = 2\nformat = 1\n";
+
+/// Tiny with its branches above the stage from which loads and stores are launched.
+const LOOSE: &str =
+    "format = 1\nstages = 2\nlane = 4\n\n[units]\nadd = [1, 2]\nlogic = [1]\nshift = [2]\ncompare = [1]\nbranch = [2]\njump = [1]\n\n[[siding]]\nclasses = [\"memory\"]\nlaunch = 1\nrecover = 2\ncells = 1\n";
+
+/// The same with no unit for jumps.
+const LOOSE_WITHOUT_JUMPS: &str =
+    "format = 1\nstages = 2\nlane = 4\n\n[units]\nadd = [1, 2]\nlogic = [1]\nshift = [2]\ncompare = [1]\nbranch = [2]\n\n[[siding]]\nclasses = [\"memory\"]\nlaunch = 1\nrecover = 2\ncells = 1\n";
 
 /// Whether the layout is written as this text.
 fn is_written(alloc: Global, layout: &Layout, text: &str) -> bool {
@@ -120,4 +128,31 @@ fn refuses_values_in_order(rt: HostRuntime) {
     assert!(rt; is_refused(alloc, file, refusal));
     let file = b"format = 1\nlane = 2\nstages = 2\nunits = {mul = [1]}\n";
     assert!(rt; is_refused(alloc, file, Refusal::UnknownClass("mul")));
+}
+
+/// Whether the file's layout, read loosely, has two stages and turns control at the second.
+fn is_read_loosely(alloc: Global, file: &str) -> bool {
+    match read_layout_loosely(alloc, file.as_bytes()) {
+        Ok(layout) => layout.stages() == 2 && layout.unit_at(Class::Branch, 2),
+        Err(_) => false,
+    }
+}
+
+/// Whether the file gets this refusal also where it is read loosely.
+fn is_refused_loosely(alloc: Global, file: &str, refusal: Refusal) -> bool {
+    match read_layout_loosely(alloc, file.as_bytes()) {
+        Ok(_) => false,
+        Err(error) => tells(&error, refusal),
+    }
+}
+
+#[test]
+fn reads_loosely_what_turns_control_above_memory(rt: HostRuntime) {
+    let alloc = rt.alloc();
+    let above = Refusal::Refused(LayoutErr::ControlAboveMemory(Class::Branch, 2, 1));
+    assert!(rt; is_refused(alloc, LOOSE.as_bytes(), above));
+    assert!(rt; is_read_loosely(alloc, LOOSE));
+    let missing = Refusal::Refused(LayoutErr::MissingUnit(Class::Jump));
+    assert!(rt; is_refused(alloc, LOOSE_WITHOUT_JUMPS.as_bytes(), missing));
+    assert!(rt; is_refused_loosely(alloc, LOOSE_WITHOUT_JUMPS, missing));
 }

@@ -2,19 +2,19 @@
 use crate::programs::{BASE, STACK, machine_of, memory_of};
 use cf_io::{Empty, MemSink, MemSource, Nowhere};
 use mem_regions::Regions;
+use rv_inst::Isa;
 use rv_machine::{Machine, Served, Stepped, serve};
 use std::process::Abort;
 
-/// Steps until an instruction does not retire, with the M extension or without it.
-fn run(machine: &mut Machine, multiplies: bool) -> Stepped {
+/// Steps until an instruction does not retire, with this instruction set.
+fn run(machine: &mut Machine, isa: Isa) -> Stepped {
     for _ in 0..100 {
         if machine.retired() > 1000 {
             break;
         }
-        let stepped = if multiplies {
-            machine.step_m(&mut Empty, &mut Nowhere)
-        } else {
-            machine.step(&mut Empty, &mut Nowhere)
+        let stepped = match isa {
+            Isa::Rv32i => machine.step(&mut Empty, &mut Nowhere),
+            Isa::Rv32im => machine.step_m(&mut Empty, &mut Nowhere),
         };
         match stepped {
             Stepped::Next(_) => {}
@@ -85,8 +85,8 @@ static ENDING: [Ending; 2] = [
 ];
 
 /// Compares how the machine ends, and how many instructions have retired by then.
-fn assert_ends(rt: &impl Abort, mut machine: Machine, multiplies: bool, ends: (Stepped, u64)) {
-    let end = run(&mut machine, multiplies);
+fn assert_ends(rt: &impl Abort, mut machine: Machine, isa: Isa, ends: (Stepped, u64)) {
+    let end = run(&mut machine, isa);
     assert_eq!(rt; (end, machine.retired()), ends);
 }
 
@@ -95,7 +95,12 @@ fn traps_as_the_manual_says(rt: HostRuntime) {
     for row in TRAPPING.iter() {
         let (words, (cause, pc, detail), retired) = *row;
         let end = Stepped::Trap { cause, pc, detail };
-        assert_ends(&rt, machine_of(&rt, words, BASE), false, (end, retired));
+        assert_ends(
+            &rt,
+            machine_of(&rt, words, BASE),
+            Isa::Rv32i,
+            (end, retired),
+        );
     }
 }
 
@@ -104,7 +109,12 @@ fn ends_as_the_manual_says(rt: HostRuntime) {
     for row in ENDING.iter() {
         let (words, status, retired) = *row;
         let end = Stepped::Exit(status);
-        assert_ends(&rt, machine_of(&rt, words, BASE), false, (end, retired));
+        assert_ends(
+            &rt,
+            machine_of(&rt, words, BASE),
+            Isa::Rv32i,
+            (end, retired),
+        );
     }
 }
 
@@ -116,7 +126,7 @@ fn entry_is_no_multiple_of_four(rt: HostRuntime) {
         pc: BASE + 2,
         detail: BASE + 2,
     };
-    assert_ends(&rt, machine, false, (end, 0));
+    assert_ends(&rt, machine, Isa::Rv32i, (end, 0));
 }
 
 #[test]
@@ -130,7 +140,7 @@ fn multiplies_with_the_m_extension(rt: HostRuntime) {
         0x0000_0073,
     ];
     let machine = machine_of(&rt, &words, BASE);
-    assert_ends(&rt, machine, true, (Stepped::Exit(42), 4));
+    assert_ends(&rt, machine, Isa::Rv32im, (Stepped::Exit(42), 4));
 }
 
 fn regs_of(number: u32, arguments: [u32; 3]) -> [u32; 32] {

@@ -1,5 +1,5 @@
 //! Arguments of command lines, by the grammar: what they request, and which of them is refused.
-use cli_arguments::{Command, LayoutWord, Schedule, read_words};
+use cli_arguments::{Command, GuessRule, LayoutWord, Rule, Schedule, TimeShow, read_words};
 use std::alloc::{AllocError, Global};
 use std::process::Abort;
 
@@ -99,8 +99,8 @@ fn run_asked(words: &[String]) -> Option<RunAsked<'_>> {
     };
     let (script, seed) = match options.schedule {
         Schedule::Script(file) => (Some(file), None),
-        Schedule::Seed(seed) => (None, Some(seed)),
-        Schedule::Rule => (None, None),
+        Schedule::Seed(seed, _) => (None, Some(seed)),
+        Schedule::Rule(_) => (None, None),
     };
     Some((script, seed, options.limit))
 }
@@ -130,8 +130,8 @@ fn run_words(rt: HostRuntime) {
     }
 }
 
-/// The delays, the program, how many layouts, the limit, and whether the parts of each time are shown.
-type TimeAsked<'a> = (&'a str, &'a str, usize, u64, bool);
+/// The delays, the program, how many layouts, the limit, and what is shown of each time.
+type TimeAsked<'a> = (&'a str, &'a str, usize, u64, TimeShow);
 
 /// What the arguments request to compare.
 fn time_asked(words: &[String]) -> Option<TimeAsked<'_>> {
@@ -143,19 +143,32 @@ fn time_asked(words: &[String]) -> Option<TimeAsked<'_>> {
                 layouts,
                 options,
             },
-        ) => Some((delays, program, layouts.len(), options.limit, options.sites)),
+        ) => Some((delays, program, layouts.len(), options.limit, options.show)),
         _ => None,
     }
 }
 
-const TIME_ROWS: [(&str, TimeAsked<'static>); 4] = [
-    ("time d p plain", ("d", "p", 1, 10_000_000, false)),
+const TIME_ROWS: [(&str, TimeAsked<'static>); 5] = [
+    (
+        "time d p plain",
+        ("d", "p", 1, 10_000_000, TimeShow::Nothing),
+    ),
     (
         "time d p l plain --show sites",
-        ("d", "p", 2, 10_000_000, true),
+        ("d", "p", 2, 10_000_000, TimeShow::Sites),
     ),
-    ("time d p l --limit 5 --show sites", ("d", "p", 1, 5, true)),
-    ("time d p l --show sites --limit 5", ("d", "p", 1, 5, true)),
+    (
+        "time d p l --limit 5 --show sites",
+        ("d", "p", 1, 5, TimeShow::Sites),
+    ),
+    (
+        "time d p l --show sites --limit 5",
+        ("d", "p", 1, 5, TimeShow::Sites),
+    ),
+    (
+        "time d p l --limit 1G --show moves",
+        ("d", "p", 1, 1_000_000_000, TimeShow::Moves),
+    ),
 ];
 
 fn asks_time(rt: &(impl Abort + AllocGlobal), line: &str, wanted: TimeAsked<'_>) -> bool {
@@ -170,8 +183,142 @@ fn time_words(rt: HostRuntime) {
     }
 }
 
+/// The guess rule, the seed and the file with the input.
+type TimeChoice<'a> = (GuessRule, Option<u32>, Option<&'a str>);
+
+/// How the arguments request to make the runs that are compared.
+fn time_choice(words: &[String]) -> Option<TimeChoice<'_>> {
+    match read_words(words) {
+        Ok(Command::Time { options, .. }) => Some((options.rule, options.seed, options.input)),
+        _ => None,
+    }
+}
+
+const TIME_CHOICES: [(&str, TimeChoice<'static>); 4] = [
+    ("time d p l", (GuessRule::Any, None, None)),
+    (
+        "time d p l --seed 7 --guess backward",
+        (GuessRule::Backward, Some(7), None),
+    ),
+    ("time d p l --guess wait", (GuessRule::Wait, None, None)),
+    (
+        "time d p l --input in --guess wait",
+        (GuessRule::Wait, None, Some("in")),
+    ),
+];
+
+fn chooses_time(rt: &(impl Abort + AllocGlobal), line: &str, wanted: TimeChoice<'_>) -> bool {
+    let words = words_of(rt, line);
+    time_choice(words.as_slice()) == Some(wanted)
+}
+
+#[test]
+fn time_choices(rt: HostRuntime) {
+    for (line, wanted) in &TIME_CHOICES {
+        assert!(rt; chooses_time(&rt, line, *wanted), "{line}");
+    }
+}
+
+/// The program, the issues, the states, the rule that is taken away, and whether the edges are shown.
+type OrdersAsked<'a> = (&'a str, u32, u32, Option<Rule>, bool);
+
+/// What the arguments request to search.
+fn orders_asked(words: &[String]) -> Option<OrdersAsked<'_>> {
+    match read_words(words) {
+        Ok(
+            Command::Orders {
+                program,
+                options,
+                ..
+            },
+        ) => Some((
+            program,
+            options.issues,
+            options.states,
+            options.without,
+            options.show_edges,
+        )),
+        _ => None,
+    }
+}
+
+const ORDERS_ROWS: [(&str, OrdersAsked<'static>); 4] = [
+    ("orders plain p", ("p", 3, 1_000_000, None, false)),
+    (
+        "orders l p --issues 64 --states 16777216",
+        ("p", 64, 16_777_216, None, false),
+    ),
+    (
+        "orders l p --without meet:kill --issues 0000000001",
+        ("p", 1, 1_000_000, Some(Rule::MeetKill), false),
+    ),
+    (
+        "orders l p --show edges --without layout:ControlAboveMemory --states 1",
+        ("p", 3, 1, Some(Rule::ControlAboveMemory), true),
+    ),
+];
+
+fn asks_orders(rt: &(impl Abort + AllocGlobal), line: &str, wanted: OrdersAsked<'_>) -> bool {
+    let words = words_of(rt, line);
+    orders_asked(words.as_slice()) == Some(wanted)
+}
+
+#[test]
+fn orders_words(rt: HostRuntime) {
+    for (line, wanted) in &ORDERS_ROWS {
+        assert!(rt; asks_orders(&rt, line, *wanted), "{line}");
+    }
+}
+
+/// The limit, and after how many instructions it is said each time how far the run has come.
+type Amounts = (u64, Option<u64>);
+
+/// The amounts that the arguments of a run have.
+fn amounts(words: &[String]) -> Option<Amounts> {
+    match read_words(words) {
+        Ok(Command::Machine { options, .. }) => Some((options.limit, options.every)),
+        Ok(Command::Run { options, .. }) => Some((options.limit, options.reporting.every)),
+        Ok(Command::Moves { limit, every, .. }) => Some((limit, every)),
+        Ok(Command::Rounds { limit, every, .. }) => Some((limit, every)),
+        _ => None,
+    }
+}
+
+const AMOUNT_ROWS: [(&str, Amounts); 6] = [
+    ("machine p --limit 1000G", (1_000_000_000_000, None)),
+    (
+        "machine p --limit 999G --every 0001M",
+        (999_000_000_000, Some(1_000_000)),
+    ),
+    (
+        "run plain p --limit 9999M --every 1",
+        (9_999_000_000, Some(1)),
+    ),
+    (
+        "moves l p --every 1000G --script s --limit 0k",
+        (0, Some(1_000_000_000_000)),
+    ),
+    ("rounds l p --limit 9999k", (9_999_000, None)),
+    (
+        "rounds l p --every 1000000000 --guess next",
+        (10_000_000, Some(1_000_000_000)),
+    ),
+];
+
+fn has_amounts(rt: &(impl Abort + AllocGlobal), line: &str, wanted: Amounts) -> bool {
+    let words = words_of(rt, line);
+    amounts(words.as_slice()) == Some(wanted)
+}
+
+#[test]
+fn amount_words(rt: HostRuntime) {
+    for (line, wanted) in &AMOUNT_ROWS {
+        assert!(rt; has_amounts(&rt, line, *wanted), "{line}");
+    }
+}
+
 /// Lines, and the index of the first unrecognised argument of each.
-const REFUSALS: [(&str, u32); 33] = [
+const REFUSALS: [(&str, u32); 55] = [
     ("", 0),
     ("machines", 0),
     ("machine", 1),
@@ -205,6 +352,28 @@ const REFUSALS: [(&str, u32); 33] = [
     ("time d p l --show sites m", 6),
     ("run l p --show sites", 4),
     ("machine p --show sites", 3),
+    ("machine p --show edges", 3),
+    ("run l p --show edges", 4),
+    ("time d p l --show report", 5),
+    ("time d p l --show moves --show sites", 6),
+    ("time d p l --seed 4294967296", 5),
+    ("time d p l --seed 1k", 5),
+    ("time d p l --guess never", 5),
+    ("time d p l --input --limit", 5),
+    ("time d p l --input a --input b", 6),
+    ("time d p l --limit 1001M", 5),
+    ("time d p l --script s", 4),
+    ("machine p --input a", 2),
+    ("orders plain", 2),
+    ("orders plain p q", 3),
+    ("orders plain p --issues 0", 4),
+    ("orders plain p --issues 65", 4),
+    ("orders plain p --issues 1k", 4),
+    ("orders plain p --states 16777217", 4),
+    ("orders plain p --states 0", 4),
+    ("orders plain p --without climb:notMet", 4),
+    ("orders plain p --show moves", 4),
+    ("orders plain p --limit 5", 3),
 ];
 
 fn refusal(rt: &(impl Abort + AllocGlobal), line: &str) -> Option<u32> {

@@ -11,6 +11,8 @@ mod drains;
 #[cfg(test)]
 mod first_lines;
 #[cfg(test)]
+mod logs;
+#[cfg(test)]
 mod processors;
 #[cfg(test)]
 mod report_lines;

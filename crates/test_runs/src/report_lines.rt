@@ -34,11 +34,35 @@ fn register(reg: u8, value: Option<u32>) -> Option<Binding> {
     Some(Binding { reg, value })
 }
 
-fn cell(passenger: Option<Passenger>, packet: Option<Packet>, met: bool) -> Cell {
+/// A stage with nothing in it.
+const EMPTY: Cell = Cell {
+    passenger: None,
+    packet: None,
+    met: false,
+};
+
+/// A stage with an instruction alone.
+fn instruction_alone(passenger: Passenger) -> Cell {
     Cell {
-        passenger,
-        packet,
-        met,
+        passenger: Some(passenger),
+        ..EMPTY
+    }
+}
+
+/// A stage with a result alone.
+fn result_alone(packet: Packet) -> Cell {
+    Cell {
+        packet: Some(packet),
+        ..EMPTY
+    }
+}
+
+/// A stage with an instruction and a result that have met.
+fn met(passenger: Passenger, packet: Packet) -> Cell {
+    Cell {
+        passenger: Some(passenger),
+        packet: Some(packet),
+        met: true,
     }
 }
 
@@ -50,11 +74,7 @@ fn sent() -> Cell {
         next: Some(0x0001_0004),
         ..issued(0x0001_0000, 0x0070_0513)
     };
-    cell(
-        Some(passenger),
-        Some(Packet::Value { reg: 10, value: 7 }),
-        true,
-    )
+    met(passenger, Packet::Value { reg: 10, value: 7 })
 }
 
 /// `addi x1, x1, 1`, which was executed and still owes its result.
@@ -67,7 +87,7 @@ fn owing() -> Cell {
         owes: Some(Packet::Value { reg: 1, value: 1 }),
         ..issued(0x0001_0000, 0x0010_8093)
     };
-    cell(Some(passenger), None, false)
+    instruction_alone(passenger)
 }
 
 /// `addi x1, x1, 1`, which has its source.
@@ -77,7 +97,7 @@ fn ready() -> Cell {
         dst: register(1, None),
         ..issued(0x0001_0004, 0x0010_8093)
     };
-    cell(Some(passenger), None, false)
+    instruction_alone(passenger)
 }
 
 /// `addi x5, x10, 1`, before it meets the value of its source.
@@ -87,11 +107,11 @@ fn unmet() -> Cell {
         dst: register(5, None),
         ..issued(0x0001_0000, 0x0015_0293)
     };
-    cell(
-        Some(passenger),
-        Some(Packet::Value { reg: 10, value: 0 }),
-        false,
-    )
+    Cell {
+        passenger: Some(passenger),
+        packet: Some(Packet::Value { reg: 10, value: 0 }),
+        met: false,
+    }
 }
 
 /// `sw x1, 0(x2)`, which died of a turn.
@@ -102,7 +122,7 @@ fn dead() -> Cell {
         dead: true,
         ..issued(0x0001_0004, 0x0011_2023)
     };
-    cell(Some(passenger), Some(Packet::Turn(0x0001_0008)), true)
+    met(passenger, Packet::Turn(0x0001_0008))
 }
 
 /// `slli x1, x0, 1`, dead while its operation is in a siding.
@@ -113,7 +133,7 @@ fn dead_out() -> Cell {
         dead: true,
         ..issued(0x0001_0004, 0x0010_1093)
     };
-    cell(Some(passenger), None, false)
+    instruction_alone(passenger)
 }
 
 /// `jalr x0, 0(x0)` with a guess, which ended the program.
@@ -124,7 +144,7 @@ fn ended(guess: Guess, ending: End) -> Cell {
         ending: Some(ending),
         ..issued(0x0001_0000, 0x0000_0067)
     };
-    cell(Some(passenger), None, false)
+    instruction_alone(passenger)
 }
 
 /// A load that was launched, guessed as taken.
@@ -134,7 +154,7 @@ fn out() -> Cell {
         launched: true,
         ..issued(0x0001_0000, 0x0000_2003)
     };
-    cell(Some(passenger), None, false)
+    instruction_alone(passenger)
 }
 
 fn trap() -> End {
@@ -208,12 +228,12 @@ fn put_stages(rt: &impl Abort, report: &mut MemSink) {
         (2, unmet()),
         (1, dead()),
         (3, dead_out()),
-        (2, cell(None, Some(Packet::Turn(0x0001_0008)), false)),
-        (32, cell(None, Some(Packet::Halt), false)),
+        (2, result_alone(Packet::Turn(0x0001_0008))),
+        (32, result_alone(Packet::Halt)),
         (4, ended(Guess::To(0xab), trap())),
         (8, ended(Guess::Wait, End::Exit(7))),
         (5, out()),
-        (1, cell(None, None, false)),
+        (1, EMPTY),
     ];
     for (stage, cell) in &stages {
         assert!(rt; put_stage(*stage, cell, report).is_ok(), "put");

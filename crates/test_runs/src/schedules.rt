@@ -9,6 +9,7 @@ use cf_index::Candidates;
 use cf_layout::plain;
 use cf_sched::{Drawn, Pace, Policy, Round};
 use cf_semantics::Event;
+use run_options::GuessRule;
 use std::process::Abort;
 
 /// The first words of the generator with a seed.
@@ -65,7 +66,7 @@ fn offers(pace: &Pace, core: &Core, candidates: &mut Candidates, count: usize) -
 
 /// With two stages Issue is held back from the fourth Issue on.
 fn assert_held_back(rt: &impl Abort, core: &Core, candidates: &mut Candidates) {
-    let mut pace = Pace::new(2);
+    let mut pace = Pace::new(GuessRule::Any, 2);
     for _ in 0..4 {
         assert!(rt; !pace.held() && offers(&pace, core, candidates, 5));
         pace.saw(Move::Issue(Guess::Next), &Event::Plain, false);

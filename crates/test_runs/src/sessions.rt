@@ -142,7 +142,7 @@ fn refusals(rt: HostRuntime) {
         b"\n \t\r\n\r\n# note\nmove\nmove jump\nmove climb\nmove emit 1\nmove \x80\n\x80\nmove execute 1\n\
         auto\nauto 0\nauto 1000001\nauto 0000000001\nauto x 1\nauto 1 1\n\
         mem 7F0FFFF0 1 \nmem 7f0ffff0\nmem 7f0ffff0 0\nmem 7f0ffff0 17\nmem 7f0ffff 1\nmem 00010000 16\nmem 00010000 12\n\
-        \tbreak  0001000C\r\nbreak none\nbreak\nbreak none 1\nbound\r\nback 1\nend 1\nend\nfrob\n";
+        \tbreak  0001000C\r\nbreak none\nbreak\nbreak none 1\nbound\r\nback 1 1\nend 1\nend\nfrob\n";
     let answers =
         b"? UnknownCommand\n? UnknownMove\n? UnknownMove\n? BadNumber\n? ExtraWords\n? NotAscii\n\
         ? UnknownCommand\n? NoPassenger\n? BadNumber\n? BadNumber\n? BadNumber\n? BadNumber\n? BadNumber\n? ExtraWords\n\

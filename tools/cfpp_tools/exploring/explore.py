@@ -12,6 +12,7 @@ from .. import commands
 from ..command_line import Stop
 from ..readers.layouts import Layout
 from ..readers.times import counts
+from ..sweeping.means import mean_of
 from ..sweeping.runs import KINDS, Row, Run
 from ..sweeping.sweep import Manner, sweep
 from ..sweeping.table import rows_of
@@ -21,13 +22,15 @@ from .task import Task
 
 @dataclasses.dataclass(frozen=True)
 class Measured:
-    """A layout that was run: its name, its parts, what it costs, and its time and energy, the geometric means of the programs."""
+    """A layout that was run: its name, its parts, what it costs, and its time and energy, the geometric means of the programs, of each
+    the mean of the seeds. The spread says how far the farthest time of a seed is from that mean, as a part of it."""
 
     name: str
     layout: Layout
     cost: float
     time: float
     energy: float
+    spread: float
 
     def measure(self, name: str) -> float:
         return float(getattr(self, name))
@@ -78,9 +81,13 @@ class Exploration:
         self.write(new)
         layouts = commands.check_all([self.file(point) for point in new])
         taken = [name for name, (layout, _) in layouts.items() if layout]
-        rows = self.rows([Run(name, program, self.task.schedule) for name in taken for program in self.task.programs])
+        rows = self.rows([run for name in taken for program in self.task.programs for run in self.runs(name, program)])
         measured = {name: self.measured(name, layout, rows) for name, (layout, _) in layouts.items() if layout}
         self.found.update({point: measured.get(str(self.file(point))) for point in new})
+
+    def runs(self, name: str, program: str) -> List[Run]:
+        """The runs of a program on a layout."""
+        return [Run(name, program, schedule) for schedule in self.task.schedules]
 
     def rows(self, runs: Sequence[Run]) -> Dict[Run, Row]:
         """The rows of these runs, which are made where the table has none."""
@@ -92,14 +99,14 @@ class Exploration:
 
     def measured(self, name: str, layout: Layout, rows: Dict[Run, Row]) -> Measured:
         """The measures of a layout."""
-        own = [rows[Run(name, program, self.task.schedule)] for program in self.task.programs]
-        failed = next((row for row in own if not row["time"]), None)
+        programs = [[rows[run] for run in self.runs(name, program)] for program in self.task.programs]
+        failed = next((row for own in programs for row in own if not row["time"]), None)
         if failed:
             raise Stop(f"{name} {failed['program']}: {failed['ending']}")
-        energies = [self.task.energy_of(counts(row[KINDS])) for row in own]
-        return Measured(
-            pathlib.Path(name).stem, layout, self.task.cost_of(layout), mean([float(row["time"]) for row in own]), mean(energies)
-        )
+        times = [mean_of([float(row["time"]) for row in own]) for own in programs]
+        energies = [mean_of([self.task.energy_of(counts(row[KINDS])) for row in own]).value for own in programs]
+        time, spread = mean([found.value for found in times]), max(found.spread for found in times)
+        return Measured(pathlib.Path(name).stem, layout, self.task.cost_of(layout), time, mean(energies), spread)
 
     @property
     def layouts(self) -> List[Measured]:

@@ -11,6 +11,7 @@ from ..command_line import Stop
 from ..program import Name
 from ..readers.layouts import CLASSES, Layout
 from ..readers.moves import KINDS
+from ..sweeping.schedules import schedules_of
 from ..toml import only, read_toml
 from .space import Space
 
@@ -19,11 +20,13 @@ MEASURES = ("cost", "time", "energy")
 
 @dataclasses.dataclass(frozen=True)
 class Task:
-    """The space; the programs, the delays, the guess rule and the limit of the runs; the weights; and how the search goes."""
+    """The space; the programs, the delays, their seeds, the guess rule and the limit of the runs; the weights; and how the search
+    goes."""
 
     space: Space
     programs: List[str]
     delays: str
+    seeds: List[int]
     guess: Optional[str]
     limit: int
     cost: Dict[str, Any]
@@ -34,8 +37,9 @@ class Task:
     front: Tuple[str, str]
 
     @property
-    def schedule(self) -> str:
-        return f"delays {self.delays}" + (f" guess {self.guess}" if self.guess else "")
+    def schedules(self) -> List[str]:
+        """The schedules of a program on a layout, one for each seed."""
+        return schedules_of(False, False, [self.delays], self.seeds, [self.guess] if self.guess else [])
 
     def cost_of(self, layout: Layout) -> float:
         """The weights of its stages, the places of its lane, its cells, its cache and its units, in all."""
@@ -73,7 +77,7 @@ def read_task(name: Name) -> Task:
     only(str(name), table, ("space", "runs", "cost", "energy", "search"))
     check_weights(name, table)
     runs, search = needed(str(name), table, "runs"), table.get("search", {})
-    only(f"{name}, runs", runs, ("programs", "delays", "guess", "limit"))
+    only(f"{name}, runs", runs, ("programs", "delays", "seeds", "guess", "limit"))
     only(f"{name}, search", search, ("most", "climbs", "seed", "front"))
     front = tuple(search.get("front", ("cost", "time")))
     if len(front) != 2 or not set(front) <= set(MEASURES):
@@ -83,6 +87,7 @@ def read_task(name: Name) -> Task:
         Space(needed(str(name), table, "space")),
         [seen_from(folder, program) for program in needed(f"{name}, runs", runs, "programs")],
         seen_from(folder, needed(f"{name}, runs", runs, "delays")),
+        runs.get("seeds", []),
         runs.get("guess"),
         runs.get("limit", 10_000_000),
         table.get("cost", {}),

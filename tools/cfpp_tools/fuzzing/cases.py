@@ -92,7 +92,9 @@ def of_delays(draw: random.Random, put: Put) -> Case:
     put("delays", one_of(draw, making.delays, files("delays/*.delays")))
     put("program", one_of(draw, making.image, files("*.bin")))
     layouts = draw.choices(LAYOUTS, k=draw.randint(1, 9))
-    yield ["time", "delays", "program", *layouts, "--limit", "20", *some(draw, [], ["--show", "sites"])]
+    shown = some(draw, [], ["--show", "sites"], ["--show", "moves"])
+    drawn = some(draw, [], ["--seed", str(draw.getrandbits(32))])
+    yield ["time", "delays", "program", *layouts, "--limit", "20", *shown, *drawn, *some(draw, [], ["--guess", "backward"])]
 
 
 def of_trace(draw: random.Random, put: Put) -> Case:

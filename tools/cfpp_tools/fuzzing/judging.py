@@ -6,7 +6,7 @@ import dataclasses
 from typing import Callable, Dict, Iterator, List, Optional
 
 from ..readers.audits import AuditReport, read_audit
-from ..readers.endings import Ending, read_ending
+from ..readers.endings import REFUSALS, Ending, read_ending
 from ..readers.lines import Lines, ReadFault
 from ..readers.reports import Report
 from ..readers.runs import RunReport, read_run
@@ -21,7 +21,7 @@ SECONDS = 20
 RECORDED = "recorded"
 
 # The endings whose line is alone in the report of any command.
-ALONE = {"bad words", "bad layout", "bad program", "bad source", "bad delays", "bad trace", "no memory", "write fault"}
+ALONE = REFUSALS | {"write fault"}
 
 
 @dataclasses.dataclass
@@ -66,7 +66,8 @@ def is_timed(report: Report, call: Call) -> bool:
     """Whether all layouts were timed, and reported as the call wants it."""
     if not isinstance(report, TimesReport) or report.least is None or call.status != 0:
         return False
-    return all((run.sites is not None) == ("sites" in call.arguments) for run in report.runs)
+    shown = [len(run.made) == (run.moves if "moves" in call.arguments else 0) for run in report.runs]
+    return all(shown) and all((run.sites is not None) == ("sites" in call.arguments) for run in report.runs)
 
 
 def is_audited(report: Report, call: Call) -> bool:

@@ -95,9 +95,14 @@ def source(draw: random.Random) -> bytes:
     return "\n".join(lines).encode()
 
 
+def delay(draw: random.Random) -> str:
+    ticks = draw.choice([1, 2, 10, 999, 1000, 1001, 0])
+    return draw.choice([f"{ticks}", f"{ticks}-{draw.choice([1, 10, 1000])}"])
+
+
 def delays(draw: random.Random) -> bytes:
-    kinds = draw.sample(["issue", *KINDS, *STAGE_KINDS, "slide", "frob"], draw.randint(0, 8))
-    return "".join(f"{kind} {draw.choice([1, 2, 10, 999, 1000, 1001, 0])}\n" for kind in kinds).encode()
+    kinds = ["issue", *KINDS, *STAGE_KINDS, "slide", "frob", "execute add", "execute div", "launch memory", "recover mul", "climb add"]
+    return "".join(f"{kind} {delay(draw)}\n" for kind in draw.sample(kinds, draw.randint(0, 8))).encode()
 
 
 def command(draw: random.Random) -> str:

@@ -92,12 +92,14 @@ class Place:
     program: Optional[pathlib.Path] = None
 
     def run(self, text: str) -> Done:
-        """Runs a command."""
+        """Runs a command. The directory's name, which `make` prints, is a dot in what came."""
         environment = {**os.environ, "CFPP_PROGRAM": str(self.program)} if self.program else None
         words = ["bash", "-c", text]
-        return subprocess.run(
+        done = subprocess.run(
             words, cwd=self.folder, stdin=subprocess.DEVNULL, capture_output=True, env=environment, check=False
         )
+        done.stdout, done.stderr = (printed.replace(os.fsencode(self.folder), b".") for printed in (done.stdout, done.stderr))
+        return done
 
 
 def fault_of(command: Command, done: Done) -> Optional[str]:

@@ -19,8 +19,9 @@ SPACE is a TOML file, whose files are named as seen from its directory:
 
     [runs]                          which programs, with which delays (`cfpp time`)
     programs = ["sorted.bin"]
-    delays = "equal.delays"
-    guess = "backward"                      a guess rule of cfpp, where it has them; may be left out
+    delays = "ranges.delays"
+    seeds = [1, 2, 3]                       from which the delays are drawn; the middles of their ranges where this is left out
+    guess = "backward"                      a guess rule of cfpp, any where it is left out
     limit = 10000                           10,000,000 where it is left out
 
     [cost]                          what a layout costs: weights, 0 where they are left out
@@ -39,11 +40,12 @@ SPACE is a TOML file, whose files are named as seen from its directory:
     seed = 1                                from points that are drawn from this seed
     front = ["cost", "time"]                the two measures of the front: cost, time or energy
 
-A point of the space whose layout is refused is left out. Time and energy are geometric means of the programs. DIRECTORY gets
+A point of the space whose layout is refused is left out. Time and energy are geometric means of the programs, of each the mean of
+its seeds; `spread` says how far the farthest time is from the mean of its seeds, as a part of it. DIRECTORY gets
 `layouts/`, the layouts; `runs.csv`, the table of tools/sweep, from which a call that was interrupted goes on; `table.csv`, a row a
 layout with its measures; `front.csv`, those that no other beats; `front.svg`, a plot that names these alone (by gnuplot, where it
 is installed); and `best/`, their layouts. With --layouts-only it just writes the layouts of all points; tools/sweep --kinds may
-then make the runs elsewhere.
+then make the runs elsewhere. A layout of which a run did other work than most runs of its program is marked by an asterisk.
 """
 
 from __future__ import annotations
@@ -51,6 +53,7 @@ from __future__ import annotations
 import csv
 import pathlib
 import shutil
+import sys
 from typing import List, Sequence
 
 from .. import command_line
@@ -58,8 +61,10 @@ from ..command_line import Stop
 from ..exploring.explore import Exploration, Measured
 from ..exploring.task import MEASURES, Task, read_task
 from ..front import Point, drawing, front_of
+from ..sweeping.comparing import MARK, remarks, unlike
+from ..sweeping.table import rows_of
 
-COLUMNS = ("layout", "stages", "lane", "cache", "cells", "units", *MEASURES)
+COLUMNS = ("layout", "stages", "lane", "cache", "cells", "units", *MEASURES, "spread")
 
 
 def row_of(measured: Measured) -> List[object]:
@@ -67,7 +72,7 @@ def row_of(measured: Measured) -> List[object]:
     layout = measured.layout
     units = " ".join(f"{name}={','.join(map(str, stages))}" for name, stages in layout.units.items())
     parts = [measured.name, layout.stages, layout.lane, int(layout.cache), layout.cells, units]
-    return [*parts, *(f"{measured.measure(name):g}" for name in MEASURES)]
+    return [*parts, *(f"{measured.measure(name):g}" for name in MEASURES), f"{measured.spread:.4f}"]
 
 
 def write_table(name: pathlib.Path, layouts: Sequence[Measured]) -> None:
@@ -105,8 +110,12 @@ def write(task: Task, folder: pathlib.Path, exploration: Exploration) -> None:
     keep_best(folder, best)
     told = f"{len(layouts):,} layouts run, {exploration.refused:,} refused, {len(best):,} that no other beats"
     print(f"{task.space.size:,} points, {told}")
+    rows = rows_of(folder / "runs.csv")
+    marked = {pathlib.Path(run.layout).stem for run in unlike(rows)}
+    for remark in remarks(rows):
+        print(f"tools/explore: {remark}", file=sys.stderr)
     for measured in best:
-        print(f"{measured.name}: " + ", ".join(f"{name} {measured.measure(name):g}" for name in MEASURES))
+        print(f"{measured.name}{MARK if measured.name in marked else ''}: " + ", ".join(f"{name} {measured.measure(name):g}" for name in MEASURES))
     if shutil.which("gnuplot"):
         (folder / "front.svg").write_text(drawing(points_of(task, layouts), *task.front))
 

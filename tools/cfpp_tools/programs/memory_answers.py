@@ -20,7 +20,7 @@ MADE = re.compile(r"\bNoMemory\b|\bAllocError\b|\bno_memory\(\)|\brefuse_memory\
 # Where none is made: declarations, patterns on the left of an arrow, the text of a report, the number of a status.
 OTHER = re.compile(
     r"^\s*(//|use |ghost |ensures|requires|impl |fn |pub |NoMemory,|\})"
-    r"|NoMemory => (page\.push|push_variant|\d)|-> |matches!"
+    r"|NoMemory => (page\.push|push_variant|\d)|-> |^\s*\w+: Result<|matches!"
 )
 # A call that asks for memory failed, or answered that there is none.
 REFUSED = re.compile(
@@ -38,7 +38,8 @@ def unexplained(path: pathlib.Path) -> Iterator[str]:
     """The places of a file where neither holds."""
     lines = path.read_text().splitlines()
     for at, line in enumerate(lines):
-        if MADE.search(line) and not OTHER.search(line) and not is_explained(lines[max(0, at - 6) : at + 1]):
+        is_made = MADE.search(line) and not OTHER.search(line)
+        if is_made and not is_explained(lines[max(0, at - 6) : at + 1]):
             yield f"{path.relative_to(TOP)}:{at + 1}: {line.strip()}"
 
 

@@ -1,13 +1,18 @@
 """Draws what tools/sweep measured, by gnuplot, or writes it as a table of Markdown.
 
-    tools/plot bars TABLE >SVG          for each layout a bar per program: the moves for one retired instruction, the mean of
-                                        all its schedules, with the least and the most
+    tools/plot bars TABLE [COLUMN] >SVG for each layout a bar per program: the moves for one retired instruction, or what COLUMN
+                                        has (time or rounds), the mean of all its schedules, with the least and the most
     tools/plot front TABLE COLUMN >SVG  for each layout a point: its stages and the cells of its sidings, and COLUMN (time,
                                         rounds or moves) beside that of the first layout, the geometric mean of all
                                         programs. A line joins those that no other beats in both, and they alone are named
     tools/plot table TABLE >TEXT        for each program a table of its runs by the rule
+    tools/plot times TABLE >TEXT        a table with a column for each program and schedule, whatever its seed: the mean time of
+                                        the first layout in ticks, and of each other one beside that; in parentheses how many
+                                        instructions were issued for each that retired, where tools/sweep --kinds counted them
 
-Layouts and programs are named by their files, without directory and suffix.
+Layouts and programs are named by their files, without directory and suffix. A layout is marked by an asterisk where a run of
+it did other work than most runs of the program: it ended otherwise, or retired another number of instructions. `front` and
+`times` leave such runs out of their means.
 """
 
 from __future__ import annotations
@@ -23,15 +28,19 @@ from typing import DefaultDict, Dict, Iterator, List, Sequence, Tuple
 from .. import command_line, commands
 from ..command_line import Stop
 from ..front import Point, block, drawing, escaped, gnuplot
+from ..sweeping.comparing import MARK, remarks, unlike
 from ..sweeping.runs import Row, run_of
+from ..sweeping.times_table import times_table
 from ..toml import read_toml
 
 COUNTS = ("retired", "moves", "meets", "kills", "dead")
+# What a column counts, where its name does not say it.
+UNITS = {"time": "ticks"}
 
 BARS = """set terminal svg size 1000,{height} font "sans,12" background "white"
 set key outside top horizontal
 set style fill solid 0.8
-set xlabel "moves for one retired instruction"
+set xlabel "{unit} for one retired instruction"
 set xrange [0:*]
 set yrange [{rows}:-1]
 set ytics scale 0 ({names})
@@ -54,12 +63,19 @@ def ordered(rows: Sequence[Row], column: str) -> List[str]:
     return list(dict.fromkeys(row[column] for row in rows))
 
 
-def rates(rows: Sequence[Row]) -> Dict[Tuple[str, str], List[float]]:
-    """For each layout and program the moves for one retired instruction, of all schedules."""
+def rates(rows: Sequence[Row], column: str) -> Dict[Tuple[str, str], List[float]]:
+    """For each layout and program what a column has for one retired instruction, of all schedules."""
     found: DefaultDict[Tuple[str, str], List[float]] = collections.defaultdict(list)
     for row in rows:
-        if row["moves"] and row["retired"] not in ("", "0"):
-            found[row["layout"], row["program"]].append(int(row["moves"]) / int(row["retired"]))
+        if row[column] and row["retired"] not in ("", "0"):
+            found[row["layout"], row["program"]].append(int(row[column]) / int(row["retired"]))
+    return found
+
+
+def marks_of(rows: Sequence[Row]) -> DefaultDict[str, str]:
+    """The mark of each layout of which a run did other work than most runs of its program."""
+    found: DefaultDict[str, str] = collections.defaultdict(str)
+    found.update({run.layout: MARK for run in unlike(rows)})
     return found
 
 
@@ -69,8 +85,8 @@ def bar(values: List[float], low: float, thick: float) -> str:
     return f"{mean} {low + thick / 2} 0 {mean} {low} {low + thick} {min(values)} {max(values)}"
 
 
-def bars(rows: Sequence[Row]) -> str:
-    layouts, programs, found = ordered(rows, "layout"), ordered(rows, "program"), rates(rows)
+def bars(rows: Sequence[Row], column: str) -> str:
+    layouts, programs, found = ordered(rows, "layout"), ordered(rows, "program"), rates(rows, column)
     thick = 0.8 / len(programs)
     blocks, plots = "", []
     for place, program in enumerate(programs):
@@ -78,14 +94,17 @@ def bars(rows: Sequence[Row]) -> str:
         blocks += block(f"b{place}", [bar(found[layout, program], low, thick) for layout, low in lows.items()])
         plots.append(f'$b{place} using 1:2:3:4:5:6 with boxxyerror title "{name_of(program)}"')
         plots.append(f"$b{place} using 1:2:7:8 with xerrorbars pt 0 lc black notitle")
-    names = ", ".join(f'"{escaped(name_of(layout))}" {at}' for at, layout in enumerate(layouts))
+    marks = marks_of(rows)
+    names = ", ".join(f'"{escaped(name_of(layout) + marks[layout])}" {at}' for at, layout in enumerate(layouts))
     height = 80 + 14 * len(layouts) * len(programs)
-    return gnuplot(blocks + BARS.format(height=height, rows=len(layouts), names=names, plots=", ".join(plots)))
+    unit = UNITS.get(column, column)
+    return gnuplot(blocks + BARS.format(height=height, unit=unit, rows=len(layouts), names=names, plots=", ".join(plots)))
 
 
 def means(rows: Sequence[Row], column: str) -> Dict[str, float]:
     """For each layout the geometric mean of a column beside that of the first layout, over the runs that both have."""
-    of_run = {run_of(row): int(row[column]) for row in rows if row[column] not in ("", "0")}
+    different = unlike(rows)
+    of_run = {run_of(row): int(row[column]) for row in rows if row[column] not in ("", "0") and run_of(row) not in different}
     first = rows[0]["layout"]
     logs: DefaultDict[str, List[float]] = collections.defaultdict(list)
     for run, value in of_run.items():
@@ -109,41 +128,52 @@ def size_of(layout: str) -> int:
 
 
 def front(rows: Sequence[Row], column: str) -> str:
-    points = [Point(size_of(layout), mean, name_of(layout)) for layout, mean in means(rows, column).items()]
+    marks = marks_of(rows)
+    points = [Point(size_of(layout), mean, name_of(layout) + marks[layout]) for layout, mean in means(rows, column).items()]
     return drawing(points, "stages and cells", f"{column} beside that of {name_of(rows[0]['layout'])}")
 
 
 def table(rows: Sequence[Row]) -> Iterator[str]:
     """The lines of the tables."""
+    different = unlike(rows)
     for program in ordered(rows, "program"):
         yield f"\n`{name_of(program)}`:\n\n| layout | {' | '.join(COUNTS)} |\n|---{'|---:' * len(COUNTS)}|"
-        yield from (line_of(row) for row in rows if row["program"] == program and row["schedule"] == "rule")
+        own = [row for row in rows if row["program"] == program and row["schedule"] == "rule"]
+        yield from (line_of(row, MARK if run_of(row) in different else "") for row in own)
+    yield from (f"\n\\* {remark}" for remark in remarks(rows))
 
 
-def line_of(row: Row) -> str:
+def line_of(row: Row, mark: str) -> str:
     """The line of a run in a table; what was not counted is left empty."""
     counts = " | ".join(f"{int(row[count]):,}" if row[count] else "" for count in COUNTS)
-    return f"| {name_of(row['layout'])} | {counts} |"
+    return f"| {name_of(row['layout'])}{mark} | {counts} |"
 
 
-def drawn(arguments: argparse.Namespace) -> str:
+TEXTS = {"table": table, "times": times_table}
+DRAWINGS = {"bars": bars, "front": front}
+
+
+def written(arguments: argparse.Namespace) -> str:
+    """What is asked for of the table."""
     rows = rows_of(arguments.table)
     if not rows:
         raise Stop(f"{arguments.table}: it has no rows")
     try:
-        if arguments.what == "table":
-            return "\n".join(table(rows)) + "\n"
-        return bars(rows) if arguments.what == "bars" else front(rows, arguments.column)
+        if arguments.what in TEXTS:
+            return "".join(f"{line}\n" for line in TEXTS[arguments.what](rows))
+        return DRAWINGS[arguments.what](rows, arguments.column)
     except KeyError as fault:
         raise Stop(f"{arguments.table}: it has no column {fault}") from fault
 
 
 def main(given: Sequence[str]) -> None:
     parser = command_line.parser("tools/plot", __doc__)
-    parser.add_argument("what", choices=("bars", "front", "table"))
+    parser.add_argument("what", choices=(*DRAWINGS, *TEXTS))
     parser.add_argument("table", metavar="TABLE")
     parser.add_argument("column", metavar="COLUMN", nargs="?")
     arguments = parser.parse_args(given)
-    if (arguments.what == "front") != (arguments.column is not None):
-        parser.error("front takes a column, and the others none")
-    sys.stdout.write(drawn(arguments))
+    if arguments.what == "bars" and arguments.column is None:
+        arguments.column = "moves"
+    if (arguments.what in DRAWINGS) != (arguments.column is not None):
+        parser.error("front takes a column, bars may have one, and the others take none")
+    sys.stdout.write(written(arguments))

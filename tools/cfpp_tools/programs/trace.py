@@ -1,6 +1,7 @@
 """Writes the trace of a run for other tools.
 
     cfpp run LAYOUT PROGRAM --show moves 2>TRACE
+    cfpp time DELAYS PROGRAM LAYOUT .. --show moves 2>TRACE
     tools/trace FORMAT LAYOUT PROGRAM TRACE [--input FILE] >WRITTEN
 
 FORMAT is one of
@@ -12,9 +13,14 @@ FORMAT is one of
     konata    a row for each instruction, for Konata (Kanata 0004)
     dot       which move had to wait for which, for Graphviz, which draws a few hundred moves in seconds
 
-The trace is checked by `cfpp audit` first, so that what is written is of a real run; FILE is what the guest read in that
-run, or nothing. The texts of the instructions are those that `cfpp list` gives, of the program as it was loaded. A trace
-that is not one of a run, or cannot be read, is refused with the number of a line and a reason.
+Without times a move takes one tick, one after another. Of a report of `time`, which may have several layouts, it is the run on
+LAYOUT, in ticks: waves have a tick as a nanosecond, a cycle of Konata is a tick, and the table has the ticks at which each move
+starts and finishes. The moves come in the order in which they finish.
+
+The trace is checked first, so that what is written is of a real run: by `cfpp conform`, at any length, or with FILE, what the
+guest read in that run, by `cfpp audit`, up to 16 MiB; the moves of a timed run by `cfpp run --script`, and that each starts when
+those that it had to wait for have finished. The texts of the instructions are those that `cfpp list` gives, of the program as it
+was loaded. A trace that is not one of a run, or cannot be read, is refused with a reason.
 """
 
 from __future__ import annotations
@@ -27,7 +33,8 @@ from .. import command_line
 from ..command_line import Stop
 from ..readers.lines import ReadFault
 from ..tracing import kanata, script, table, waits, waves
-from ..tracing.trace import WrongTrace, trace_of
+from ..tracing.conforming import WrongTrace
+from ..tracing.trace import trace_of
 
 WRITERS = {
     "script": script.write,

@@ -30,11 +30,16 @@ FORMS = [
     ("bad delays", 131, r"bad delays: (?P<reason>TooLong)"),
     ("bad trace", 132, rf"bad trace line (?P<line>[0-9]+): (?P<reason>{REASON})"),
     ("bad trace", 132, r"bad trace: (?P<reason>TooLong)"),
+    ("bad input", 137, r"bad input: (?P<reason>TooLong)"),
+    ("bad log", 134, rf"bad log line (?P<line>[0-9]+): (?P<reason>{REASON})"),
+    ("log end", 135, r"log end after (?P<number>[0-9]+) moves"),
+    ("wrong", 136, r"wrong after (?P<number>[0-9]+) moves: (?P<what>retired|ended|output|stuck|memory)"),
+    ("too many states", 121, r"more than (?P<number>[0-9]+) states"),
 ]
 COMPILED = [(kind, status, re.compile(form, re.DOTALL)) for kind, status, form in FORMS]
 
 # The kinds after which the report says nothing of a guest: its run has not begun.
-REFUSALS = {"bad words", "bad layout", "bad program", "bad source", "bad delays", "bad trace", "no memory"}
+REFUSALS = {"bad words", "bad layout", "bad program", "bad source", "bad delays", "bad trace", "bad input", "no memory", "too many states"}
 
 
 @dataclasses.dataclass(frozen=True)

@@ -6,18 +6,22 @@ import dataclasses
 from typing import Any, Callable, Dict, Union
 
 from .audits import AuditReport, read_audit
+from .conforms import ConformReport, read_conform
 from .lines import Lines, ReadFault
+from .orders import OrdersReport, read_orders
 from .runs import RunReport, read_run
 from .sessions import SessionReport, read_session
 from .times import TimesReport, read_times
 
-Report = Union[RunReport, TimesReport, AuditReport, SessionReport]
+Report = Union[RunReport, TimesReport, AuditReport, ConformReport, OrdersReport, SessionReport]
 
 # In this order: what refuses a call, or is a retired instruction's line, may be in reports of several commands.
 READERS: Dict[str, Callable[[Lines], Report]] = {
     "run": read_run,
     "time": read_times,
     "audit": read_audit,
+    "conform": read_conform,
+    "orders": read_orders,
     "debug": read_session,
 }
 

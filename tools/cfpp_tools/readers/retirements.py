@@ -6,7 +6,7 @@ import dataclasses
 import re
 from typing import Optional, Tuple
 
-from .lines import ADDRESS, Lines
+from .lines import ADDRESS, Lines, ReadFault
 
 RETIREMENT = re.compile(rf"retire ([1-9][0-9]*) ({ADDRESS}) ({ADDRESS}) (?:x([0-9]{{2}})=({ADDRESS})|-)")
 
@@ -22,14 +22,25 @@ class Retirement:
     value: Optional[int] = None
 
 
-def take_retirement(lines: Lines) -> Optional[Retirement]:
-    """The retired instruction of the next line, or None where it is another line."""
-    found = lines.take(RETIREMENT)
-    if found is None:
-        return None
+def retirement_of(found: re.Match[str]) -> Retirement:
+    """The retired instruction of these parts of a line."""
     number, pc, word, register, value = found.groups()
     written = (int(register), int(value, 16)) if register else (None, None)
     return Retirement(int(number), int(pc, 16), int(word, 16), *written)
+
+
+def take_retirement(lines: Lines) -> Optional[Retirement]:
+    """The retired instruction of the next line, or None where it is another line."""
+    found = lines.take(RETIREMENT)
+    return retirement_of(found) if found else None
+
+
+def read_retirement(text: str, line: int) -> Retirement:
+    """The retired instruction of a text, which is in this line."""
+    found = RETIREMENT.fullmatch(text)
+    if found is None:
+        raise ReadFault(line, f"`{text}` is no retired instruction")
+    return retirement_of(found)
 
 
 def read_retirements(lines: Lines) -> Tuple[Retirement, ...]:

@@ -8,7 +8,7 @@ from typing import Callable, Dict, Optional, Tuple, Union
 
 from .endings import Ending, read_ending, take_ending
 from .lines import ADDRESS, Lines
-from .moves import Move, read_move
+from .moves import CHOICE, Choice, Move, read_move
 from .pictures import Picture, read_picture
 from .registers import Registers, read_registers
 from .retirements import Retirement, read_retirements
@@ -63,6 +63,23 @@ class Bytes:
 
 
 @dataclasses.dataclass(frozen=True)
+class Code:
+    """The word that is fetched at an address, and its text."""
+
+    address: int
+    word: int
+    text: str
+
+
+@dataclasses.dataclass(frozen=True)
+class HelpLine:
+    """A line of the help: the form of a command, and what it does."""
+
+    command: str
+    does: str
+
+
+@dataclasses.dataclass(frozen=True)
 class RefusedCommand:
     """A command that changed nothing, and why."""
 
@@ -76,7 +93,8 @@ class AllRegisters:
     values: Registers
 
 
-Answer = Union[Moved, Retired, Automatic, Back, Break, Bound, Bytes, RefusedCommand, AllRegisters, Picture]
+Shown = Union[Bytes, Code, Choice, HelpLine, AllRegisters, Picture]
+Answer = Union[Moved, Retired, Automatic, Back, Break, Bound, Shown, RefusedCommand]
 
 
 @dataclasses.dataclass(frozen=True)
@@ -95,10 +113,13 @@ def bytes_of(found: re.Match[str]) -> Bytes:
 FORMS: Dict[str, Callable[[re.Match[str]], Answer]] = {
     "moved": lambda found: Moved(),
     "auto ([0-9]+)": lambda found: Automatic(int(found[1])),
-    "back (.+)": lambda found: Back(read_move(found[1])),
+    "back ([a-z].+)": lambda found: Back(read_move(found[1])),
     f"break ({ADDRESS}|none)": lambda found: Break(None if found[1] == "none" else int(found[1], 16)),
     "bound ([0-9]+)": lambda found: Bound(int(found[1])),
     f"({ADDRESS})((?: [0-9a-f]{{2}}){{1,16}})": bytes_of,
+    f"({ADDRESS}) ({ADDRESS}) (.+)": lambda found: Code(int(found[1], 16), int(found[2], 16), found[3]),
+    CHOICE.pattern: lambda found: Choice(read_move(found[1] or found[2]), found[3]),
+    "([a-z].{14}) ([a-z].+)": lambda found: HelpLine(found[1].rstrip(), found[2]),
     r"\? ([A-Z][A-Za-z]+(?: x[0-9]{2})?)": lambda found: RefusedCommand(found[1]),
 }
 COMPILED = [(re.compile(form), make) for form, make in FORMS.items()]

@@ -9,6 +9,7 @@ from typing import List, Optional, Tuple
 from .lines import Lines, ReadFault
 from .moves import Move, read_move
 from .pictures import Picture, read_picture
+from .progress import Progress, take_progress
 from .retirements import Retirement, take_retirement
 
 MOVE_LINE = re.compile(r"move ([1-9][0-9]*) (.+)")
@@ -16,13 +17,15 @@ MOVE_LINE = re.compile(r"move ([1-9][0-9]*) (.+)")
 
 @dataclasses.dataclass(frozen=True)
 class Group:
-    """One move of a trace: its number, the line where it begins, what retired by it, and the picture after it."""
+    """One move of a trace: its number, the line where it begins, what retired by it, and the picture after it; and how far the run
+    has come, where that is said there."""
 
     number: int
     line: int
     move: Move
     retirement: Optional[Retirement]
     picture: Picture
+    progress: Optional[Progress] = None
 
 
 def read_groups(lines: Lines) -> Tuple[Group, ...]:
@@ -33,7 +36,8 @@ def read_groups(lines: Lines) -> Tuple[Group, ...]:
         if int(found[1]) != len(groups) + 1:
             raise ReadFault(line, f"move {len(groups) + 1} is missing")
         move = read_move(found[2], line)
-        groups.append(Group(len(groups) + 1, line, move, take_retirement(lines), read_picture(lines)))
+        retirement, progress = take_retirement(lines), take_progress(lines)
+        groups.append(Group(len(groups) + 1, line, move, retirement, read_picture(lines), progress))
     return tuple(groups)
 
 

@@ -4,6 +4,7 @@ from __future__ import annotations
 
 import concurrent.futures
 import os
+import pathlib
 import platform
 import shutil
 import subprocess
@@ -48,13 +49,19 @@ def made_here(
             raise
 
 
+def sweep_program() -> str:
+    """The program of sweeps beside the one that was started, which may be that of explorations."""
+    started = pathlib.Path(sys.argv[0]).resolve()
+    return str(started.with_name("cfpp-sweep" if started.name.startswith("cfpp-") else "sweep"))
+
+
 def command_of(runs: Sequence[Run], limit: int, kinds: bool, options: Sequence[str], log_name: str) -> List[str]:
-    """The call of parallel, which calls this program again."""
+    """The call of parallel, which calls tools/sweep for some runs at a time."""
     if not shutil.which("parallel"):
         raise Stop("GNU parallel is not installed")
     at_once = str(max(1, min(MOST_AT_ONCE, len(runs) // 40)))
     command = ["parallel", "--workdir", os.getcwd(), "--joblog", f"+{log_name}", "-n", at_once, *options]
-    return [*command, os.path.realpath(sys.argv[0]), "--rows", str(limit), str(int(kinds)), "{}"]
+    return [*command, sweep_program(), "--rows", str(limit), str(int(kinds)), "{}"]
 
 
 def made_by_parallel(

@@ -11,6 +11,7 @@ from .. import commands
 from ..command_line import Stop
 from ..readers.runs import RunReport
 from ..readers.times import TimesReport
+from .schedules import read_schedule
 
 COLUMNS = "layout,program,schedule,ending,retired,moves,meets,kills,dead,time,rounds".split(",")
 # A table may have this column too: the moves of each kind, of the schedules that count them.
@@ -72,19 +73,18 @@ def guest_of(program: str) -> Optional[pathlib.Path]:
 
 def make_row(run: Run, limit: int, kinds: bool) -> Row:
     """Makes one run, and gives its row."""
-    schedule, _, guess = run.schedule.partition(" guess ")
-    kind, _, value = schedule.partition(" ")
-    more = ["--guess", guess] if guess else []
+    schedule, guest = read_schedule(run.schedule), guest_of(run.program)
+    seed, guess = schedule.seed, schedule.guess
     row: Optional[Row] = None
-    if kind == "delays":
-        times = commands.time(value, run.program, [run.layout], limit=limit, show="sites" if kinds else None, more=more).report
+    if schedule.command == "time":
+        show = "sites" if kinds else None
+        times = commands.time(schedule.delays, run.program, [run.layout], limit=limit, show=show, seed=seed, guess=guess).report
         row = of_times(times) if times else None
-    elif kind == "rounds":
-        report = commands.rounds(run.layout, run.program, limit=limit, given=guest_of(run.program), more=more).report
+    elif schedule.command == "rounds":
+        report = commands.rounds(run.layout, run.program, limit=limit, guess=guess, given=guest).report
         row = of_run(report) if report else None
     else:
-        seed = int(value) if value else None
-        report = commands.run(run.layout, run.program, seed=seed, limit=limit, given=guest_of(run.program), more=more).report
+        report = commands.run(run.layout, run.program, seed=seed, limit=limit, guess=guess, given=guest).report
         row = of_run(report) if report else None
     if row is None:
         raise Stop(f"no report of {' '.join(run)}")

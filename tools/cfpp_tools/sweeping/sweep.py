@@ -53,7 +53,7 @@ def sweep(name: Name, runs: Sequence[Run], manner: Manner) -> None:
             rows = made_here(wanted, table.rows, manner.limit, manner.kinds, manner.jobs, log)
         for row in rows:
             table.add(row)
-        table.arrange(runs)
+        table.finish(runs)
 
 
 def join(name: Name, tables: Sequence[Name], kinds: bool = False) -> None:

@@ -2,8 +2,8 @@
 
 Rows are only ever appended, each by one process at a time, so that one which is killed leaves at most a prefix of its last row;
 the next process takes that out. The rows are sorted when the last process ends, in a new file that takes the place of the old
-one. Two bytes of the file TABLE.lock are locked: one by each process for as long as it runs, the other for as long as a row is
-added.
+one. Three bytes of the file TABLE.lock are locked: one by each process for as long as it may add rows, one for as long as a row is
+added, and one by a process that looks whether it is the last, so that of two which end at the same time the second is.
 """
 
 from __future__ import annotations
@@ -21,7 +21,7 @@ from ..program import Name
 from .runs import COLUMNS, KINDS, Row, Run, read_rows, row_text, run_of
 
 # The bytes of the lock.
-RUNNING, ADDING = 0, 1
+RUNNING, ADDING, ENDING = 0, 1, 2
 
 
 def head_of(line: str, name: Name) -> List[str]:
@@ -50,7 +50,7 @@ class Table:
         fcntl.lockf(self.lock, fcntl.LOCK_SH, 1, RUNNING)
         self.file = os.open(self.path, os.O_RDWR | os.O_CREAT | os.O_APPEND, 0o666)
         self.seen = 0
-        with self.adding():
+        with self.holding(ADDING):
             self.begin(kinds)
 
     def __enter__(self) -> "Table":
@@ -63,13 +63,13 @@ class Table:
         os.close(self.lock)
 
     @contextlib.contextmanager
-    def adding(self) -> Iterator[None]:
-        """No other process adds a row meanwhile."""
-        fcntl.lockf(self.lock, fcntl.LOCK_EX, 1, ADDING)
+    def holding(self, byte: int) -> Iterator[None]:
+        """No other process holds this byte of the lock meanwhile."""
+        fcntl.lockf(self.lock, fcntl.LOCK_EX, 1, byte)
         try:
             yield
         finally:
-            fcntl.lockf(self.lock, fcntl.LOCK_UN, 1, ADDING)
+            fcntl.lockf(self.lock, fcntl.LOCK_UN, 1, byte)
 
     def begin(self, kinds: bool) -> None:
         """Reads the table, or writes the head of a new one."""
@@ -106,7 +106,7 @@ class Table:
 
     def add(self, row: Row) -> None:
         """Adds a row, unless another process has added that of the same run."""
-        with self.adding():
+        with self.holding(ADDING):
             self.note(self.take_new_lines())
             if run_of(row) not in self.rows:
                 self.append(row_text(row, self.columns))
@@ -125,17 +125,22 @@ class Table:
         finally:
             fcntl.lockf(self.lock, fcntl.LOCK_SH, 1, RUNNING)
 
+    def finish(self, runs: Sequence[Run]) -> None:
+        """Puts the rows of these runs in their order and those of others after them, unless another process may still add rows: then
+        that one does so. This process must add none afterwards."""
+        with self.holding(ENDING):
+            with self.alone() as is_alone:
+                if is_alone:
+                    self.note(self.take_new_lines())
+                    self.arrange(runs)
+            fcntl.lockf(self.lock, fcntl.LOCK_UN, 1, RUNNING)
+
     def arrange(self, runs: Sequence[Run]) -> None:
-        """Puts the rows of these runs in their order and those of others after them, unless another process still adds rows: then
-        that one does so."""
-        with self.alone() as is_alone:
-            if not is_alone:
-                return
-            self.note(self.take_new_lines())
-            place = {run: at for at, run in enumerate(runs)}
-            rows = sorted(self.rows.values(), key=lambda row: place.get(run_of(row), len(runs)))
-            head = dict(zip(self.columns, self.columns))
-            self.replace("".join(row_text(row, self.columns) for row in [head, *rows]))
+        """Puts the rows of these runs in their order and those of others after them."""
+        place = {run: at for at, run in enumerate(runs)}
+        rows = sorted(self.rows.values(), key=lambda row: place.get(run_of(row), len(runs)))
+        head = dict(zip(self.columns, self.columns))
+        self.replace("".join(row_text(row, self.columns) for row in [head, *rows]))
 
     def replace(self, text: str) -> None:
         """Puts a new file in the place of the old one."""

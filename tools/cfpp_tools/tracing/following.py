@@ -9,6 +9,7 @@ from ..readers.layouts import Layout
 from ..readers.lines import ReadFault
 from ..readers.moves import Move
 from ..readers.pictures import Picture, Stage
+from ..readers.times import TimedMove
 from ..readers.traces import Group
 
 
@@ -27,13 +28,14 @@ class Step:
 
     `instruction` is the one that moved, or that the move acted on. `event` is empty, `killed`, `died`, `retired`, `ended`
     or `gone`, where a dead instruction left. `supplies` are those whose values the instruction took by the move, with the
-    register; a value from the register file has no supplier."""
+    register; a value from the register file has no supplier. `timed` is the move of a timed run."""
 
     group: Group
     before: Picture
     instruction: Optional[Followed] = None
     event: str = ""
     supplies: List[Tuple[Followed, int]] = dataclasses.field(default_factory=list)
+    timed: Optional[TimedMove] = None
 
     @property
     def after(self) -> Picture:
@@ -42,6 +44,21 @@ class Step:
     @property
     def move(self) -> Move:
         return self.group.move
+
+    @property
+    def number(self) -> int:
+        """The number of the move in its run."""
+        return self.timed.number if self.timed else self.group.number
+
+    @property
+    def start(self) -> int:
+        """When the move starts: without times, each takes one tick, one after another."""
+        return self.timed.start if self.timed else self.group.number - 1
+
+    @property
+    def finish(self) -> int:
+        """When the move finishes, and the picture after it holds."""
+        return self.timed.finish if self.timed else self.group.number
 
 
 def fault(step: Step) -> ReadFault:

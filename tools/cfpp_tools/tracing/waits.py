@@ -1,35 +1,17 @@
 """Which move had to wait for which, as a graph for Graphviz.
 
-A move waits for the last one before it that used a place which it uses. A move's time is one more than the largest of
-those that it waits for, so that moves of one row could be made at once. The edges of one longest chain are bold."""
+Moves of one row finish at the same time. The edges of one longest chain are bold."""
 
 from __future__ import annotations
 
-from typing import Dict, List, Sequence, Set, Tuple
+from typing import Dict, List, Set, Tuple
 
-from ..readers.layouts import Layout
-from ..sites import Site, sites
 from .following import Step
 from .trace import Trace
-
-Awaited = Dict[int, List[int]]
+from .waiting import Awaited, waits
 
 # The colours of the moves of one instruction, taken in turn.
 COLOURS = "lightblue lightyellow lightpink palegreen lavender wheat".split()
-
-
-def waits(steps: Sequence[Step], layout: Layout) -> Tuple[Awaited, Dict[int, int]]:
-    """For each move the numbers of those that it had to wait for, and its time."""
-    last: Dict[Site, int] = {}
-    awaited: Awaited = {}
-    time: Dict[int, int] = {}
-    for step in steps:
-        number = step.group.number
-        used = sites(step.move, layout)
-        awaited[number] = sorted({last[site] for site in used if site in last})
-        time[number] = 1 + max((time[other] for other in awaited[number]), default=0)
-        last.update(dict.fromkeys(used, number))
-    return awaited, time
 
 
 def longest_chain(awaited: Awaited, time: Dict[int, int]) -> Set[Tuple[int, int]]:
@@ -47,7 +29,7 @@ def longest_chain(awaited: Awaited, time: Dict[int, int]) -> Set[Tuple[int, int]
 
 def node(step: Step) -> str:
     colour = COLOURS[step.instruction.number % len(COLOURS)] if step.instruction else "white"
-    return f'  m{step.group.number} [label="{step.group.number} {step.move.text}", fillcolor={colour}];'
+    return f'  m{step.number} [label="{step.number} {step.move.text}", fillcolor={colour}];'
 
 
 def ranks(time: Dict[int, int]) -> List[str]:

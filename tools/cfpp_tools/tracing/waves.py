@@ -1,14 +1,17 @@
-"""A trace as waves, in VCD, and what GTKWave is to show of them. A move takes a nanosecond.
+"""A trace as waves, in VCD, and what GTKWave is to show of them. A move takes a nanosecond; of a timed run a tick is one.
 
-Where nothing is in a stage or a cell its addresses and values are unknown (z), and its texts are `-`."""
+What a move changes changes when it finishes. In a timed run each stage and each cell says which move is in progress there. Where
+nothing is in a stage or a cell its addresses and values are unknown (z), and its texts are `-`."""
 
 from __future__ import annotations
 
 import dataclasses
-from typing import Callable, Dict, List, Optional, Sequence, Tuple
+from typing import Callable, Dict, Iterator, List, Optional, Sequence, Tuple
 
 from ..readers.layouts import Layout
-from ..readers.pictures import Binding, Operation, Picture, Stage
+from ..readers.pictures import Binding, Operation, Stage
+from ..sites import Site
+from .moments import Moment, moments
 from .trace import Trace
 
 
@@ -57,10 +60,11 @@ def text(name: str) -> Variable:
 
 Scopes = List[Tuple[str, List[Variable]]]
 
-# The variables of a stage, a cell and the rest.
+# The variables of a stage, a cell and the rest. The move is named where it is in progress in a timed run, and by the rest otherwise.
+MOVE = text("move")
 STAGE = [address("pc"), text("text"), text("flag"), text("result"), address("value"), truth("met")]
 CELL = [address("pc"), truth("answered")]
-WHOLE = [text("move"), address("retired"), address("fetch"), text("lane")]
+WHOLE = [address("retired"), address("fetch"), text("lane")]
 CACHE = [text("cache")]
 
 
@@ -89,30 +93,39 @@ def of_cache(kept: Optional[Tuple[Binding, ...]]) -> str:
     return ",".join(f"x{binding.register:02}={binding.value or 0:08x}" for binding in kept or ())
 
 
-def of_whole(move: str, retired: int, picture: Picture) -> List[object]:
-    return [move, retired, picture.fetch, ",".join(f"x{register:02}" for register in picture.lane)]
+def of_whole(moment: Moment) -> List[object]:
+    picture = moment.picture
+    return [moment.retired, picture.fetch, ",".join(f"x{register:02}" for register in picture.lane)]
 
 
-def scopes(layout: Layout) -> Scopes:
+def scopes(layout: Layout, is_timed: bool) -> Scopes:
     """The scopes in their order, each with its variables."""
-    found = [("processor", WHOLE + (CACHE if layout.cache else []))]
-    found += [(f"stage{stage}", STAGE) for stage in range(layout.stages, 0, -1)]
+    whole, place = ([], [MOVE]) if is_timed else ([MOVE], [])
+    found = [("processor", whole + WHOLE + (CACHE if layout.cache else []))]
+    found += [(f"stage{stage}", place + STAGE) for stage in range(layout.stages, 0, -1)]
     for k, siding in enumerate(layout.sidings):
-        found += [(f"siding{k}_cell{c}", CELL) for c in range(siding.cells)]
+        found += [(f"siding{k}_cell{c}", place + CELL) for c in range(siding.cells)]
     return found
 
 
-def values(trace: Trace, move: str, retired: int, picture: Picture) -> List[object]:
+def of_places(trace: Trace, moment: Moment) -> Iterator[Tuple[Site, List[object]]]:
+    """The values of each stage and each cell."""
+    layout, picture = trace.layout, moment.picture
+    for stage in range(layout.stages, 0, -1):
+        yield ("stage", stage), of_stage(picture.stages.get(stage), trace.texts)
+    for k, siding in enumerate(layout.sidings):
+        for c, operation in enumerate(picture.sidings.get(k, (None,) * siding.cells)):
+            yield ("cell", k, c), of_cell(operation)
+
+
+def values(trace: Trace, moment: Moment) -> List[object]:
     """The values of all variables, in the order of the scopes."""
-    layout = trace.layout
-    stages = (of_stage(picture.stages.get(stage), trace.texts) for stage in range(layout.stages, 0, -1))
-    cells = (picture.sidings.get(k, (None,) * siding.cells) for k, siding in enumerate(layout.sidings))
-    return [
-        *of_whole(move, retired, picture),
-        *([of_cache(picture.cache)] if layout.cache else []),
-        *(value for stage in stages for value in stage),
-        *(value for siding in cells for operation in siding for value in of_cell(operation)),
-    ]
+    found: List[object] = [] if trace.is_timed else [moment.moves.get(None)]
+    found += of_whole(moment)
+    found += [of_cache(moment.picture.cache)] if trace.layout.cache else []
+    for place, members in of_places(trace, moment):
+        found += [moment.moves.get(place), *members] if trace.is_timed else members
+    return found
 
 
 def code(index: int) -> str:
@@ -142,18 +155,17 @@ def head(found: Scopes) -> List[str]:
 
 
 def write(trace: Trace) -> List[str]:
-    """The lines of the waves: at each move what changed by it."""
-    found = scopes(trace.layout)
+    """The lines of the waves: at each time what has changed."""
+    found = scopes(trace.layout, trace.is_timed)
     flat = [member for _, members in found for member in members]
-    lines, last, retired = head(found), [""] * len(flat), 0
-    for step in trace.steps:
-        retired = step.group.retirement.number if step.group.retirement else retired
-        lines.append(f"#{step.group.number}")
-        new = values(trace, step.move.text, retired, step.after)
+    lines, last, end = head(found), [""] * len(flat), 0
+    for time, moment in moments(trace):
+        lines.append(f"#{time}")
+        new = values(trace, moment)
         written = [f"{member.written(value)}{code(number)}" for number, (member, value) in enumerate(zip(flat, new))]
         lines += [line for line, old in zip(written, last) if line != old]
-        last = written
-    return [*lines, f"#{len(trace.steps) + 1}"]
+        last, end = written, time
+    return [*lines, f"#{end + 1}"]
 
 
 def shown(name: str, member: Variable) -> List[str]:
@@ -165,6 +177,6 @@ def shown(name: str, member: Variable) -> List[str]:
 def write_save(trace: Trace) -> List[str]:
     """The lines of a save file for GTKWave: a group for each stage, and the sidings below."""
     lines = ["[timestart] 0", "[size] 1400 900", "[sst_expanded] 0"]
-    for name, members in scopes(trace.layout):
+    for name, members in scopes(trace.layout, trace.is_timed):
         lines += ["@200", f"-{name}", *(line for member in members for line in shown(name, member))]
     return lines

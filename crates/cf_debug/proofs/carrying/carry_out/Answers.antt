@@ -30,7 +30,7 @@ returns-in-Break-clause-carries g c =
 
 pub returns-in-Back-clause-carries : goal.returns-in-Back-clause-carries
 returns-in-Back-clause-carries g c = as-command _ _ _ _ _ _ _ c.in-Back.is (as-told _ _ _ _ _ _ _ c.told-in-Back.ensures
-    (carries-back _ _ _ _ _ _ _ _ _ _ _ c.carry_back.ensures))
+    (carries-back _ _ _ _ _ _ _ _ _ _ c.carry_back.ensures.puts))
 
 pub returns-in-End-clause-carries : goal.returns-in-End-clause-carries
 unfolding CommandAnswers

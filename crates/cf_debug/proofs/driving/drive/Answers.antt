@@ -7,9 +7,10 @@ use Rattle.cf_debug.proofs.driving.drive.Goals as goal
 
 pub loop-made-init : goal.loop-made-init
 loop-made-init g c = record {
-  comes = comes-first _ _ _ _ _ _ c.new-round.ensures c.new-pace.ensures.1 (c.stages.ensures.stages
+  comes = comes-first _ _ _ _ _ _ c.new-round.ensures c.new-pace.ensures.2 (c.stages.ensures.stages
       ∙ ap (λ (plan : Plan). plan.stages) c.layout.ensures.layout);
-  stages = c.new-pace.ensures.0 ∙ c.stages.ensures.stages ∙ ap (λ (plan : Plan). plan.stages) c.layout.ensures.layout;
+  rule = c.new-pace.ensures.0;
+  stages = c.new-pace.ensures.1 ∙ c.stages.ensures.stages ∙ ap (λ (plan : Plan). plan.stages) c.layout.ensures.layout;
   accepted = c.known.ensures.accepted;
   stands = c.requires.stands;
   output = refl;
@@ -36,6 +37,7 @@ loop-made-preserved g c =
     let same = steers-plan _ _ _ _ _ _ _ _ c.in-Ok-false.ensures.steers in
     record {
       comes = comes-more _ _ _ _ _ _ _ _ _ _ _ c.in-Ok-false.field-0-test c.loop-made.invariant.comes c.in-Ok-false.ensures.steers;
+      rule = c.in-Ok-false.ensures.rule ∙ c.loop-made.invariant.rule;
       stages = c.in-Ok-false.ensures.stages ∙ c.loop-made.invariant.stages ∙ ap (λ (plan : Plan). plan.stages) (sym same);
       accepted = subst IsAccepted (sym same) c.loop-made.invariant.accepted;
       stands = steers-stands _ _ _ _ _ _ _ _ c.loop-made.invariant.stands c.in-Ok-false.ensures.steers;

@@ -1,4 +1,5 @@
 use Rattle.std.proofs.Common.{◌≡◌, ◌≤◌}
+use Rattle.run_options.specs.declared.guess_rule.GuessRule.TheVariants as rules
 use Rattle.cf_layout.specs.Accepted.{IsAccepted}
 use Rattle.cf_run.specs.Policies.{chooser}
 use Rattle.cf_debug.specs.Making.{ProcessorState, processor_state}
@@ -12,7 +13,8 @@ invariant-loop-made g l =
     let start : ProcessorState = processor_state l.initial.core l.initial.ring (g.K.Sink.written l.initial.output) in
     let now : ProcessorState = processor_state l.core l.ring (g.K.Sink.written l.output) in
     record {
-      comes : Comes l.stop start now (chooser l.round l.pace.count) (g.R.Sink.written l.initial.report) (g.R.Sink.written l.report) l.made;
+      comes : Comes l.stop start now (chooser rules.Any l.round l.pace.count) (g.R.Sink.written l.initial.report) (g.R.Sink.written l.report) l.made;
+      rule : l.pace.rule ≡ rules.Any;
       stages : l.pace.stages ≡ l.core.plan.stages;
       accepted : IsAccepted l.core.plan;
       stands : StandsSomewhere l.core l.ring;

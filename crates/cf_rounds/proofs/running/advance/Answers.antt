@@ -1,9 +1,12 @@
 use Rattle.std.proofs.Common.{refl, arith}
-use Rattle.cf_rounds.proofs.Rounding.{offered-candidates, offers, over-read, over-written, turned, turned-over, turned-read, turned-written}
+use Rattle.cf_rounds.proofs.Rounding.{offered-candidates, offered-some, offers, over-read, over-written, turned, turned-over, turned-read, turned-written}
 use Rattle.cf_rounds.proofs.running.advance.Goals as goal
 
 pub choose-requires-clause-candidates : goal.choose-requires-clause-candidates
 choose-requires-clause-candidates g c = offered-candidates _ _ _ _ c.requires.counted c.offer.ensures.offered
+
+pub choose-requires-clause-some : goal.choose-requires-clause-some
+choose-requires-clause-some g c = offered-some _ _ _ _ c.requires.counted c.offer.ensures.offered (c.requires.some c.in_default.ensures.unended)
 
 pub returns-in-Some-clause-turns : goal.returns-in-Some-clause-turns
 returns-in-Some-clause-turns g c = turned-over _ _ _ _ c.in-Some.ensures

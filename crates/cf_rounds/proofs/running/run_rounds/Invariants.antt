@@ -2,7 +2,7 @@ use Rattle.std.proofs.Common.{◌≡◌, ◌-◌, None}
 use Rattle.rv_machine.specs.Streams.{streams_of}
 use Rattle.cf_run.specs.Moving.{RunPlace, place_of}
 use Rattle.cf_run.specs.Policies.{most_moves}
-use Rattle.cf_rounds.proofs.Rounding.{Comes}
+use Rattle.cf_rounds.proofs.Said.{SaidSo}
 use Rattle.cf_rounds.proofs.running.run_rounds.Given as goal
 
 -- the rounds so far lead here, and no fault was counted
@@ -13,9 +13,10 @@ invariant-loop-clocked g l =
     let start : RunPlace = place_of l.initial.core (streams_of (left l.initial.input) (written l.initial.output)) None l.initial.tally in
     let now : RunPlace = place_of l.core (streams_of (left l.input) (written l.output)) None l.tally in
     record {
-      comes : Comes l.limit start now l.pace l.rounds;
+      said : SaidSo l.every l.fn.rule l.limit start now l.pace l.rounds (g.R.Sink.written l.initial.report) (g.R.Sink.written l.report);
       input : g.S.Source.faults l.input ≡ g.S.Source.faults l.initial.input;
       output : g.K.Sink.faults l.output ≡ g.K.Sink.faults l.initial.output;
+      report : g.R.Sink.faults l.report ≡ g.R.Sink.faults l.initial.report;
     }
 
 abbrev pub decreases-loop-clocked : goal.decreases-loop-clocked

@@ -6,5 +6,5 @@ use Rattle.cf_run.proofs.laws.t4_2.Goals as goal
 pub returns : goal.returns
 returns c = record {
   scripts = runs-sequentially;
-  policies = policy-sequential first_pick later_picks;
+  policies = λ rule. policy-sequential rule first_pick later_picks;
 }

@@ -5,5 +5,5 @@ use Rattle.cf_run.proofs.laws.t4_5.Goals as goal
 pub returns : goal.returns
 returns c = record {
   scripts = script-ends;
-  policies = policy-ends first_pick later_picks;
+  policies = λ rule. policy-ends rule first_pick later_picks;
 }

@@ -1,12 +1,12 @@
 use Rattle.std.proofs.Common.{refl, sym, arith}
-use Rattle.theory_unknown_input.proofs.Offered.{offered_allowed}
+use Rattle.cf_run.proofs.ByRule.{ruled-allowed}
 use Rattle.cf_run.proofs.ByPolicy.{chosen-stops, over-stops}
 use Rattle.cf_run.proofs.Coming.{seen-count}
 use Rattle.cf_run.proofs.Faults.{over-read, over-reported, over-written, stopped-read, stopped-reported, stopped-written}
 use Rattle.cf_run.proofs.policy.advance.Goals as goal
 
 pub make_and_show-requires-clause-allowed : goal.make_and_show-requires-clause-allowed
-make_and_show-requires-clause-allowed g c = offered_allowed _ _ _ _ _ (sym c.choose-mv.ensures.choice)
+make_and_show-requires-clause-allowed g c = ruled-allowed _ _ _ _ _ _ (sym c.choose-mv.ensures.choice)
 
 pub returns-in-Some-clause-turns : goal.returns-in-Some-clause-turns
 returns-in-Some-clause-turns g c = over-stops _ _ _ _ _ _ _ c.in-Some.ensures

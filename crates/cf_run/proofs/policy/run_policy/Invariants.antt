@@ -16,7 +16,8 @@ invariant-loop-ran g l =
     let start : RunPlace = place_of l.initial.core (streams_of (left l.initial.input) (written l.initial.output)) (reported l.initial.report) l.initial.tally in
     let now : RunPlace = place_of l.core (streams_of (left l.input) (written l.output)) (reported l.report) l.tally in
     record {
-      comes : Comes g.P.Policy.picked g.P.Policy.onward l.limit l.show start now l.initial.policy l.policy l.pace.count;
+      comes : Comes l.fn.rule g.P.Policy.picked g.P.Policy.onward l.limit l.reporting start now l.initial.policy l.policy l.pace.count;
+      rule : l.pace.rule ≡ l.fn.rule;
       stages : l.pace.stages ≡ l.core.plan.stages;
       input_asked : (SomeAsks AsksInput start.core.plan start.core.state comes.reached.trace → ⊥) → l.input ≡ l.initial.input;
       output_asked : (SomeAsks AsksOutput start.core.plan start.core.state comes.reached.trace → ⊥) → l.output ≡ l.initial.output;

@@ -16,7 +16,7 @@ invariant-loop-end g l =
     (reported l.initial.report) l.initial.tally) l.initial.script in
     let now : ScriptRun = stand_of (place_of l.core (streams_of (left l.input) (written l.output)) (reported l.report) l.tally) l.script in
     record {
-      followed : Follows l.limit l.show start now;
+      followed : Follows l.limit l.reporting start now;
       input_asked : (SomeAsks AsksInput start.place.core.plan start.place.core.state followed.reaches.trace → ⊥) → l.input ≡ l.initial.input;
       output_asked : (SomeAsks AsksOutput start.place.core.plan start.place.core.state followed.reaches.trace → ⊥) → l.output ≡ l.initial.output;
       within : l.core.state.retired ≤ l.limit;

@@ -1,42 +1,50 @@
 use Rattle.std.proofs.Common.{◌≡◌, ◌++◌, true, false, map, Ok, Err, refl, []}
 use Rattle.std.specs.Prelude.{string_bytes}
 use Rattle.rv_machine.specs.Streams.{streams_of}
-use Rattle.cli_arguments.specs.Words.{layout_in, machine, run, moves, rounds, debug, time, audit, check, asm, listing, gen, help, version}
-use Rattle.cli_arguments.specs.Views.{layout_of, schedule_view}
+use Rattle.cli_arguments.specs.Words.{layout_in, machine, run, moves, rounds, orders, conform, debug, time, audit, check, asm, listing, gen, help, version, help_on}
+use Rattle.cli_arguments.specs.Views.{layout_of, schedule_view, times_view}
 use Rattle.cli_gen.specs.Drawn.{AnswersDrawn, BreaksDrawn}
 use Rattle.cli_debug.specs.Debug.{AnswersDebug, BreaksDebug}
 use Rattle.cli_files.specs.Causes.{input_answered, output_answered}
 use Rattle.cli_files.specs.Outside.{outside_of, report_of}
+use Rattle.cli_files.proofs.NoStreams.{no-cause}
 use Rattle.cli_time.specs.Asked.{time_asked}
 use Rattle.cli_time.specs.Times.{AnswersTime, BreaksTime}
 use Rattle.cli_reports.proofs.PutReports.{shows-none, decided-comes, decided-tells, decided-files}
-use Rattle.cfpp_cli.proofs.Beside.{comes-beside, untouched}
+use Rattle.cfpp_cli.proofs.Beside.{comes-beside, decided-reading, untouched}
 use Rattle.cfpp_cli.proofs.top.decide.Goals as goal
 
 pub returns-in-Ok-Machine-clause-decided : goal.returns-in-Ok-Machine-clause-decided
 returns-in-Ok-Machine-clause-decided g c =
     let o = c.in-Ok-Machine.options in
     record {
-      reading = Ok (machine c.in-Ok-Machine.program.now o.limit o.show_retired o.mul);
+      reading = Ok (machine c.in-Ok-Machine.program.now o.limit o.show_retired o.mul o.every);
       reads = rw c.in-Ok-Machine.field-0-is at c.in-Ok-Machine.ensures.answers;
       comes = c.run_program.ensures.answers;
+      files = c.run_program.ensures.files;
+      input = c.run_program.ensures.input;
     }
 
 pub returns-in-Ok-Run-clause-decided : goal.returns-in-Ok-Run-clause-decided
 returns-in-Ok-Run-clause-decided g c =
     let o = c.in-Ok-Run.options in
     record {
-      reading = Ok (run (layout_of c.in-Ok-Run.layout) c.in-Ok-Run.program.now (schedule_view o.schedule) o.limit o.show);
+      reading = Ok (run (layout_of c.in-Ok-Run.layout) c.in-Ok-Run.program.now (schedule_view o.schedule) o.limit o.reporting);
       reads = rw c.in-Ok-Run.field-0-is at c.in-Ok-Run.ensures.answers;
       comes = c.run_processor.ensures.answers;
+      files = c.run_processor.ensures.files;
+      input = c.run_processor.ensures.input;
     }
 
 pub returns-in-Ok-Moves-clause-decided : goal.returns-in-Ok-Moves-clause-decided
 returns-in-Ok-Moves-clause-decided g c =
     record {
-      reading = Ok (moves (layout_of c.in-Ok-Moves.layout) c.in-Ok-Moves.program.now (schedule_view c.in-Ok-Moves.schedule) c.in-Ok-Moves.limit);
+      reading = Ok (moves (layout_of c.in-Ok-Moves.layout) c.in-Ok-Moves.program.now (schedule_view c.in-Ok-Moves.schedule) c.in-Ok-Moves.limit
+          c.in-Ok-Moves.every);
       reads = rw c.in-Ok-Moves.field-0-is at c.in-Ok-Moves.ensures.answers;
       comes = c.run_processor-in-Ok-Moves.ensures.answers;
+      files = c.run_processor-in-Ok-Moves.ensures.files;
+      input = c.run_processor-in-Ok-Moves.ensures.input;
     }
 
 pub returns-in-Ok-Check-clause-decided : goal.returns-in-Ok-Check-clause-decided
@@ -45,6 +53,8 @@ returns-in-Ok-Check-clause-decided g c =
       reading = Ok (check (layout_of c.in-Ok-Check.layout));
       reads = rw c.in-Ok-Check.field-0-is at c.in-Ok-Check.ensures.answers;
       comes = ([], _, rw c.put_answer.ensures.status (c.check_layout-answer.ensures.answers, refl), shows-none _ _ _ _ c.put_answer.ensures.puts);
+      files = rw c.put_answer.ensures.status c.check_layout-answer.ensures.files;
+      input = rw c.put_answer.ensures.status (no-cause _ _ c.check_layout-answer.ensures.input);
     }
 
 pub returns-in-Ok-Asm-clause-decided : goal.returns-in-Ok-Asm-clause-decided
@@ -58,6 +68,8 @@ returns-in-Ok-Asm-clause-decided g c =
         rw c.put_answer-in-Ok-Asm.ensures.status (c.assemble_program-answer.ensures.answers, refl),
         shows-none _ _ _ _ c.put_answer-in-Ok-Asm.ensures.puts,
       );
+      files = rw c.put_answer-in-Ok-Asm.ensures.status c.assemble_program-answer.ensures.files;
+      input = rw c.put_answer-in-Ok-Asm.ensures.status (no-cause _ _ c.assemble_program-answer.ensures.input);
     }
 
 pub returns-in-Ok-List-clause-decided : goal.returns-in-Ok-List-clause-decided
@@ -71,6 +83,8 @@ returns-in-Ok-List-clause-decided g c =
         rw c.put_answer-in-Ok-List.ensures.status (c.list_program-answer.ensures.answers, refl),
         shows-none _ _ _ _ c.put_answer-in-Ok-List.ensures.puts,
       );
+      files = rw c.put_answer-in-Ok-List.ensures.status c.list_program-answer.ensures.files;
+      input = rw c.put_answer-in-Ok-List.ensures.status (no-cause _ _ c.list_program-answer.ensures.input);
     }
 
 pub returns-in-Ok-Gen-default-false-clause-decided : goal.returns-in-Ok-Gen-default-false-clause-decided
@@ -85,32 +99,56 @@ returns-in-Ok-Gen-default-false-clause-decided g c =
         rw c.put_answer-in-Ok-Gen-default-false.ensures.status (record { put = c.put_drawn-answer.ensures.comes; files = refl; input = refl }),
         shows-none _ _ _ _ c.put_answer-in-Ok-Gen-default-false.ensures.puts,
       );
+      files = rw c.put_answer-in-Ok-Gen-default-false.ensures.status (no-cause _ _ c.put_drawn-answer.ensures.files);
+      input = rw c.put_answer-in-Ok-Gen-default-false.ensures.status (no-cause _ _ c.put_drawn-answer.ensures.input);
     }
 
 pub returns-in-Ok-Help-clause-decided : goal.returns-in-Ok-Help-clause-decided
 returns-in-Ok-Help-clause-decided g c =
+    let put = rw c.overview.ensures.text at c.put_text-answer.ensures.comes in
     record {
       reading = Ok help;
       reads = rw c.in-Ok-Help.field-0-is at c.in-Ok-Help.ensures.answers;
       comes = (
         [],
         _,
-        rw c.put_answer-in-Ok-Help.ensures.status (record { put = c.put_text-answer.ensures.comes; files = refl; input = refl }),
+        rw c.put_answer-in-Ok-Help.ensures.status (record { put = put; files = refl; input = refl }),
         shows-none _ _ _ _ c.put_answer-in-Ok-Help.ensures.puts,
       );
+      files = rw c.put_answer-in-Ok-Help.ensures.status (no-cause _ _ c.put_text-answer.ensures.files);
+      input = rw c.put_answer-in-Ok-Help.ensures.status (no-cause _ _ c.put_text-answer.ensures.input);
+    }
+
+pub returns-in-Ok-HelpOn-clause-decided : goal.returns-in-Ok-HelpOn-clause-decided
+returns-in-Ok-HelpOn-clause-decided g c =
+    let put = rw c.help_on.ensures.text at c.put_text-answer-in-Ok-HelpOn.ensures.comes in
+    record {
+      reading = Ok (help_on c.in-Ok-HelpOn.name);
+      reads = rw c.in-Ok-HelpOn.field-0-is at c.in-Ok-HelpOn.ensures.answers;
+      comes = (
+        [],
+        _,
+        rw c.put_answer-in-Ok-HelpOn.ensures.status (record { put = put; files = refl; input = refl }),
+        shows-none _ _ _ _ c.put_answer-in-Ok-HelpOn.ensures.puts,
+      );
+      files = rw c.put_answer-in-Ok-HelpOn.ensures.status (no-cause _ _ c.put_text-answer-in-Ok-HelpOn.ensures.files);
+      input = rw c.put_answer-in-Ok-HelpOn.ensures.status (no-cause _ _ c.put_text-answer-in-Ok-HelpOn.ensures.input);
     }
 
 pub returns-in-Ok-Version-clause-decided : goal.returns-in-Ok-Version-clause-decided
 returns-in-Ok-Version-clause-decided g c =
+    let put = rw c.version.ensures.line at c.put_text-answer-in-Ok-Version.ensures.comes in
     record {
       reading = Ok version;
       reads = rw c.in-Ok-Version.field-0-is at c.in-Ok-Version.ensures.answers;
       comes = (
         [],
         _,
-        rw c.put_answer-in-Ok-Version.ensures.status (record { put = c.put_text-answer-in-Ok-Version.ensures.comes; files = refl; input = refl }),
+        rw c.put_answer-in-Ok-Version.ensures.status (record { put = put; files = refl; input = refl }),
         shows-none _ _ _ _ c.put_answer-in-Ok-Version.ensures.puts,
       );
+      files = rw c.put_answer-in-Ok-Version.ensures.status (no-cause _ _ c.put_text-answer-in-Ok-Version.ensures.files);
+      input = rw c.put_answer-in-Ok-Version.ensures.status (no-cause _ _ c.put_text-answer-in-Ok-Version.ensures.input);
     }
 
 pub returns-in-Ok-Audit-clause-decided : goal.returns-in-Ok-Audit-clause-decided
@@ -124,6 +162,8 @@ returns-in-Ok-Audit-clause-decided g c =
         rw c.put_answer-in-Ok-Audit.ensures.status (c.audit_trace-answer.ensures.answers, refl),
         shows-none _ _ _ _ c.put_answer-in-Ok-Audit.ensures.puts,
       );
+      files = rw c.put_answer-in-Ok-Audit.ensures.status c.audit_trace-answer.ensures.files;
+      input = rw c.put_answer-in-Ok-Audit.ensures.status c.audit_trace-answer.ensures.input;
     }
 
 pub returns-in-Err-clause-decided : goal.returns-in-Err-clause-decided
@@ -137,6 +177,8 @@ returns-in-Err-clause-decided g c =
         rw c.put_answer-in-Err.ensures.status (record { status_is = refl; files = refl; reports = c.bad_words.ensures; streams = refl }),
         shows-none _ _ _ _ c.put_answer-in-Err.ensures.puts,
       );
+      files = rw c.put_answer-in-Err.ensures.status (no-cause _ _ refl);
+      input = rw c.put_answer-in-Err.ensures.status (no-cause _ _ refl);
     }
 
 pub returns-in-Ok-Gen-default-true-clause-decided : goal.returns-in-Ok-Gen-default-true-clause-decided
@@ -153,15 +195,30 @@ returns-in-Ok-Gen-default-true-clause-decided g c =
       comes = comes-beside (AnswersDrawn n before after (told c.args.streams.report.now))
           (BreaksDrawn n before after (told c.args.streams.report.now) (told left.1.1.0))
           (g.F.Files.told c.args.files.now ≡ g.F.Files.told c.args.files.now) _ _ c.run_drawn.result refl c.run_drawn.ensures.answers;
+      files = no-cause _ _ c.run_drawn.ensures.files;
+      input = c.run_drawn.ensures.input;
     }
 
 pub returns-in-Ok-Rounds-clause-decided : goal.returns-in-Ok-Rounds-clause-decided
 returns-in-Ok-Rounds-clause-decided g c =
-    let ran = c.run_in_rounds.ensures.answers in
     record {
-      reading = Ok (rounds (layout_of c.in-Ok-Rounds.layout) c.in-Ok-Rounds.program.now c.in-Ok-Rounds.limit);
+      reading = Ok (rounds (layout_of c.in-Ok-Rounds.layout) c.in-Ok-Rounds.program.now c.in-Ok-Rounds.limit c.in-Ok-Rounds.every
+          c.in-Ok-Rounds.rule);
       reads = rw c.in-Ok-Rounds.field-0-is at c.in-Ok-Rounds.ensures.answers;
-      comes = ([], ran.0, ran.1, shows-none _ _ _ _ ran.2);
+      comes = c.run_in_rounds.ensures.answers;
+      files = c.run_in_rounds.ensures.files;
+      input = c.run_in_rounds.ensures.input;
+    }
+
+pub returns-in-Ok-Conform-clause-decided : goal.returns-in-Ok-Conform-clause-decided
+returns-in-Ok-Conform-clause-decided g c =
+    let told = c.conform_log.ensures.answers in
+    record {
+      reading = Ok (conform (layout_of c.in-Ok-Conform.layout) c.in-Ok-Conform.program.now c.in-Ok-Conform.limit);
+      reads = rw c.in-Ok-Conform.field-0-is at c.in-Ok-Conform.ensures.answers;
+      comes = ([], told.0, told.1, shows-none _ _ _ _ told.2);
+      files = c.conform_log.ensures.files;
+      input = c.conform_log.ensures.input;
     }
 
 pub returns-in-Ok-Debug-clause-decided : goal.returns-in-Ok-Debug-clause-decided
@@ -186,22 +243,27 @@ returns-in-Ok-Debug-clause-decided g c =
           (report_of (reported decided.new.report) (faults decided.new.report))
           (report_of (reported c.put_decided.new.report) (faults c.put_decided.new.report))
           decided.result c.put_decided.result decided.ensures.answers decided.ensures.report c.put_decided.ensures;
+      files = rw (decided-files _ _ c.debug_program-decided.result c.put_decided.result c.put_decided.ensures)
+          c.debug_program-decided.ensures.files;
+      input = decided-tells input_answered _ _ _ _ c.debug_program-decided.result c.put_decided.result
+          c.debug_program-decided.ensures.input c.put_decided.ensures;
     }
-
-pub returns-in-Ok-Debug-clause-files : goal.returns-in-Ok-Debug-clause-files
-returns-in-Ok-Debug-clause-files g c =
-    rw (decided-files _ _ c.debug_program-decided.result c.put_decided.result c.put_decided.ensures)
-    c.debug_program-decided.ensures.files
-
-pub returns-in-Ok-Debug-clause-input : goal.returns-in-Ok-Debug-clause-input
-returns-in-Ok-Debug-clause-input g c =
-    decided-tells input_answered _ _ _ _ c.debug_program-decided.result c.put_decided.result
-    c.debug_program-decided.ensures.input c.put_decided.ensures
 
 pub returns-in-Ok-Debug-clause-output : goal.returns-in-Ok-Debug-clause-output
 returns-in-Ok-Debug-clause-output g c =
     decided-tells output_answered _ _ _ _ c.debug_program-decided.result c.put_decided.result
     c.debug_program-decided.ensures.output c.put_decided.ensures
+
+pub returns-in-Ok-Orders-clause-decided : goal.returns-in-Ok-Orders-clause-decided
+returns-in-Ok-Orders-clause-decided g c =
+    let told = c.search_program.ensures.answers in
+    record {
+      reading = Ok (orders (layout_of c.in-Ok-Orders.layout) c.in-Ok-Orders.program.now c.in-Ok-Orders.options);
+      reads = rw c.in-Ok-Orders.field-0-is at c.in-Ok-Orders.ensures.answers;
+      comes = ([], told.0, told.1, shows-none _ _ _ _ told.2);
+      files = c.search_program.ensures.files;
+      input = c.search_program.ensures.input;
+    }
 
 pub returns-in-Ok-Time-clause-decided : goal.returns-in-Ok-Time-clause-decided
 returns-in-Ok-Time-clause-decided g c =
@@ -209,7 +271,7 @@ returns-in-Ok-Time-clause-decided g c =
     let decided = c.compare_layouts-decided in
     let put = c.put_decided-in-Ok-Time in
     let layouts = map layout_in (map string_bytes c.in-Ok-Time.layouts.now) in
-    let asked = time_asked c.in-Ok-Time.delays.now c.in-Ok-Time.program.now layouts o in
+    let asked = time_asked c.in-Ok-Time.delays.now c.in-Ok-Time.program.now layouts (times_view o) in
     let reported = g.R.Sink.written in
     let faults = g.R.Sink.faults in
     let before = g.F.Files.told c.args.files.now in
@@ -219,24 +281,16 @@ returns-in-Ok-Time-clause-decided g c =
     let half = report_of (reported decided.new.report) (faults decided.new.report) in
     let full = report_of (reported put.new.report) (faults put.new.report) in
     record {
-      reading = Ok (time c.in-Ok-Time.delays.now c.in-Ok-Time.program.now layouts o.limit o.sites);
+      reading = Ok (time c.in-Ok-Time.delays.now c.in-Ok-Time.program.now layouts (times_view o));
       reads = rw c.in-Ok-Time.field-0-is at c.in-Ok-Time.ensures.answers;
       comes = comes-beside (λ answer shown closing. AnswersTime asked before after answer (shown ++ closing))
           (BreaksTime asked before after blank.written full.written) (streams ≡ streams) blank full put.result refl
           (decided-comes (λ answer report. AnswersTime asked before after answer report)
           (λ told. BreaksTime asked before after blank.written told) blank half full decided.result put.result
           decided.ensures.answers decided.ensures.report put.ensures);
+      files = rw (decided-reading _ _ decided.result put.result put.ensures) decided.ensures.files;
+      input = refl;
     }
-
-pub returns-in-Ok-Time-clause-files : goal.returns-in-Ok-Time-clause-files
-returns-in-Ok-Time-clause-files g c =
-    rw (decided-files _ _ c.compare_layouts-decided.result c.put_decided-in-Ok-Time.result c.put_decided-in-Ok-Time.ensures)
-    c.compare_layouts-decided.ensures.files
-
-pub returns-in-Ok-Time-clause-input : goal.returns-in-Ok-Time-clause-input
-returns-in-Ok-Time-clause-input g c =
-    decided-tells input_answered _ _ _ _ c.compare_layouts-decided.result c.put_decided-in-Ok-Time.result
-    (untouched input_answered _ _ c.compare_layouts-decided.ensures.input) c.put_decided-in-Ok-Time.ensures
 
 pub returns-in-Ok-Time-clause-output : goal.returns-in-Ok-Time-clause-output
 returns-in-Ok-Time-clause-output g c =

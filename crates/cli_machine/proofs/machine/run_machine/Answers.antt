@@ -4,7 +4,7 @@ use Rattle.cli_machine.proofs.machine.run_machine.Goals as goal
 
 pub returns-clause-comes : goal.returns-clause-comes
 returns-clause-comes g c =
-    machine-closed (chosen_of c.args.options.limit c.args.options.show_retired c.args.options.mul) _ _ _ _ _ _ _
+    machine-closed (chosen_of c.args.options.limit c.args.options.show_retired c.args.options.mul c.args.options.every) _ _ _ _ _ _ _
     c.run-finish.result c.close_machine.result c.run-finish.ensures.runs c.run-finish.ensures.report c.close_machine.ensures
 
 pub returns-clause-files : goal.returns-clause-files

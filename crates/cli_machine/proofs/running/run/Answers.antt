@@ -1,32 +1,40 @@
-use Rattle.std.proofs.Common.{◌+◌, ap, refl, ◌∙◌, arith}
-use Rattle.cli_machine.proofs.Runs.{reached-none, reached-next, breaks-off, runs-exit, runs-trap, runs-read-fault, runs-write-fault}
+use Rattle.std.proofs.Common.{◌+◌, ◌-◌, ap, refl, ◌∙◌, arith}
+use Rattle.cli_machine.proofs.Runs.{reached-none, reached-next, reached-alone, breaks-off, runs-exit, runs-trap, runs-read-fault, runs-write-fault}
 use Rattle.cli_machine.proofs.running.run.Goals as goal
 
 pub loop-options-init : goal.loop-options-init
-loop-options-init g c = record {
-  reached = (0, omega arith, reached-none _ _ _ _);
-  within = omega (arith, c.retired.ensures);
-  last = ap (λ n. n + c.args.options.limit) c.retired.ensures;
-  input = refl;
-  output = refl;
-  report = refl;
-}
+loop-options-init g c =
+    let u = c.run_unshown.ensures in
+    record {
+      reached = (
+        0 + (c.run_unshown.new.machine.retired - c.args.machine.now.retired),
+        omega (arith, u.onward),
+        reached-alone _ _ _ _ _ _ _ _ 0 _ refl u.shown (reached-none _ _ _ _) u.goes,
+      );
+      within = u.within;
+      last = ap (λ n. n + c.args.options.limit) c.retired.ensures;
+      input = refl;
+      output = refl;
+      report = refl;
+    }
 
 pub loop-options-preserved : goal.loop-options-preserved
 loop-options-preserved g c =
     let r = c.loop-options.invariant.reached in
+    let u = c.run_unshown-in-Ok.ensures in
     record {
       reached = (
-        r.0 + 1,
-        omega (arith, c.in-Next.ensures.count, r.1),
-        reached-next _ _ _ _ _ _ _ _ _ _ _ _ _ r.2
-            (rw c.instruction_set-isa.ensures at c.in-Next.ensures.steps) c.retired-in-Next.ensures c.in-Ok.ensures.ok,
+        r.0 + 1 + (c.run_unshown-in-Ok.new.machine.retired - c.step_as.new.self.retired),
+        omega (arith, c.in-Next.ensures.count, r.1, u.onward),
+        reached-alone _ _ _ _ _ _ _ _ (r.0 + 1) _ refl u.shown
+            (reached-next _ _ _ _ _ _ _ _ _ _ _ _ _ r.2
+            (rw c.instruction_set-isa.ensures at c.in-Next.ensures.steps) c.retired-in-Next.ensures c.in-Ok.ensures.puts.all) u.goes,
       );
-      within = omega (arith, c.in-Next.ensures.count, c.retired-in-loop-options.ensures, c.loop-options-test.true);
+      within = u.within;
       last = c.loop-options.invariant.last;
       input = c.in-Next.ensures.input.still ∙ c.loop-options.invariant.input;
       output = c.in-Next.ensures.output.still ∙ c.loop-options.invariant.output;
-      report = c.in-Ok.ensures.cause.still ∙ c.loop-options.invariant.report;
+      report = c.in-Ok.ensures.puts.cause.still ∙ c.loop-options.invariant.report;
     }
 
 pub returns-in-Err-clause-runs : goal.returns-in-Err-clause-runs
@@ -34,7 +42,7 @@ returns-in-Err-clause-runs g c =
     let r = c.loop-options.invariant.reached in
     breaks-off _ _ _ _ _ _ _ _ _ _ _ _ _ (omega (arith, r.1, c.loop-options.invariant.last, c.retired-in-loop-options.ensures, c.loop-options-test.true)) r.2
     (rw c.instruction_set-isa.ensures at c.in-Next.ensures.steps) c.retired-in-Next.ensures c.in-Err.ensures.shows
-    c.in-Err.ensures.err
+    c.in-Err.ensures.puts.front
 
 pub returns-in-Exit-clause-runs : goal.returns-in-Exit-clause-runs
 returns-in-Exit-clause-runs g c =

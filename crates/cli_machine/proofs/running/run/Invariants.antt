@@ -10,13 +10,13 @@ invariant-loop-options g l =
     let written = g.K.Sink.written in
     let reported = g.R.Sink.written in
     record {
-      reached : (n : ℕ) × (l.machine.retired ≡ l.initial.machine.retired + n) × Reached (chosen_of l.options.limit l.options.show_retired l.options.mul)
-          l.initial.machine l.machine
+      reached : (n : ℕ) × (l.machine.retired ≡ l.fn.machine.retired + n) × Reached (chosen_of l.options.limit l.options.show_retired l.options.mul l.options.every)
+          l.fn.machine l.machine
           (told_of (streams_of (left l.initial.input) (written l.initial.output))
           (streams_of (left l.input) (written l.output))
           (reported l.initial.report) (reported l.report)) n;
       within : l.machine.retired ≤ l.end;
-      last : l.end ≡ l.initial.machine.retired + l.options.limit;
+      last : l.end ≡ l.fn.machine.retired + l.options.limit;
       input : g.S.Source.faults l.input ≡ g.S.Source.faults l.initial.input;
       output : g.K.Sink.faults l.output ≡ g.K.Sink.faults l.initial.output;
       report : g.R.Sink.faults l.report ≡ g.R.Sink.faults l.initial.report;

@@ -2,7 +2,7 @@ use Rattle.std.proofs.Common.{refl}
 use Rattle.cli_files.specs.Causes.{input_answered, output_answered}
 use Rattle.cli_files.proofs.NoStreams.{no-cause, lacks-loaded-says}
 use Rattle.cli_rounds.proofs.InRounds.{loaded-rounds, rounds-refused}
-use Rattle.cli_reports.proofs.PutReports.{says-of-count}
+use Rattle.cli_reports.proofs.PutReports.{tells-answered}
 use Rattle.cli_rounds.proofs.rounds.run_in_rounds.Goals as goal
 
 pub returns-in-Ok-clause-answers : goal.returns-in-Ok-clause-answers
@@ -12,15 +12,15 @@ returns-in-Ok-clause-answers g c =
 
 pub returns-in-Err-clause-answers : goal.returns-in-Err-clause-answers
 returns-in-Err-clause-answers g c =
-    rounds-refused _ _ _ _ _ _ _ c.put_answer.result c.put_answer.ensures.status
+    rounds-refused _ _ _ _ _ _ _ _ c.put_answer.result c.put_answer.ensures.status
     (record { lacks = c.in-Err.ensures.lacks; streams = refl }) c.put_answer.ensures.puts
 
 pub returns-in-Err-clause-input : goal.returns-in-Err-clause-input
 returns-in-Err-clause-input g c =
-    says-of-count input_answered _ _ _ _ c.put_answer.ensures.status
+    tells-answered input_answered _ _ _ c.put_answer.result c.put_answer.ensures.status
     (no-cause _ _ (lacks-loaded-says _ _ _ _ _ _ c.in-Err.ensures.lacks).input)
 
 pub returns-in-Err-clause-output : goal.returns-in-Err-clause-output
 returns-in-Err-clause-output g c =
-    says-of-count output_answered _ _ _ _ c.put_answer.ensures.status
+    tells-answered output_answered _ _ _ c.put_answer.result c.put_answer.ensures.status
     (no-cause _ _ (lacks-loaded-says _ _ _ _ _ _ c.in-Err.ensures.lacks).output)

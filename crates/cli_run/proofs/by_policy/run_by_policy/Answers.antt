@@ -1,10 +1,10 @@
-use Rattle.cf_run.specs.declared.answer.Scripted.TheVariants.{Ran}
+use Rattle.run_finishes.specs.declared.finish.Scripted.TheVariants.{Ran}
 use Rattle.cli_run.proofs.ProcessorRuns.{policy-closed, policy-input, policy-output, closed-input, closed-output, closed-files}
 use Rattle.cli_run.proofs.by_policy.run_by_policy.Goals as goal
 
 pub returns-clause-runs : goal.returns-clause-runs
 returns-clause-runs g c =
-    policy-closed _ _ _ _ _ _ _ _ _ _ _ _ _ _ c.run_policy-ran.result c.close.result
+    policy-closed c.args.rule _ _ _ _ _ _ _ _ _ _ _ _ _ _ c.run_policy-ran.result c.close.result
     (rw c.no_moves-tally.ensures at c.run_policy-ran.ensures.run)
     (rw c.no_moves-tally.ensures at c.run_policy-ran.ensures.ends)
     c.run_policy-ran.ensures.bounded c.run_policy-ran.ensures.report c.close.ensures

@@ -1,5 +1,5 @@
 use Rattle.std.proofs.Common.{refl}
-use Rattle.cli_files.specs.Schedules.{schedule_view}
+use Rattle.cli_files.specs.Schedules.{ready_schedule_view}
 use Rattle.cf_run.proofs.Opened.{can-run}
 use Rattle.cli_run.proofs.OpenedRuns.{opened-comes, unopened-comes}
 use Rattle.cli_run.proofs.run.run_ready.Goals as goal
@@ -9,8 +9,8 @@ run_opened-requires-clause-begins g c = can-run _ _ _ _ c.requires.limit c.requi
 
 pub returns-in-Ok-clause-comes : goal.returns-in-Ok-clause-comes
 returns-in-Ok-clause-comes g c =
-    opened-comes c.args.options.limit c.args.options.show c.args.tail c.in-Ok.opened.core c.run_opened.new.opened.core
-    c.args.ready.layout c.args.ready.machine (schedule_view c.args.ready.schedule) _ _ _ _ c.run_opened.result
+    opened-comes c.args.options.limit c.args.options.reporting c.args.tail c.in-Ok.opened.core c.run_opened.new.opened.core
+    c.args.ready.layout c.args.ready.machine (ready_schedule_view c.args.ready.schedule) _ _ _ _ c.run_opened.result
     c.in-Ok.ensures c.requires.count c.run_opened.ensures.comes
 
 pub returns-clause-comes : goal.returns-clause-comes

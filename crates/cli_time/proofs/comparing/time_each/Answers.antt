@@ -1,7 +1,7 @@
-use Rattle.std.proofs.Common.{ap, length, arith}
+use Rattle.std.proofs.Common.{◌∙◌, ap, length, arith}
 use Rattle.cli_arguments.specs.Views.{layout_of}
-use Rattle.cli_time.proofs.LayoutLists.{plan-at}
-use Rattle.cli_time.proofs.Rows.{rows-all, rows-break, rows-cause, rows-fewer, rows-next, rows-start, rows-still}
+use Rattle.cli_time.proofs.LayoutLists.{plan-at, plan-there}
+use Rattle.cli_time.proofs.Rows.{rows-all, rows-break, rows-cause, rows-next, rows-start, rows-still, rows-stop, rows-stopped}
 use Rattle.cli_time.proofs.comparing.time_each.Goals as goal
 
 pub loop-place-init : goal.loop-place-init
@@ -9,32 +9,37 @@ loop-place-init g c = rows-start _ _ _ _ _ _ _ _ c.new-times.ensures
 
 pub loop-place-preserved : goal.loop-place-preserved
 loop-place-preserved g c =
-    rows-next _ _ _ _ _ _ _ _ _ _ _ c.loop-place.place _ _ (layout_of c.word_at.result) c.index-layouts-place.result c.in-Ok.measured
+    rows-next _ _ _ _ _ _ _ _ _ _ _ _ _ c.loop-place.place _ _ (layout_of c.word_at.result) c.index-layouts-place.result c.in-Ok.measured
     c.put_layout.result c.is_err.result c.loop-place.invariant c.word_at.ensures
     (plan-at c.args.words.now c.args.ready.now.layouts.items _ c.loop-place.place _ _ c.word_at.ensures c.requires.words
     c.as_slice-layouts.ensures.value c.index-layouts-place.is)
-    (rw c.as_slice.ensures.value at c.in-Ok.ensures) c.put_layout.ensures c.is_err.ensures.value c.if-is_err.false c.push.ensures.items
+    (rw c.as_slice.ensures.value at c.in-Ok.ensures.measured) c.in-Ok.ensures.cause.still c.put_layout.ensures c.is_err.ensures.value c.if-is_err.false
+    c.push.ensures.items
 
-pub returns-in_default-clause-put : goal.returns-in_default-clause-put
-returns-in_default-clause-put g c =
+pub returns-in-Err-clause-put : goal.returns-in-Err-clause-put
+returns-in-Err-clause-put g c =
     let size = ap length c.as_slice-layouts.ensures.value in
-    rows-fewer _ _ _ _ _ _ _ _ _ c.loop-place.place _ c.loop-place.invariant (omega (arith, c.loop-place-test.true, size))
+    rows-stop _ _ _ _ _ _ _ _ _ _ c.loop-place.place _ c.index-layouts-place.result c.in-Err.stop c.loop-place.invariant
+    (omega (arith, c.loop-place-test.true, size))
+    (plan-there c.args.ready.now.layouts.items _ c.loop-place.place _ (omega (arith, c.loop-place-test.true, size))
+    c.as_slice-layouts.ensures.value c.index-layouts-place.is)
+    (rw c.as_slice.ensures.value at c.in-Err.ensures.measured)
 
-pub returns-in_default-clause-cause : goal.returns-in_default-clause-cause
-returns-in_default-clause-cause g c = rows-still _ _ c.loop-place.invariant.still
+pub returns-in-Err-clause-cause : goal.returns-in-Err-clause-cause
+returns-in-Err-clause-cause g c = rows-stopped _ _ _ c.in-Err.stop c.loop-place.invariant.still c.in-Err.ensures.cause
 
 pub returns-then-is_err-clause-put : goal.returns-then-is_err-clause-put
 returns-then-is_err-clause-put g c =
-    rows-break _ _ _ _ _ _ _ _ _ _ _ c.loop-place.place _ (layout_of c.word_at.result) c.index-layouts-place.result c.in-Ok.measured
+    rows-break _ _ _ _ _ _ _ _ _ _ _ _ _ c.loop-place.place _ (layout_of c.word_at.result) c.index-layouts-place.result c.in-Ok.measured
     c.put_layout.result c.is_err.result c.loop-place.invariant c.word_at.ensures
     (plan-at c.args.words.now c.args.ready.now.layouts.items _ c.loop-place.place _ _ c.word_at.ensures c.requires.words
     c.as_slice-layouts.ensures.value c.index-layouts-place.is)
-    (rw c.as_slice.ensures.value at c.in-Ok.ensures) c.put_layout.ensures c.is_err.ensures.value c.if-is_err.true
+    (rw c.as_slice.ensures.value at c.in-Ok.ensures.measured) c.put_layout.ensures c.is_err.ensures.value c.if-is_err.true
 
 pub returns-then-is_err-clause-cause : goal.returns-then-is_err-clause-cause
 returns-then-is_err-clause-cause g c =
     rows-cause _ _ _ _ _ _ c.put_layout.result c.is_err.result c.put_layout.ensures c.is_err.ensures.value c.if-is_err.true
-    c.loop-place.invariant.still
+    (c.in-Ok.ensures.cause.still ∙ c.loop-place.invariant.still)
 
 pub returns-clause-put : goal.returns-clause-put
 returns-clause-put g c =

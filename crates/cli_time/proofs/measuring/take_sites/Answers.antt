@@ -1,4 +1,5 @@
-use Rattle.std.proofs.Common.{refl, sym, subst, true}
+use Rattle.std.proofs.Common.{refl, sym, subst, [], Some}
+use Rattle.cf_timed.specs.Clocks.{rule_of}
 use Rattle.cf_timed.specs.TimedRuns.{HasCauses, answer_of}
 use Rattle.cli_time.specs.Measures.{MeasuresRun}
 use Rattle.cli_time.specs.declared.measuring.Measured.{Measured}
@@ -7,10 +8,11 @@ use Rattle.cli_time.proofs.measuring.take_sites.Goals as goal
 
 pub returns-clause-takes : goal.returns-clause-takes
 returns-clause-takes c =
-    subst (λ (m : Measured). MeasuresRun c.args.clock.delays (record { limit = c.args.limit; sites = true }) c.args.core.now.plan c.args.core.now m)
+    subst (λ (m : Measured). MeasuresRun (rule_of c.args.clock) c.args.options c.args.core.now.plan c.args.core.now c.args.input.now (record { measured = m; shown = [] }))
     (sym c.measurement.ensures)
-    (takes-sites c.args.clock.delays c.args.limit c.args.core.now _ _ _ _ c.breakdown.result c.run_noted-answer.ensures.run refl refl refl c.breakdown.ensures)
+    (takes-sites (rule_of c.args.clock) c.args.options c.args.core.now _ c.args.input.now _ _ _ _ c.breakdown.result c.requires.shown c.run_noted-answer.ensures.run refl refl
+    c.run_noted-answer.ensures.bounded refl c.breakdown.ensures)
 
 pub returns-clause-causes : goal.returns-clause-causes
 returns-clause-causes c =
-    subst (λ (m : Measured). HasCauses 0 0 0 0 (answer_of m.answer)) (sym c.measurement.ensures) c.run_noted-answer.ensures.causes
+    subst (λ (m : Measured). HasCauses 0 0 0 0 (Some (answer_of m.answer))) (sym c.measurement.ensures) c.run_noted-answer.ensures.causes

@@ -1,16 +1,17 @@
-use Rattle.std.proofs.Common.{refl, sym, subst, false}
+use Rattle.std.proofs.Common.{refl, sym, subst, [], Some}
+use Rattle.cf_timed.specs.Clocks.{rule_of}
 use Rattle.cf_timed.specs.TimedRuns.{HasCauses, answer_of}
 use Rattle.cli_time.specs.Measures.{MeasuresRun}
 use Rattle.cli_time.specs.declared.measuring.Measured.{Measured}
-use Rattle.cli_time.proofs.Measured.{takes}
+use Rattle.cli_time.proofs.Measured.{takes-time}
 use Rattle.cli_time.proofs.measuring.take_time.Goals as goal
 
 pub returns-clause-takes : goal.returns-clause-takes
 returns-clause-takes c =
-    subst (λ (m : Measured). MeasuresRun c.args.clock.delays (record { limit = c.args.limit; sites = false }) c.args.core.now.plan c.args.core.now m)
+    subst (λ (m : Measured). MeasuresRun (rule_of c.args.clock) c.args.options c.args.core.now.plan c.args.core.now c.args.input.now (record { measured = m; shown = [] }))
     (sym c.measurement.ensures)
-    (takes c.args.clock.delays (record { limit = c.args.limit; sites = false }) c.args.core.now _ _ _ c.run_timed-answer.ensures.run refl refl refl)
+    (takes-time (rule_of c.args.clock) c.args.options c.args.core.now _ c.args.input.now _ _ _ c.requires.shown c.run_timed-answer.ensures.run refl refl c.run_timed-answer.ensures.bounded refl)
 
 pub returns-clause-causes : goal.returns-clause-causes
 returns-clause-causes c =
-    subst (λ (m : Measured). HasCauses 0 0 0 0 (answer_of m.answer)) (sym c.measurement.ensures) c.run_timed-answer.ensures.causes
+    subst (λ (m : Measured). HasCauses 0 0 0 0 (Some (answer_of m.answer))) (sym c.measurement.ensures) c.run_timed-answer.ensures.causes

@@ -5,6 +5,6 @@ use Rattle.layout_file.proofs.reading.class_list.Given as goal
 
 abbrev pub invariant-loop-value : goal.invariant-loop-value
 invariant-loop-value l = record {
-  made : l.list.items ++ classes_of l.second (items_view (drop l.value-index l.array)) ≡ classes_of l.second (items_view l.array);
-  named : first_nameless l.second (items_view (drop l.value-index l.array)) ≡ first_nameless l.second (items_view l.array);
+  made : l.list.items ++ classes_of l.format (items_view (drop l.value-index l.array)) ≡ classes_of l.format (items_view l.array);
+  named : first_nameless l.format (items_view (drop l.value-index l.array)) ≡ first_nameless l.format (items_view l.array);
 }

@@ -5,6 +5,6 @@ use Rattle.layout_file.proofs.reading.siding_list.Given as goal
 
 abbrev pub invariant-loop-value : goal.invariant-loop-value
 invariant-loop-value l = record {
-  made : l.list.items ++ sidings_in l.second (items_view (drop l.value-index l.array)) ≡ sidings_in l.second (items_view l.array);
-  right : sidings_fault l.second (items_view (drop l.value-index l.array)) ≡ sidings_fault l.second (items_view l.array);
+  made : l.list.items ++ sidings_in l.format (items_view (drop l.value-index l.array)) ≡ sidings_in l.format (items_view l.array);
+  right : sidings_fault l.format (items_view (drop l.value-index l.array)) ≡ sidings_fault l.format (items_view l.array);
 }

@@ -1,9 +1,9 @@
 use Rattle.std.proofs.Common.{◌∙◌, sym, ap, ℕ, Bool, get_or, arith}
 use Rattle.std.proofs.lemmas.Option.{unwrap_or-slice_get}
-use Rattle.cf_timed.specs.Clocks.{number_at}
-use Rattle.run_ledger.specs.Breakdowns.{uses_siding}
+use Rattle.cf_timed.specs.Numbers.{number_at}
+use Rattle.run_ledger.specs.Using.{uses_siding}
 use Rattle.run_ledger.specs.Ledgers.{plus_if}
-use Rattle.run_ledger.proofs.Numbered.{filled_next, set_length}
+use Rattle.cf_timed.proofs.Numbered.{filled_next, set_length}
 use Rattle.run_ledger.proofs.charging.charge_sidings.Goals as goal
 
 pub loop-k-preserved : goal.loop-k-preserved

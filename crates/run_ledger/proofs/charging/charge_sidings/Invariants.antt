@@ -1,7 +1,7 @@
 use Rattle.std.proofs.Common.{◌≡◌, length, map, take}
 use Rattle.cf_semantics.specs.moves.Candidates.{counted_from}
-use Rattle.cf_timed.specs.Clocks.{number_at}
-use Rattle.run_ledger.specs.Breakdowns.{uses_siding}
+use Rattle.cf_timed.specs.Numbers.{number_at}
+use Rattle.run_ledger.specs.Using.{uses_siding}
 use Rattle.run_ledger.specs.Ledgers.{plus_if}
 use Rattle.run_ledger.proofs.charging.charge_sidings.Given as goal
 

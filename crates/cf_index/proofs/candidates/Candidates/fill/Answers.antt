@@ -1,6 +1,7 @@
-use Rattle.cf_index.proofs.Filled.{all_chosen}
+-- The rule that keeps every guess leaves all candidates.
+use Rattle.std.proofs.Common.{◌∙◌}
+use Rattle.cf_index.proofs.Firsts.{any_guided}
 use Rattle.cf_index.proofs.candidates.Candidates.fill.Goals as goal
 
 pub returns : goal.returns
-returns c = all_chosen c.args.core.now.plan c.args.core.now.state _ _ _ _ c.entering-self-inside.ensures c.passing-self-inside.ensures
-    c.slides-self-inside.ensures c.leaving-self-inside.ensures
+returns c = c.fill_by.ensures ∙ any_guided c.args.core.now.plan c.args.core.now.state

@@ -4,4 +4,4 @@ use Rattle.cf_sched.proofs.Counting.{held_by}
 use Rattle.cf_sched.proofs.pace.Pace.held.Goals as goal
 
 pub returns-clause-held : goal.returns-clause-held
-returns-clause-held c = λ plan count has. ap holds c.self.view_is ∙ held_by c.args.self.now plan count has
+returns-clause-held c = λ r plan count has. ap holds c.self.view_is ∙ held_by c.args.self.now r plan count has

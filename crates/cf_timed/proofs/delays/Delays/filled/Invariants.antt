@@ -1,7 +1,12 @@
 use Rattle.std.proofs.Common.{◌≡◌, length, map, take}
-use Rattle.std.specs.Prelude.{unwrap_or}
+use Rattle.cf_semantics.specs.moves.Candidates.{counted_from}
+use Rattle.cf_timed.specs.Delays.{span_count}
+use Rattle.cf_timed.specs.DelayLines.{span_told}
 use Rattle.cf_timed.proofs.delays.Delays.filled.Given as goal
 
 -- those so far are filled in
-abbrev pub invariant-loop-i : goal.invariant-loop-i
-invariant-loop-i l = (take l.i l.ticks ≡ map (λ told. unwrap_or told 1) (take l.i l.told)) × (length l.ticks ≡ 14)
+abbrev pub invariant-loop-slot : goal.invariant-loop-slot
+invariant-loop-slot l = record {
+  filled : take l.slot l.spans ≡ map (span_told l.told) (counted_from 0 l.slot);
+  count : length l.spans ≡ span_count;
+}

@@ -1,0 +1,16 @@
+pub mod Lines
+pub mod Entries
+pub mod Operands
+pub mod Values
+pub mod Walks
+pub mod Blocks
+pub mod Statements
+pub mod Labels
+pub mod Loads
+pub mod Fixed
+pub mod Codes
+pub mod Goings
+pub mod Texts
+pub mod Closing
+pub mod Lengths
+pub mod Programs

@@ -1,0 +1,4 @@
+//! A drawn program is always one that the assembler accepts.
+#![tactic(auto)]
+
+pub mod laws;

@@ -1,0 +1,4 @@
+pub mod LogPlaces
+pub mod Wanted
+pub mod Judging
+pub mod Conforming

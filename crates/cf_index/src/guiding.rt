@@ -1,0 +1,153 @@
+//! The guesses that a guess rule keeps.
+
+ghost use Rattle.std.specs.Prelude.{◌≡◌, false, true};
+ghost use Rattle.cf_bind.specs.declared.moves.Move.TheVariants as mv;
+ghost use Rattle.cf_bind.specs.declared.passenger.Guess.TheVariants as guess;
+ghost use Rattle.cf_index.specs.Allowed.{is_allowed, may_issue};
+ghost use Rattle.cf_index.specs.GuessRules.{guess_at, guess_back, guess_of, is_guess};
+ghost use Rattle.run_options.specs.declared.guess_rule.GuessRule.TheVariants as rules;
+
+use cf_bind::{Fetch, Guess};
+use cf_core::{Core, Issuable};
+use cf_passengers::{fetched, isa_of};
+use run_options::GuessRule;
+use rv_inst::Instr;
+
+/// The guess of a branch with this offset, which is guessed taken where it goes back.
+#[inline(always)]
+fn guess_back(offset: i32) -> Guess
+    ensures { result ≡ guess_back offset }
+{
+    if offset < 0 {
+        Guess::Taken
+    } else {
+        Guess::Next
+    }
+}
+
+/// The guess for an instruction where every branch is guessed taken.
+#[inline(always)]
+#[tactic(auto, unfolding(crate::specs::GuessRules::guess_of))]
+fn guess_taken(i: Instr) -> Guess
+    ensures { result ≡ guess_of rules.Taken i }
+{
+    match i {
+        Instr::Branch { .. } | Instr::Jal { .. } => Guess::Taken,
+        Instr::Jalr { .. } => Guess::Wait,
+        _ => Guess::Next,
+    }
+}
+
+/// The guess for an instruction where the branches that go back are guessed taken.
+#[inline(always)]
+#[tactic(auto, unfolding(crate::specs::GuessRules::guess_of))]
+fn guess_backward(i: Instr) -> Guess
+    ensures { result ≡ guess_of rules.Backward i }
+{
+    match i {
+        Instr::Branch { imm, .. } => guess_back(imm),
+        _ => guess_taken(i),
+    }
+}
+
+/// The guess for an instruction where fetch waits after each branch and jump.
+#[inline(always)]
+#[tactic(auto, unfolding(crate::specs::GuessRules::guess_of))]
+fn guess_waiting(i: Instr) -> Guess
+    ensures { result ≡ guess_of rules.Wait i }
+{
+    match i {
+        Instr::Branch { .. } | Instr::Jal { .. } | Instr::Jalr { .. } => Guess::Wait,
+        _ => Guess::Next,
+    }
+}
+
+/// The guess of a rule for an instruction.
+#[inline(always)]
+#[tactic(auto, unfolding(crate::specs::GuessRules::guess_of))]
+fn guess_of(rule: GuessRule, i: Instr) -> Guess
+    ensures { result ≡ guess_of rule i }
+{
+    match rule {
+        GuessRule::Any | GuessRule::Next => Guess::Next,
+        GuessRule::Taken => guess_taken(i),
+        GuessRule::Backward => guess_backward(i),
+        GuessRule::Wait => guess_waiting(i),
+    }
+}
+
+/// The guess of a rule for what fetch runs at.
+#[inline(never)]
+#[tactic(auto, unfolding(crate::specs::GuessRules::guess_at))]
+fn guess_at(core: &Core, rule: GuessRule) -> Guess
+    ensures { result ≡ guess_at rule core.now.plan core.now.state }
+{
+    match core.fetch() {
+        Fetch::Running(pc) => match fetched(isa_of(core.layout()), core.memory(), pc) {
+            Ok(i) => guess_of(rule, i),
+            Err(_) => Guess::Next,
+        },
+        Fetch::Waiting => Guess::Next,
+    }
+}
+
+/// Whether the two are one guess, other than an address.
+#[inline(always)]
+fn is_guess(a: Guess, b: Guess) -> bool
+    ensures { result ≡ is_guess a b }
+{
+    match a {
+        Guess::Next => matches!(b, Guess::Next),
+        Guess::Taken => matches!(b, Guess::Taken),
+        Guess::Wait => matches!(b, Guess::Wait),
+        Guess::To(_) => false,
+    }
+}
+
+/// Whether the rule keeps every guess.
+#[inline(always)]
+pub(crate) fn is_any(rule: GuessRule) -> bool
+    ensures any { result ≡ true → rule ≡ rules.Any }
+    ensures other { result ≡ false → rule ≡ rules.Any → ⊥ }
+{
+    matches!(rule, GuessRule::Any)
+}
+
+/// Of the guesses that an instruction can be issued with, the one of a rule that is not `Any`.
+#[inline(always)]
+#[tactic(auto, using(crate::proofs::Guided::own_kept))]
+fn only(core: &Core, rule: GuessRule, issuable: Issuable) -> Issuable
+    requires rule { rule ≡ rules.Any → ⊥ }
+    requires next { issuable.next ≡ is_allowed core.now.plan core.now.state (mv.Issue guess.Next) }
+    requires taken { issuable.taken ≡ is_allowed core.now.plan core.now.state (mv.Issue guess.Taken) }
+    requires wait { issuable.wait ≡ is_allowed core.now.plan core.now.state (mv.Issue guess.Wait) }
+    ensures next { result.next ≡ may_issue rule core.now.plan core.now.state guess.Next }
+    ensures taken { result.taken ≡ may_issue rule core.now.plan core.now.state guess.Taken }
+    ensures wait { result.wait ≡ may_issue rule core.now.plan core.now.state guess.Wait }
+{
+    let guess = guess_at(core, rule);
+    Issuable {
+        next: issuable.next && is_guess(guess, Guess::Next),
+        taken: issuable.taken && is_guess(guess, Guess::Taken),
+        wait: issuable.wait && is_guess(guess, Guess::Wait),
+    }
+}
+
+/// The guesses, other than an address, that an instruction can be issued with now and that the rule keeps. Only a branch
+/// or a jump, which may be issued to wait, is decoded again for its guess.
+#[inline(always)]
+#[tactic(auto, using(crate::proofs::Guided::kept))]
+pub(crate) fn guided(core: &Core, rule: GuessRule) -> Issuable
+    ensures next { result.next ≡ may_issue rule core.now.plan core.now.state guess.Next }
+    ensures taken { result.taken ≡ may_issue rule core.now.plan core.now.state guess.Taken }
+    ensures wait { result.wait ≡ may_issue rule core.now.plan core.now.state guess.Wait }
+{
+    let issuable = core.issuable();
+    if is_any(rule) {
+        issuable
+    } else if issuable.wait {
+        only(core, rule, issuable)
+    } else {
+        issuable
+    }
+}

@@ -1,0 +1,29 @@
+use Rattle.std.proofs.Common.{◌≡◌, ◌-◌, ◌≤◌, None}
+use Rattle.rv_machine.specs.Streams.{streams_of}
+use Rattle.cf_run.specs.Moving.{RunPlace, place_of}
+use Rattle.cf_run.specs.Policies.{most_moves}
+use Rattle.cf_timed.specs.Clocks.{rule_of}
+use Rattle.cf_timed.proofs.Watched.{ComesWatched}
+use Rattle.cf_timed.proofs.run.run_watched.Given as goal
+
+-- the picks that were made so far lead here, and no fault was counted
+abbrev pub invariant-loop-step : goal.invariant-loop-step
+invariant-loop-step g l =
+    let left = g.S.Source.left in
+    let written = g.K.Sink.written in
+    let reported = g.R.Sink.written in
+    let start : RunPlace = place_of l.initial.core (streams_of (left l.initial.input) (written l.initial.output)) None l.initial.tally in
+    let now : RunPlace = place_of l.core (streams_of (left l.input) (written l.output)) None l.tally in
+    record {
+      comes : ComesWatched g.W.Watcher.noted g.W.Watcher.text l.fn.rule (rule_of l.initial.clock) l.limit start now l.clock l.initial.watcher l.watcher
+          (reported l.initial.report) (reported l.report) l.pace.count;
+      rule : l.pace.rule ≡ l.fn.rule;
+      stages : l.pace.stages ≡ l.core.plan.stages;
+      within : l.core.state.retired ≤ l.limit;
+      input : g.S.Source.faults l.input ≡ g.S.Source.faults l.initial.input;
+      output : g.K.Sink.faults l.output ≡ g.K.Sink.faults l.initial.output;
+      report : g.R.Sink.faults l.report ≡ g.R.Sink.faults l.initial.report;
+    }
+
+abbrev pub decreases-loop-step : goal.decreases-loop-step
+decreases-loop-step g l = most_moves l.initial.core.plan l.limit - l.tally.moves

@@ -1,0 +1,96 @@
+//! Amounts of retired instructions on the command line: numbers, or few digits with a letter for what they count in.
+#![tactic(auto)]
+
+ghost use Rattle.std.specs.Prelude.{◌≡◌, ◌<◌, ◌≤◌, IfSome, option_map};
+ghost use Rattle.cli_arguments.specs.Values.{amount_in, before_letter, bounded as is_bounded, digits_in, most_plain, number_before, unit_of};
+
+use crate::numbers::{read_number, read_numeral};
+
+/// The greatest amount that is written without a letter.
+const MOST_PLAIN: u64 = 1_000_000_000;
+
+/// The most digits before a letter.
+const MOST_DIGITS: usize = 4;
+
+/// An amount as it is written.
+#[derive(Clone, Copy)]
+struct Written<'a> {
+    /// Its digits.
+    digits: &'a str,
+    /// What they count in.
+    unit: u64,
+}
+
+/// The word without this last letter, where it ends with it.
+#[tactic(auto, using(crate::proofs::Letters::letters))]
+fn before(word: &str, letter: char) -> Option<&str>
+    requires { letter < 128 }
+    ensures { option_map (λ text. text.now) result ≡ before_letter letter word.now }
+{
+    word.strip_suffix(letter)
+}
+
+/// The digits of a word, and what they count in by its last letter.
+#[tactic(auto, unfolding(crate::specs::Values::before_letter, crate::specs::Values::digits_in, crate::specs::Values::unit_of))]
+fn split(word: &str) -> Written<'_>
+    ensures digits { result.digits.now ≡ digits_in word.now }
+    ensures unit { result.unit ≡ unit_of word.now }
+    ensures within { result.unit ≤ 1000000000 }
+{
+    if let Some(digits) = before(word, 'k') {
+        return Written {
+            digits,
+            unit: 1_000,
+        };
+    }
+    if let Some(digits) = before(word, 'M') {
+        return Written {
+            digits,
+            unit: 1_000_000,
+        };
+    }
+    if let Some(digits) = before(word, 'G') {
+        return Written {
+            digits,
+            unit: 1_000_000_000,
+        };
+    }
+    Written {
+        digits: word,
+        unit: 1,
+    }
+}
+
+impl Written<'_> {
+    /// The number that its digits write, where they are not too many.
+    #[tactic(auto, unfolding(crate::specs::Values::number_before))]
+    fn number(&self) -> Option<u64>
+        ensures number { result ≡ number_before self.now.unit self.now.digits.now }
+        ensures within { IfSome result (λ number. number ≤ most_plain) }
+    {
+        if self.unit == 1 {
+            read_number(self.digits, MOST_PLAIN)
+        } else {
+            read_numeral(self.digits, MOST_DIGITS)
+        }
+    }
+}
+
+/// The amount, where it is within these bounds.
+#[tactic(auto, unfolding(crate::specs::Values::bounded))]
+fn bounded(amount: u64, least: u64, most: u64) -> Option<u64>
+    ensures amount { result ≡ is_bounded least most amount }
+    ensures within { IfSome result (λ amount. amount ≤ most) }
+{
+    (least <= amount && amount <= most).then_some(amount)
+}
+
+/// The amount that a word writes within these bounds.
+pub(crate) fn read_amount(word: &str, least: u64, most: u64) -> Option<u64>
+    ensures amount { result ≡ amount_in least most word.now }
+    ensures within { IfSome result (λ amount. amount ≤ most) }
+{
+    let written = split(word);
+    let number = written.number()?;
+    bounded(number * written.unit, least, most)
+}

@@ -1,0 +1,3 @@
+pub mod CandidateLines
+pub mod Conformed
+pub mod Reading

@@ -1,0 +1,98 @@
+//! The command `conform`.
+
+ghost use Rattle.std.specs.Prelude.{◌≡◌, ◌≤◌, Ok};
+ghost use Rattle.run_options.specs.Limits.{most_limit};
+ghost use Rattle.cf_io.specs.Causes.{HasCause};
+ghost use Rattle.cli_arguments.specs.Views.{layout_of};
+ghost use Rattle.cli_files.specs.Causes.{files_answered, input_answered, output_answered};
+ghost use Rattle.cli_reports.specs.Reporting.{ReportsAll, ReportsOver};
+ghost use Rattle.cli_reports.specs.OutsideChanges.{streams_change, outside_change, input_left, output_left};
+ghost use Rattle.cli_conform.specs.Conform.{conform_asked, JudgesCore, ComesOfLog, AnswersConform};
+
+use crate::closing::close_log;
+use cf_conform::{LogProgress, conform};
+use cf_io::{Files, Sink, Source};
+use cli_arguments::LayoutWord;
+use cli_files::{Loaded, load, no_memory};
+use cli_processor::{Opened, open};
+use cli_reports::{Reported, RunStreams, put_answer};
+use std::alloc::Global;
+
+/// Goes through the log on the opened processor, and puts its report.
+fn conform_opened<S: Source, K: Sink, R: Sink>(
+    opened: &mut Opened,
+    limit: u64,
+    streams: RunStreams<'_, S, K, R>,
+) -> Reported
+    requires limit { limit ≤ most_limit }
+    requires retired { opened.old.core.state.retired ≤ limit }
+    ensures judges { ReportsOver (JudgesCore limit opened.old.core opened.new.core)
+        (streams_change S.left K.written R.written R.faults streams.entry streams.exit) result }
+    ensures files { files_answered result.status ≡ Ok tt }
+    ensures input { HasCause (S.faults streams.entry.input.now) (S.faults (input_left streams.exit)) (input_answered result.status) }
+    ensures output { HasCause (K.faults streams.entry.output.now) (K.faults (output_left streams.exit)) (output_answered result.status) }
+{
+    let RunStreams {
+        input,
+        output,
+        report,
+    } = streams;
+    let mut progress = LogProgress::new();
+    let answer = conform(&mut opened.core, limit, input, output, &mut progress);
+    close_log(
+        &opened.core,
+        &mut opened.candidates,
+        limit,
+        &progress,
+        answer,
+        report,
+    )
+}
+
+/// Opens the processor of the layout on the machine, and goes through the log.
+#[tactic(auto, using(cf_run::proofs::Opened::opened_cores))]
+fn conform_loaded<S: Source, K: Sink, R: Sink>(
+    alloc: Global,
+    loaded: Loaded,
+    limit: u64,
+    streams: RunStreams<'_, S, K, R>,
+) -> Reported
+    requires count { loaded.machine.retired ≡ 0 }
+    requires limit { limit ≤ most_limit }
+    ensures comes { ReportsOver (ComesOfLog limit loaded.layout loaded.machine)
+        (streams_change S.left K.written R.written R.faults streams.entry streams.exit) result }
+    ensures files { files_answered result.status ≡ Ok tt }
+    ensures input { HasCause (S.faults streams.entry.input.now) (S.faults (input_left streams.exit)) (input_answered result.status) }
+    ensures output { HasCause (K.faults streams.entry.output.now) (K.faults (output_left streams.exit)) (output_answered result.status) }
+{
+    match open(alloc, loaded.layout, loaded.machine) {
+        Ok(mut opened) => conform_opened(&mut opened, limit, streams),
+        Err(_) => put_answer(no_memory(), streams.report),
+    }
+}
+
+/// Carries out `conform`: reads the layout and the program, in this order, and goes through the log on the input: it makes the
+/// moves in it and compares its observations with the processor, up to the first line that is refused or does not agree. It puts
+/// how this finished, which moves can be made where the log ends or a move is barred or what an observation should be, and how
+/// many instructions retired, how many observations agreed, the tally of the moves, the registers and the picture. The program's
+/// own input is empty.
+pub fn conform_log<F: Files, S: Source, K: Sink, R: Sink>(
+    alloc: Global,
+    layout: LayoutWord<'_>,
+    program: &str,
+    limit: u64,
+    files: &mut F,
+    streams: RunStreams<'_, S, K, R>,
+) -> Reported
+    requires { limit ≤ most_limit }
+    ensures answers { ReportsAll (AnswersConform (conform_asked (layout_of layout.entry) program.now limit))
+        (outside_change F.told F.faults S.left S.faults K.written K.faults R.written R.faults files.old files.new streams.entry streams.exit) result }
+    ensures files { HasCause (F.faults files.old) (F.faults files.new) (files_answered result.status) }
+    ensures input { HasCause (S.faults streams.entry.input.now) (S.faults (input_left streams.exit)) (input_answered result.status) }
+    ensures output { HasCause (K.faults streams.entry.output.now) (K.faults (output_left streams.exit)) (output_answered result.status) }
+{
+    match load(alloc, layout, program, files) {
+        Ok(loaded) => conform_loaded(alloc, loaded, limit, streams),
+        Err(answer) => put_answer(answer, streams.report),
+    }
+}

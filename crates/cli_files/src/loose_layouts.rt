@@ -1,0 +1,73 @@
+//! The layouts that words of the command line name, where a layout may break the rule on where control turns.
+
+ghost use Rattle.std.specs.Prelude.{IfOk, IfErr};
+ghost use Rattle.cf_io.specs.Causes.{HasCause};
+ghost use Rattle.cli_arguments.specs.Words.{in_file};
+ghost use Rattle.cli_arguments.specs.Views.{layout_of};
+ghost use Rattle.layout_file.specs.Answers.{DescribesLoosely};
+ghost use Rattle.cli_files.specs.Causes.{files_read};
+ghost use Rattle.cli_files.specs.LooseLayouts.{IsLooseLayoutAt, IsNoLooseLayout, LacksLooseLayout};
+
+use crate::answer::{Answer, no_memory, unread};
+use crate::status::{Status, Which};
+use cf_io::{Files, FilesErr};
+use cf_layout::{LooseLayout, plain};
+use cli_arguments::LayoutWord;
+use layout_file::{FileErr, MOST_LAYOUT, read_layout_loosely};
+use report_refusals::bad_layout;
+use std::alloc::Global;
+
+/// The greatest length of a layout file, in bytes.
+const MOST_BYTES: u64 = MOST_LAYOUT as u64;
+
+/// The layout that a file of this content describes, or the answer where it describes none.
+fn read_loosely(alloc: Global, file: &[u8]) -> Result<LooseLayout, Answer>
+    ensures ok { IfOk result (λ layout. DescribesLoosely file.now layout) }
+    ensures refused { IfErr result (λ answer. IsNoLooseLayout file.now answer.status answer.closing) }
+{
+    match read_layout_loosely(alloc, file) {
+        Ok(layout) => Ok(layout),
+        Err(FileErr::NoMemory) => Err(no_memory()),
+        Err(error) => {
+            let closing = bad_layout(&error);
+            let status = Status::BadLayout(error);
+            Err(Answer { status, closing })
+        }
+    }
+}
+
+/// The layout in the file of this name, or the answer where it gives none.
+fn read_loose_file<F: Files>(
+    alloc: Global,
+    name: &str,
+    files: &mut F,
+) -> Result<LooseLayout, Answer>
+    ensures ok { IfOk result (IsLooseLayoutAt (in_file name.now) (F.told files.old) (F.told files.new)) }
+    ensures refused { IfErr result (λ answer. LacksLooseLayout (in_file name.now) (F.told files.old) (F.told files.new)
+        answer.status answer.closing) }
+    ensures faults { HasCause (F.faults files.old) (F.faults files.new) (files_read result) }
+{
+    match files.read(alloc, name, MOST_BYTES + 1) {
+        Ok(file) => read_loosely(alloc, file.as_slice()),
+        Err(FilesErr::Failed) => Err(unread(Which::Layout)),
+        Err(FilesErr::NoMemory) => Err(no_memory()),
+    }
+}
+
+/// The layout that the word names, or the answer where it names none; a layout that breaks no rule but the one on where
+/// control turns is one here.
+pub fn loose_layout_at<F: Files>(
+    alloc: Global,
+    word: LayoutWord<'_>,
+    files: &mut F,
+) -> Result<LooseLayout, Answer>
+    ensures ok { IfOk result (IsLooseLayoutAt (layout_of word.entry) (F.told files.old) (F.told files.new)) }
+    ensures refused { IfErr result (λ answer. LacksLooseLayout (layout_of word.entry) (F.told files.old) (F.told files.new)
+        answer.status answer.closing) }
+    ensures faults { HasCause (F.faults files.old) (F.faults files.new) (files_read result) }
+{
+    match word {
+        LayoutWord::Plain => Ok(*plain().loose()),
+        LayoutWord::File(name) => read_loose_file(alloc, name, files),
+    }
+}

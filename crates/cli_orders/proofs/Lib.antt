@@ -1,0 +1,4 @@
+pub mod Answering
+pub mod EdgeRows
+pub mod Reading
+pub mod Showing

@@ -1,0 +1,3 @@
+pub mod OrderTexts
+pub mod EdgeTexts
+pub mod Orders

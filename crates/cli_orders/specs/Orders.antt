@@ -1,0 +1,117 @@
+-- What the command `orders` answers, and what it leaves of the outside.
+use Rattle.std.specs.Prelude.{◌≡◌, ◌⊎◌, ℕ, List, codes, length, Bool, true, false, Option, None, Some, Result, Ok, Err, IfSome}
+use Rattle.cf_io.specs.Puts.{Writes, WritesFront}
+use Rattle.cf_io.specs.Reads.{FilesSeen}
+use Rattle.rv_machine.specs.Hart.{Hart}
+use Rattle.rv_machine.specs.Streams.{Streams}
+use Rattle.texts.specs.Lines.{line}
+use Rattle.cf_layout.specs.Layout.{Plan}
+use Rattle.order_rules.specs.declared.rule.Rule.{Rule}
+use Rattle.order_rules.specs.declared.rule.Rule.TheVariants.{ControlAboveMemory}
+use Rattle.order_graph.specs.declared.found.OrdersFound.{OrdersFound}
+use Rattle.order_graph.specs.declared.found.OrdersFound.TheVariants.{Wrong, Reached, TooMany}
+use Rattle.order_graph.specs.declared.reached.OrdersReached.{OrdersReached}
+use Rattle.order_graph.specs.OrderAnswers.{AreOrdersFound, IsNotWrong, IsSearched, states_of, trial_of}
+use Rattle.order_report.specs.Drawing.{IsDrawable}
+use Rattle.order_shapes.specs.Shapes.{IsEncodable}
+use Rattle.cli_arguments.specs.declared.command.OrdersOptions.{OrdersOptions}
+use Rattle.cli_arguments.specs.Words.{NamedLayout}
+use Rattle.cli_files.specs.Loading.{IsLoaded, IsLoadedLoosely, LacksLoaded, LacksLoadedLoosely}
+use Rattle.cli_files.specs.Memory.{LacksProcessor, SaysNoMemory}
+use Rattle.cli_files.specs.Outside.{Outside}
+use Rattle.cli_files.specs.declared.status.Status.{Status}
+use Rattle.cli_files.specs.declared.status.Status.TheVariants as status
+use Rattle.cli_orders.specs.EdgeTexts.{ShowsEdges}
+use Rattle.cli_orders.specs.OrderTexts.{DoEnd, IsWrongReport, counts_text, script_text, too_many_line}
+
+-- what the arguments ask of `orders`: where the layout is, the file with the program, and what the options say
+pub record OrdersAsked : Type 0 where
+  pub layout : NamedLayout
+  pub program : List ℕ
+  pub options : OrdersOptions
+
+abbrev pub orders_asked : NamedLayout → List ℕ → OrdersOptions → OrdersAsked
+orders_asked layout program options = record { layout = layout; program = program; options = options }
+
+-- a text was put to the output, and this is the status and such the report; or the output failed after a prefix of it
+abbrev pub PutsFirst : (text : List ℕ) → (said : Status) → (Reports : List ℕ → Type 0) → (before after : Option (List ℕ)) → Status → List ℕ → Type 0
+PutsFirst text said Reports before after answer report =
+    (Writes before after text × (answer ≡ said) × Reports report)
+    ⊎ (WritesFront before after text × (answer ≡ status.WriteFault) × (report ≡ line (codes "write fault output")))
+
+-- the moves from the states were put where they are shown, and the report counts the states
+pub record PutsReached (edges : Bool) (r : OrdersReached) (before after : Option (List ℕ)) (answer : Status) (report : List ℕ) : Type 0 where
+  pub text : List ℕ
+  pub shows : ShowsEdges edges r text
+  pub puts : PutsFirst text status.Done (λ report. report ≡ counts_text (length (states_of r)) r.reached.edges r.reached.ends r.reached.orders)
+      before after answer report
+
+-- what is put of what a search has found: of a wrong list of moves its script, and how it is wrong; or the moves and the
+-- counts; or that there are more states than were asked for
+abbrev pub PutsFound : OrdersOptions → Plan → OrdersFound → (before after : Option (List ℕ)) → Status → List ℕ → Type 0
+PutsFound options plan (Wrong w) before after answer report =
+    PutsFirst (script_text w.moves.items) status.Wrong (IsWrongReport plan w) before after answer report
+PutsFound options plan (Reached r) before after answer report = PutsReached options.show_edges r before after answer report
+PutsFound options plan TooMany before after answer report =
+    (after ≡ before) × (answer ≡ status.TooMany options.states) × (report ≡ too_many_line options.states)
+
+-- memory was refused before anything was put
+abbrev pub PutsNothing : (before after : Option (List ℕ)) → Status → List ℕ → Type 0
+PutsNothing before after answer report = (after ≡ before) × SaysNoMemory answer report
+
+-- what comes of a search that has found something, or for which there was no memory
+abbrev pub ComesOfFound : {E : Type 0} → OrdersOptions → Plan → Result OrdersFound E → (before after : Option (List ℕ)) → Status → List ℕ → Type 0
+ComesOfFound options plan (Ok found) before after answer report = PutsFound options plan found before after answer report ⊎ PutsNothing before after answer report
+ComesOfFound options plan (Err error) before after answer report = PutsNothing before after answer report
+
+-- what is needed of it: the state that a wrong list leads to can be drawn, and its last instruction encoded; the states
+-- that were reached are those of a graph, and the lists of moves to them end
+abbrev pub CanBePut : OrdersFound → Type 0
+CanBePut (Wrong w) = IsDrawable w.reached × IfSome w.seen IsEncodable
+CanBePut (Reached r) = IsSearched r × DoEnd r.reached.orders
+CanBePut TooMany = Unit {0}
+
+-- all lists of moves of the program were gone through, and this is put of what was found; with no rule taken away none is wrong
+pub record SearchesOrders (options : OrdersOptions) (plan : Plan) (hart : Hart) (before after : Streams) (answer : Status) (report : List ℕ) : Type 0 where
+  pub found : OrdersFound
+  pub finds : AreOrdersFound (trial_of options.without plan hart options.issues) options.states found
+  pub sound : options.without ≡ None → IsNotWrong found
+  pub puts : PutsFound options plan found before.output after.output answer report
+  pub input : after.input ≡ before.input
+
+-- what comes of a layout and a hart; or memory was refused
+abbrev pub ComesOfOrders : OrdersOptions → Plan → Hart → Streams → Streams → Status → List ℕ → Type 0
+ComesOfOrders options plan hart before after answer report =
+    SearchesOrders options plan hart before after answer report ⊎ LacksProcessor before after answer report
+
+-- the rule on where control turns is taken away
+abbrev pub is_loose : Option Rule → Bool
+is_loose (Some ControlAboveMemory) = true
+is_loose _ = false
+
+-- the layout and the program are there: a layout that breaks that rule alone is one where it is taken away
+abbrev pub AreFilesThere : (loose : Bool) → NamedLayout → (program : List ℕ) → Option FilesSeen → Option FilesSeen → Plan → Hart → Type 0
+AreFilesThere true layout program before after plan hart = IsLoadedLoosely layout program before after plan hart
+AreFilesThere false layout program before after plan hart = IsLoaded layout program before after plan hart
+
+-- the first of the two that is not there, the status that says why, and the report
+abbrev pub AreMissing : (loose : Bool) → NamedLayout → (program : List ℕ) → Option FilesSeen → Option FilesSeen → Status → List ℕ → Type 0
+AreMissing true layout program before after answer report = LacksLoadedLoosely layout program before after answer report
+AreMissing false layout program before after answer report = LacksLoaded layout program before after answer report
+
+-- the layout and the program were read, and this comes of them
+pub record SearchesLoaded (asked : OrdersAsked) (before after : Outside) (answer : Status) (report : List ℕ) : Type 0 where
+  pub plan : Plan
+  pub hart : Hart
+  pub loaded : AreFilesThere (is_loose asked.options.without) asked.layout asked.program before.files after.files plan hart
+  pub comes : ComesOfOrders asked.options plan hart before.streams after.streams answer report
+
+-- one of them is missing, and the streams were left alone
+pub record RefusesOrders (asked : OrdersAsked) (before after : Outside) (answer : Status) (report : List ℕ) : Type 0 where
+  pub lacks : AreMissing (is_loose asked.options.without) asked.layout asked.program before.files after.files answer report
+  pub streams : after.streams ≡ before.streams
+
+-- the answer of `orders` and its report
+abbrev pub AnswersOrders : OrdersAsked → Outside → Outside → Status → List ℕ → Type 0
+AnswersOrders asked before after answer report =
+    SearchesLoaded asked before after answer report ⊎ RefusesOrders asked before after answer report

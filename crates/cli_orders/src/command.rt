@@ -1,0 +1,186 @@
+//! The command `orders`.
+
+ghost use Rattle.std.specs.Prelude.{◌≡◌, ◌≢◌, ◌≤◌, None, Ok, false, true};
+ghost use Rattle.run_options.specs.Limits.{most_issues};
+ghost use Rattle.cf_io.specs.Causes.{HasCause};
+ghost use Rattle.cli_arguments.specs.Views.{layout_of};
+ghost use Rattle.cli_files.specs.Causes.{files_answered, input_answered, output_answered};
+ghost use Rattle.cli_files.specs.declared.status.Status.TheVariants.{Wrong as IsWrong};
+ghost use Rattle.cli_orders.specs.Orders.{AnswersOrders, ComesOfOrders, is_loose as is_loosely, orders_asked};
+ghost use Rattle.cli_reports.specs.OutsideChanges.{input_left, outside_change, output_left, streams_change};
+ghost use Rattle.cli_reports.specs.Reporting.{ReportsAll, ReportsOver};
+
+use crate::found::put_found;
+use cf_io::{Files, Sink, Source};
+use cf_layout::{Layout, LooseLayout};
+use cli_arguments::{LayoutWord, OrdersOptions};
+use cli_files::{LoadedImages, LooseImages, ProgramImages, load_images, load_images_loosely};
+use cli_reports::{Reported, RunStreams, put_answer};
+use order_graph::{search_loosely, search_orders};
+use order_rules::Rule;
+use std::alloc::Global;
+
+/// Whether the rule on where control turns is taken away.
+fn is_loose(away: Option<Rule>) -> bool
+    ensures { result ≡ is_loosely away }
+{
+    matches!(away, Some(Rule::ControlAboveMemory))
+}
+
+/// Searches all orders of a program under a layout, and puts what is found.
+fn search_images<S: Source, K: Sink, R: Sink>(
+    alloc: Global,
+    layout: &Layout,
+    images: ProgramImages,
+    options: OrdersOptions,
+    streams: RunStreams<'_, S, K, R>,
+) -> Reported
+    requires image { images.machine.mem ≡ images.image }
+    requires memory { images.mem ≡ images.image }
+    requires count { images.machine.retired ≡ 0 }
+    requires issues { options.issues ≤ most_issues }
+    requires states { 1 ≤ options.states }
+    ensures comes { ReportsOver (ComesOfOrders options layout.now images.machine)
+        (streams_change S.left K.written R.written R.faults streams.entry streams.exit) result }
+    ensures files { files_answered result.status ≡ Ok tt }
+    ensures input { HasCause (S.faults streams.entry.input.now) (S.faults (input_left streams.exit)) (input_answered result.status) }
+    ensures output { HasCause (K.faults streams.entry.output.now) (K.faults (output_left streams.exit)) (output_answered result.status) }
+{
+    let _ = layout.stages();
+    let found = search_orders(
+        alloc,
+        layout,
+        images.image,
+        images.mem,
+        images.machine,
+        options.without,
+        options.issues as u8,
+        options.states,
+    );
+    let RunStreams {
+        input: _,
+        output,
+        report,
+    } = streams;
+    put_found(alloc, layout.loose(), options, found, output, report)
+}
+
+/// The same under a layout that may break the rule on where control turns, which is the one that is taken away.
+fn search_images_loosely<S: Source, K: Sink, R: Sink>(
+    alloc: Global,
+    layout: &LooseLayout,
+    images: ProgramImages,
+    options: OrdersOptions,
+    streams: RunStreams<'_, S, K, R>,
+) -> Reported
+    requires image { images.machine.mem ≡ images.image }
+    requires memory { images.mem ≡ images.image }
+    requires count { images.machine.retired ≡ 0 }
+    requires issues { options.issues ≤ most_issues }
+    requires states { 1 ≤ options.states }
+    requires rule { options.without ≢ None }
+    ensures comes { ReportsOver (ComesOfOrders options layout.now images.machine)
+        (streams_change S.left K.written R.written R.faults streams.entry streams.exit) result }
+    ensures files { files_answered result.status ≡ Ok tt }
+    ensures input { HasCause (S.faults streams.entry.input.now) (S.faults (input_left streams.exit)) (input_answered result.status) }
+    ensures output { HasCause (K.faults streams.entry.output.now) (K.faults (output_left streams.exit)) (output_answered result.status) }
+{
+    let _ = layout.stages();
+    let found = search_loosely(
+        alloc,
+        layout,
+        images.image,
+        images.mem,
+        images.machine,
+        options.without,
+        options.issues as u8,
+        options.states,
+    );
+    let RunStreams {
+        input: _,
+        output,
+        report,
+    } = streams;
+    put_found(alloc, layout, options, found, output, report)
+}
+
+/// Reads the layout and the program, and searches.
+fn search_strictly<F: Files, S: Source, K: Sink, R: Sink>(
+    alloc: Global,
+    layout: LayoutWord<'_>,
+    program: &str,
+    options: OrdersOptions,
+    files: &mut F,
+    streams: RunStreams<'_, S, K, R>,
+) -> Reported
+    requires issues { options.issues ≤ most_issues }
+    requires states { 1 ≤ options.states }
+    requires rule { is_loosely options.without ≡ false }
+    ensures answers { ReportsAll (AnswersOrders (orders_asked (layout_of layout.entry) program.now options))
+        (outside_change F.told F.faults S.left S.faults K.written K.faults R.written R.faults files.old files.new streams.entry streams.exit) result }
+    ensures files { HasCause (F.faults files.old) (F.faults files.new) (files_answered result.status) }
+    ensures input { HasCause (S.faults streams.entry.input.now) (S.faults (input_left streams.exit)) (input_answered result.status) }
+    ensures output { HasCause (K.faults streams.entry.output.now) (K.faults (output_left streams.exit)) (output_answered result.status) }
+{
+    match load_images(alloc, layout, program, files) {
+        Ok(LoadedImages { layout, images }) => search_images(
+            alloc, &layout, images, options, streams,
+        ),
+        Err(answer) => put_answer(answer, streams.report),
+    }
+}
+
+/// The same, where the rule on where control turns is taken away.
+fn search_without_control<F: Files, S: Source, K: Sink, R: Sink>(
+    alloc: Global,
+    layout: LayoutWord<'_>,
+    program: &str,
+    options: OrdersOptions,
+    files: &mut F,
+    streams: RunStreams<'_, S, K, R>,
+) -> Reported
+    requires issues { options.issues ≤ most_issues }
+    requires states { 1 ≤ options.states }
+    requires rule { is_loosely options.without ≡ true }
+    ensures answers { ReportsAll (AnswersOrders (orders_asked (layout_of layout.entry) program.now options))
+        (outside_change F.told F.faults S.left S.faults K.written K.faults R.written R.faults files.old files.new streams.entry streams.exit) result }
+    ensures files { HasCause (F.faults files.old) (F.faults files.new) (files_answered result.status) }
+    ensures input { HasCause (S.faults streams.entry.input.now) (S.faults (input_left streams.exit)) (input_answered result.status) }
+    ensures output { HasCause (K.faults streams.entry.output.now) (K.faults (output_left streams.exit)) (output_answered result.status) }
+{
+    match load_images_loosely(alloc, layout, program, files) {
+        Ok(LooseImages { layout, images }) => search_images_loosely(
+            alloc, &layout, images, options, streams,
+        ),
+        Err(answer) => put_answer(answer, streams.report),
+    }
+}
+
+/// Carries out `orders`: reads the layout and the program, in this order, and goes through all lists of moves with at most as many
+/// Issue moves as the options say, breadth first, in the table without the rule that they take away, if any. The first list that is
+/// wrong is put to the output as a script; the report then says after how many moves and in which way it is wrong, and ends as that of
+/// a run of the script. If none is, the report has the numbers of states, of moves between them, of states without a move and of lists
+/// that lead to these, and the output each move where edges are shown. More states than the options allow end the search. The
+/// program's input is empty. Where the rule on where control turns is taken away, a layout that breaks it alone is accepted.
+pub fn search_program<F: Files, S: Source, K: Sink, R: Sink>(
+    alloc: Global,
+    layout: LayoutWord<'_>,
+    program: &str,
+    options: OrdersOptions,
+    files: &mut F,
+    streams: RunStreams<'_, S, K, R>,
+) -> Reported
+    requires issues { options.issues ≤ most_issues }
+    requires states { 1 ≤ options.states }
+    ensures answers { ReportsAll (AnswersOrders (orders_asked (layout_of layout.entry) program.now options))
+        (outside_change F.told F.faults S.left S.faults K.written K.faults R.written R.faults files.old files.new streams.entry streams.exit) result }
+    ensures files { HasCause (F.faults files.old) (F.faults files.new) (files_answered result.status) }
+    ensures input { HasCause (S.faults streams.entry.input.now) (S.faults (input_left streams.exit)) (input_answered result.status) }
+    ensures output { HasCause (K.faults streams.entry.output.now) (K.faults (output_left streams.exit)) (output_answered result.status) }
+{
+    if is_loose(options.without) {
+        search_without_control(alloc, layout, program, options, files, streams)
+    } else {
+        search_strictly(alloc, layout, program, options, files, streams)
+    }
+}

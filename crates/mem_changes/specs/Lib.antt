@@ -1,0 +1,5 @@
+pub mod MemoryChanges
+pub mod Applied
+pub mod Differing
+pub mod Images
+pub mod Steps

@@ -1,0 +1,3 @@
+mod NoneWrong
+mod Held
+mod ending

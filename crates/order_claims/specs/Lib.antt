@@ -1,0 +1,3 @@
+pub mod MoveLists
+pub mod WrongLists
+pub mod Claims

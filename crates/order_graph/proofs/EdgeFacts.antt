@@ -1,0 +1,204 @@
+-- An edge from a node, made and judged.
+use Rattle.std.proofs.Common.{◌≡◌, ℕ, zero, suc, ◌+◌, ◌<◌, ◌^◌, List, [], ◌∷◌, ◌++◌, Option, Some, None, false, length, map, get_or, take, refl, sym, ap, subst, ◌∙◌, arith}
+use Rattle.std.specs.Prelude.{IfNone, slice_get}
+use Rattle.std.specs.List.{All, Contains}
+use Rattle.std.proofs.lemmas.List.{length-map}
+use Rattle.std.proofs.lemmas.Option.{slice_get-get_or}
+use Rattle.mem_regions.specs.Memory.{Memory}
+use Rattle.rv_machine.specs.After.{after}
+use Rattle.rv_machine.specs.Machine.{Machine}
+use Rattle.cf_bind.specs.declared.moves.Move.{Move}
+use Rattle.cf_semantics.specs.claims.Refines.{gained}
+use Rattle.cf_semantics.specs.claims.Weight.{counts, is_issue, issues}
+use Rattle.cf_semantics.specs.moves.Candidates.{all_moves}
+use Rattle.cf_semantics.specs.state.Layouts.{isa_of}
+use Rattle.cf_semantics.specs.state.State.{Moment, State}
+use Rattle.mem_changes.specs.Applied.{memory_after}
+use Rattle.mem_changes.specs.Differing.{AreChangesOf}
+use Rattle.order_model.specs.Situations.{alone, in_memory}
+use Rattle.order_keys.specs.declared.node.Node.{Node}
+use Rattle.order_keys.specs.Keys.{key_of, node_of}
+use Rattle.order_keys.specs.Situations.{IsWhole, bare}
+use Rattle.order_machine.specs.Waypoints.{MachinePlace}
+use Rattle.order_claims.specs.declared.wrong_kind.WrongKind.{WrongKind}
+use Rattle.order_claims.specs.MoveLists.{issued_with, moment_after, IsOrder}
+use Rattle.order_claims.specs.WrongLists.{IsWrongMove, IsWrongMoment}
+use Rattle.order_judging.specs.declared.judging.FailedTest.{FailedTest}
+use Rattle.order_judging.specs.FirstTests.{IsMoveJudged, IsStateJudged, reached}
+use Rattle.order_judging.specs.Places.{IsPlaceOf}
+use Rattle.order_search.specs.declared.graph.Edge.{Edge}
+use Rattle.order_search.specs.Paths.{EdgeView}
+use Rattle.order_search.specs.Views.{IsJudged, TellsFault, seen}
+use Rattle.order_graph.specs.OrderTrial.{OrderTrial, first_moment, leads_on, moment_next}
+use Rattle.order_graph.specs.ChangesNext.{changes_next}
+use Rattle.order_graph.specs.Kinds.{kind_told}
+use Rattle.order_graph.specs.TrialParts.{HasPlace, IsSoundTrial}
+use Rattle.order_graph.specs.KeyGraph.{AreRightMoves, IsOrderKey, IsOrderNode, IsRightNode, IsWrongEdge, IsWrongFrom, IsWrongNode, IsWrongThere, edge_of, edges_from, first_node, memory_loaded, moves_from, node_next, state_of}
+use Rattle.order_graph.proofs.Changed.{changes_right}
+use Rattle.order_graph.proofs.Facts.{node_changes, order_facts}
+use Rattle.order_graph.proofs.Faults.{move_from}
+use Rattle.order_graph.proofs.Judgings.{move_told, moment_told}
+use Rattle.order_graph.proofs.Leading.{few_leading}
+use Rattle.order_graph.proofs.Nodes.{StandsFor, its_state}
+use Rattle.order_graph.proofs.Paths.{stands_at}
+use Rattle.order_graph.proofs.Still.{goes_on}
+use Rattle.order_graph.proofs.Wrongs.{after_one, its_moves}
+
+-- the state after the move, in its memory
+module _ (t : OrderTrial) (n : Node) (mv : Move) (mem : Memory) (next : Node) (is : IsSoundTrial t) (h : IsOrderNode t n)
+    (e : mem ≡ memory_after n.changes (memory_loaded t)) (made : next ≡ node_next t n mv) where
+  here : in_memory n.situation mem ≡ state_of t n
+  here = ap (in_memory n.situation) e
+
+  back_in_memory : (s : State) → s.failed ≡ false → in_memory (bare s) s.mem ≡ s
+  back_in_memory s f = ap (λ (b : _). let r : State = record s { failed = b } in r) (sym f)
+
+  unfailed : (reached t.away t.plan (state_of t n) mv).failed ≡ false
+  unfailed =
+      let f = order_facts t n is h in
+      let same : state_of t n ≡ f.m.state = its_state t f.m f.issued n f.stands in
+      (goes_on t.away t.plan (alone (state_of t n)) mv refl).failed ∙ ap (λ (s : State). s.failed) same ∙ f.stands.failed
+
+  situation_is : (node_next t n mv).situation ≡ bare (reached t.away t.plan (state_of t n) mv)
+  unfolding node_next
+  situation_is = refl
+
+  changes_are : (node_next t n mv).changes ≡ changes_next t.plan (memory_loaded t) (state_of t n) mv n.changes
+  unfolding node_next
+  changes_are = refl
+
+  pub judged_after : in_memory next.situation (reached t.away t.plan (in_memory n.situation mem) mv).mem ≡ reached t.away t.plan (in_memory n.situation mem) mv
+  judged_after = subst (λ (s : State). in_memory next.situation (reached t.away t.plan s mv).mem ≡ reached t.away t.plan s mv) (sym here)
+      (ap (λ (k : Node). in_memory k.situation (reached t.away t.plan (state_of t n) mv).mem) made
+      ∙ ap (λ (s : State). in_memory s (reached t.away t.plan (state_of t n) mv).mem) situation_is
+      ∙ back_in_memory (reached t.away t.plan (state_of t n) mv) unfailed)
+
+  pub judged_changes : AreChangesOf (memory_loaded t) (reached t.away t.plan (in_memory n.situation mem) mv).mem next.changes
+  judged_changes = subst (λ (s : State). AreChangesOf (memory_loaded t) (reached t.away t.plan s mv).mem next.changes) (sym here)
+      (subst (λ (k : Node). AreChangesOf (memory_loaded t) (reached t.away t.plan (state_of t n) mv).mem k.changes) (sym made)
+      (subst (λ c. AreChangesOf (memory_loaded t) (reached t.away t.plan (state_of t n) mv).mem c) (sym changes_are)
+      (changes_right t.away t.plan (memory_loaded t) (state_of t n) mv n.changes is.is_loaded (record { lists = node_changes t n is h; makes = refl }))))
+
+-- what the judge says of the move, and of the state
+pub fault_told : (t : OrderTrial) (n : Node) (mv : Move) (mem : Memory) (place : MachinePlace) (found : Option FailedTest) (told : Option WrongKind) →
+    mem ≡ memory_after n.changes (memory_loaded t) → HasPlace t n.situation →
+    ((x : Machine) → after (isa_of t.plan) t.machine (gained t.machine n.situation) ≡ Some x → IsPlaceOf (isa_of t.plan) (memory_loaded t) x place) →
+    ((x : Machine) → IsPlaceOf (isa_of t.plan) (memory_loaded t) x place → IsMoveJudged t.away t.plan x (in_memory n.situation mem) mv found) →
+    told ≡ kind_told found → TellsFault (IsWrongFrom t n mv) told
+fault_told t n mv mem place found told e h at judged f =
+    let x : Machine = h.at in
+    subst (TellsFault (IsWrongFrom t n mv)) (sym f)
+    (move_told t.away t.plan t.machine x (state_of t n) mv h.count found
+    (subst (λ (s : State). IsMoveJudged t.away t.plan x s mv found) (ap (in_memory n.situation) e) (judged x (at x h.count))))
+
+pub state_told : (t : OrderTrial) (n : Node) (place : MachinePlace) (moves : List Move) (found : Option FailedTest) (told : Option WrongKind) → IsSoundTrial t →
+    IsOrderNode t n → HasPlace t n.situation →
+    ((x : Machine) → after (isa_of t.plan) t.machine (gained t.machine n.situation) ≡ Some x → IsPlaceOf (isa_of t.plan) (memory_loaded t) x place) →
+    ((x : Machine) (mem : Memory) → IsPlaceOf (isa_of t.plan) (memory_loaded t) x place → AreChangesOf (memory_loaded t) mem n.changes →
+    IsStateJudged x moves (in_memory n.situation mem) found) → moves ≡ moves_from t n → told ≡ kind_told found → TellsFault (IsWrongThere t n) told
+state_told t n place moves found told is o h at judged e f =
+    let x : Machine = h.at in
+    let all = moment_told t.plan t.machine x moves (state_of t n) h.count found
+    (judged x (memory_after n.changes (memory_loaded t)) (at x h.count) (record { lists = node_changes t n is o; makes = refl })) in
+    subst (TellsFault (IsWrongThere t n)) (sym f)
+    (subst (λ (l : List Move). TellsFault (IsWrongMoment t.plan t.machine l (alone (state_of t n))) (kind_told found)) e all)
+
+-- one move more, which is not wrong
+order_more : (t : OrderTrial) (m : Moment) (issued : ℕ) (xs : List Move) (mv : Move) → IsOrder t.away t.plan t.most m issued xs →
+    Contains (leads_on t (moment_after t.away t.plan m xs).state (issued + issues xs)) mv → IsOrder t.away t.plan t.most m issued (xs ++ mv ∷ [])
+unfolding IsOrder moment_after
+order_more t m issued [] mv o there = (subst (λ (i : ℕ). Contains (leads_on t m.state i) mv) (let same : issued + 0 ≡ issued = omega arith in same) there, tt)
+order_more t m issued (x ∷ xs) mv o there =
+    let same : issued + (counts (is_issue x) 1 + issues xs) ≡ issued_with issued x + issues xs = omega arith in (
+      o.0,
+      order_more t (moment_next t m x) (issued_with issued x) xs mv o.1
+          (subst (λ (i : ℕ). Contains (leads_on t (moment_after t.away t.plan (moment_next t m x) xs).state i) mv) same there),
+    )
+
+right_more : (t : OrderTrial) (m : Moment) (xs : List Move) (mv : Move) → AreRightMoves t m xs →
+    ((kind : WrongKind) → IsWrongMove t.away t.plan t.machine (moment_after t.away t.plan m xs) mv kind → ⊥) → AreRightMoves t m (xs ++ mv ∷ [])
+unfolding AreRightMoves moment_after
+right_more t m [] mv r none = (none, tt)
+right_more t m (x ∷ xs) mv r none = (r.0, right_more t (moment_next t m x) xs mv r.1 none)
+
+pub next_right : (t : OrderTrial) (n : Node) (mv : Move) → IsSoundTrial t → IsRightNode t n → Contains (moves_from t n) mv →
+    ((kind : WrongKind) → IsWrongFrom t n mv kind → ⊥) → IsRightNode t (node_next t n mv)
+next_right t n mv is h there none =
+    let m : Moment = moment_after t.away t.plan (first_moment t) h.moves in
+    let stands : StandsFor t m (issues h.moves) n = subst (StandsFor t m (issues h.moves)) (sym h.is) (stands_at t h.moves is) in
+    let same : issues h.moves ≡ 0 + issues h.moves = omega arith in
+    record {
+      moves = h.moves ++ mv ∷ [];
+      allowed = order_more t (first_moment t) 0 h.moves mv h.allowed
+          (subst (λ (i : ℕ). Contains (leads_on t m.state i) mv) same
+          (subst (λ (l : List Move). Contains l mv) (sym (its_moves t m (issues h.moves) n stands)) there));
+      right = right_more t (first_moment t) h.moves mv h.right (λ kind w. none kind (move_from t m (issues h.moves) n mv kind stands w));
+      is = ap (λ (k : Node). node_next t k mv) h.is ∙ sym (after_one t (first_node t) h.moves mv);
+    }
+
+pub key_told : (t : OrderTrial) (n next : Node) (mv : Move) (fault : Option WrongKind) (key : List ℕ) → IsSoundTrial t → IsRightNode t n →
+    Contains (moves_from t n) mv → next ≡ node_next t n mv → TellsFault (IsWrongFrom t n mv) fault → key ≡ key_of next → IsWhole next.situation →
+    IfNone fault (IsOrderKey t key)
+key_told t n next mv (Some kind) key is h there e told is_key whole = tt
+key_told t n next mv None key is h there e told is_key whole =
+    record { node = next; right = subst (IsRightNode t) (sym e) (next_right t n mv is h there told); whole = whole; is = is_key }
+
+-- one edge more
+pub edges_more : (f : Move → EdgeView Move) (es : List (Edge Move WrongKind)) (e : Edge Move WrongKind) (ms : List Move) (i : ℕ) (m : Move) →
+    map seen es ≡ map f (take i ms) → slice_get ms i ≡ Some m → seen e ≡ f m → map seen (es ++ e ∷ []) ≡ map f (take (suc i) ms)
+edges_more f es e ms i m so there same = map_more seen es e ∙ ap (λ (l : List (EdgeView Move)). l ++ seen e ∷ []) so
+    ∙ ap (λ (d : EdgeView Move). map f (take i ms) ++ d ∷ []) same ∙ sym (ap (map f) (taken ms i m there) ∙ map_more f (take i ms) m) where
+      map_more : {A B : Type 0} (g : A → B) (xs : List A) (y : A) → map g (xs ++ y ∷ []) ≡ map g xs ++ g y ∷ []
+      map_more g [] y = refl
+      map_more g (x ∷ xs) y = ap (λ l. g x ∷ l) (map_more g xs y)
+
+      taken : (xs : List Move) (j : ℕ) (y : Move) → slice_get xs j ≡ Some y → take (suc j) xs ≡ take j xs ++ y ∷ []
+      taken [] j y q = absurd (cc)
+      taken (x ∷ xs) zero y q = let k : x ≡ y = cc in ap (λ (z : Move). z ∷ []) k
+      taken (x ∷ xs) (suc j) y q = ap (λ (l : List Move). x ∷ l) (taken xs j y q)
+
+-- what holds of each edge, and of one more
+pub all_more : {A : Type 0} (P : A → Type 0) (xs : List A) (y : A) → All P xs → P y → All P (xs ++ y ∷ [])
+all_more P [] y all here zero d within = here
+all_more P [] y all here (suc k) d within = absurd (omega (arith, within))
+all_more P (x ∷ xs) y all here zero d within = all 0 d (omega arith)
+all_more P (x ∷ xs) y all here (suc k) d within =
+    all_more P xs y (λ j e inside. all (suc j) e (omega (arith, inside))) here k d (omega (arith, within))
+
+-- the edges of a node are judged, and few
+pub all_judged : (t : OrderTrial) (key : List ℕ) (n : Node) (es : List (Edge Move WrongKind)) → IsSoundTrial t → n ≡ node_of key →
+    All (λ (e : Edge Move WrongKind). TellsFault (IsWrongFrom t n e.label) e.fault) es → All (IsJudged (IsWrongEdge t key)) es
+all_judged t key n es is e all k d within =
+    subst (λ (m : Node). TellsFault (IsWrongFrom t m (get_or es k d).label) (get_or es k d).fault) e (all k d within)
+
+pub edges_few : (t : OrderTrial) (n : Node) (es : List (Edge Move WrongKind)) → length (all_moves t.plan) < 2 ^ 32 →
+    map seen es ≡ map (edge_of t n) (moves_from t n) → length es < 2 ^ 32
+edges_few t n es fits e =
+    let same = sym (length-map es seen) ∙ ap length e ∙ length-map (moves_from t n) (edge_of t n) in
+    let few = few_leading t (state_of t n) n.issues in omega arith
+
+pub edges_of_key : (t : OrderTrial) (key : List ℕ) (n : Node) (es : List (Edge Move WrongKind)) → n ≡ node_of key →
+    map seen es ≡ map (edge_of t n) (moves_from t n) → map seen es ≡ edges_from t key
+unfolding edges_from
+edges_of_key t key n es e so = so ∙ ap (λ (m : Node). map (edge_of t m) (moves_from t m)) e
+
+-- the fault of a key is that of its node
+pub node_fault : (t : OrderTrial) (key : List ℕ) (n : Node) (fault : Option WrongKind) → n ≡ node_of key → TellsFault (IsWrongThere t n) fault →
+    TellsFault (IsWrongNode t key) fault
+node_fault t key n fault e h = subst (λ (k : Node). TellsFault (IsWrongThere t k) fault) e h
+
+-- one turn of the loop over the moves
+pub edges_grown : (f : Move → EdgeView Move) (es new : List (Edge Move WrongKind)) (e : Edge Move WrongKind) (ms : List Move) (i : ℕ) (d : Move) →
+    new ≡ es ++ e ∷ [] →
+    map seen es ≡ map f (take i ms) → i < length ms → seen e ≡ f (get_or ms i d) → map seen new ≡ map f (take (i + 1) ms)
+edges_grown f es new e ms i d grown so within same =
+    let one : suc i ≡ i + 1 = omega arith in
+    ap (λ (l : List (Edge Move WrongKind)). map seen l) grown ∙ edges_more f es e ms i (get_or ms i d) so (slice_get-get_or ms i d within) same
+    ∙ ap (λ (j : ℕ). map f (take j ms)) one
+
+pub all_grown : {A : Type 0} (P : A → Type 0) (es new : List A) (e : A) → new ≡ es ++ e ∷ [] → All P es → P e → All P new
+all_grown P es new e grown all here = subst (All P) (sym grown) (all_more P es e all here)
+
+pub fault_named : (t : OrderTrial) (n : Node) (mv : Move) (e : Edge Move WrongKind) → seen e ≡ edge_of t n mv → TellsFault (IsWrongFrom t n mv) e.fault →
+    TellsFault (IsWrongFrom t n e.label) e.fault
+fault_named t n mv e same h = subst (λ (x : Move). TellsFault (IsWrongFrom t n x) e.fault) (sym (ap (λ (v : EdgeView Move). v.label) same)) h

@@ -1,0 +1,11 @@
+pub mod OrderTrial
+pub mod OrderLists
+pub mod StateCounts
+pub mod OrderCounts
+pub mod CountsMade
+pub mod WrongAnswers
+pub mod ChangesNext
+pub mod Kinds
+pub mod TrialParts
+pub mod KeyGraph
+pub mod OrderAnswers

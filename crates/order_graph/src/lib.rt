@@ -1,0 +1,17 @@
+//! The search through all orders of the moves of a program, where a rule of the table may be taken away: the first list of
+//! moves that is wrong, or the states that are reached.
+#![tactic(auto)]
+
+mod counting;
+mod edges;
+mod found;
+mod graph;
+mod reached;
+mod replaying;
+mod searching;
+mod trial;
+
+pub use found::{OrderCounts, OrdersFound, WrongOrder};
+pub use graph::OrderGraph;
+pub use reached::OrdersReached;
+pub use searching::{search_loosely, search_orders};

@@ -1,0 +1,4 @@
+pub mod LineParts
+pub mod SameReplies
+pub mod Placed
+pub mod Judged

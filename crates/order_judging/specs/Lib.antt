@@ -1,0 +1,4 @@
+pub mod Places
+pub mod ReplyClaims
+pub mod Judgements
+pub mod FirstTests

@@ -1,0 +1,153 @@
+//! Which test of a wrong list of moves is the first to hold.
+
+ghost use Rattle.std.specs.Prelude.{◌≡◌, IfOk};
+ghost use Rattle.cf_semantics.specs.state.Layouts.{isa_of as set_of};
+ghost use Rattle.mem_changes.specs.Differing.{AreChanges, AreChangesOf};
+ghost use Rattle.mem_regions.specs.Memory.{Memory};
+ghost use Rattle.order_judging.specs.FirstTests.{IsFirstOfMove, IsFirstOfState, IsMoveJudged, IsStateJudged, reached};
+ghost use Rattle.order_judging.specs.Judgements.{EndsApart, IsServeThat, IsServedApart, RestsApart, RetiresApart, at_top, lines_without};
+ghost use Rattle.order_judging.specs.Places.{IsPlaceOf, next_lines};
+ghost use Rattle.order_model.specs.Situations.{in_memory};
+ghost use Rattle.rv_inst.specs.declared.isa.Isa.{Isa};
+ghost use Rattle.rv_machine.specs.Machine.{Machine as MachineState};
+ghost use Rattle.theory_orders.specs.Wrong.{IsStuckWrongly};
+
+use crate::retiring::retires_apart;
+use crate::serving::serves_apart;
+use crate::states::{ends_apart, is_stuck, rests_apart};
+use cf_bind::Move;
+use cf_layout::LooseLayout;
+use mem_changes::{Changes, Image};
+use mem_regions::Regions;
+use order_machine::Waypoint;
+use order_model::{Rule, Situation};
+use std::alloc::{AllocError, Global};
+
+/// In what a list of moves is wrong at its last move.
+#[derive(Clone, Copy, PartialEq, Eq)]
+pub enum FailedTest {
+    /// An instruction retires with another line than that of the machine's next step, or that step does not go on.
+    Retired,
+
+    /// The program ends otherwise than with the machine's next step, or with other registers or memory.
+    Ended,
+
+    /// Serve is of another instruction than the machine's next step, or is answered otherwise.
+    Output,
+
+    /// No move leads on, though the program has not ended, and the processor is not drained with fetch running.
+    Stuck,
+
+    /// The processor is drained with other registers, memory or address of fetch than the machine's.
+    Memory,
+}
+
+/// The test of a move that is the first to hold, where the machine is at this place.
+fn first_of_move(
+    alloc: Global,
+    away: Option<Rule>,
+    layout: &LooseLayout,
+    image: &Image,
+    mem: &mut Regions,
+    changes: &Changes,
+    place: &Waypoint,
+    s: &Situation,
+    m: Move,
+    after: &Situation,
+    after_changes: &Changes,
+) -> Result<Option<FailedTest>, AllocError>
+    requires changes { AreChangesOf image.now mem.old changes.now }
+    requires place { AreChanges image.now place.now.changes }
+    ensures kept { mem.new ≡ mem.old }
+    ensures first { IfOk result (λ found. IsFirstOfMove
+        (RetiresApart (next_lines (set_of layout.now) place.now.next) (lines_without away layout.now s.now m))
+        (EndsApart place.now after.now.ending after.now.regs after_changes.now)
+        (IsServeThat m (IsServedApart (set_of layout.now) image.now place.now s.now.regs mem.old (at_top layout.now s.now)))
+        found) }
+{
+    if retires_apart(away, layout, place, s, m) {
+        return Ok(Some(FailedTest::Retired));
+    }
+    if ends_apart(place, after, after_changes) {
+        return Ok(Some(FailedTest::Ended));
+    }
+    if serves_apart(alloc, layout, image, mem, changes, place, s, m)? {
+        return Ok(Some(FailedTest::Output));
+    }
+    Ok(None)
+}
+
+/// In what a list of moves is wrong by the tests of its last move, which is allowed and leads from this state to the
+/// one after; if it is. The memory is that of the state, which has these changes, and is left as it is. The place is
+/// that of the machine after as many steps as instructions have retired in the state.
+pub fn judge_move(
+    alloc: Global,
+    away: Option<Rule>,
+    layout: &LooseLayout,
+    image: &Image,
+    mem: &mut Regions,
+    changes: &Changes,
+    place: &Waypoint,
+    s: &Situation,
+    m: Move,
+    after: &Situation,
+    after_changes: &Changes,
+) -> Result<Option<FailedTest>, AllocError>
+    requires changes { AreChangesOf image.now mem.old changes.now }
+    requires place { AreChanges image.now place.now.changes }
+    requires after { in_memory after.now (reached away layout.now (in_memory s.now mem.old) m).mem ≡ reached away layout.now (in_memory s.now mem.old) m }
+    requires after_changes { AreChangesOf image.now (reached away layout.now (in_memory s.now mem.old) m).mem after_changes.now }
+    ensures kept { mem.new ≡ mem.old }
+    ensures judged { IfOk result (λ found. (x : MachineState) → IsPlaceOf (set_of layout.now) image.now x place.now →
+        IsMoveJudged away layout.now x (in_memory s.now mem.old) m found) }
+{
+    let _ = image.memory();
+    first_of_move(
+        alloc,
+        away,
+        layout,
+        image,
+        mem,
+        changes,
+        place,
+        s,
+        m,
+        after,
+        after_changes,
+    )
+}
+
+/// The test of a state that is the first to hold, where the machine is at this place.
+fn first_of_state(
+    place: &Waypoint,
+    s: &Situation,
+    changes: &Changes,
+    moves: &[Move],
+) -> Option<FailedTest>
+    ensures { IsFirstOfState (IsStuckWrongly moves.now s.now) (RestsApart place.now s.now changes.now) result }
+{
+    if is_stuck(s, moves) {
+        Some(FailedTest::Stuck)
+    } else if rests_apart(place, s, changes) {
+        Some(FailedTest::Memory)
+    } else {
+        None
+    }
+}
+
+/// In what a list of moves is wrong by the tests of the state that it leads to, if it is. The state's memory has these
+/// changes, and these moves lead on from there. The place is that of the machine after as many steps as instructions
+/// have retired in the state.
+pub fn judge_state(
+    image: &Image,
+    place: &Waypoint,
+    s: &Situation,
+    changes: &Changes,
+    moves: &[Move],
+) -> Option<FailedTest>
+    ensures { (isa : Isa) (x : MachineState) (mem : Memory) → IsPlaceOf isa image.now x place.now → AreChangesOf image.now mem changes.now →
+        IsStateJudged x moves.now (in_memory s.now mem) result }
+{
+    let _ = image.memory();
+    first_of_state(place, s, changes, moves)
+}

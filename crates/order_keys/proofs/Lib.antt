@@ -1,0 +1,10 @@
+pub mod Fronts
+pub mod NumbersBack
+pub mod OperationsBack
+pub mod CompoundsBack
+pub mod InstructionsBack
+pub mod StagesBack
+pub mod ListSteps
+pub mod PlaceSteps
+pub mod PlacesBack
+pub mod KeysBack

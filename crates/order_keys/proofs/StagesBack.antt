@@ -1,0 +1,126 @@
+-- What stands in stages and in cells of sidings is read back.
+use Rattle.std.proofs.Common.{◌≡◌, ℕ, Bool, true, false, Option, None, Some, List, ◌++◌, refl, append_assoc}
+use Rattle.cf_bind.specs.declared.packet.Packet.{Packet}
+use Rattle.cf_bind.specs.declared.packet.Packet.TheVariants.{Value, Turn, Halt}
+use Rattle.cf_bind.specs.declared.packet.Fetch.{Fetch}
+use Rattle.cf_bind.specs.declared.packet.Fetch.TheVariants.{Running, Waiting}
+use Rattle.cf_bind.specs.declared.passenger.Guess.{Guess}
+use Rattle.cf_bind.specs.declared.passenger.Guess.TheVariants.{Next, Taken, Wait, To}
+use Rattle.cf_bind.specs.declared.passenger.End.{End}
+use Rattle.cf_bind.specs.declared.passenger.End.TheVariants.{Trap, Exit}
+use Rattle.cf_bind.specs.declared.passenger.Passenger.{Passenger}
+use Rattle.cf_bind.specs.declared.cell.Cell.{Cell}
+use Rattle.order_keys.specs.declared.passenger_flags.PassengerFlags.{PassengerFlags}
+use Rattle.order_keys.specs.Unpacked.{got, ReadsBack}
+use Rattle.order_keys.specs.Numbers.{front, behind}
+use Rattle.order_keys.specs.Bindings.{packed_binding, unpacked_binding}
+use Rattle.order_keys.specs.Results.{packed_packet, unpacked_packet, packed_fetch, unpacked_fetch}
+use Rattle.order_keys.specs.PassengerFlags.{packed_flags, unpacked_flags}
+use Rattle.order_keys.specs.Passengers.{packed_guess, unpacked_guess, packed_end, unpacked_end, packed_origin, unpacked_origin, packed_bindings, unpacked_bindings, packed_outcome, unpacked_outcome, packed_passenger, unpacked_passenger}
+use Rattle.order_keys.specs.Cells.{packed_contents, unpacked_contents, packed_cell, unpacked_cell, packed_source, unpacked_source, packed_values, unpacked_values, packed_op, unpacked_op}
+use Rattle.order_keys.proofs.NumbersBack.{byte_back, bit_back, word_back}
+use Rattle.order_keys.proofs.CompoundsBack.{pair_back, triple_back, option_back}
+use Rattle.order_keys.proofs.InstructionsBack.{instr_back}
+
+pub binding_back : ReadsBack packed_binding unpacked_binding
+unfolding packed_binding unpacked_binding
+binding_back = record { back = λ b rest. simp ((pair_back byte_back (option_back word_back)).back (b.reg, b.value) rest) refl }
+
+packet_reads : (x : Packet) (rest : List ℕ) → unpacked_packet (packed_packet x ++ rest) ≡ got x rest
+unfolding packed_packet unpacked_packet front behind
+packet_reads (Value reg value) rest = simp ((pair_back byte_back word_back).back (reg, value) rest) refl
+packet_reads (Turn target) rest = simp (word_back.back target rest) refl
+packet_reads Halt rest = refl
+
+pub packet_back : ReadsBack packed_packet unpacked_packet
+packet_back = record { back = packet_reads }
+
+fetch_reads : (x : Fetch) (rest : List ℕ) → unpacked_fetch (packed_fetch x ++ rest) ≡ got x rest
+unfolding packed_fetch unpacked_fetch front behind
+fetch_reads (Running pc) rest = simp (word_back.back pc rest) refl
+fetch_reads Waiting rest = refl
+
+pub fetch_back : ReadsBack packed_fetch unpacked_fetch
+fetch_back = record { back = fetch_reads }
+
+guess_reads : (x : Guess) (rest : List ℕ) → unpacked_guess (packed_guess x ++ rest) ≡ got x rest
+unfolding packed_guess unpacked_guess front behind
+guess_reads Next rest = refl
+guess_reads Taken rest = refl
+guess_reads Wait rest = refl
+guess_reads (To target) rest = simp (word_back.back target rest) refl
+
+pub guess_back : ReadsBack packed_guess unpacked_guess
+guess_back = record { back = guess_reads }
+
+end_reads : (x : End) (rest : List ℕ) → unpacked_end (packed_end x ++ rest) ≡ got x rest
+unfolding packed_end unpacked_end front behind
+end_reads (Trap cause pc detail) rest = simp ((triple_back byte_back word_back word_back).back (cause, pc, detail) rest) refl
+end_reads (Exit status) rest = simp (byte_back.back status rest) refl
+
+pub end_back : ReadsBack packed_end unpacked_end
+end_back = record { back = end_reads }
+
+flags_read : (done launched recovered dead : Bool) (rest : List ℕ) →
+    let p : PassengerFlags = record { done = done; launched = launched; recovered = recovered; dead = dead } in
+    unpacked_flags (packed_flags p ++ rest) ≡ got p rest
+unfolding packed_flags unpacked_flags front behind
+flags_read true true true true rest = refl
+flags_read true true true false rest = refl
+flags_read true true false true rest = refl
+flags_read true true false false rest = refl
+flags_read true false true true rest = refl
+flags_read true false true false rest = refl
+flags_read true false false true rest = refl
+flags_read true false false false rest = refl
+flags_read false true true true rest = refl
+flags_read false true true false rest = refl
+flags_read false true false true rest = refl
+flags_read false true false false rest = refl
+flags_read false false true true rest = refl
+flags_read false false true false rest = refl
+flags_read false false false true rest = refl
+flags_read false false false false rest = refl
+
+flags_back : ReadsBack packed_flags unpacked_flags
+flags_back = record { back = λ p rest. flags_read p.done p.launched p.recovered p.dead rest }
+
+origin_back : ReadsBack packed_origin unpacked_origin
+origin_back = triple_back word_back (option_back instr_back) guess_back
+
+bindings_back : ReadsBack packed_bindings unpacked_bindings
+bindings_back = triple_back (option_back binding_back) (option_back binding_back) (option_back binding_back)
+
+outcome_back : ReadsBack packed_outcome unpacked_outcome
+outcome_back = triple_back (option_back word_back) (option_back end_back) (option_back packet_back)
+
+pub passenger_back : ReadsBack packed_passenger unpacked_passenger
+unfolding packed_passenger unpacked_passenger
+passenger_back = record {
+  back = λ p rest. simp (append_assoc, origin_back.back, bindings_back.back, flags_back.back, outcome_back.back) refl;
+}
+
+contents_back : ReadsBack packed_contents unpacked_contents
+contents_back = triple_back (option_back passenger_back) (option_back packet_back) bit_back
+
+cell_reads : (passenger : Option Passenger) (packet : Option Packet) (met : Bool) (rest : List ℕ) →
+    let c : Cell = record { passenger = passenger; packet = packet; met = met } in
+    unpacked_cell (packed_cell c ++ rest) ≡ got c rest
+unfolding packed_cell unpacked_cell front behind
+cell_reads None None false rest = refl
+cell_reads None None true rest = simp (contents_back.back (None, None, true) rest) refl
+cell_reads None (Some k) met rest = simp (contents_back.back (None, Some k, met) rest) refl
+cell_reads (Some p) packet met rest = simp (contents_back.back (Some p, packet, met) rest) refl
+
+pub cell_back : ReadsBack packed_cell unpacked_cell
+cell_back = record { back = λ c rest. cell_reads c.passenger c.packet c.met rest }
+
+source_back : ReadsBack packed_source unpacked_source
+source_back = pair_back word_back instr_back
+
+values_back : ReadsBack packed_values unpacked_values
+values_back = triple_back word_back word_back (option_back word_back)
+
+pub op_back : ReadsBack packed_op unpacked_op
+unfolding packed_op unpacked_op
+op_back = record { back = λ o rest. simp (append_assoc, source_back.back, values_back.back) refl }

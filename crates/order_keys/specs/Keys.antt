@@ -1,0 +1,36 @@
+-- Nodes as bytes: the state, the changes of its memory, and the number of Issue moves.
+use Rattle.std.specs.Prelude.{◌≡◌, ℕ, List}
+use Rattle.cf_semantics.specs.state.State.{State}
+use Rattle.mem_changes.specs.MemoryChanges.{MemoryChanges}
+use Rattle.order_keys.specs.declared.node.Node.{Node}
+use Rattle.order_keys.specs.Unpacked.{Unpacked, as_read}
+use Rattle.order_keys.specs.Numbers.{packed_byte, unpacked_byte}
+use Rattle.order_keys.specs.Compounds.{packed_triple, unpacked_triple}
+use Rattle.order_keys.specs.Situations.{packed_situation, unpacked_situation, bare}
+use Rattle.order_keys.specs.Memories.{packed_changes, unpacked_changes}
+
+-- the key of a node
+unfoldable pub key_of : Node → List ℕ
+key_of n = packed_triple packed_situation packed_changes packed_byte (n.situation, n.changes, n.issues)
+
+abbrev pub node_in : State × MemoryChanges × ℕ → Node
+node_in x = record { situation = x.0; changes = x.1; issues = x.2 }
+
+unfoldable pub unpacked_node : List ℕ → Unpacked Node
+unpacked_node bs = as_read node_in (unpacked_triple unpacked_situation unpacked_changes unpacked_byte bs)
+
+-- the node with this key
+unfoldable pub node_of : List ℕ → Node
+node_of key = (unpacked_node key).value
+
+-- the node, whose state is without a memory
+abbrev pub bare_node : Node → Node
+bare_node n = record n { situation = bare n.situation }
+
+-- the node of a node's key is that node
+abbrev pub KeysAreReadBack : Type 0
+KeysAreReadBack = (n : Node) → node_of (key_of n) ≡ bare_node n
+
+-- no two nodes have one key
+abbrev pub KeysTellApart : Type 0
+KeysTellApart = (n m : Node) → key_of n ≡ key_of m → bare_node n ≡ bare_node m

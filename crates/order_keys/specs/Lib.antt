@@ -1,0 +1,15 @@
+pub mod Unpacked
+pub mod Numbers
+pub mod Compounds
+pub mod Operations
+pub mod Instructions
+pub mod Bindings
+pub mod Results
+pub mod PassengerFlags
+pub mod Passengers
+pub mod Cells
+pub mod Lists
+pub mod Places
+pub mod Memories
+pub mod Situations
+pub mod Keys

@@ -1,0 +1,91 @@
+-- Numbers as bytes: one that is small as a byte, and else behind a byte that says how many there are, the lowest first.
+use Rattle.std.specs.Prelude.{ℕ, ◌+◌, ◌*◌, ◌/◌, ◌%◌, ◌^◌, ℤ, pos, negsuc, Bool, true, false, nat_lt, ◌==◌, if◌then◌else◌, List, [], ◌∷◌, ◌++◌}
+use Rattle.order_keys.specs.Unpacked.{Unpacked, got}
+
+-- the first byte, 0 where there is none
+unfoldable pub front : List ℕ → ℕ
+front [] = 0
+front (b ∷ bs) = b
+
+-- the bytes behind the first
+unfoldable pub behind : List ℕ → List ℕ
+behind [] = []
+behind (b ∷ bs) = bs
+
+-- a number below 256
+unfoldable pub packed_byte : ℕ → List ℕ
+packed_byte n = n ∷ []
+
+unfoldable pub unpacked_byte : List ℕ → Unpacked ℕ
+unpacked_byte bs = got (front bs) (behind bs)
+
+-- yes or no
+unfoldable pub packed_bit : Bool → List ℕ
+packed_bit true = 1 ∷ []
+packed_bit false = 0 ∷ []
+
+unfoldable pub unpacked_bit : List ℕ → Unpacked Bool
+unpacked_bit bs = got (if front bs == 0 then false else true) (behind bs)
+
+-- a number below 2 ^ 16, its lower byte first
+unfoldable pub packed_two : ℕ → List ℕ
+packed_two n = n % 256 ∷ n / 256 ∷ []
+
+unfoldable pub unpacked_two : List ℕ → Unpacked ℕ
+unpacked_two bs = got (front bs + 256 * front (behind bs)) (behind (behind bs))
+
+-- a number below 2 ^ 32, its lower half first
+unfoldable pub packed_four : ℕ → List ℕ
+packed_four n = packed_two (n % 65536) ++ packed_two (n / 65536)
+
+unfoldable pub unpacked_four : List ℕ → Unpacked ℕ
+unpacked_four bs =
+    let low = unpacked_two bs in
+    let high = unpacked_two low.left in
+    got (low.value + 65536 * high.value) high.left
+
+-- a number below 2 ^ 32 in as few bytes as it needs of these forms
+unfoldable pub packed_word : ℕ → List ℕ
+packed_word n =
+    if nat_lt n 253 then n ∷ [] else
+    if nat_lt n 65536 then (253 ∷ []) ++ packed_two n else
+    (254 ∷ []) ++ packed_four n
+
+unfoldable pub unpacked_word : List ℕ → Unpacked ℕ
+unpacked_word bs =
+    if nat_lt (front bs) 253 then got (front bs) (behind bs) else
+    if front bs == 253 then unpacked_two (behind bs) else
+    unpacked_four (behind bs)
+
+-- a number below 2 ^ 64, its lower half first
+unfoldable pub packed_eight : ℕ → List ℕ
+packed_eight n = packed_four (n % 2 ^ 32) ++ packed_four (n / 2 ^ 32)
+
+unfoldable pub unpacked_eight : List ℕ → Unpacked ℕ
+unpacked_eight bs =
+    let low = unpacked_four bs in
+    let high = unpacked_four low.left in
+    got (low.value + 2 ^ 32 * high.value) high.left
+
+-- a number below 2 ^ 64 in as few bytes as it needs of these forms
+unfoldable pub packed_long : ℕ → List ℕ
+packed_long n = if nat_lt n (2 ^ 32) then packed_word n else (255 ∷ []) ++ packed_eight n
+
+unfoldable pub unpacked_long : List ℕ → Unpacked ℕ
+unpacked_long bs = if front bs == 255 then unpacked_eight (behind bs) else unpacked_word bs
+
+-- the place of a signed number among 0, -1, 1, -2, 2 and so on
+abbrev pub folded : ℤ → ℕ
+folded (pos n) = 2 * n
+folded (negsuc n) = 2 * n + 1
+
+-- the signed number at this place
+abbrev pub unfolded : ℕ → ℤ
+unfolded n = if n % 2 == 0 then pos (n / 2) else negsuc (n / 2)
+
+-- a signed number from -2 ^ 31 up to below 2 ^ 31
+unfoldable pub packed_signed : ℤ → List ℕ
+packed_signed z = packed_word (folded z)
+
+unfoldable pub unpacked_signed : List ℕ → Unpacked ℤ
+unpacked_signed bs = let n = unpacked_word bs in got (unfolded n.value) n.left

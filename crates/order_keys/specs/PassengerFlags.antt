@@ -1,0 +1,23 @@
+-- What is yes or no of an instruction on its way up, as the bits of one byte.
+use Rattle.std.specs.Prelude.{ℕ, ◌+◌, ◌/◌, ◌%◌, ◌==◌, Bool, true, false, List, [], ◌∷◌}
+use Rattle.order_keys.specs.declared.passenger_flags.PassengerFlags.{PassengerFlags}
+use Rattle.order_keys.specs.Unpacked.{Unpacked, got}
+use Rattle.order_keys.specs.Numbers.{front, behind}
+
+-- the bit of this weight, if the answer is yes
+abbrev pub bit : ℕ → Bool → ℕ
+bit weight true = weight
+bit weight false = 0
+
+-- whether the bit of this weight is set
+abbrev pub is_set : ℕ → ℕ → Bool
+is_set weight bits = bits / weight % 2 == 1
+
+unfoldable pub packed_flags : PassengerFlags → List ℕ
+packed_flags p = (bit 1 p.done + bit 2 p.launched + bit 4 p.recovered + bit 8 p.dead) ∷ []
+
+unfoldable pub unpacked_flags : List ℕ → Unpacked PassengerFlags
+unpacked_flags bs =
+    got
+    (record { done = is_set 1 (front bs); launched = is_set 2 (front bs); recovered = is_set 4 (front bs); dead = is_set 8 (front bs) })
+    (behind bs)

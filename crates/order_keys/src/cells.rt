@@ -1,0 +1,85 @@
+//! What stands in a stage, and in a cell of a siding, in keys.
+
+ghost use Rattle.std.specs.Prelude.{◌≡◌};
+ghost use Rattle.order_keys.specs.Cells.{is_empty as is_empty_in};
+
+use crate::pack::Pack;
+use crate::unread::Unread;
+use cf_bind::{Cell, Op, Packet, Passenger};
+use rv_inst::Instr;
+use std::alloc::AllocError;
+
+/// A stage with nothing in it.
+const EMPTY: Cell = Cell {
+    passenger: None,
+    packet: None,
+    met: false,
+};
+
+/// Whether the stage is as it is with nothing in it.
+#[inline(always)]
+fn is_empty(cell: &Cell) -> bool
+    ensures { result ≡ is_empty_in cell.now }
+{
+    cell.passenger.is_none() && cell.packet.is_none() && !cell.met
+}
+
+impl Pack for Cell {
+    ghost use Rattle.order_keys.specs.Cells.{packed_cell, unpacked_cell};
+
+    ghost packed = { packed_cell };
+
+    ghost unpacked = { unpacked_cell };
+
+    #[tactic(auto, unfolding(crate::specs::Cells::packed_cell))]
+    fn pack(&self, key: &mut Vec<u8>) -> Result<(), AllocError> {
+        if is_empty(self) {
+            key.push(0)?;
+            Ok(())
+        } else {
+            key.push(1)?;
+            (self.passenger, self.packet, self.met).pack(key)
+        }
+    }
+
+    #[tactic(auto, unfolding(crate::specs::Cells::unpacked_cell))]
+    fn unpack(key: &mut Unread<'_>) -> Cell {
+        if key.byte() == 0 {
+            EMPTY
+        } else {
+            let (passenger, packet, met) = <(Option<Passenger>, Option<Packet>, bool)>::unpack(key);
+            Cell {
+                passenger,
+                packet,
+                met,
+            }
+        }
+    }
+}
+
+impl Pack for Op {
+    ghost use Rattle.order_keys.specs.Cells.{packed_op, unpacked_op};
+
+    ghost packed = { packed_op };
+
+    ghost unpacked = { unpacked_op };
+
+    #[tactic(auto, unfolding(crate::specs::Cells::packed_op))]
+    fn pack(&self, key: &mut Vec<u8>) -> Result<(), AllocError> {
+        (self.pc, self.instr).pack(key)?;
+        (self.a, self.b, self.answer).pack(key)
+    }
+
+    #[tactic(auto, unfolding(crate::specs::Cells::unpacked_op))]
+    fn unpack(key: &mut Unread<'_>) -> Op {
+        let (pc, instr) = <(u32, Instr)>::unpack(key);
+        let (a, b, answer) = <(u32, u32, Option<u32>)>::unpack(key);
+        Op {
+            pc,
+            instr,
+            a,
+            b,
+            answer,
+        }
+    }
+}

@@ -1,0 +1,82 @@
+//! Pairs, optional values and lists in keys.
+
+ghost use Rattle.std.specs.Prelude.{◌≡◌, ◌++◌, IfOk};
+
+use crate::pack::Pack;
+use crate::unread::Unread;
+use std::alloc::{AllocError, Global};
+
+impl<A: Pack, B: Pack> Pack for (A, B) {
+    ghost use Rattle.order_keys.specs.Compounds.{packed_pair, unpacked_pair};
+
+    ghost packed = { packed_pair A.packed B.packed };
+
+    ghost unpacked = { unpacked_pair A.unpacked B.unpacked };
+
+    #[tactic(auto, unfolding(crate::specs::Compounds::packed_pair))]
+    fn pack(&self, key: &mut Vec<u8>) -> Result<(), AllocError> {
+        self.0.pack(key)?;
+        self.1.pack(key)
+    }
+
+    #[tactic(auto, unfolding(crate::specs::Compounds::unpacked_pair))]
+    fn unpack(key: &mut Unread<'_>) -> (A, B) {
+        let first = A::unpack(key);
+        let second = B::unpack(key);
+        (first, second)
+    }
+}
+
+impl<A: Pack, B: Pack, C: Pack> Pack for (A, B, C) {
+    ghost use Rattle.order_keys.specs.Compounds.{packed_triple, unpacked_triple};
+
+    ghost packed = { packed_triple A.packed B.packed C.packed };
+
+    ghost unpacked = { unpacked_triple A.unpacked B.unpacked C.unpacked };
+
+    #[tactic(auto, unfolding(crate::specs::Compounds::packed_triple))]
+    fn pack(&self, key: &mut Vec<u8>) -> Result<(), AllocError> {
+        self.0.pack(key)?;
+        self.1.pack(key)?;
+        self.2.pack(key)
+    }
+
+    #[tactic(auto, unfolding(crate::specs::Compounds::unpacked_triple))]
+    fn unpack(key: &mut Unread<'_>) -> (A, B, C) {
+        let first = A::unpack(key);
+        let second = B::unpack(key);
+        let third = C::unpack(key);
+        (first, second, third)
+    }
+}
+
+impl<T: Pack> Pack for Option<T> {
+    ghost use Rattle.order_keys.specs.Compounds.{packed_option, unpacked_option};
+
+    ghost packed = { packed_option T.packed };
+
+    ghost unpacked = { unpacked_option T.unpacked };
+
+    #[tactic(auto, unfolding(crate::specs::Compounds::packed_option))]
+    fn pack(&self, key: &mut Vec<u8>) -> Result<(), AllocError> {
+        match self {
+            None => {
+                key.push(0)?;
+                Ok(())
+            }
+            Some(value) => {
+                key.push(1)?;
+                value.pack(key)
+            }
+        }
+    }
+
+    #[tactic(auto, unfolding(crate::specs::Compounds::unpacked_option))]
+    fn unpack(key: &mut Unread<'_>) -> Option<T> {
+        if key.byte() == 0 {
+            None
+        } else {
+            Some(T::unpack(key))
+        }
+    }
+}

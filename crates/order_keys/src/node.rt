@@ -1,0 +1,79 @@
+//! The nodes of a search, and their keys.
+
+ghost use Rattle.std.specs.Prelude.{◌≡◌, IfOk, MatchOption, length};
+ghost use Rattle.order_keys.specs.Situations.{bare, IsWhole};
+ghost use Rattle.order_keys.specs.Keys.{bare_node, key_of, node_of};
+
+use crate::changes::{pack_changes, unpack_changes};
+use crate::pack::Pack;
+use crate::situation_parts::unpack_situation;
+use crate::situations::pack_situation;
+use crate::unread::Unread;
+use mem_changes::Changes;
+use order_model::Situation;
+use std::alloc::{AllocError, Global};
+
+/// A node of the search through all orders: a state, and how many instructions were issued on the way to it.
+#[derive(Drop)]
+pub struct Node {
+    /// The state, all but its memory.
+    pub situation: Situation,
+
+    /// How its memory differs from the one that was loaded.
+    pub changes: Changes,
+
+    /// How many Issue moves were made.
+    pub issues: u8,
+}
+
+/// A register file has 32 values.
+#[inline(always)]
+fn note_length(regs: &[u32; 32])
+    ensures { length regs.now ≡ 32 }
+{}
+
+/// A state has at most 64 requests, and 32 places each in its cache and in its register file; it is seen without a
+/// memory, and without a fault.
+#[inline(always)]
+fn note_shape(situation: &Situation)
+    ensures whole { IsWhole situation.now }
+    ensures bare { bare situation.now ≡ situation.now }
+{
+    let _ = situation.lane.len();
+    note_length(&situation.regs);
+}
+
+/// The node's key, which no other node has; or an error where there is no memory for it.
+#[tactic(auto, unfolding(crate::specs::Keys::key_of, crate::specs::Compounds::packed_triple))]
+pub fn write_key(alloc: Global, node: &Node) -> Result<Vec<u8>, AllocError>
+    ensures key { IfOk result (λ key. key.items ≡ key_of node.now) }
+    ensures whole { IsWhole node.now.situation }
+    ensures bare { bare_node node.now ≡ node.now }
+{
+    note_shape(&node.situation);
+    let mut key = Vec::with_capacity(alloc, 256)?;
+    pack_situation(&node.situation, &mut key)?;
+    pack_changes(&node.changes, &mut key)?;
+    node.issues.pack(&mut key)?;
+    key.shrink_to_fit();
+    Ok(key)
+}
+
+/// The node with this key; or an error where there is no memory for it. There is none where the key's lane is longer
+/// than 64, or its cache or its registers are not 32, which no key of a [`Node`] has.
+#[tactic(auto, unfolding(crate::specs::Keys::node_of, crate::specs::Keys::unpacked_node, crate::specs::Compounds::unpacked_triple))]
+pub fn read_key(alloc: Global, key: &[u8]) -> Result<Option<Node>, AllocError>
+    ensures { IfOk result (λ found. let node = node_of key.now in MatchOption found (IsWhole node.situation → ⊥) (λ n. n ≡ node)) }
+{
+    let mut key = Unread::new(key);
+    let Some(situation) = unpack_situation(alloc, &mut key)? else {
+        return Ok(None);
+    };
+    let changes = unpack_changes(alloc, &mut key)?;
+    let issues = u8::unpack(&mut key);
+    Ok(Some(Node {
+        situation,
+        changes,
+        issues,
+    }))
+}

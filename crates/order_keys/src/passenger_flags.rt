@@ -1,0 +1,60 @@
+//! How far an instruction has come, in keys.
+
+ghost use Rattle.std.specs.Prelude.{◌≡◌, ◌<◌};
+ghost use Rattle.order_keys.specs.PassengerFlags.{bit, is_set};
+
+use crate::pack::Pack;
+use crate::unread::Unread;
+use std::alloc::AllocError;
+
+/// What is yes or no of an instruction on its way up, in the words of `Passenger`.
+#[derive(Clone, Copy)]
+pub(crate) struct PassengerFlags {
+    pub(crate) done: bool,
+    pub(crate) launched: bool,
+    pub(crate) recovered: bool,
+    pub(crate) dead: bool,
+}
+
+/// A bit of this weight if the answer is yes.
+#[inline(always)]
+fn bit(weight: u8, yes: bool) -> u8
+    ensures { result ≡ bit weight yes }
+{
+    if yes { weight } else { 0 }
+}
+
+/// Whether the bit of this weight is set.
+#[inline(always)]
+fn is_set(weight: u8, bits: u8) -> bool
+    requires { 0 < weight }
+    ensures { result ≡ is_set weight bits }
+{
+    bits / weight % 2 == 1
+}
+
+impl Pack for PassengerFlags {
+    ghost use Rattle.order_keys.specs.PassengerFlags.{packed_flags, unpacked_flags};
+
+    ghost packed = { packed_flags };
+
+    ghost unpacked = { unpacked_flags };
+
+    #[tactic(auto, unfolding(crate::specs::PassengerFlags::packed_flags))]
+    fn pack(&self, key: &mut Vec<u8>) -> Result<(), AllocError> {
+        let made = bit(1, self.done) + bit(2, self.launched);
+        key.push(made + bit(4, self.recovered) + bit(8, self.dead))?;
+        Ok(())
+    }
+
+    #[tactic(auto, unfolding(crate::specs::PassengerFlags::unpacked_flags))]
+    fn unpack(key: &mut Unread<'_>) -> PassengerFlags {
+        let bits = key.byte();
+        PassengerFlags {
+            done: is_set(1, bits),
+            launched: is_set(2, bits),
+            recovered: is_set(4, bits),
+            dead: is_set(8, bits),
+        }
+    }
+}

@@ -1,0 +1,58 @@
+//! What is left of a key that is read from its front.
+
+ghost use Rattle.std.specs.Prelude.{◌≡◌};
+ghost use Rattle.order_keys.specs.Numbers.{front, behind};
+
+use std::marker::Model;
+
+/// The bytes of a key that are not read yet.
+#[derive(Drop)]
+pub(crate) struct Unread<'a> {
+    left: &'a [u8],
+}
+
+impl<'a> Model for Unread<'a> {
+    ghost use Rattle.std.specs.Prelude.{ℕ, List};
+
+    ghost Value = { List ℕ };
+
+    ghost view = { λ unread. unread.left.now };
+}
+
+impl<'a> Unread<'a> {
+    /// A key of which nothing is read yet.
+    pub(crate) fn new(key: &'a [u8]) -> Unread<'a>
+        ensures { result ≡ key.now }
+    {
+        Unread { left: key }
+    }
+
+    /// The next byte, 0 where none is left; it stays unread.
+    #[inline(always)]
+    #[tactic(auto, using(crate::proofs::Fronts::fronts))]
+    pub(crate) fn next(&self) -> u8
+        ensures { result ≡ front self.now }
+    {
+        match self.left {
+            [first, ..] => *first,
+            [] => 0,
+        }
+    }
+
+    /// Reads the next byte, 0 where none is left.
+    #[inline(always)]
+    #[tactic(auto, using(crate::proofs::Fronts::fronts))]
+    pub(crate) fn byte(&mut self) -> u8
+        ensures value { result ≡ front self.old }
+        ensures left { self.new ≡ behind self.old }
+    {
+        match self.left {
+            [first, left @ ..] => {
+                let byte = *first;
+                self.left = left;
+                byte
+            }
+            [] => 0,
+        }
+    }
+}

@@ -1,0 +1,3 @@
+pub mod Quiet
+pub mod Remembered
+pub mod Passed

@@ -1,0 +1,3 @@
+pub mod NextSteps
+pub mod Waypoints
+pub mod Judgements

@@ -1,0 +1,13 @@
+pub mod Unchanged
+pub mod Lifted
+pub mod LastCell
+pub mod FirstTest
+pub mod Beyond
+pub mod Allowed
+pub mod Emitted
+pub mod Accessed
+pub mod EmptySidings
+pub mod Alone
+pub mod Written
+pub mod Listed
+pub mod Noted

@@ -1,0 +1,2 @@
+pub mod NameClaims
+pub mod Rules

@@ -1,0 +1,14 @@
+mod Keys
+mod Pieces
+mod Numbering
+mod Precedence
+mod Exploring
+mod Along
+mod Leading
+mod Ordered
+mod Traces
+mod Counts
+mod Settled
+mod Sweeping
+mod Turns
+mod Searches

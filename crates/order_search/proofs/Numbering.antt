@@ -1,0 +1,31 @@
+-- Edges with the numbers of the nodes that they lead to.
+use Rattle.std.proofs.Common.{◌≡◌, ℕ, List, [], ◌∷◌, map, refl, sym, ap, ◌∙◌, subst, Some, slice_get, Vec, Global}
+use Rattle.std.specs.Prelude.{Result, Ok, Err, IfOk}
+use Rattle.std.proofs.lemmas.Option.{get_or_from_slice_get}
+use Rattle.std.specs.List.{zip}
+use Rattle.order_search.specs.declared.graph.Edge.{Edge}
+use Rattle.order_search.specs.declared.reached.NumberedEdge.{NumberedEdge}
+use Rattle.order_search.specs.Numbers.{node_at}
+use Rattle.order_search.specs.Paths.{EdgesOf}
+use Rattle.order_search.specs.Rows.{AreTargets, AreNumbered, row_at}
+use Rattle.order_search.specs.Views.{seen, number_edge}
+
+pub numbering : {L F : Type 0} (nodes : List (List ℕ)) (items : List (Edge L F)) (row : List ℕ) → AreTargets nodes row (map seen items) →
+    AreNumbered nodes (map number_edge (zip items row)) (map seen items)
+numbering nodes [] [] h = tt
+numbering nodes [] (to ∷ row) h = absurd h
+numbering nodes (e ∷ items) [] h = absurd h
+numbering nodes (e ∷ items) (to ∷ row) h = (record { name = refl; target = h.0 }, numbering nodes items row h.1)
+
+-- what reading the edges of a node with its row gives
+pub all_numbered : {L F E : Type 0} (leads : EdgesOf L) (nodes rows : List (List ℕ)) (items : List (Edge L F)) (row : List ℕ) (number : ℕ) (node : List ℕ)
+    (result : Result (Vec (NumberedEdge L) Global) E) → slice_get nodes number ≡ Some node → row ≡ row_at rows number → map seen items ≡ leads node →
+    AreTargets nodes (row_at rows number) (leads (node_at nodes number)) → IfOk result (λ found. found.items ≡ map number_edge (zip items row)) →
+    IfOk result (λ found. AreNumbered nodes found.items (leads (node_at nodes number)))
+all_numbered leads nodes rows items row number node (Err error) is same list targets found = tt
+all_numbered leads nodes rows items row number node (Ok numbered) is same list targets found =
+    let whole : map seen items ≡ leads (node_at nodes number) = list ∙ ap leads (sym (get_or_from_slice_get nodes number node [] is)) in
+    subst (λ l. AreNumbered nodes l (leads (node_at nodes number))) (sym found)
+    (subst (AreNumbered nodes (map number_edge (zip items row))) whole
+    (numbering nodes items row (subst (λ l. AreTargets nodes l (map seen items)) (sym same) (subst (AreTargets nodes (row_at rows number))
+    (sym whole) targets))))

@@ -1,0 +1,11 @@
+pub mod Paths
+pub mod SearchOrder
+pub mod Routes
+pub mod Answers
+pub mod Views
+pub mod Numbers
+pub mod Rows
+pub mod Counting
+pub mod Exploring
+pub mod ReachedGraph
+pub mod SearchAnswers

@@ -1,0 +1,47 @@
+-- To which nodes the edges of each node lead, by the numbers of the nodes.
+use Rattle.std.specs.Prelude.{◌≡◌, ◌<◌, ◌≤◌, ℕ, zero, suc, List, [], ◌∷◌, length, slice_index}
+use Rattle.std.specs.List.{slice_index_or, slice_range, AllZip}
+use Rattle.order_search.specs.declared.reached.NumberedEdge.{NumberedEdge}
+use Rattle.order_search.specs.Numbers.{node_at}
+use Rattle.order_search.specs.Paths.{EdgeView, EdgesOf}
+
+-- a list in pieces: from the place `from` to each of these ends in turn
+abbrev pub pieces : ℕ → List ℕ → List ℕ → List (List ℕ)
+pieces from [] numbers = []
+pieces from (end ∷ ends) numbers = slice_range numbers from end ∷ pieces end ends numbers
+
+-- the ends do not fall from the place `from` on, and the last of them is `total`
+abbrev pub AreEnds : ℕ → List ℕ → ℕ → Type 0
+AreEnds from [] total = from ≡ total
+AreEnds from (end ∷ ends) total = (from ≤ end) × AreEnds end ends total
+
+-- where the piece with a number begins
+abbrev pub start_of : ℕ → List ℕ → ℕ → ℕ
+start_of from ends zero = from
+start_of from ends (suc before) = slice_index ends before
+
+-- a number is that of the node to which an edge leads
+pub record IsTarget {L : Type 0} (nodes : List (List ℕ)) (to : ℕ) (edge : EdgeView L) : Type 0 where
+  pub within : to < length nodes
+  pub node : node_at nodes to ≡ edge.node
+
+-- the numbers of the nodes to which edges lead, in their order
+abbrev pub AreTargets : {L : Type 0} → List (List ℕ) → List ℕ → List (EdgeView L) → Type 0
+AreTargets nodes targets edges = AllZip (IsTarget nodes) targets edges
+
+-- the row with a number
+abbrev pub row_at : List (List ℕ) → ℕ → List ℕ
+row_at rows number = slice_index_or rows number []
+
+-- for each of the first nodes a row: the numbers of the nodes to which its edges lead
+abbrev pub AreRows : {L : Type 0} → EdgesOf L → List (List ℕ) → List (List ℕ) → Type 0
+AreRows leads nodes rows = (i : ℕ) → i < length rows → AreTargets nodes (row_at rows i) (leads (node_at nodes i))
+
+-- an edge with the number of the node to which it leads
+pub record IsNumbered {L : Type 0} (nodes : List (List ℕ)) (numbered : NumberedEdge L) (edge : EdgeView L) : Type 0 where
+  pub name : numbered.label ≡ edge.label
+  pub target : IsTarget nodes numbered.to edge
+
+-- edges with the numbers of the nodes to which they lead, in their order
+abbrev pub AreNumbered : {L : Type 0} → List (List ℕ) → List (NumberedEdge L) → List (EdgeView L) → Type 0
+AreNumbered nodes numbered edges = AllZip (IsNumbered nodes) numbered edges

@@ -1,0 +1,164 @@
+//! How many routes lead from the first node to the ends.
+
+ghost use Rattle.std.specs.Prelude.{◌≡◌, ◌<◌, ℕ, length, true, IfOk};
+ghost use Rattle.std.specs.List.{All};
+ghost use Rattle.order_search.specs.Counting.{IsSettled, IsStuckFrom, SettlesCount, SettlesFrom, Sweeps, count_of as count_from, is_open as is_unknown, orders_of, plus as sum_of, total as sum_over};
+ghost use Rattle.order_search.specs.declared.orders.Count.TheVariants as known;
+
+use crate::rows::Rows;
+use std::alloc::{AllocError, Global};
+
+/// How many routes lead from a node to the ends.
+#[derive(Clone, Copy, PartialEq, Eq)]
+pub enum Orders {
+    /// This many.
+    Exactly(u64),
+
+    /// More than a `u64` holds.
+    More,
+
+    /// Paths of any number of edges lead from the node.
+    Endless,
+}
+
+/// How many routes lead from a node to the ends, as far as this is known.
+#[derive(Clone, Copy)]
+enum Count {
+    /// It is not known.
+    Open,
+
+    /// This many.
+    Exactly(u64),
+
+    /// More than a `u64` holds.
+    More,
+}
+
+impl Count {
+    fn is_open(&self) -> bool
+        ensures { result ≡ is_unknown self.now }
+    {
+        match self {
+            Count::Open => true,
+            Count::Exactly(_) | Count::More => false,
+        }
+    }
+
+    /// The sum of a count and a number.
+    fn plus_number(self, more: u64) -> Count
+        ensures { result ≡ sum_of self (known.Exactly more) }
+    {
+        match self {
+            Count::Open => Count::Open,
+            Count::Exactly(number) => match number.checked_add(more) {
+                Some(sum) => Count::Exactly(sum),
+                None => Count::More,
+            },
+            Count::More => Count::More,
+        }
+    }
+
+    /// The sum of two counts, which is known where both are.
+    fn plus(self, other: Count) -> Count
+        ensures { result ≡ sum_of self other }
+    {
+        match other {
+            Count::Open => Count::Open,
+            Count::Exactly(more) => self.plus_number(more),
+            Count::More => match self {
+                Count::Open => Count::Open,
+                Count::Exactly(_) | Count::More => Count::More,
+            },
+        }
+    }
+
+    /// What it says, where nothing more can be known.
+    fn orders(self) -> Orders
+        ensures { result ≡ orders_of self }
+    {
+        match self {
+            Count::Open => Orders::Endless,
+            Count::Exactly(number) => Orders::Exactly(number),
+            Count::More => Orders::More,
+        }
+    }
+}
+
+/// The sum of the counts of some nodes.
+fn total(counts: &[Count], row: &[u32]) -> Count
+    requires { All (λ to. to < length counts.now) row.now }
+    ensures { result ≡ sum_over counts.now row.now }
+{
+    let mut sum = Count::Exactly(0);
+    for to in row {
+        sum = sum.plus(counts[*to as usize]);
+    }
+    sum
+}
+
+/// The count of a node whose edges lead to some nodes: 1 where there are none.
+fn count_of(counts: &[Count], row: &[u32]) -> Count
+    requires { All (λ to. to < length counts.now) row.now }
+    ensures { result ≡ count_from counts.now row.now }
+{
+    if row.is_empty() {
+        Count::Exactly(1)
+    } else {
+        total(counts, row)
+    }
+}
+
+/// Counts the routes from a node, where those from all nodes to which its edges lead are counted. Whether it did.
+fn settle(rows: &Rows, counts: &mut [Count], number: usize) -> bool
+    requires inside { number < length rows.now }
+    requires as_many { length counts.old ≡ length rows.now }
+    requires within { All (λ row. All (λ to. to < length rows.now) row) rows.now }
+    ensures { SettlesCount rows.now counts.old counts.new number result }
+{
+    if !counts[number].is_open() {
+        return false;
+    }
+    let count = count_of(counts, rows.row(number));
+    if count.is_open() {
+        return false;
+    }
+    counts[number] = count;
+    true
+}
+
+/// Goes through the nodes from the last to the first, and counts the routes where it can. Whether it counted any.
+fn settle_all(rows: &Rows, counts: &mut [Count]) -> bool
+    requires as_many { length counts.old ≡ length rows.now }
+    requires within { All (λ row. All (λ to. to < length rows.now) row) rows.now }
+    ensures { SettlesFrom rows.now counts.old counts.new 0 result }
+{
+    let mut found = false;
+    for number in (0..rows.len()).rev() {
+        found |= settle(rows, counts, number);
+    }
+    found
+}
+
+/// Goes through the nodes until no more routes can be counted. Since most edges lead to nodes that were reached later, this takes
+/// few turns.
+fn settle_in_turns(rows: &Rows, counts: &mut [Count])
+    requires as_many { length counts.old ≡ length rows.now }
+    requires within { All (λ row. All (λ to. to < length rows.now) row) rows.now }
+    ensures swept { Sweeps rows.now counts.old counts.new }
+    ensures stuck { IsStuckFrom rows.now counts.new 0 }
+{
+    'turns: while settle_all(rows, counts) {}
+}
+
+/// How many routes lead from the first node to the ends.
+pub(crate) fn count_orders(alloc: Global, rows: &Rows) -> Result<Orders, AllocError>
+    requires some { 0 < length rows.now }
+    requires within { All (λ row. All (λ to. to < length rows.now) row) rows.now }
+    ensures { IfOk result (IsSettled rows.now) }
+{
+    let mut counts = Vec::new(alloc);
+    counts.resize(rows.len(), Count::Open)?;
+    let counts = counts.as_mut_slice();
+    settle_in_turns(rows, counts);
+    Ok(counts[0].orders())
+}

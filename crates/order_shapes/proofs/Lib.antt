@@ -1,0 +1,2 @@
+pub mod KeptShapes
+pub mod SameInstruction

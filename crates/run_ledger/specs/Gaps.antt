@@ -1,0 +1,48 @@
+-- How long a stage waits and how long it is empty: the time of a run that the moves which use the stage leave.
+use Rattle.std.specs.Prelude.{ℕ, ◌+◌, ◌-◌, List, [], ◌∷◌, filter, Bool, false, not, ◌||◌}
+use Rattle.cf_layout.specs.Layout.{Plan}
+use Rattle.cf_semantics.specs.state.Options.{is_some, on}
+use Rattle.cf_semantics.specs.state.State.{State, cell_at}
+use Rattle.run_ledger.specs.SeenMoves.{SeenMove, start_of, time_of}
+use Rattle.run_ledger.specs.Using.{uses_stage}
+
+-- from one time to another no move uses the stage; whether an instruction or a result is in it meanwhile
+pub record Gap : Type 0 where
+  pub begin : ℕ
+  pub end : ℕ
+  pub is_held : Bool
+
+-- the gap from one time to another
+abbrev pub gap : ℕ → ℕ → Bool → Gap
+gap begin end held = record { begin = begin; end = end; is_held = held }
+
+-- an instruction or a result is in the stage
+unfoldable pub holds_any : State → ℕ → Bool
+holds_any s i = on (cell_at s.cells i) false (λ c. is_some c.passenger || is_some c.packet)
+
+-- the moves that use the stage, in their order
+abbrev pub users : Plan → ℕ → List SeenMove → List SeenMove
+users plan i moves = filter (λ m. uses_stage plan i m.done.mv) moves
+
+-- the gaps before each of some moves that use the stage, and behind the last of them up to an end, the first of which
+-- begins at a time; in each is what the move before it has left there
+abbrev pub gaps_from : ℕ → ℕ → Bool → List SeenMove → ℕ → List Gap
+gaps_from i begin held [] end = gap begin end held ∷ []
+gaps_from i begin held (m ∷ moves) end = gap begin (start_of m.done) held ∷ gaps_from i m.done.time (holds_any m.state i) moves end
+
+-- those of a run, at the start of which the stage is empty
+unfoldable pub gaps : Plan → ℕ → List SeenMove → List Gap
+gaps plan i moves = gaps_from i 0 false (users plan i moves) (time_of plan moves)
+
+-- how long some gaps are together
+abbrev pub total : List Gap → ℕ
+total [] = 0
+total (g ∷ more) = g.end - g.begin + total more
+
+-- how long the stage holds an instruction or a result that no move uses
+unfoldable pub waiting : Plan → List SeenMove → ℕ → ℕ
+waiting plan moves i = total (filter (λ g. g.is_held) (gaps plan i moves))
+
+-- how long it holds nothing, and no move uses it
+unfoldable pub empty : Plan → List SeenMove → ℕ → ℕ
+empty plan moves i = total (filter (λ g. not g.is_held) (gaps plan i moves))

@@ -1,0 +1,19 @@
+-- What a run writes to the report while it runs, where it does not say how far it has come.
+use Rattle.std.specs.Prelude.{None}
+use Rattle.run_options.specs.declared.reporting.Reporting.{Reporting}
+use Rattle.run_options.specs.declared.show.Show.{Show}
+use Rattle.run_options.specs.declared.show.Show.TheVariants as shows
+
+-- this is shown, and nothing else
+abbrev pub only : Show → Reporting
+only show = record { show = show; every = None }
+
+-- the closing report alone, the retirements, or the moves
+abbrev pub report : Reporting
+report = only shows.Report
+
+abbrev pub retired : Reporting
+retired = only shows.Retired
+
+abbrev pub moves : Reporting
+moves = only shows.Moves

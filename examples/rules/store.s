@@ -1,0 +1,2 @@
+# A store, at the stack pointer.
+        sw      x2, 0(x2)
