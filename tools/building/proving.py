@@ -100,11 +100,15 @@ def prove_all(needed):
 
 
 def prove_program(of_gate):
-    """Keeps the proved program of the sources as they are; where it comes from the gate, nothing is proved here."""
+    """Keeps the proved program of the sources as they are; where it comes from the gate, nothing is proved here.
+
+    The gate has the program without its object where an earlier run of it proved the same files. A release needs the object.
+    """
     with programs.alone("proving"):
         needed = crates_below(PROGRAM)
         name = programs.proved_name(needed)
-        if not (CACHE / name).exists():
+        wanted = [name] if of_gate else [name, f"{name}{programs.OBJECT}"]
+        if not all((CACHE / it).exists() for it in wanted):
             if of_gate:
                 stop_unless_made(needed)
             else:

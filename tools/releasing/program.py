@@ -14,30 +14,24 @@ FOR_START = ("--target=x86_64-unknown-linux-gnu", "-O2", "-fPIE", "-ffreestandin
 LOGIC = re.compile(r"logic ([0-9a-f]{16})")
 
 
-def tool(name, *words):
-    """Runs a tool of the kit's LLVM, which are one file, and answers what it prints."""
-    clang = kit.folder() / "toolchain" / "bin" / "clang"
-    return subprocess.run([name, *map(str, words)], executable=clang, capture_output=True, text=True, check=True).stdout
-
-
 def proved_object():
     """The object that the proved program of these sources was linked from. Without one there is no release."""
     made = programs.CACHE / f"{programs.proved_name(crates_below(PROGRAM))}{programs.OBJECT}"
     if not made.exists():
-        sys.exit("cfpp: a release is made from the proved program, and these sources are not proved: call tools/prove")
+        sys.exit("cfpp: a release is made from the object of the proved program, and none of these sources is kept: call tools/prove")
     return made
 
 
 def stop_unless_proved_in(logic, made):
     """Stops where the object does not say that it was proved in this logic: the compiler puts that into each, as a comment."""
-    comment = tool("llvm-readelf", "--string-dump=.comment", made)
+    comment = kit.llvm("llvm-readelf", "--string-dump=.comment", made)
     if logic not in comment:
         sys.exit(f"cfpp: {made.name} was not proved in the logic of this kit, {logic}: call tools/prove")
 
 
 def stop_unless_old_enough(linked):
     """Stops where the program needs a newer C library than the oldest that is promised."""
-    asked = [tuple(map(int, found.split("."))) for found in re.findall(r"GLIBC_([0-9.]+)", tool("llvm-readelf", "--version-info", linked))]
+    asked = [tuple(map(int, found.split("."))) for found in re.findall(r"GLIBC_([0-9.]+)", kit.llvm("llvm-readelf", "--version-info", linked))]
     if not asked or max(asked) > OLDEST:
         sys.exit(f"cfpp: the program would need version {max(asked, default='?')} of the C library")
 
@@ -47,9 +41,9 @@ def link(folder):
     made = proved_object()
     stop_unless_proved_in(LOGIC.search(kit_line())[1], made)
     start, linked = folder / "start.o", folder / PROGRAM
-    tool("clang", *FOR_START, START, "-o", start)
+    kit.llvm("clang", *FOR_START, START, "-o", start)
     compiling.link(linked, made, start)
-    tool("llvm-strip", linked)
+    kit.llvm("llvm-strip", linked)
     stop_unless_old_enough(linked)
     return linked
 
