@@ -5,7 +5,7 @@ ghost use Rattle.std.specs.Prelude.{◌≡◌, ◌+◌, ◌<◌, ◌≤◌, ◌^
 ghost use Rattle.rv_text.specs.Lines.{is_line_feed};
 ghost use Rattle.cf_io.specs.Causes.{HasCause};
 ghost use Rattle.cf_run.specs.Made.{CanCount};
-ghost use Rattle.cf_run.specs.Policies.{IsOpened};
+ghost use Rattle.cf_core.specs.Processors.{IsOpened};
 ghost use Rattle.cf_audit.specs.Limits.{most_trace};
 ghost use Rattle.cf_audit.specs.Traces.{has_line, line_of};
 ghost use Rattle.cf_audit.specs.Turns.{stand_by, ComparisonAnswers, Tests, input_tested};

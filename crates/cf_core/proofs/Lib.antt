@@ -2,6 +2,7 @@ pub mod FirstBar
 pub mod Cells
 pub mod Quiet
 pub mod Opened
+pub mod NewlyOpened
 pub mod Berths
 pub mod Ported
 pub mod KeptParts

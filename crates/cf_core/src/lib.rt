@@ -14,6 +14,7 @@ mod marks;
 mod masks;
 mod moves;
 mod old_number;
+mod opening;
 mod pipe_ends;
 mod processor;
 mod riding;

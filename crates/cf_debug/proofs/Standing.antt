@@ -17,11 +17,10 @@ use Rattle.cf_semantics.specs.runs.Runs.{IsReached, IsRun, opened as opened_on, 
 use Rattle.cf_semantics.specs.state.State.{Moment, State}
 use Rattle.theory_confluence.proofs.Laws.{some_pick}
 use Rattle.theory_confluence.proofs.back.TakenBack.{state_back}
-use Rattle.cf_core.specs.Processors.{Processor, in_state, opened}
+use Rattle.cf_core.specs.Processors.{Processor, in_state, opened, IsOpened}
 use Rattle.cf_core.specs.Undo.{HasJustMade}
 use Rattle.cf_core.proofs.Steps.{next_moved}
 use Rattle.cf_run.specs.Headline.{machine_on}
-use Rattle.cf_run.specs.Policies.{IsOpened}
 use Rattle.cf_debug.specs.Rings.{RecordsLead, WasKept, ring_after, with_record}
 use Rattle.cf_debug.specs.Standing.{StandsAfterMoves, IsOnRun}
 

@@ -2,7 +2,7 @@
 
 ghost use Rattle.std.specs.Prelude.{◌≡◌, ◌≢◌, ◌≤◌, true, false, None, Some, [], Ok};
 ghost use Rattle.cf_io.specs.Causes.{HasCause};
-ghost use Rattle.cf_run.specs.Policies.{IsOpened};
+ghost use Rattle.cf_core.specs.Processors.{IsOpened};
 ghost use Rattle.cf_debug.specs.declared.command.DebugCommand.TheVariants as commands;
 ghost use Rattle.cf_debug.specs.Lending.{debugger_state_left, debugger_state_lent};
 ghost use Rattle.cf_debug.specs.Limits.{most_retired};

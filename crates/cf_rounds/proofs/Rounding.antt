@@ -18,7 +18,7 @@ use Rattle.cf_semantics.specs.runs.Runs.{start as start_on}
 use Rattle.cf_semantics.specs.state.State.{State, Moment}
 use Rattle.theory_unknown_input.specs.Paced.{PacesTo}
 use Rattle.theory_unknown_input.proofs.Theorems.{anew_started}
-use Rattle.cf_core.specs.Processors.{Processor, IsProcessor}
+use Rattle.cf_core.specs.Processors.{Processor, IsProcessor, IsOpened}
 use Rattle.cf_core.specs.Stepping.{Makes}
 use Rattle.cf_report.specs.declared.tally.Tally.{Tally}
 use Rattle.cf_index.specs.Alone.{HasSidings}
@@ -34,7 +34,7 @@ use Rattle.cf_run.specs.Going.{moment_of, Leads}
 use Rattle.cf_run.specs.Headline.{Gets, RunsSequentially, StopsAt}
 use Rattle.cf_run.specs.Made.{Made, moves_of}
 use Rattle.cf_run.specs.Moving.{RunPlace, MoveDoes}
-use Rattle.cf_run.specs.Policies.{IsOpened, most_moves}
+use Rattle.cf_run.specs.Policies.{most_moves}
 use Rattle.cf_run.specs.Reaching.{GoesOn, IsOver, Reaches, no_tally}
 use Rattle.cf_run.proofs.Arrived.{begins}
 use Rattle.cf_run.proofs.Bounds.{bound_grows, bound_small, machine_of, opened_wide, paced-bounded, paced-offered}

@@ -19,13 +19,13 @@ use Rattle.theory_unknown_input.proofs.Invariant.{HoldsAnew}
 use Rattle.theory_unknown_input.specs.Paced.{PacesTo}
 use Rattle.theory_unknown_input.proofs.Pacing.{paces_leads, paced_bounded_anew}
 use Rattle.theory_unknown_input.proofs.Theorems.{anew_started, holds_anew}
-use Rattle.cf_core.specs.Processors.{Processor, in_state, opened}
+use Rattle.cf_core.specs.Processors.{Processor, in_state, opened, IsOpened}
 use Rattle.cf_sched.specs.Paces.{offered_by}
 use Rattle.cf_run.specs.Going.{moment_of, Leads}
 use Rattle.cf_run.specs.Headline.{machine_on}
 use Rattle.cf_run.specs.Made.{Made, moves_of, tally_of}
 use Rattle.cf_run.specs.Moving.{RunPlace}
-use Rattle.cf_run.specs.Policies.{IsOpened, Chooser, fresh, Picks, most_moves}
+use Rattle.cf_run.specs.Policies.{Chooser, fresh, Picks, most_moves}
 use Rattle.cf_run.specs.Reaching.{Reaches}
 use Rattle.cf_run.proofs.Arrived.{begins}
 use Rattle.cf_run.proofs.ByRule.{ruled-some}

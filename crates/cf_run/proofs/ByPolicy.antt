@@ -7,7 +7,7 @@ use Rattle.cf_layout.specs.Accepted.{IsAccepted}
 use Rattle.cf_layout.specs.Layout.{Plan}
 use Rattle.cf_bind.specs.declared.moves.Move.{Move}
 use Rattle.cf_semantics.specs.declared.event.Event.{Event}
-use Rattle.cf_core.specs.Processors.{Processor}
+use Rattle.cf_core.specs.Processors.{Processor, IsOpened}
 use Rattle.cf_report.specs.declared.tally.Tally.{Tally}
 use Rattle.run_finishes.specs.declared.finish.Ran.{Ran as Answer}
 use Rattle.run_finishes.specs.declared.finish.Ran.TheVariants as ran
@@ -17,7 +17,7 @@ use Rattle.cf_run.specs.Going.{moment_of}
 use Rattle.cf_run.specs.Headline.{RunsSequentially}
 use Rattle.cf_run.specs.Made.{Made, moves_of}
 use Rattle.cf_run.specs.Moving.{RunPlace, MoveDoes, shown_of}
-use Rattle.cf_run.specs.Policies.{IsOpened, Chooser, fresh, choice, offered_to, after_choice, Picks, TakesPick, StopsPolicy, RunsPolicy, ChoiceAsks, most_moves}
+use Rattle.cf_run.specs.Policies.{Chooser, fresh, choice, offered_to, after_choice, Picks, TakesPick, StopsPolicy, RunsPolicy, ChoiceAsks, most_moves}
 use Rattle.cf_run.specs.Reaching.{Reaches, GoesOn, IsOver}
 use Rattle.cf_run.proofs.Asked.{one-more}
 use Rattle.cf_run.proofs.Bounds.{reached-bounded}

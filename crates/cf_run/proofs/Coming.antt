@@ -11,7 +11,7 @@ use Rattle.cf_semantics.specs.declared.event.Event.{Event}
 use Rattle.cf_semantics.specs.state.Drained.{is_drained}
 use Rattle.cf_semantics.specs.moves.Holding.{paced}
 use Rattle.cf_core.specs.Asking.{AsksInput, AsksOutput}
-use Rattle.cf_core.specs.Processors.{Processor}
+use Rattle.cf_core.specs.Processors.{Processor, IsOpened}
 use Rattle.cf_report.specs.declared.tally.Tally.{Tally}
 use Rattle.cf_sched.specs.Paces.{PaceCount, offered_by, saw, stopped}
 use Rattle.run_finishes.specs.declared.finish.Ran.{Ran as Answer}
@@ -19,7 +19,7 @@ use Rattle.run_finishes.specs.declared.finish.Ran.TheVariants as ran
 use Rattle.cf_run.specs.Asking.{SomeAsks}
 use Rattle.cf_run.specs.Made.{Made, moves_of}
 use Rattle.cf_run.specs.Moving.{RunPlace, MoveDoes}
-use Rattle.cf_run.specs.Policies.{IsOpened, Chooser, chooser, fresh, choice, offered_to, Picks, TakesPick, Turned, StopsAtPick, StopsPolicy, RunsPolicy, ChoiceAsks, PolicyUnasked, made_last, most_moves}
+use Rattle.cf_run.specs.Policies.{Chooser, chooser, fresh, choice, offered_to, Picks, TakesPick, Turned, StopsAtPick, StopsPolicy, RunsPolicy, ChoiceAsks, PolicyUnasked, made_last, most_moves}
 use Rattle.cf_run.specs.Reaching.{no_tally, Reaches}
 use Rattle.cf_run.proofs.Bounds.{bound_grows, bound_small, reached-bounded, reached-offered}
 use Rattle.cf_run.proofs.ByPolicy.{PicksTo, chooser_after, turned-more, turned-picks, unasked-turn}

@@ -3,9 +3,9 @@ use Rattle.std.proofs.Common.{◌≡◌, ◌≤◌, ℕ, false, refl, sym, ap, �
 use Rattle.run_options.specs.Limits.{most_limit}
 use Rattle.rv_machine.specs.Hart.{Hart}
 use Rattle.cf_layout.specs.Layout.{Plan}
-use Rattle.cf_core.specs.Processors.{Processor, opened}
+use Rattle.cf_core.specs.Processors.{Processor, opened, IsOpened}
 use Rattle.cf_semantics.specs.runs.Runs.{opened as opened_on}
-use Rattle.cf_run.specs.Policies.{CanRun, IsOpened}
+use Rattle.cf_run.specs.Policies.{CanRun}
 
 -- it has the hart's count, and has not failed
 pub opened-count : (plan : Plan) (hart : Hart) → (opened plan hart).state.retired ≡ hart.retired

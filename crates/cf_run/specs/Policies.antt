@@ -4,7 +4,6 @@ use Rattle.std.specs.Prelude.{◌≡◌, ◌≤◌, ◌⊎◌, ℕ, ◌+◌, ◌
 use Rattle.run_options.specs.Limits.{most_limit}
 use Rattle.run_options.specs.declared.guess_rule.GuessRule.{GuessRule}
 use Rattle.run_options.specs.declared.reporting.Reporting.{Reporting}
-use Rattle.rv_machine.specs.Hart.{Hart}
 use Rattle.cf_layout.specs.Layout.{Plan}
 use Rattle.cf_bind.specs.declared.moves.Move.{Move}
 use Rattle.cf_semantics.specs.declared.event.Event.{Event}
@@ -13,7 +12,7 @@ use Rattle.cf_semantics.specs.moves.Holding.{paced}
 use Rattle.cf_semantics.specs.state.State.{State}
 use Rattle.cf_semantics.specs.claims.Weight.{moves_per_issue}
 use Rattle.cf_core.specs.Asking.{AsksInput, AsksOutput}
-use Rattle.cf_core.specs.Processors.{Processor, opened}
+use Rattle.cf_core.specs.Processors.{IsOpened, Processor}
 use Rattle.cf_sched.specs.Paces.{offered_by, stopped}
 use Rattle.run_finishes.specs.declared.finish.Ran.{Ran as Answer}
 use Rattle.run_finishes.specs.declared.finish.Ran.TheVariants as ran
@@ -23,11 +22,6 @@ use Rattle.cf_run.specs.Headline.{RunsSequentially}
 use Rattle.cf_run.specs.Made.{Made, moves_of}
 use Rattle.cf_run.specs.Moving.{RunPlace, MoveDoes}
 use Rattle.cf_run.specs.Reaching.{Reaches, GoesOn, IsOver}
-
--- the processor was opened on some hart, and has made no move since
-pub record IsOpened (core : Processor) : Type 0 where
-  pub hart : Hart
-  pub is : core ≡ opened core.plan hart
 
 -- a run under a policy may begin: its limit is permitted and not passed, and the processor was opened and has made no
 -- move since

@@ -10,14 +10,14 @@ ghost use Rattle.cf_layout.specs.Accepted.{IsAccepted};
 ghost use Rattle.cf_layout.specs.Layout.{Plan};
 ghost use Rattle.cf_semantics.specs.moves.Bars.{bar};
 ghost use Rattle.cf_semantics.specs.state.State.{State};
-ghost use Rattle.cf_core.specs.Processors.{opened};
+ghost use Rattle.cf_core.specs.Processors.{opened, IsOpened};
 ghost use Rattle.run_finishes.specs.declared.finish.Ran.{Ran as Answer};
 ghost use Rattle.run_finishes.specs.declared.finish.Scripted.{Scripted};
 ghost use Rattle.run_finishes.specs.declared.finish.Scripted.TheVariants.{Ran};
 ghost use Rattle.cf_run.specs.Ending.{EndsAlike};
 ghost use Rattle.cf_run.specs.Headline.{RunsSequentially};
 ghost use Rattle.cf_run.specs.Moving.{RunPlace};
-ghost use Rattle.cf_run.specs.Policies.{IsOpened, Chooser, Picks, RunsPolicy, first_pick, fresh, later_picks, most_moves, offered_to};
+ghost use Rattle.cf_run.specs.Policies.{Chooser, Picks, RunsPolicy, first_pick, fresh, later_picks, most_moves, offered_to};
 ghost use Rattle.cf_run.specs.Reaching.{GoesOn, Reaches};
 ghost use Rattle.cf_run.specs.Scripts.{ScriptRun, RunsScript, first_moves};
 

@@ -11,14 +11,14 @@ use Rattle.cf_bind.specs.declared.moves.Move.{Move}
 use Rattle.cf_semantics.specs.moves.Holding.{paced}
 use Rattle.cf_semantics.specs.state.Drained.{is_drained}
 use Rattle.cf_semantics.specs.state.State.{State}
-use Rattle.cf_core.specs.Processors.{Processor}
+use Rattle.cf_core.specs.Processors.{Processor, IsOpened}
 use Rattle.cf_report.specs.declared.tally.Tally.{Tally}
 use Rattle.cf_sched.specs.Paces.{offered_by, stopped}
 use Rattle.run_finishes.specs.declared.finish.Ran.{Ran as Answer}
 use Rattle.run_finishes.specs.declared.finish.Ran.TheVariants as ran
 use Rattle.cf_run.specs.Made.{Made, moves_of, tally_of}
 use Rattle.cf_run.specs.Moving.{RunPlace, place_of}
-use Rattle.cf_run.specs.Policies.{Chooser, IsOpened, Picks, RunsPolicy, StopsAtPick, StopsPolicy, TakesPick, chooser, first_pick, fresh, later_picks, made_last, most_moves}
+use Rattle.cf_run.specs.Policies.{Chooser, Picks, RunsPolicy, StopsAtPick, StopsPolicy, TakesPick, chooser, first_pick, fresh, later_picks, made_last, most_moves}
 use Rattle.cf_run.specs.Reaching.{Reaches, no_tally}
 use Rattle.cf_run.proofs.Bounds.{bound_grows, bound_number, bound_small, reached-bounded, reached-offered}
 use Rattle.cf_run.proofs.ByPolicy.{policy-bounded, policy-sequential, turned-more, turned-picks, turned-trace}

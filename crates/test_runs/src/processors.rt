@@ -1,5 +1,5 @@
 //! Processors that are about to run the words of a program.
-ghost use Rattle.cf_run.specs.Policies.{IsOpened};
+ghost use Rattle.cf_core.specs.Processors.{IsOpened};
 
 use cf_bind::{Guess, Move};
 use cf_core::{Core, Step};

@@ -1,5 +1,5 @@
 //! Sessions: the commands and answers of the table, and what an empty ring, the limits, and failing calls do.
-ghost use Rattle.cf_run.specs.Policies.{IsOpened};
+ghost use Rattle.cf_core.specs.Processors.{IsOpened};
 
 use crate::processors::{SEVEN, TINY, core_of, layout_of};
 use cf_core::Core;

@@ -1,8 +1,7 @@
 use Rattle.std.proofs.Common.{◌≡◌, IfOk, sym, ap, ◌∙◌, subst}
 use Rattle.rv_machine.specs.Hart.{Hart}
 use Rattle.cf_layout.specs.Layout.{Plan}
-use Rattle.cf_core.specs.Processors.{Processor, opened}
-use Rattle.cf_run.specs.Policies.{IsOpened}
+use Rattle.cf_core.specs.Processors.{Processor, opened, IsOpened}
 use Rattle.test_runs.proofs.processors.core_of.Goals as goal
 
 opened_is : (core : Processor) (plan : Plan) (hart : Hart) → core ≡ opened plan hart → IsOpened core
