@@ -1,9 +1,7 @@
 -- Whatever fetch comes to can be issued where the lane has room for two requests.
 use Rattle.std.proofs.Common.{◌≡◌, ℕ, ◌+◌, ◌<◌, ◌≤◌, List, [], ◌∷◌, Option, Some, None, Bool, true, false, refl, length, arith}
-use Rattle.std.specs.Prelude.{◌&&◌, ◌==◌, if◌then◌else◌, not, nat_lt, slice_get}
+use Rattle.std.specs.Prelude.{◌&&◌, ◌==◌, if◌then◌else◌, not, nat_lt}
 use Rattle.std.proofs.lemmas.Bool.Decides.{nat_tests}
-use Rattle.run_options.specs.declared.guess_rule.GuessRule.{GuessRule}
-use Rattle.run_options.specs.declared.guess_rule.GuessRule.TheVariants.{Any}
 use Rattle.cf_bind.specs.declared.cell.Cell.{Cell}
 use Rattle.cf_bind.specs.declared.moves.Move.TheVariants.{Issue}
 use Rattle.cf_bind.specs.declared.packet.Fetch.{Fetch}
@@ -18,7 +16,7 @@ use Rattle.cf_semantics.specs.state.Options.{on, is_some}
 use Rattle.cf_semantics.specs.state.Passengers.{both, fresh, missing, requests}
 use Rattle.cf_semantics.specs.state.State.{State, cell_at}
 use Rattle.cf_stages.specs.Changes.{passenger_at}
-use Rattle.cf_index.specs.Allowed.{is_allowed, is_running, issues_any, kept_issues}
+use Rattle.cf_index.specs.Allowed.{is_allowed, is_running, issues_any}
 use Rattle.cf_index.specs.Words.{goes_on}
 
 -- an instruction has two sources at most
@@ -87,8 +85,3 @@ any_allowed plan s some e =
 -- the instruction of the lowest stage
 pub lowest_passenger : (cells : List Cell) (c : Cell) → Some c ≡ cell_at cells 1 → c.passenger ≡ passenger_at cells 1
 lowest_passenger cells c e = rw (← e) refl
-
--- what can be issued with the guess Next is first of what is kept where every guess is
-pub any_first : (r : GuessRule) (plan : Plan) (s : State) → r ≡ Any → is_allowed plan s (Issue Next) ≡ true →
-    Some (Issue Next) ≡ slice_get (kept_issues r plan s) 0
-any_first r plan s is e = rw (is, e) refl

@@ -1,6 +1,6 @@
 -- What a guess rule leaves of the candidates: each move but an Issue; and where an Issue is allowed, that of its guess.
-use Rattle.std.proofs.Common.{◌≡◌, ◌∙◌, refl, sym, ap, subst, ℕ, ◌+◌, ℤ, pos, negsuc, List, [], ◌∷◌, ◌++◌, length, Option, Some, None, Bool, true, false, cond, nat_lt}
-use Rattle.std.specs.Prelude.{◌&&◌, not, filter, find}
+use Rattle.std.proofs.Common.{◌≡◌, ◌∙◌, refl, sym, ap, ℕ, ◌+◌, ℤ, pos, negsuc, List, [], ◌∷◌, ◌++◌, length, Option, Some, None, Bool, true, false, cond, nat_lt}
+use Rattle.std.specs.Prelude.{◌&&◌, not, filter, find, slice_get}
 use Rattle.std.proofs.Math.Bool.{and-true, and-false}
 use Rattle.rv_inst.specs.declared.classes.Class.{Class}
 use Rattle.rv_inst.specs.declared.classes.Class.TheVariants.{Free}
@@ -24,14 +24,14 @@ use Rattle.cf_bind.specs.declared.passenger.Guess.TheVariants.{Next, Taken, Wait
 use Rattle.cf_bind.specs.declared.passenger.Passenger.{Passenger}
 use Rattle.cf_semantics.specs.claims.Weight.{is_issue}
 use Rattle.cf_semantics.specs.moves.Bars.{bar, first, issue_bar, may_guess, running}
-use Rattle.cf_semantics.specs.moves.Candidates.{candidates, other_moves}
+use Rattle.cf_semantics.specs.moves.Candidates.{other_moves}
 use Rattle.cf_semantics.specs.moves.Instructions.{Fetched, Got, Bad, fetched, free_trap, is_indirect, kind_of}
 use Rattle.cf_semantics.specs.state.Layouts.{isa_of}
 use Rattle.cf_semantics.specs.state.Options.{on, is_some}
 use Rattle.cf_semantics.specs.state.Passengers.{fresh, fresh_as, fresh_end, fresh_fence, requests}
 use Rattle.cf_semantics.specs.state.State.{State, cell_at}
-use Rattle.cf_index.specs.Allowed.{all_entering, is_allowed, may_issue}
-use Rattle.cf_index.specs.GuessRules.{guess_at, guess_back, guess_for, guess_of, guided, is_guess, keeps, keeps_guess}
+use Rattle.cf_index.specs.Allowed.{all_entering, is_allowed, kept_issues, may_issue}
+use Rattle.cf_index.specs.GuessRules.{guess_at, guess_back, guess_for, guess_of, is_guess, keeps, keeps_guess}
 use Rattle.cf_index.specs.Listed.{flagged}
 
 -- the instruction that was fetched, if any
@@ -248,6 +248,76 @@ pub own_kept : (r : GuessRule) (plan : Plan) (s : State) (g : Guess) (there kept
     kept ≡ (there && is_guess (guess_at r plan s) g) → kept ≡ may_issue r plan s g
 own_kept rules.Any plan s g there kept is off means = absurd (off refl)
 own_kept r plan s g there kept is off means = means ∙ rw is refl
+
+-- a rule guesses no address
+back-own : (imm : ℤ) (t : ℕ) → guess_back imm ≡ To t → ⊥
+back-own (pos n) t e = absurd (cc)
+back-own (negsuc n) t e = absurd (cc)
+
+of-own : (r : GuessRule) (i : Instr) (t : ℕ) → guess_of r i ≡ To t → ⊥
+unfolding guess_of
+of-own rules.Taken (Branch c a b imm) t e = absurd (cc)
+of-own rules.Taken (Jal rd imm) t e = absurd (cc)
+of-own rules.Taken (Jalr rd rs1 imm) t e = absurd (cc)
+of-own rules.Taken i t e = absurd (cc)
+of-own rules.Backward (Branch c a b imm) t e = back-own imm t e
+of-own rules.Backward (Jal rd imm) t e = absurd (cc)
+of-own rules.Backward (Jalr rd rs1 imm) t e = absurd (cc)
+of-own rules.Backward i t e = absurd (cc)
+of-own rules.Wait (Branch c a b imm) t e = absurd (cc)
+of-own rules.Wait (Jal rd imm) t e = absurd (cc)
+of-own rules.Wait (Jalr rd rs1 imm) t e = absurd (cc)
+of-own rules.Wait i t e = absurd (cc)
+of-own r i t e = absurd (cc)
+
+for-own : (r : GuessRule) (f : Fetched) (t : ℕ) → guess_for r f ≡ To t → ⊥
+for-own r (Got i) t e = of-own r i t e
+for-own r (Bad end) t e = absurd (cc)
+
+at-own : (r : GuessRule) (plan : Plan) (s : State) (t : ℕ) → guess_at r plan s ≡ To t → ⊥
+unfolding guess_at
+at-own r plan s t = go s.fetch refl
+  where
+    go : (f : Fetch) → s.fetch ≡ f → on (running s.fetch) Next (λ pc. guess_for r (fetched (isa_of plan) s.mem pc)) ≡ To t → ⊥
+    go (Running pc) e h = for-own r (fetched (isa_of plan) s.mem pc) t (rw e at h)
+    go Waiting e h = absurd (let no : Next ≡ To t = rw e at h in cc)
+
+-- the rule that keeps every guess guesses the next word
+for-any : (f : Fetched) → Next ≡ guess_for rules.Any f
+unfolding guess_of
+for-any (Got i) = refl
+for-any (Bad end) = refl
+
+at-any : (plan : Plan) (s : State) → Next ≡ guess_at rules.Any plan s
+unfolding guess_at
+at-any plan s = go s.fetch refl
+  where
+    go : (f : Fetch) → s.fetch ≡ f → Next ≡ on (running s.fetch) Next (λ pc. guess_for rules.Any (fetched (isa_of plan) s.mem pc))
+    go (Running pc) e = rw e (for-any (fetched (isa_of plan) s.mem pc))
+    go Waiting e = rw e refl
+
+pub any_at : (r : GuessRule) (plan : Plan) (s : State) → r ≡ rules.Any → Next ≡ guess_at r plan s
+any_at r plan s e = rw e (at-any plan s)
+
+-- of the Issues by the next word, taken and to wait, the first that is allowed and kept, where one guess is
+first-of : (q p : Move → Bool) (g : Guess) → q (Issue Next) ≡ true → q (Issue g) ≡ true → ((h : Guess) → p (Issue h) ≡ is_guess g h) →
+    ((t : ℕ) → g ≡ To t → ⊥) → Some (Issue g) ≡ slice_get (filter p (filter q (Issue Next ∷ Issue Taken ∷ Issue Wait ∷ []))) 0
+first-of q p Next next own keeps none = rw (next, keeps Next) refl
+first-of q p Taken next own keeps none = rw (next, own, keeps Next, keeps Taken) refl
+first-of q p Wait next own keeps none = go (q (Issue Taken)) refl
+  where
+    go : (b : Bool) → q (Issue Taken) ≡ b → Some (Issue Wait) ≡ slice_get (filter p (filter q (Issue Next ∷ Issue Taken ∷ Issue Wait ∷ []))) 0
+    go true e = rw (next, e, own, keeps Next, keeps Taken, keeps Wait) refl
+    go false e = rw (next, e, own, keeps Next, keeps Wait) refl
+first-of q p (To t) next own keeps none = absurd (none t refl)
+
+-- where the next word can be issued, the rule's own guess is the first that it keeps
+pub own_first : (r : GuessRule) (plan : Plan) (s : State) → is_allowed plan s (Issue Next) ≡ true →
+    Some (Issue (guess_at r plan s)) ≡ slice_get (kept_issues r plan s) 0
+own_first rules.Any plan s next = rw (← at-any plan s, next) refl
+own_first r plan s next =
+    let may : is_allowed plan s (Issue (guess_at r plan s)) ≡ true = allowed-issue plan s (guess_at r plan s) ∙ rw (next, rule-may r plan s) refl in
+    first-of (is_allowed plan s) (keeps r plan s) (guess_at r plan s) next may (λ h. refl) (at-own r plan s)
 
 -- the moves that enter, by the flags
 flag-step : (p q : Move → Bool) (x : Move) (b : Bool) (xs ys : List Move) → b ≡ (q x && p x) → ys ≡ filter p (filter q xs) →

@@ -113,6 +113,19 @@ pub(crate) fn is_any(rule: GuessRule) -> bool
     matches!(rule, GuessRule::Any)
 }
 
+/// The same, where nothing is decoded for the rule that keeps every guess.
+#[inline(always)]
+#[tactic(auto, using(crate::proofs::Guided::any_at))]
+pub(crate) fn own_guess(core: &Core, rule: GuessRule) -> Guess
+    ensures { result ≡ guess_at rule core.now.plan core.now.state }
+{
+    if is_any(rule) {
+        Guess::Next
+    } else {
+        guess_at(core, rule)
+    }
+}
+
 /// Of the guesses that an instruction can be issued with, the one of a rule that is not `Any`.
 #[inline(always)]
 #[tactic(auto, using(crate::proofs::Guided::own_kept))]

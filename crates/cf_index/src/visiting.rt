@@ -15,7 +15,7 @@ use crate::bits::count;
 use crate::candidates::Candidates;
 use crate::entering::Entering;
 use crate::fill::{leaving, passing, slides};
-use crate::guiding::{guided, is_any};
+use crate::guiding::{guided, own_guess};
 use crate::leaving::Leaving;
 use crate::passing::Passing;
 use crate::plainly::issues_any;
@@ -208,15 +208,15 @@ impl Candidates {
         visit_leaving(core, &masks, visitor);
     }
 
-    /// The first of the allowed moves that issue and that the guess rule keeps. Where every guess is kept, and whatever
-    /// fetch comes to can be issued, nothing is decoded.
+    /// The first of the allowed moves that issue and that the guess rule keeps. Where whatever fetch comes to can be issued,
+    /// the rule's own guess can be made, and an instruction is decoded for that guess alone.
     #[inline(always)]
-    #[tactic(auto, using(crate::proofs::Others::issues, crate::proofs::AnyIssue::any_first))]
+    #[tactic(auto, using(crate::proofs::Others::issues, crate::proofs::Guided::own_first))]
     pub fn first_issue(core: &Core, rule: GuessRule) -> Option<Move>
         ensures { result ≡ slice_get (kept_issues rule core.now.plan core.now.state) 0 }
     {
-        if is_any(rule) && issues_any(core) {
-            return Some(Move::Issue(Guess::Next));
+        if issues_any(core) {
+            return Some(Move::Issue(own_guess(core, rule)));
         }
         let issuable = guided(core, rule);
         if issuable.next {
