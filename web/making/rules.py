@@ -24,11 +24,12 @@ def program_of(name, layout):
 
 
 def words_by_rule(text):
-    """For each rule its paragraph in one line. A paragraph that a listing follows ends with a colon."""
+    """For each rule its paragraph in one line, which names the rules where it is of several."""
     found = {}
     for names, words in WORDS.findall(text):
-        line = re.sub(r":$", ".", " ".join(words.split()))
-        found |= {name: line for name in re.findall(r"`(\w+:\w+)`", names)}
+        of = re.findall(r"`(\w+:\w+)`", names)
+        line = " ".join(words.split())
+        found |= {name: f"{names}: {line}" if len(of) > 1 else line for name in of}
     return found
 
 

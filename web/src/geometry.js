@@ -12,7 +12,7 @@ const ROW = 44;
 const MOST_ROW = 84;
 const MOST_SCALE = 2;
 
-// A room of less height than this gets a register file without its heading, and fetch in one line.
+// A room of less height than this gets a register file without its heading, and fetch in one line; so does one that asks for it.
 const COMPACT_BELOW = 740;
 
 const MARGIN = 6;
@@ -63,7 +63,7 @@ export function geometryOf(layout, room) {
   const form = isNarrow ? NARROW : WIDE;
   const columns = columnsOf(layout.sidings);
   const count = 1 + Math.max(-1, ...columns);
-  const isCompact = !isNarrow && room.height < COMPACT_BELOW;
+  const isCompact = room.isCompact || (!isNarrow && room.height < COMPACT_BELOW);
   const { width: others, heading, file, top, fetch, below } = around(form, count * form.siding, isCompact);
   const wanted = Math.min(room.width / (others + PIPES), room.height / (top + below + ROW * layout.stages));
   const scale = isNarrow ? 1 : bounded(1, wanted, MOST_SCALE);

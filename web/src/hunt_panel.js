@@ -17,13 +17,19 @@ const PAUSE = 40;
 // The choice of the program that the page shows.
 const SHOWN = "shown";
 
+// Where the run is below the processor, and not beside it, only one of them is on the screen.
+function bringIntoView(id) {
+  const [one, other] = ["room", "hunt-room"].map((each) => byId(each).getBoundingClientRect());
+  if (other.top >= one.bottom) byId(id).scrollIntoView({ block: "start" });
+}
+
 const scriptOf = (moves) => moves.map((move) => `${move}\n`).join("");
 
 // What a hunt has found, in words.
 const FOUND = {
-  wrong: ({ kind, moves }) => `Wrong after ${moves.length} moves: ${WRONG[kind]}. No shorter run goes wrong: that is proved.`,
-  counted: ({ states, moves }) => `No order of the first ${ISSUES} instructions goes wrong: all ${states} states and ${moves} moves were gone through.`,
-  "too many": ({ most }) => `Nothing was found: the first ${ISSUES} instructions have more than ${most} states.`,
+  wrong: ({ kind, moves }) => `Wrong after ${moves.length} moves: ${WRONG[kind]}. No shorter run with at most ${ISSUES} issues goes wrong: that is proved.`,
+  counted: ({ states, moves }) => `No run with at most ${ISSUES} issues goes wrong: all ${states} states and ${moves} moves were gone through.`,
+  "too many": ({ most }) => `Nothing was found: runs with at most ${ISSUES} issues have more than ${most} states.`,
   refused: ({ reason }) => `The program refuses this: ${reason}.`,
 };
 
@@ -96,6 +102,7 @@ export class HuntPanel {
     if (found.outcome === "wrong") this.take(found);
     this.showClasses();
     page.resize();
+    if (this.run && !refused) bringIntoView("hunt-room");
   }
 
   // Takes a wrong run, and begins to play it. The processor beside it has the same script before it.
@@ -139,6 +146,7 @@ export class HuntPanel {
     this.answer = partingWords(this.rule.name, run);
     page.load(scriptOf(run.moves));
     page.player.begin(false, () => page.replays && page.play());
+    bringIntoView("room");
   }
 
   // What the page's style goes by: it makes room for the frame.

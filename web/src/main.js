@@ -112,14 +112,6 @@ function listenToOrders(page) {
   });
 }
 
-// What the program in this page has no command for is not shown.
-function offerWhatThereIs(page) {
-  const { searches, showsTimedMoves } = page.simulator;
-  for (const id of ["hunt-button", "graph-details"]) byId(id).hidden = !searches;
-  for (const id of ["tick", "ticks-details"]) byId(id).hidden = !showsTimedMoves;
-  page.ticks.isThere = showsTimedMoves;
-}
-
 function listenToScript(page) {
   byId("save-script").addEventListener("click", () => save("moves.script", [page.session.script]));
   byId("save-program").addEventListener("click", () => save("program", [page.session.bytes]));
@@ -159,7 +151,7 @@ function listenToDrawing(page) {
     p: () => page.project(),
     q: () => page.predict.toggle(),
     n: () => page.round(),
-    y: () => page.ticks.isThere && page.tick(),
+    y: () => page.tick(),
     " ": () => page.player.toggle(),
     ArrowUp: () => page.select(page.selected + 1),
     ArrowDown: () => page.select(page.selected - 1),
@@ -198,7 +190,6 @@ async function begin() {
   listenToDrawing(page);
   listenToHunt(page);
   listenToOrders(page);
-  offerWhatThereIs(page);
   const { commit, kit, sources } = built();
   byId("built").textContent = `The program is that of commit ${commit}, built with ${kit}. Its sources have the checksum ${sources}.`;
   document.body.classList.toggle("bare", new URLSearchParams(location.search).has("bare"));

@@ -103,6 +103,7 @@ export class Predict {
     if (this.pending === this.focused) return;
     this.focused = this.pending;
     byId("question").querySelector("input, summary")?.focus();
+    byId("question").scrollIntoView({ block: "nearest" });
   }
 
   form() {

@@ -15,9 +15,9 @@ export function roomOfDrawing() {
 }
 
 // The height of what the red frame has beside its drawing.
-const IN_FRAME = 190;
+const IN_FRAME = 230;
 
-// The room of the drawing in the red frame, which has its moves below it. Beside it is a drawing of this room.
+// The room of the drawing in the red frame, which has its moves above it. Beside it is a drawing of this room.
 export function roomOfFrame({ height }) {
-  return { width: Math.max(320, byId("hunt-room").clientWidth - 16), height: Math.max(LEAST_HEIGHT, height - IN_FRAME) };
+  return { width: Math.max(320, byId("hunt-told").clientWidth), height: Math.max(LEAST_HEIGHT, height - IN_FRAME), isCompact: true };
 }

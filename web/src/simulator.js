@@ -6,8 +6,6 @@ import { readReport } from "./report.js";
 import { readSearch } from "./search.js";
 import { readTimed } from "./timed.js";
 
-const BAD_WORDS = 122;
-
 export class Simulator {
   constructor(program) {
     this.program = program;
@@ -76,23 +74,12 @@ export class Simulator {
     });
   }
 
-  // Whether the program has the command that searches all orders.
-  get searches() {
-    return this.ask(["help", "orders"]).status === 0;
-  }
-
   // All orders of a program with an empty input, or the shortest wrong list of moves without a rule of the table.
   orders({ layout, bytes }, { issues, states, without = null }) {
     const words = ["orders", "layout", "program", "--issues", String(issues), "--states", String(states)];
     const options = without === null ? ["--show", "edges"] : ["--without", without];
     const answer = this.ask([...words, ...options], { layout: bytesOf(layout.text), program: bytes });
     return readSearch(answer.report, text(answer.output));
-  }
-
-  // Whether the program shows the moves of a timed run.
-  get showsTimedMoves() {
-    const files = { delays: new Uint8Array(), program: new Uint8Array() };
-    return this.ask(["time", "delays", "program", "plain", "--show", "moves"], files).status !== BAD_WORDS;
   }
 
   // The moves of a timed run with their times, or why the delays are refused.

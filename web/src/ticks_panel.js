@@ -59,11 +59,11 @@ export class TicksPanel {
   }
 
   show() {
-    if (byId("ticks-details").open && this.isThere) fill(byId("ticks-words"), this.words());
+    if (byId("ticks-details").open) fill(byId("ticks-words"), this.words());
   }
 
   // The tick at which each move so far has finished, where these are the moves of the timed run that is shown.
   get finishes() {
-    return byId("ticks-details").open && this.isThere && this.isOnRun ? this.timed.slice(0, this.made.length).map(({ finish }) => finish) : null;
+    return byId("ticks-details").open && this.isOnRun ? this.timed.slice(0, this.made.length).map(({ finish }) => finish) : null;
   }
 }

@@ -66,7 +66,7 @@ async function placeholders() {
   await evaluate("document.getElementById('barred-details').open = false");
   await put("layout", "lab/late_branch", "change");
   const told = await textOf("loaded");
-  check("a layout's stages are told", told.includes("decided at stage 5, above stage 4") && !left.test(told.replace(/"[^"]*"/g, "")), told);
+  check("a layout's stages are told", told.includes("at stage 5, above stage 4") && !left.test(told.replace(/"[^"]*"/g, "")), told);
   check("the processor's name is that of the drawing", (await valueOf("layout")) !== "lab/late_branch");
 }
 

@@ -1,6 +1,6 @@
 // Tests of Predict: what is hidden until it was said, what is counted, and where the lessons' questions stand.
 
-import { ADDRESS, PROJECTOR, WALL, browser, check, choose, click, evaluate, press, script, step, textOf } from "./drive.mjs";
+import { ADDRESS, PHONE, PROJECTOR, WALL, browser, check, choose, click, evaluate, press, script, step, textOf } from "./drive.mjs";
 import { partOfPage, scriptsOfPage } from "./native.mjs";
 
 const OUTCOMES = /garner|kill|update|\bdies?\b|pass each other/i;
@@ -67,6 +67,16 @@ async function bars() {
   await press("q");
 }
 
+// On a phone a question with all its choices is on the screen as soon as it is asked.
+async function onPhone() {
+  await browser.open(ADDRESS, PHONE);
+  await press("q");
+  await step(5);
+  const { top, bottom } = await evaluate("document.getElementById('question').getBoundingClientRect().toJSON()");
+  check("a question is on the screen of a phone", top >= 0 && bottom <= PHONE.height, `${top} ${bottom}`);
+  await browser.open(ADDRESS, WALL);
+}
+
 // Each script is predicted to its end: before each answer nothing that can be read has an outcome word.
 async function allScripts() {
   const { programs } = JSON.parse(partOfPage("examples"));
@@ -96,4 +106,4 @@ async function allScripts() {
   await browser.open(ADDRESS, WALL);
 }
 
-export const predicting = [predict, bars, allScripts];
+export const predicting = [predict, bars, onPhone, allScripts];

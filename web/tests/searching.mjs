@@ -1,11 +1,9 @@
-// Tests of a rule taken away and of the picture of all orders, where the page's program has their command; and of ticks as steps, for which
-// a stand-in answers where it has not.
+// Tests of a rule taken away, of the picture of all orders, and of ticks as steps.
 
 import fs from "node:fs";
 import path from "node:path";
 import { ADDRESS, SIZES, WALL, browser, check, choose, click, evaluate, press, put, script, textOf } from "./drive.mjs";
 import { TOP } from "./native.mjs";
-import { DELAYS, codeOfStandIn, missing } from "./stand_in.mjs";
 
 const read = (name) => fs.readFileSync(path.join(TOP, name), "utf8");
 const listed = () => evaluate("Array.from(document.querySelectorAll('#hunt-moves button'), (it) => it.firstChild.data)");
@@ -34,12 +32,6 @@ async function openOwn(instructions) {
     it.dispatchEvent(new Event("change"));
   })()`);
   await browser.until("document.getElementById('example').value === 'own'");
-}
-
-async function withStandIn() {
-  const { identifier } = await browser.call("Page.addScriptToEvaluateOnNewDocument", { source: codeOfStandIn() });
-  await browser.open(ADDRESS, WALL);
-  return () => browser.call("Page.removeScriptToEvaluateOnNewDocument", { identifier });
 }
 
 async function hunt(rule, program) {
@@ -102,6 +94,40 @@ async function pictures() {
   check("there the processor does it", (await textOf("hunt-answer")).endsWith("does what was taken away: die."), await textOf("hunt-answer"));
   await choose("seven");
   check("another program has no run yet", !(await isSeen("hunt-room")) && (await textOf("hunt-found")) === "");
+  await put("hunt-rule", "climb:NotMet", "change");
+  const words = await textOf("hunt-words");
+  check("words that are of two rules name both", words.startsWith("climb:NotMet, fall:NotMet: An instruction and a result"), words);
+}
+
+// While Predict asks, neither the frame nor what is said of the run tells the answer.
+async function predicted() {
+  await browser.open(ADDRESS, WALL);
+  await press("q");
+  await click("hunt-button");
+  await put("speed", "60", "input");
+  await hunt("climb:NotMet", "branch_add");
+  await click("put-back");
+  await browser.until("!document.getElementById('question').hidden");
+  const shown = () => evaluate("['hunt-room', 'hunt-answer'].map((id) => getComputedStyle(document.getElementById(id)).visibility).join()");
+  check("a bar is asked where the rule is put back", (await textOf("question")).includes("What bars climb 1"), await textOf("question"));
+  check("and told nowhere", (await shown()) === "hidden,hidden", await shown());
+  await evaluate("document.querySelector('#question [value=NotMet]').checked = true");
+  await evaluate("document.querySelector('#question form').requestSubmit()");
+  check("then it is", (await shown()) === "visible,visible" && (await textOf("why")).includes("NotMet"), await textOf("why"));
+  await press("q");
+}
+
+// A layout that is refused has no processor: what would be done to one is not offered.
+async function refused() {
+  await browser.open(ADDRESS, WALL);
+  await click("hunt-button");
+  await put("speed", "60", "input");
+  await hunt("layout:ControlAboveMemory", "branch_store");
+  const offered = await evaluate(`Array.from(document.querySelectorAll("#example, #layout, #step, #round, #tick, #rewind, #forward"))
+    .filter((it) => getComputedStyle(it).visibility === "visible").length`);
+  check("where there is no processor none can be moved", offered === 0 && (await textOf("hunt-told")).startsWith("19. "), `${offered}`);
+  await click("hunt-button");
+  check("and then there is one again", (await isSeen("drawing")) && (await evaluate("getComputedStyle(document.getElementById('step')).visibility")) === "visible");
 }
 
 async function allOrders() {
@@ -148,12 +174,14 @@ async function manyOrders() {
   await evaluate("document.getElementById('graph-details').open = false");
 }
 
+// The instruction alone on `tiny`, where to execute takes three ticks and any other of these moves one: what is to come was worked out by
+// hand. Behind the instruction is none, so that a trap is issued there, climbs and ends the program.
 async function ticksAsSteps() {
-  const end = await withStandIn();
+  await browser.open(ADDRESS, WALL);
   await choose("Two orders of moves with one end, the first");
   await openOwn([SETS_X1]);
   await evaluate("document.getElementById('ticks-details').open = true");
-  await put("delays", DELAYS, "input");
+  await put("delays", "execute 3\n", "input");
   check("no tick has passed", (await textOf("ticks-words")) === "No tick has passed.", await textOf("ticks-words"));
   await press("y", "y", "y", "y", "y", "y");
   check("a tick is one move where one finishes", (await script()).length === 6, `${await script()}`);
@@ -171,21 +199,6 @@ async function ticksAsSteps() {
   await press("y");
   check("so a tick makes none", (await script()).length === 2);
   for (const id of ["time-details", "ticks-details"]) await evaluate(`document.getElementById("${id}").open = false`);
-  await end();
-}
-
-// What the program has no command for is not offered.
-async function offered() {
-  await browser.open(ADDRESS, WALL);
-  const are = (ids) => evaluate(`${JSON.stringify(ids)}.map((id) => !document.getElementById(id).hidden).join()`);
-  const ofOrders = ["hunt-button", "graph-details"];
-  const ofTicks = ["tick", "ticks-details"];
-  const { orders, timed } = missing();
-  check("a rule and all orders are there with the command", (await are(ofOrders)) === `${!orders},${!orders}`);
-  check("a tick and its delays are there with the moves of time", (await are(ofTicks)) === `${!timed},${!timed}`);
-  const end = await withStandIn();
-  check("and so they are where the stand-in answers", (await are(ofTicks)) === "true,true");
-  await end();
 }
 
 // At each size the run, the frame and the picture are within the screen's width, and each text has room.
@@ -202,13 +215,15 @@ async function atEachSize() {
       .filter(({ right, left }) => right > innerWidth + 0.5 || left < -0.5).length`);
     check(`at ${size.width} nothing of a hunt is off the screen`, wide === 0, `${wide}`);
     check(`at ${size.width} the page is no wider than the screen`, await evaluate("document.documentElement.scrollWidth <= innerWidth"));
-    const bottom = await evaluate("document.getElementById('hunt-moves').getBoundingClientRect().bottom");
-    check(`at ${size.width} the moves are on the screen`, size.width < 500 || bottom <= size.height, `${bottom}`);
+    const bottom = await evaluate("Math.max(...Array.from(document.querySelectorAll('#hunt-drawing .slot'), (it) => it.getBoundingClientRect().bottom))");
+    check(`at ${size.width} the run is on the screen`, bottom <= size.height, `${bottom}`);
+    await evaluate("document.getElementById('graph-details').open = false");
+    await click("put-back");
+    await browser.until(isAtRest);
+    const top = await evaluate("document.getElementById('drawing').getBoundingClientRect().top");
+    check(`at ${size.width} the processor is on the screen where the rule is put back`, top > -1 && top < size.height / 2, `${top}`);
   }
   await browser.open(ADDRESS, WALL);
 }
 
-const searches = [hunts, pictures, allOrders, manyOrders, atEachSize];
-const { orders: isWithout } = missing();
-if (isWithout) console.log("skipped: a rule taken away, and all orders, for which the page's program has no command");
-export const searching = [...(isWithout ? [] : searches), ticksAsSteps, offered];
+export const searching = [hunts, pictures, predicted, refused, allOrders, manyOrders, ticksAsSteps, atEachSize];

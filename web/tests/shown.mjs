@@ -3,9 +3,15 @@
 import fs from "node:fs";
 import path from "node:path";
 import { pathToFileURL } from "node:url";
-import { ADDRESS, PROJECTOR, WALL, browser, check, choose, click, evaluate, native, press, put, script, step, textOf, valueOf } from "./drive.mjs";
+import { ADDRESS, PHONE, PROJECTOR, WALL, browser, check, choose, click, evaluate, native, press, put, script, step, textOf, valueOf } from "./drive.mjs";
 
 const isSeen = (selector) => evaluate(`document.querySelector(${JSON.stringify(selector)}).getClientRects().length > 0`);
+
+// Whether two buttons that stand in a row share a point.
+const overlap = `(() => {
+  const boxes = Array.from(document.querySelectorAll("#top button"), (it) => it.getBoundingClientRect()).filter(({ width }) => width > 0);
+  return boxes.some((one, at) => boxes.slice(at + 1).some((other) => one.left < other.right && other.left < one.right && one.top < other.bottom && other.top < one.bottom));
+})()`;
 
 async function projector() {
   await browser.open(ADDRESS, PROJECTOR);
@@ -19,6 +25,9 @@ async function projector() {
   check("the side panel is folded", !(await isSeen("aside")) && (await isSeen("#step")) && (await isSeen("#told")));
   await press("p");
   check("and comes back", await isSeen("aside"));
+  await browser.open(ADDRESS, PHONE);
+  await press("p");
+  check("on a phone the controls are not over one another", await evaluate("document.documentElement.scrollWidth <= innerWidth && !" + overlap));
 }
 
 async function bare() {
