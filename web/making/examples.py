@@ -30,7 +30,8 @@ def name_of(layout):
 def first_sentence(script):
     """What a script shows, by the comment at its head."""
     comment = " ".join(line[1:].strip() for line in (TOP / script).read_text().splitlines() if line.startswith("#"))
-    return FILE.sub(lambda it: it.group(1).replace("_", " "), comment.split(". ")[0].rstrip("."))
+    sentence = FILE.sub(lambda it: it.group(1).replace("_", " "), comment.split(". ")[0].rstrip("."))
+    return sentence[:1].upper() + sentence[1:]
 
 
 def program_of(stem):

@@ -50,7 +50,7 @@ async function hunts() {
   for (const { rule, program, moves, kind, line, answer } of TABLE) {
     await hunt(rule, program);
     const found = await textOf("hunt-found");
-    check(`without ${rule} ${program} goes wrong`, found.startsWith(`Wrong after ${moves} moves: ${WAYS[kind]}`) && found.includes("that is proved"), found);
+    check(`without ${rule} ${program} goes wrong`, found.startsWith(`Wrong after ${moves} moves: ${WAYS[kind]}`) && found.includes("Proved: no shorter run"), found);
     check(`${rule}: the list has its moves`, (await listed()).length === moves, String(await listed()));
     check(`${rule}: the frame says what it is`, (await textOf("hunt-heading")) === `Not the proved processor: without ${rule}`);
     check(`${rule}: the end is shown`, (await textOf("hunt-told")).startsWith(`${moves}. `), await textOf("hunt-told"));
@@ -218,10 +218,13 @@ async function atEachSize() {
     const bottom = await evaluate("Math.max(...Array.from(document.querySelectorAll('#hunt-drawing .slot'), (it) => it.getBoundingClientRect().bottom))");
     check(`at ${size.width} the run is on the screen`, bottom <= size.height, `${bottom}`);
     await evaluate("document.getElementById('graph-details').open = false");
+    const place = () => evaluate("document.getElementById('drawing').getBoundingClientRect().top + scrollY");
+    const before = await place();
     await click("put-back");
     await browser.until(isAtRest);
     const top = await evaluate("document.getElementById('drawing').getBoundingClientRect().top");
     check(`at ${size.width} the processor is on the screen where the rule is put back`, top > -1 && top < size.height / 2, `${top}`);
+    check(`at ${size.width} the drawing stays where it is`, size.width < 500 || (await place()) === before, `${await place()} ${before}`);
   }
   await browser.open(ADDRESS, WALL);
 }
