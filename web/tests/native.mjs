@@ -20,12 +20,13 @@ export function moduleOfPage() {
   return new Program(zlib.gunzipSync(Buffer.from(partOfPage("module"), "base64")));
 }
 
-// Its scripts, each with layout, program and the report that is to come.
+// Its scripts, each with layout, program, the report that is to come, and what is asked on the way.
 export function scriptsOfPage() {
   const { programs, layouts } = JSON.parse(partOfPage("examples"));
-  return programs.filter(({ script }) => script).map(({ name, title, layout, image, script, report }) => ({
+  return programs.filter(({ script }) => script).map(({ name, title, layout, image, script, report, questions }) => ({
     name,
     title,
+    questions,
     files: { layout: layouts[layout], program: Buffer.from(image, "base64"), script },
     report: fs.readFileSync(path.join(TOP, report), "utf8"),
   }));

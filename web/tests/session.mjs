@@ -69,7 +69,7 @@ function sameStages(name, who, picture) {
 // Each script of the lessons is played move by move; each move is told, and each meeting that counts has a name.
 function lessons() {
   const names = new Map();
-  for (const { name, files, report } of scriptsOfPage()) {
+  for (const { name, files, report, questions } of scriptsOfPage()) {
     const session = sessionOf(files);
     const machine = simulator.machine(session, 100);
     let dead = 0;
@@ -87,6 +87,7 @@ function lessons() {
     const { who } = session;
     session.last.track = undefined;
     check(`${name}: the same who is who, found anew`, JSON.stringify(session.who) === JSON.stringify(who));
+    check(`${name}: its questions are asked on the way`, questions.every(({ at }) => at <= session.steps.length));
     check(`${name}: who died`, dead === session.picture.dead, `${dead}`);
     const barred = /^barred at line \d+: (.*)$/.exec(report.split("\n")[0]);
     if (barred) check(`${name}: ends with its bar`, session.again()?.reason === barred[1]);
