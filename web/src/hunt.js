@@ -43,5 +43,5 @@ export function refusedScenes({ moves, picture }) {
 export function partingWords(rule, { moves, parting, bar }) {
   if (bar) return `At move ${parting + 1} the processor stops: \`${moves[parting]}\` is barred, ${bar}.`;
   if (parting === moves.length) return "The processor makes all these moves.";
-  return `At move ${parting + 1}, \`${moves[parting]}\`, the processor does what was taken away: ${STEP.exec(rule)[1]}.`;
+  return `At move ${parting + 1} the processor does what was taken away: ${STEP.exec(rule)[1]}.`;
 }

@@ -27,7 +27,7 @@ const scriptOf = (moves) => moves.map((move) => `${move}\n`).join("");
 
 // What a hunt has found, in words.
 const FOUND = {
-  wrong: ({ kind, moves }) => `Wrong after ${moves.length} moves: ${WRONG[kind]}. Proved: no shorter run with at most ${ISSUES} issues goes wrong.`,
+  wrong: ({ kind, moves }) => `Wrong after ${moves.length} moves: ${WRONG[kind]}. Proved: no wrong run with at most ${ISSUES} issues is shorter.`,
   counted: ({ states, moves }) => `No run with at most ${ISSUES} issues goes wrong: all ${states} states and ${moves} moves were gone through.`,
   "too many": ({ most }) => `Nothing was found: runs with at most ${ISSUES} issues have more than ${most} states.`,
   refused: ({ reason }) => `The program refuses this: ${reason}.`,

@@ -50,7 +50,7 @@ test("a run parts from the processor at the bar, or where a meeting does what wa
   assert.equal(partingOf("climb:NotMet", ["meet 1", "climb 1"], [ALIVE, DEAD]), 1);
   assert.equal(partingOf("meet:die", ["meet 1", "climb 1"], [ALIVE, DEAD]), 0);
   assert.equal(partingOf("meet:kill", ["meet 1"], [ALIVE, DEAD]), 1);
-  assert.equal(partingWords("meet:die", { moves: ["meet 1"], parting: 0, bar: null }), "At move 1, `meet 1`, the processor does what was taken away: die.");
+  assert.equal(partingWords("meet:die", { moves: ["meet 1"], parting: 0, bar: null }), "At move 1 the processor does what was taken away: die.");
   assert.equal(partingWords("climb:Owes", { moves: ["climb 1"], parting: 0, bar: "Owes" }), "At move 1 the processor stops: `climb 1` is barred, Owes.");
   assert.equal(partingWords("meet:kill", { moves: ["meet 1"], parting: 1, bar: null }), "The processor makes all these moves.");
 });

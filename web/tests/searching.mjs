@@ -50,7 +50,7 @@ async function hunts() {
   for (const { rule, program, moves, kind, line, answer } of TABLE) {
     await hunt(rule, program);
     const found = await textOf("hunt-found");
-    check(`without ${rule} ${program} goes wrong`, found.startsWith(`Wrong after ${moves} moves: ${WAYS[kind]}`) && found.includes("Proved: no shorter run"), found);
+    check(`without ${rule} ${program} goes wrong`, found.startsWith(`Wrong after ${moves} moves: ${WAYS[kind]}`) && found.includes("Proved: no wrong run"), found);
     check(`${rule}: the list has its moves`, (await listed()).length === moves, String(await listed()));
     check(`${rule}: the frame says what it is`, (await textOf("hunt-heading")) === `Not the proved processor: without ${rule}`);
     check(`${rule}: the end is shown`, (await textOf("hunt-told")).startsWith(`${moves}. `), await textOf("hunt-told"));
