@@ -5,7 +5,7 @@ const OF_FILES = /^(Under|Beside it stands) /;
 const FILE = /\b(?:[\w-]+\/)*([\w-]+)\.(?:script|bin|elf|s)\b/g;
 
 // A text without what it says of files: their names alone are left.
-export function withoutFiles(text) {
+function withoutFiles(text) {
   const sentences = text.split(/(?<=[.:]) +(?=[A-Z])/);
   return sentences.filter((one) => !OF_FILES.test(one)).join(" ").replace(FILE, (_, name) => name.replaceAll("_", " "));
 }

@@ -1,11 +1,11 @@
 // All orders of a small program as a picture below the pipes: a node for each state that can be reached, the moves between them, and which
 // state the page is in. A click on a node makes the moves that lead there.
 
-import { byId, fill, html, svg } from "./element.js";
+import { byId, fill, svg } from "./element.js";
 import { graphOf, placesOf, routeTo, walk } from "./graph.js";
 
 // More states than these are counted and not drawn; more than the others are not counted.
-export const MOST_DRAWN = 600;
+const MOST_DRAWN = 600;
 const MOST_STATES = 20000;
 // The units of the drawing: between layers, between nodes of a layer, and around all.
 const ACROSS = 26;

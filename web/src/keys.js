@@ -3,7 +3,7 @@
 import { byId, fill, html } from "./element.js";
 
 // Keys that make a move; those with `#` make it at the selected stage.
-export const MOVE_KEYS = {
+const MOVE_KEYS = {
   i: "issue next", t: "issue taken", w: "issue wait", e: "emit", m: "meet #", x: "execute #", s: "send #", l: "launch #", r: "recover #",
   c: "climb #", f: "fall #", d: "slide", a: "access", v: "leave", k: "serve", o: "exit",
 };

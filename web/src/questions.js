@@ -56,7 +56,7 @@ export function questionOf(moment) {
 }
 
 // The 32 bits that a text means: a short number in decimal, or eight hexadecimal digits; NaN where it is neither.
-export function valueOfText(text) {
+function valueOfText(text) {
   const bare = text.trim().replace(/^x\d+ *= */, "").replace(/^0x/i, "");
   if (/^-?\d{1,7}$/.test(bare)) return Number(bare) >>> 0;
   return /^[0-9a-f]{1,8}$/i.test(bare) ? parseInt(bare, 16) >>> 0 : NaN;

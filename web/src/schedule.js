@@ -10,7 +10,7 @@ export function candidates(layout, standing, issues) {
   return issues < 2 * layout.stages || others.length === 0 ? standing.allowed : others;
 }
 
-export function isDrained(report) {
+function isDrained(report) {
   return report.stages.size === 0 && report.sidings.size === 0 && report.lane.length === 0;
 }
 

@@ -178,7 +178,7 @@ export class Session {
 }
 
 // The moves of a script with the comments above each.
-export function readSteps(text) {
+function readSteps(text) {
   const steps = [];
   let notes = [];
   for (const line of text.split("\n").map((part) => part.replace(/\r$/, ""))) {

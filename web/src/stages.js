@@ -43,7 +43,7 @@ function chipsTo(right, y, moves) {
   });
 }
 
-export function flagClass(passenger) {
+function flagClass(passenger) {
   if (isDead(passenger)) return "dead";
   return passenger.flag;
 }
@@ -226,7 +226,7 @@ function passengerWords(view, stage, passenger) {
 }
 
 // What a stage holds, in words, for who cannot see the drawing.
-export function stageWords(view, stage) {
+function stageWords(view, stage) {
   const content = view.picture.stages.get(stage);
   if (!content) return `stage ${stage}: empty`;
   const parts = [];

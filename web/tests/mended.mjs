@@ -1,6 +1,6 @@
 // Tests of the page that a class would stumble over: what keeps the lesson, the seeds, the keys, the drawing in its place, each size.
 
-import { ADDRESS, PHONE, PROJECTOR, SIZES, WALL, browser, check, choose, click, evaluate, isHidden, press, put, script, step, textOf, valueOf } from "./drive.mjs";
+import { ADDRESS, PROJECTOR, SIZES, WALL, browser, check, choose, click, evaluate, isHidden, press, put, script, step, textOf, valueOf } from "./drive.mjs";
 import { scriptsOfPage } from "./native.mjs";
 
 // A move by hand that is the script's next one goes on with the script, another one is a branch of it.
