@@ -79,7 +79,8 @@ def compiled(folder, bitcode):
     run(tool("clang"), "--target=x86_64-unknown-linux-gnu", "-S", "-emit-llvm", "-x", "ir", "-Xclang", "-disable-llvm-passes", bitcode, "-o", text)
     text.write_text(retarget.retargeted(text.read_text()))
     objects = [folder / "program.o"]
-    run(tool("clang"), *TARGET, *EXPANDED, "-O2", "-x", "ir", text, "-o", objects[0])
+    # The page may have 600,000 bytes. With -O2 the module is a seventh larger, and no move was measured to be faster.
+    run(tool("clang"), *TARGET, *EXPANDED, "-Os", "-x", "ir", text, "-o", objects[0])
     for name in BESIDE:
         objects.append(folder / f"{name}.o")
         run(tool("clang"), *TARGET, "-O2", "-fwrapv", "-ffreestanding", "-nostdinc", "-x", "c", page.WEB / "wasm" / f"{name}.c", "-o", objects[-1])
@@ -92,7 +93,7 @@ def linked(folder, objects):
     flags = ("-flavor", "wasm", "-mwasm64", "--no-entry", "--stack-first", "-z", f"stack-size={STACK}", "--gc-sections", "-s")
     run(tool("ld.lld"), *flags, *(f"--export={name}" for name in EXPORTS), *objects, "-o", wide)
     # An address stays a word of 64 bits; only where memory is reached its low half is taken.
-    run("wasm-opt", *(f"--enable-{name}" for name in FEATURES), "--memory64-lowering", wide, "-o", lowered)
+    run("wasm-opt", *(f"--enable-{name}" for name in FEATURES), "--memory64-lowering", "-Os", wide, "-o", lowered)
     return lowered.read_bytes()
 
 

@@ -15,10 +15,8 @@ SOURCE = WEB / "src"
 LIBRARY = WEB / "library"
 PAGE = WEB / "cfpp.html"
 MAIN = "main"
-# What the page shows of the repository's documents and examples, each an element with its data.
-SHOWN = ("explanations", "rules", "delays", "examples")
-# Without the examples the page has at most so many bytes.
-MOST = 520_000
+# The page has at most so many bytes.
+MOST = 600_000
 
 IMPORT = re.compile(r'^import \{ (.*) \} from "(?:\./|\.\./library/)(\w+)\.js";$', re.M)
 EXPORT = re.compile(r"^export (?:async )?(?:class|function|const) (\w+)", re.M)
@@ -118,16 +116,15 @@ def assembled(module, built, shown):
         (SOURCE / "page.html").read_text(),
         as_data("application/octet-stream", "module", module),
         as_json("built", built),
-        as_json("explanations", shown["explanations"]),
-        as_json("rules", shown["rules"]),
-        as_json("delays", shown["delays"]),
+        as_data("application/octet-stream", "shown", packed(json.dumps(shown).encode())),
     ]
     # The code comes last: it runs when all that it reads stands there.
     end = [f"<script>{code}</script>\n</body>\n</html>\n"]
-    size = len("".join(head + body + end).encode())
+    text = "".join(head + body + end)
+    size = len(text.encode())
     if size > MOST:
-        raise SystemExit(f"the page has {size} bytes without the examples, over {MOST}")
-    return "".join(head + body + [as_json("examples", shown["examples"])] + end)
+        raise SystemExit(f"the page has {size} bytes, over {MOST}")
+    return text
 
 
 def crates_below(program):
@@ -159,14 +156,14 @@ def sum_of_sources():
     return total.hexdigest()[:32]
 
 
-def packed(module):
-    return base64.b64encode(gzip.compress(module, 9, mtime=0)).decode()
+def packed(data):
+    return base64.b64encode(gzip.compress(data, 9, mtime=0)).decode()
 
 
 def part_of_page(name):
-    """What an element of the kept page has; nothing of value where an older page has no such element."""
+    """What an element of the kept page has; nothing where an older page has no such element."""
     found = re.search(f'id="data-{name}">([^<]*)</script>', PAGE.read_text())
-    return found.group(1) if found else "null"
+    return found.group(1) if found else ""
 
 
 def kept_module():
@@ -176,4 +173,5 @@ def kept_module():
 
 def kept_shown():
     """What the page that is kept shows."""
-    return {name: json.loads(part_of_page(name)) for name in SHOWN}
+    data = base64.b64decode(part_of_page("shown"))
+    return json.loads(gzip.decompress(data)) if data else {}

@@ -1,4 +1,4 @@
-// What the build puts into the page beside the code: the module, the examples, and the words of docs/ERRORS.md.
+// What the build puts into the page beside the code: the module, and what is shown of the repository.
 
 function part(id) {
   return document.getElementById(`data-${id}`).textContent;
@@ -26,28 +26,19 @@ export async function bytesOfStream(stream, most) {
   return new Uint8Array(await new Blob(parts).arrayBuffer());
 }
 
-export async function moduleBytes() {
-  const packed = new Blob([fromBase64(part("module"))]);
+function unpacked(id) {
+  const packed = new Blob([fromBase64(part(id))]);
   return bytesOfStream(packed.stream().pipeThrough(new DecompressionStream("gzip")), 1 << 24);
 }
 
-export function examples() {
-  return JSON.parse(part("examples"));
+export function moduleBytes() {
+  return unpacked("module");
 }
 
-// For each reason that a report can name: why, and what to do.
-export function explanations() {
-  return JSON.parse(part("explanations"));
-}
-
-// The rules that can be taken away, with their programs and the layouts of these.
-export function rulesOfPage() {
-  return JSON.parse(part("rules"));
-}
-
-// The files of delays by name.
-export function delaysOfPage() {
-  return JSON.parse(part("delays"));
+// The examples with their layouts; for each reason that a report can name: why, and what to do; the rules that can be taken away, with their
+// programs and the layouts of these; and the files of delays by name.
+export async function shownOfPage() {
+  return JSON.parse(new TextDecoder().decode(await unpacked("shown")));
 }
 
 export function built() {

@@ -1,7 +1,7 @@
 // Puts the page together: what each button and key does.
 
 import { OWN, fillChoices, listenToExamples, listenToPointer } from "./choices.js";
-import { built, moduleBytes } from "./data.js";
+import { built, moduleBytes, shownOfPage } from "./data.js";
 import { byId, html, made } from "./element.js";
 import { listenToKeys, showKeys } from "./keys.js";
 import { fragmentOf, readFragment } from "./link.js";
@@ -181,7 +181,7 @@ async function openFirst(page) {
 async function begin() {
   showLegend();
   showKeys();
-  const page = new Page(await moduleBytes());
+  const page = new Page(await moduleBytes(), await shownOfPage());
   fillChoices(page.examples);
   listenToSetup(page);
   listenToPointer();

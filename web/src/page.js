@@ -3,7 +3,7 @@
 import { blameOf } from "./blame.js";
 import { captionOf } from "./captions.js";
 import { OWN } from "./choices.js";
-import { delaysOfPage, examples, explanations, fromBase64, rulesOfPage } from "./data.js";
+import { fromBase64 } from "./data.js";
 import { draw } from "./drawing.js";
 import { byId, fill, html, sentence } from "./element.js";
 import { Editors } from "./editors.js";
@@ -36,11 +36,11 @@ const LIMIT = 10000;
 const SCRIPT_EVERY = 15;
 
 export class Page {
-  constructor(bytes) {
+  constructor(bytes, { explanations, examples, rules, delays }) {
     this.simulator = new Simulator(new Program(bytes));
     this.session = new Session(this.simulator);
-    this.reasons = new Reasons(explanations());
-    this.examples = examples();
+    this.reasons = new Reasons(explanations);
+    this.examples = examples;
     this.editors = new Editors(this.simulator, this.reasons);
     this.orders = new AnyOrder(this.simulator, LIMIT);
     this.player = new Player(() => this.play(), () => this.show());
@@ -48,9 +48,9 @@ export class Page {
     this.predict = new Predict(this);
     this.goal = new GoalPanel(() => this.show());
     this.second = new SecondOrder(this);
-    this.hunt = new HuntPanel(this, rulesOfPage());
+    this.hunt = new HuntPanel(this, rules);
     this.graph = new GraphPanel(this);
-    this.ticks = new TicksPanel(this, delaysOfPage());
+    this.ticks = new TicksPanel(this, delays);
     // The questions of the lesson on the script that is played.
     this.questions = [];
     this.selected = 1;

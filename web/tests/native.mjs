@@ -10,19 +10,28 @@ import { Program } from "../src/program.js";
 
 export const TOP = fileURLToPath(new URL("../..", import.meta.url));
 
-export function partOfPage(name) {
+function partOfPage(name) {
   const page = fs.readFileSync(path.join(TOP, "web/cfpp.html"), "utf8");
   return new RegExp(`id="data-${name}">([^<]*)<`).exec(page)[1];
 }
 
+function unpacked(name) {
+  return zlib.gunzipSync(Buffer.from(partOfPage(name), "base64"));
+}
+
 // The module that the kept page has.
 export function moduleOfPage() {
-  return new Program(zlib.gunzipSync(Buffer.from(partOfPage("module"), "base64")));
+  return new Program(unpacked("module"));
+}
+
+// What it shows of the repository.
+export function shownOfPage() {
+  return JSON.parse(unpacked("shown").toString());
 }
 
 // Its scripts, each with layout, program, the report that is to come, and what is asked on the way.
 export function scriptsOfPage() {
-  const { programs, layouts } = JSON.parse(partOfPage("examples"));
+  const { programs, layouts } = shownOfPage().examples;
   return programs.filter(({ script }) => script).map(({ name, title, layout, image, script, report, questions }) => ({
     name,
     title,

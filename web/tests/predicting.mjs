@@ -1,7 +1,7 @@
 // Tests of Predict: what is hidden until it was said, what is counted, and where the lessons' questions stand.
 
 import { ADDRESS, PHONE, PROJECTOR, WALL, browser, check, choose, click, evaluate, press, script, step, textOf } from "./drive.mjs";
-import { partOfPage, scriptsOfPage } from "./native.mjs";
+import { scriptsOfPage, shownOfPage } from "./native.mjs";
 
 const OUTCOMES = /garner|kill|update|\bdies?\b|pass each other/i;
 
@@ -79,7 +79,7 @@ async function onPhone() {
 
 // Each script is predicted to its end: before each answer nothing that can be read has an outcome word.
 async function allScripts() {
-  const { programs } = JSON.parse(partOfPage("examples"));
+  const { programs } = shownOfPage().examples;
   await press("q");
   let asked = 0;
   let found = "";

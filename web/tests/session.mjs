@@ -13,7 +13,7 @@ import { differences, firstDifference } from "../src/sequential.js";
 import { Session } from "../src/session.js";
 import { Simulator } from "../src/simulator.js";
 import { namesOfMeeting, told } from "../src/telling.js";
-import { Native, TOP, moduleOfPage, partOfPage, scriptsOfPage } from "./native.mjs";
+import { Native, TOP, moduleOfPage, scriptsOfPage, shownOfPage } from "./native.mjs";
 
 const MOVES = 120;
 
@@ -142,7 +142,7 @@ function orders() {
 }
 
 function reasons() {
-  const all = new Reasons(JSON.parse(partOfPage("explanations")));
+  const all = new Reasons(shownOfPage().explanations);
   const [, variants] = /pub enum Bar \{([^}]*)\}/.exec(textOf("crates/cf_bind/src/moves.rt"));
   const bars = variants.match(/^    [A-Z]\w+/gm);
   for (const bar of bars) check(`${bar.trim()} is explained`, all.bar(bar.trim()).includes(": "));
