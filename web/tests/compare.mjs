@@ -7,7 +7,7 @@ import fs from "node:fs";
 import path from "node:path";
 import { text } from "../src/program.js";
 import { BySeed } from "../src/schedule.js";
-import { Native, TOP, difference, moduleOfPage, scriptsOfPage } from "./native.mjs";
+import { Native, TOP, difference, moduleOfPage, scriptsOfPage, shownOfPage } from "./native.mjs";
 
 const COUNT = Number(process.argv[2] ?? 300);
 const SEED = Number(process.argv[3] ?? 1);
@@ -112,7 +112,14 @@ for (const { name, files, report } of scripts) {
   count(name, difference(answer, native.call(words, files)) ?? fault);
 }
 
-// Calls of the other commands on stored files: what a traced run shows is audited, also with a byte changed.
+// What a hunt asks: for each rule that can be taken away its own programs.
+function hunts() {
+  const { layouts: texts, rules } = shownOfPage().rules;
+  return rules.flatMap(({ name, programs: own }) => own.map(({ image, layout }) =>
+    [["orders", "layout", "program", "--without", name], { layout: Buffer.from(texts[layout]), program: Buffer.from(image, "base64") }, new Uint8Array()]));
+}
+
+// Calls of the other commands on stored files: what a traced run shows is audited and judged as a log, also with a byte changed.
 function storedCalls() {
   const files = (names) => Object.fromEntries(Object.entries(names).map(([name, file]) => [name, read(file)]));
   const seven = files({ layout: "examples/layouts/tiny.toml", program: "examples/seven.bin" });
@@ -132,6 +139,7 @@ function storedCalls() {
     ...["layout", "plain"].map((layout) => [["rounds", layout, "program", "--limit", "60"], seven, none]),
     [["rounds", "cached", "program"], sorted, none],
     ...[trace, changed, trace.subarray(0, 200), none].map((bytes) => [["audit", "layout", "program", "trace"], { ...seven, trace: bytes }, none]),
+    ...[trace, changed, none].map((log) => [["conform", "layout", "program"], seven, log]),
     [["time", "delays", "program", "plain", "tiny", "deep", "cached", "--limit", "300"], sorted, none],
     [["time", "tiny", "program", "plain"], sorted, none],
     [["time", "delays", "program", "layout", "--show", "moves"], rule, none],
@@ -143,7 +151,7 @@ function storedCalls() {
   ];
 }
 
-const stored = storedCalls();
+const stored = [...storedCalls(), ...hunts()];
 for (const call of stored) count(`the call ${call[0].join(" ")}`, difference(module.call(...call), native.call(...call)));
 
 const statuses = new Map();
