@@ -4,12 +4,15 @@ use Rattle.cf_io.specs.Causes.{Rose, HasCause}
 use Rattle.cf_io.specs.declared.failed.Failed.{Failed}
 use Rattle.cf_io.proofs.Owing.{writes-nothing}
 use Rattle.cf_report.proofs.Puttings.{puts-again, failed-more}
-use Rattle.cli_files.specs.Causes.{files_answered}
+use Rattle.cli_files.specs.Causes.{files_answered, input_answered, output_answered}
 use Rattle.cli_files.specs.Deciding.{FaultsCounted, Decides, files_decided}
-use Rattle.cli_files.specs.Outside.{Report, report_of}
+use Rattle.cli_files.proofs.NoStreams.{SaysNoStream, no-cause}
+use Rattle.cli_files.specs.Outside.{Outside, Report, report_of}
 use Rattle.cli_files.specs.declared.answer.Answer.{Answer}
 use Rattle.cli_files.specs.declared.status.Status.{Status}
-use Rattle.cli_reports.specs.Reporting.{PutsReport, PutsAfter, PutsClosing, ReportsAlone, Comes, FaultsReported, PutsDecided, Adds, files_reported}
+use Rattle.cli_reports.specs.Reporting.{PutsReport, PutsAfter, PutsClosing, ReportsAlone, Comes, PutsDecided, Adds}
+use Rattle.cli_reports.specs.Reporting.{FaultsReported, FaultsAre, StreamFaultsAre, files_reported}
+use Rattle.cli_reports.specs.OutsideChanges.{stream_faults}
 use Rattle.cli_reports.specs.declared.reporting.Reported.{Reported}
 
 -- nothing was shown before the text
@@ -64,16 +67,28 @@ decided-files half full (Ok answer) (Err failed) closes = absurd closes
 decided-files half full (Err failed) (Ok reported) closes = absurd closes
 decided-files half full (Err failed) (Err other) closes = refl
 
--- an answer says of a count what holds of it
-pub says-of-count : (answered : Status → Result (Unit {0}) (Unit {0})) (before now : ℕ) (answer said : Status) →
-    said ≡ answer → HasCause before now (answered answer) → HasCause before now (answered said)
-says-of-count answered before now answer said same cause = rw same cause
+-- after files were read, and the program in one of them ran, the counts are those that the reading and the run leave
+pub faults-ran : (before after : Outside) (result : Result Reported Failed) →
+    after.file_faults ≡ before.file_faults →
+    StreamFaultsAre (record {
+      before = stream_faults before.input_faults before.output_faults;
+      after = stream_faults after.input_faults after.output_faults;
+    }) result → FaultsAre before after result
+faults-ran before after result same ran = record {
+  files = rw same (no-cause before.file_faults (files_reported result) ran.files);
+  input = ran.input;
+  output = ran.output;
+}
 
-pub tells-answered : (answered : Status → Result (Unit {0}) (Unit {0})) (before now : ℕ) (answer : Status)
-    (reported : Reported) → reported.status ≡ answer → HasCause before now (answered answer) →
-    FaultsReported answered before now (Ok reported)
-tells-answered answered before now answer reported same cause =
-    says-of-count answered before now answer reported.status same cause
+-- where a file was missing nothing ran, and the answer says of neither stream that it failed
+pub faults-refused : (before after : Outside) (answer : Status) (reported : Reported) → reported.status ≡ answer →
+    HasCause before.file_faults after.file_faults (files_answered answer) → SaysNoStream answer →
+    after.input_faults ≡ before.input_faults → after.output_faults ≡ before.output_faults → FaultsAre before after (Ok reported)
+faults-refused before after answer reported same read none input output = record {
+  files = rw same read;
+  input = rw (same, input) (no-cause before.input_faults (input_answered answer) none.input);
+  output = rw (same, output) (no-cause before.output_faults (output_answered answer) none.output);
+}
 
 -- where a run was closed a count rose exactly where the status says so; where the report had failed, nothing else did
 pub closed-tells : (answered : Status → Result (Unit {0}) (Unit {0})) (cut : Bool) (said : Status)

@@ -1,10 +1,13 @@
 -- The answer of a command that reads one file and puts a text to the output, and what it leaves of the outside.
-use Rattle.std.specs.Prelude.{◌≡◌, ℕ, List, [], codes, Option}
+use Rattle.std.specs.Prelude.{◌≡◌, ℕ, List, [], codes, Option, Ok}
+use Rattle.cf_io.specs.Causes.{HasCause}
 use Rattle.cf_io.specs.Puts.{Writes, WritesFront}
 use Rattle.cf_io.specs.Reads.{FilesSeen}
 use Rattle.texts.specs.Lines.{line}
+use Rattle.cli_files.specs.Causes.{files_answered, input_answered, output_answered}
 use Rattle.cli_files.specs.Outside.{Outside}
 use Rattle.cli_files.specs.Files.{IsFrontOf, LacksBytes}
+use Rattle.cli_files.specs.declared.answer.Answer.{Answer}
 use Rattle.cli_files.specs.declared.status.Status.{Status}
 use Rattle.cli_files.specs.declared.status.Status.TheVariants as status
 use Rattle.cli_files.specs.declared.status.Which.{Which}
@@ -35,6 +38,31 @@ abbrev pub PutsOrFails : List ℕ → Option (List ℕ) → Option (List ℕ) �
 PutsOrFails text before after status.Done report = PutsOutput text before after report
 PutsOrFails text before after status.WriteFault report = FailsText text before after report
 PutsOrFails text before after _ report = ⊥
+
+-- what a call that has the output alone leaves of it: the answer says neither of a file nor of the input that it failed, and the count of
+-- the output's faults rose exactly where it says so
+pub record AnswersByOutput (Comes : Option (List ℕ) → Option (List ℕ) → Status → List ℕ → Type 0) (before after : Option (List ℕ))
+    (faults_before faults_after : ℕ) (answer : Answer) : Type 0 where
+  pub comes : Comes before after answer.status answer.closing
+  pub files : files_answered answer.status ≡ Ok tt
+  pub input : input_answered answer.status ≡ Ok tt
+  pub output : HasCause faults_before faults_after (output_answered answer.status)
+
+-- how often the files and the output have failed
+pub record SideFaults : Type 0 where
+  pub files : ℕ
+  pub output : ℕ
+
+abbrev pub side_faults : ℕ → ℕ → SideFaults
+side_faults files output = record { files = files; output = output }
+
+-- the same of a call that has the files too
+pub record AnswersByFile (Answers : FileSide → FileSide → Status → List ℕ → Type 0) (before after : FileSide)
+    (faults_before faults_after : SideFaults) (answer : Answer) : Type 0 where
+  pub answers : Answers before after answer.status answer.closing
+  pub files : HasCause faults_before.files faults_after.files (files_answered answer.status)
+  pub input : input_answered answer.status ≡ Ok tt
+  pub output : HasCause faults_before.output faults_after.output (output_answered answer.status)
 
 -- the file was read, and this comes of its bytes
 pub record ComesOfFile

@@ -36,6 +36,26 @@ streams_change unread written reported faults lent left = record {
   full = report_of (reported (report_left left)) (faults (report_left left));
 }
 
+-- how often the program's input and its output have failed
+pub record StreamFaults : Type 0 where
+  pub input : ℕ
+  pub output : ℕ
+
+abbrev pub stream_faults : ℕ → ℕ → StreamFaults
+stream_faults input output = record { input = input; output = output }
+
+-- those counts, before and after
+pub record StreamFaultsChange : Type 0 where
+  pub before : StreamFaults
+  pub after : StreamFaults
+
+-- given how the counts of a source and of a sink are seen
+abbrev pub faults_change : {S K R U : Type 0} → (S → ℕ) → (K → ℕ) → RunStreams S K R → StreamsLeft S K R U → StreamFaultsChange
+faults_change input_faults output_faults lent left = record {
+  before = stream_faults (input_faults lent.input.now) (output_faults lent.output.now);
+  after = stream_faults (input_faults (input_left left)) (output_faults (output_left left));
+}
+
 -- the outside and the report, before and after
 pub record OutsideChange : Type 0 where
   pub before : Outside

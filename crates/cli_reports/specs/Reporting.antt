@@ -5,11 +5,11 @@ use Rattle.cf_io.specs.Puts.{Writes}
 use Rattle.cf_io.specs.declared.failed.Failed.{Failed}
 use Rattle.rv_machine.specs.Streams.{Streams}
 use Rattle.cf_report.specs.Putting.{PutsText}
-use Rattle.cli_files.specs.Causes.{files_answered}
+use Rattle.cli_files.specs.Causes.{files_answered, input_answered, output_answered}
 use Rattle.cli_files.specs.Outside.{Outside, Report}
 use Rattle.cli_files.specs.declared.answer.Answer.{Answer}
 use Rattle.cli_files.specs.declared.status.Status.{Status}
-use Rattle.cli_reports.specs.OutsideChanges.{OutsideChange, StreamsChange}
+use Rattle.cli_reports.specs.OutsideChanges.{OutsideChange, StreamsChange, StreamFaultsChange}
 use Rattle.cli_reports.specs.declared.reporting.Reported.{Reported}
 
 -- the text was put to the report, or the report failed after a prefix of it
@@ -67,6 +67,45 @@ files_reported (Err failed) = Ok tt
 abbrev pub FaultsReported : (Status → Result (Unit {0}) (Unit {0})) → ℕ → ℕ → Result Reported Failed → Type 0
 FaultsReported answered before now (Ok reported) = HasCause before now (answered reported.status)
 FaultsReported answered before now (Err failed) = now ≡ before
+
+-- the counts of faults of the files, the input and the output: each rose exactly where the status says so; where the report failed
+-- while the command was carried out, none of them did
+pub record FaultsAre (before after : Outside) (result : Result Reported Failed) : Type 0 where
+  pub files : HasCause before.file_faults after.file_faults (files_reported result)
+  pub input : FaultsReported input_answered before.input_faults after.input_faults result
+  pub output : FaultsReported output_answered before.output_faults after.output_faults result
+
+-- the same of a run, which reads no file: its status does not say that one could not be read
+pub record StreamFaultsAre (counts : StreamFaultsChange) (result : Result Reported Failed) : Type 0 where
+  pub files : files_reported result ≡ Ok tt
+  pub input : FaultsReported input_answered counts.before.input counts.after.input result
+  pub output : FaultsReported output_answered counts.before.output counts.after.output result
+
+-- what a command that shows lines leaves of all that it was lent, with the counts of faults
+pub record CarriesOutCommand (answers : Outside → Outside → Option (List ℕ) → Status → List ℕ → List ℕ → Type 0)
+    (breaks : Outside → Outside → Option (List ℕ) → Option (List ℕ) → Type 0) (s : OutsideChange)
+    (result : Result Reported Failed) : Type 0 where
+  pub comes : CarriesOut answers breaks s result
+  pub faults : FaultsAre s.before s.after result
+
+-- the same of a command that shows nothing
+pub record ReportsCommand (answers : Outside → Outside → Status → List ℕ → Type 0) (s : OutsideChange) (reported : Reported) :
+    Type 0 where
+  pub reports : ReportsAll answers s reported
+  pub faults : FaultsAre s.before s.after (Ok reported)
+
+-- what a run leaves of its streams and its report, with the counts of faults of the streams
+pub record CarriesOutRun (answers : Streams → Streams → Option (List ℕ) → Status → List ℕ → List ℕ → Type 0)
+    (breaks : Streams → Streams → Option (List ℕ) → Option (List ℕ) → Type 0) (p : StreamsChange)
+    (counts : StreamFaultsChange) (result : Result Reported Failed) : Type 0 where
+  pub comes : ComesOver answers breaks p result
+  pub faults : StreamFaultsAre counts result
+
+-- the same of a run that shows nothing
+pub record ReportsRun (answers : Streams → Streams → Status → List ℕ → Type 0) (p : StreamsChange)
+    (counts : StreamFaultsChange) (reported : Reported) : Type 0 where
+  pub reports : ReportsOver answers p reported
+  pub faults : StreamFaultsAre counts (Ok reported)
 
 -- the closing lines of what was decided were put; where the report had failed, no lines were
 abbrev pub PutsDecided : Result Answer Failed → (half full : Report) → Result Reported Failed → Type 0
