@@ -1,12 +1,10 @@
 //! The command `machine`.
 
-ghost use Rattle.std.specs.Prelude.{◌≡◌, Ok};
-ghost use Rattle.cf_io.specs.Causes.{HasCause};
-ghost use Rattle.cli_files.specs.Causes.{input_answered, output_answered};
+ghost use Rattle.std.specs.Prelude.{◌≡◌};
 ghost use Rattle.cli_machine.specs.Machine.{RunsHart, BreaksHart, AnswersMachine, BreaksProgram};
 ghost use Rattle.cli_machine.specs.Options.{chosen_of};
-ghost use Rattle.cli_reports.specs.Reporting.{CarriesOut, ComesOver, FaultsReported, files_reported};
-ghost use Rattle.cli_reports.specs.OutsideChanges.{streams_change, outside_change, input_left, output_left};
+ghost use Rattle.cli_reports.specs.Reporting.{CarriesOutCommand, CarriesOutRun};
+ghost use Rattle.cli_reports.specs.OutsideChanges.{streams_change, faults_change, outside_change};
 
 use crate::closing::close_machine;
 use crate::running::run;
@@ -27,13 +25,11 @@ fn run_machine<S: Source, K: Sink, R: Sink>(
     streams: RunStreams<'_, S, K, R>,
 ) -> Result<Reported, Failed>
     requires { machine.retired ≡ 0 }
-    ensures comes { ComesOver
+    ensures { CarriesOutRun
         (λ before after blank. RunsHart (chosen_of options.limit options.show_retired options.mul options.every) machine before after)
         (BreaksHart (chosen_of options.limit options.show_retired options.mul options.every) machine)
-        (streams_change S.left K.written R.written R.faults streams.entry streams.exit) result }
-    ensures files { files_reported result ≡ Ok tt }
-    ensures input { FaultsReported input_answered (S.faults streams.entry.input.now) (S.faults (input_left streams.exit)) result }
-    ensures output { FaultsReported output_answered (K.faults streams.entry.output.now) (K.faults (output_left streams.exit)) result }
+        (streams_change S.left K.written R.written R.faults streams.entry streams.exit)
+        (faults_change S.faults K.faults streams.entry streams.exit) result }
 {
     let RunStreams {
         input,
@@ -55,13 +51,10 @@ pub fn run_program<F: Files, S: Source, K: Sink, R: Sink>(
     files: &mut F,
     streams: RunStreams<'_, S, K, R>,
 ) -> Result<Reported, Failed>
-    ensures answers { CarriesOut
+    ensures { CarriesOutCommand
         (λ before after blank. AnswersMachine program.now (chosen_of options.limit options.show_retired options.mul options.every) before after)
         (BreaksProgram program.now (chosen_of options.limit options.show_retired options.mul options.every))
         (outside_change F.told F.faults S.left S.faults K.written K.faults R.written R.faults files.old files.new streams.entry streams.exit) result }
-    ensures files { HasCause (F.faults files.old) (F.faults files.new) (files_reported result) }
-    ensures input { FaultsReported input_answered (S.faults streams.entry.input.now) (S.faults (input_left streams.exit)) result }
-    ensures output { FaultsReported output_answered (K.faults streams.entry.output.now) (K.faults (output_left streams.exit)) result }
 {
     match program_at(alloc, program, files) {
         Ok(machine) => run_machine(machine, options, streams),

@@ -1,25 +1,19 @@
 use Rattle.std.proofs.Common.{refl}
-use Rattle.cli_files.specs.Causes.{input_answered, output_answered}
-use Rattle.cli_files.proofs.NoStreams.{no-cause, lacks-program-says}
+use Rattle.cli_files.proofs.NoStreams.{lacks-program-says}
 use Rattle.cli_machine.proofs.ProgramFiles.{program-comes, program-refused}
-use Rattle.cli_reports.proofs.PutReports.{tells-answered}
+use Rattle.cli_reports.proofs.PutReports.{faults-ran, faults-refused}
 use Rattle.cli_machine.proofs.machine.run_program.Goals as goal
 
-pub returns-in-Ok-clause-answers : goal.returns-in-Ok-clause-answers
-returns-in-Ok-clause-answers g c =
-    program-comes _ _ _ _ c.in-Ok.machine _ _ c.run_machine.result c.in-Ok.ensures.ok c.run_machine.ensures.comes
+pub returns-in-Ok : goal.returns-in-Ok
+returns-in-Ok g c = record {
+  comes = program-comes _ _ _ _ c.in-Ok.machine _ _ c.run_machine.result c.in-Ok.ensures.ok c.run_machine.ensures.comes;
+  faults = faults-ran _ _ c.run_machine.result c.in-Ok.ensures.faults.still c.run_machine.ensures.faults;
+}
 
-pub returns-in-Err-clause-answers : goal.returns-in-Err-clause-answers
-returns-in-Err-clause-answers g c =
-    program-refused _ _ _ _ _ _ _ _ c.put_answer.result c.put_answer.ensures.status
-    (record { lacks = c.in-Err.ensures.refused; streams = refl }) c.put_answer.ensures.puts
-
-pub returns-in-Err-clause-input : goal.returns-in-Err-clause-input
-returns-in-Err-clause-input g c =
-    tells-answered input_answered _ _ _ c.put_answer.result c.put_answer.ensures.status
-    (no-cause _ _ (lacks-program-says _ _ _ _ _ c.in-Err.ensures.refused).input)
-
-pub returns-in-Err-clause-output : goal.returns-in-Err-clause-output
-returns-in-Err-clause-output g c =
-    tells-answered output_answered _ _ _ c.put_answer.result c.put_answer.ensures.status
-    (no-cause _ _ (lacks-program-says _ _ _ _ _ c.in-Err.ensures.refused).output)
+pub returns-in-Err : goal.returns-in-Err
+returns-in-Err g c = record {
+  comes = program-refused _ _ _ _ _ _ _ _ c.put_answer.result c.put_answer.ensures.status
+      (record { lacks = c.in-Err.ensures.refused; streams = refl }) c.put_answer.ensures.puts;
+  faults = faults-refused _ _ c.in-Err.answer.status c.put_answer.result c.put_answer.ensures.status c.in-Err.ensures.faults
+      (lacks-program-says _ _ _ _ _ c.in-Err.ensures.refused) refl refl;
+}
