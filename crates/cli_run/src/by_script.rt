@@ -1,12 +1,11 @@
 //! A run of the processor by a script.
 
-ghost use Rattle.std.specs.Prelude.{◌≡◌, ◌≤◌, false, length, Ok};
+ghost use Rattle.std.specs.Prelude.{◌≡◌, ◌≤◌, false, length};
 ghost use Rattle.run_options.specs.Limits.{most_limit};
-ghost use Rattle.cli_files.specs.Causes.{input_answered, output_answered};
 ghost use Rattle.run_scripts.specs.Limits.{most_script};
-ghost use Rattle.cli_reports.specs.Reporting.{ComesOver, FaultsReported, files_reported};
+ghost use Rattle.cli_reports.specs.Reporting.{CarriesOutRun};
 ghost use Rattle.cli_run.specs.Run.{ByScript, RunsCore, BreaksCore};
-ghost use Rattle.cli_reports.specs.OutsideChanges.{streams_change, input_left, output_left};
+ghost use Rattle.cli_reports.specs.OutsideChanges.{streams_change, faults_change};
 
 use crate::closing::close;
 use cf_core::Core;
@@ -30,12 +29,10 @@ pub fn run_by_script<S: Source, K: Sink, R: Sink>(
     requires retired { core.old.state.retired ≤ limit }
     requires works { core.old.state.failed ≡ false }
     requires fits { length text.now ≤ most_script }
-    ensures runs { ComesOver (RunsCore limit reporting core.old core.new (ByScript limit reporting text.now))
+    ensures { CarriesOutRun (RunsCore limit reporting core.old core.new (ByScript limit reporting text.now))
         (BreaksCore limit reporting core.old (ByScript limit reporting text.now))
-        (streams_change S.left K.written R.written R.faults streams.entry streams.exit) result }
-    ensures files { files_reported result ≡ Ok tt }
-    ensures input { FaultsReported input_answered (S.faults streams.entry.input.now) (S.faults (input_left streams.exit)) result }
-    ensures output { FaultsReported output_answered (K.faults streams.entry.output.now) (K.faults (output_left streams.exit)) result }
+        (streams_change S.left K.written R.written R.faults streams.entry streams.exit)
+        (faults_change S.faults K.faults streams.entry streams.exit) result }
 {
     let RunStreams {
         input,

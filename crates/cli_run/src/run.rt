@@ -1,16 +1,14 @@
 //! The commands `run` and `moves`.
 
-ghost use Rattle.std.specs.Prelude.{◌≡◌, ◌≤◌, Ok};
+ghost use Rattle.std.specs.Prelude.{◌≡◌, ◌≤◌};
 ghost use Rattle.run_options.specs.Limits.{most_limit};
-ghost use Rattle.cf_io.specs.Causes.{HasCause};
 ghost use Rattle.cli_arguments.specs.Views.{layout_of, schedule_view as asked_schedule};
 ghost use Rattle.cf_core.specs.Processors.{opened};
 ghost use Rattle.cf_run.specs.Policies.{CanRun};
-ghost use Rattle.cli_files.specs.Causes.{input_answered, output_answered};
 ghost use Rattle.cli_files.specs.RunFiles.{run_asked};
-ghost use Rattle.cli_reports.specs.Reporting.{CarriesOut, ComesOver, FaultsReported, files_reported};
+ghost use Rattle.cli_reports.specs.Reporting.{CarriesOutCommand, CarriesOutRun};
 ghost use Rattle.cli_run.specs.Run.{chosen_by, RunsCore, RunsWithTail, BreaksCore, ComesOf, AnswersRun, BreaksRun};
-ghost use Rattle.cli_reports.specs.OutsideChanges.{streams_change, outside_change, input_left, output_left};
+ghost use Rattle.cli_reports.specs.OutsideChanges.{streams_change, faults_change, outside_change};
 ghost use Rattle.cli_files.specs.Schedules.{ready_schedule_view, FitsScript};
 
 use crate::by_policy::run_by_policy;
@@ -39,12 +37,10 @@ fn run_scheduled<S: Source, K: Sink, R: Sink>(
 ) -> Result<Reported, Failed>
     requires begins { CanRun limit core.old }
     requires fits { FitsScript (ready_schedule_view schedule.now) }
-    ensures runs { ComesOver (RunsCore limit reporting core.old core.new (chosen_by limit reporting (ready_schedule_view schedule.now)))
+    ensures { CarriesOutRun (RunsCore limit reporting core.old core.new (chosen_by limit reporting (ready_schedule_view schedule.now)))
         (BreaksCore limit reporting core.old (chosen_by limit reporting (ready_schedule_view schedule.now)))
-        (streams_change S.left K.written R.written R.faults streams.entry streams.exit) result }
-    ensures files { files_reported result ≡ Ok tt }
-    ensures input { FaultsReported input_answered (S.faults streams.entry.input.now) (S.faults (input_left streams.exit)) result }
-    ensures output { FaultsReported output_answered (K.faults streams.entry.output.now) (K.faults (output_left streams.exit)) result }
+        (streams_change S.left K.written R.written R.faults streams.entry streams.exit)
+        (faults_change S.faults K.faults streams.entry streams.exit) result }
 {
     match schedule {
         ReadySchedule::Script(text) => {
@@ -71,13 +67,11 @@ fn run_opened<S: Source, K: Sink, R: Sink>(
 ) -> Result<Reported, Failed>
     requires begins { CanRun options.limit opened.old.core }
     requires fits { FitsScript (ready_schedule_view schedule.now) }
-    ensures comes { ComesOver
+    ensures { CarriesOutRun
         (RunsWithTail options.entry.limit options.entry.reporting tail opened.old.core opened.new.core (chosen_by options.entry.limit options.entry.reporting (ready_schedule_view schedule.now)))
         (BreaksCore options.entry.limit options.entry.reporting opened.old.core (chosen_by options.entry.limit options.entry.reporting (ready_schedule_view schedule.now)))
-        (streams_change S.left K.written R.written R.faults streams.entry streams.exit) result }
-    ensures files { files_reported result ≡ Ok tt }
-    ensures input { FaultsReported input_answered (S.faults streams.entry.input.now) (S.faults (input_left streams.exit)) result }
-    ensures output { FaultsReported output_answered (K.faults streams.entry.output.now) (K.faults (output_left streams.exit)) result }
+        (streams_change S.left K.written R.written R.faults streams.entry streams.exit)
+        (faults_change S.faults K.faults streams.entry streams.exit) result }
 {
     let RunStreams {
         input,
@@ -110,13 +104,11 @@ pub fn run_ready<S: Source, K: Sink, R: Sink>(
     requires limit { options.limit ≤ most_limit }
     requires count { ready.machine.retired ≡ 0 }
     requires fits { FitsScript (ready_schedule_view ready.schedule) }
-    ensures comes { ComesOver
+    ensures { CarriesOutRun
         (ComesOf options.entry.limit options.entry.reporting tail ready.layout ready.machine (ready_schedule_view ready.schedule))
         (BreaksCore options.entry.limit options.entry.reporting (opened ready.layout ready.machine) (chosen_by options.entry.limit options.entry.reporting (ready_schedule_view ready.schedule)))
-        (streams_change S.left K.written R.written R.faults streams.entry streams.exit) result }
-    ensures files { files_reported result ≡ Ok tt }
-    ensures input { FaultsReported input_answered (S.faults streams.entry.input.now) (S.faults (input_left streams.exit)) result }
-    ensures output { FaultsReported output_answered (K.faults streams.entry.output.now) (K.faults (output_left streams.exit)) result }
+        (streams_change S.left K.written R.written R.faults streams.entry streams.exit)
+        (faults_change S.faults K.faults streams.entry streams.exit) result }
 {
     match open(alloc, ready.layout, ready.machine) {
         Ok(mut opened) => run_opened(&mut opened, &ready.schedule, options, tail, streams),
@@ -139,13 +131,10 @@ pub fn run_processor<F: Files, S: Source, K: Sink, R: Sink>(
     streams: RunStreams<'_, S, K, R>,
 ) -> Result<Reported, Failed>
     requires { options.limit ≤ most_limit }
-    ensures answers { CarriesOut
+    ensures { CarriesOutCommand
         (AnswersRun tail (run_asked (layout_of layout.entry) program.now (asked_schedule options.entry.schedule) options.entry.limit options.entry.reporting))
         (BreaksRun (run_asked (layout_of layout.entry) program.now (asked_schedule options.entry.schedule) options.entry.limit options.entry.reporting))
         (outside_change F.told F.faults S.left S.faults K.written K.faults R.written R.faults files.old files.new streams.entry streams.exit) result }
-    ensures files { HasCause (F.faults files.old) (F.faults files.new) (files_reported result) }
-    ensures input { FaultsReported input_answered (S.faults streams.entry.input.now) (S.faults (input_left streams.exit)) result }
-    ensures output { FaultsReported output_answered (K.faults streams.entry.output.now) (K.faults (output_left streams.exit)) result }
 {
     match read_files(alloc, layout, program, options, files) {
         Ok(ready) => run_ready(alloc, ready, options, tail, streams),
