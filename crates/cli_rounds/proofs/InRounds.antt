@@ -1,5 +1,5 @@
 -- A run in rounds, its closing lines, and what `rounds` answers.
-use Rattle.std.proofs.Common.{◌≡◌, ◌≤◌, ℕ, List, [], ◌++◌, true, false, Option, Some, None, Result, Ok, Err, refl, sym, ap, subst, inl, inr}
+use Rattle.std.proofs.Common.{◌≡◌, ◌≤◌, ℕ, List, [], true, false, Option, Some, None, Result, Ok, Err, refl, sym, ap, subst, inl, inr}
 use Rattle.run_options.specs.declared.guess_rule.GuessRule.{GuessRule}
 use Rattle.cf_io.specs.Causes.{Rose, HasCause}
 use Rattle.cf_io.specs.Puts.{Writes}

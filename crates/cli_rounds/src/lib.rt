@@ -4,4 +4,4 @@
 mod closing;
 mod rounds;
 
-pub use rounds::run_in_rounds;
+pub use rounds::{RoundsOptions, run_in_rounds};

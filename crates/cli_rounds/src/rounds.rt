@@ -1,14 +1,12 @@
 //! The command `rounds`.
 
-ghost use Rattle.std.specs.Prelude.{◌≡◌, ◌≤◌, Ok};
+ghost use Rattle.std.specs.Prelude.{◌≡◌, ◌≤◌};
 ghost use Rattle.run_options.specs.Limits.{most_limit};
-ghost use Rattle.cf_io.specs.Causes.{HasCause};
 ghost use Rattle.cli_arguments.specs.Views.{layout_of};
 ghost use Rattle.cf_rounds.specs.Running.{ran_of as ran_for};
 ghost use Rattle.cf_core.specs.Processors.{opened, IsOpened};
-ghost use Rattle.cli_files.specs.Causes.{input_answered, output_answered};
-ghost use Rattle.cli_reports.specs.Reporting.{CarriesOut, ComesOver, FaultsReported, files_reported};
-ghost use Rattle.cli_reports.specs.OutsideChanges.{streams_change, outside_change, input_left, output_left};
+ghost use Rattle.cli_reports.specs.Reporting.{CarriesOutCommand, CarriesOutRun};
+ghost use Rattle.cli_reports.specs.OutsideChanges.{streams_change, faults_change, outside_change};
 ghost use Rattle.cli_rounds.specs.Rounds.{rounds_asked, RunsCoreInRounds, ComesInRounds, BreaksInRounds, AnswersRounds, BreaksRounds};
 
 use crate::closing::close_in_rounds;
@@ -20,6 +18,19 @@ use cli_files::{Loaded, load, no_memory};
 use cli_processor::{Opened, no_moves, open};
 use cli_reports::{Reported, RunStreams, put_answer};
 use std::alloc::Global;
+
+/// The options of `rounds`.
+#[derive(Clone, Copy)]
+pub struct RoundsOptions {
+    /// The number of retired instructions at which the run stops.
+    pub limit: u64,
+
+    /// After each of how many of them the report says how far the run has come, if it does.
+    pub every: Option<u64>,
+
+    /// The guess rule.
+    pub rule: GuessRule,
+}
 
 /// The finish of a run in rounds, as that of any run.
 fn ran_of(clocked: Clocked) -> Ran
@@ -47,12 +58,10 @@ fn run_core<S: Source, K: Sink, R: Sink>(
     requires limit { limit ≤ most_limit }
     requires retired { opened.old.core.state.retired ≤ limit }
     requires opened { IsOpened opened.old.core }
-    ensures runs { ComesOver (RunsCoreInRounds rule limit every opened.old.core opened.new.core)
+    ensures { CarriesOutRun (RunsCoreInRounds rule limit every opened.old.core opened.new.core)
         (BreaksInRounds rule limit every opened.old.core)
-        (streams_change S.left K.written R.written R.faults streams.entry streams.exit) result }
-    ensures files { files_reported result ≡ Ok tt }
-    ensures input { FaultsReported input_answered (S.faults streams.entry.input.now) (S.faults (input_left streams.exit)) result }
-    ensures output { FaultsReported output_answered (K.faults streams.entry.output.now) (K.faults (output_left streams.exit)) result }
+        (streams_change S.left K.written R.written R.faults streams.entry streams.exit)
+        (faults_change S.faults K.faults streams.entry streams.exit) result }
 {
     let RunStreams {
         input,
@@ -88,12 +97,10 @@ fn run_loaded<S: Source, K: Sink, R: Sink>(
 ) -> Result<Reported, Failed>
     requires count { loaded.machine.retired ≡ 0 }
     requires limit { limit ≤ most_limit }
-    ensures comes { ComesOver (ComesInRounds rule limit every loaded.layout loaded.machine)
+    ensures { CarriesOutRun (ComesInRounds rule limit every loaded.layout loaded.machine)
         (BreaksInRounds rule limit every (opened loaded.layout loaded.machine))
-        (streams_change S.left K.written R.written R.faults streams.entry streams.exit) result }
-    ensures files { files_reported result ≡ Ok tt }
-    ensures input { FaultsReported input_answered (S.faults streams.entry.input.now) (S.faults (input_left streams.exit)) result }
-    ensures output { FaultsReported output_answered (K.faults streams.entry.output.now) (K.faults (output_left streams.exit)) result }
+        (streams_change S.left K.written R.written R.faults streams.entry streams.exit)
+        (faults_change S.faults K.faults streams.entry streams.exit) result }
 {
     match open(alloc, loaded.layout, loaded.machine) {
         Ok(mut opened) => run_core(&mut opened, rule, limit, every, streams),
@@ -110,22 +117,26 @@ pub fn run_in_rounds<F: Files, S: Source, K: Sink, R: Sink>(
     alloc: Global,
     layout: LayoutWord<'_>,
     program: &str,
-    rule: GuessRule,
-    limit: u64,
-    every: Option<u64>,
+    options: RoundsOptions,
     files: &mut F,
     streams: RunStreams<'_, S, K, R>,
 ) -> Result<Reported, Failed>
-    requires { limit ≤ most_limit }
-    ensures answers { CarriesOut (AnswersRounds (rounds_asked (layout_of layout.entry) program.now limit every rule))
-        (BreaksRounds (rounds_asked (layout_of layout.entry) program.now limit every rule))
+    requires { options.limit ≤ most_limit }
+    ensures { CarriesOutCommand (AnswersRounds (rounds_asked (layout_of layout.entry) program.now options.limit options.every options.rule))
+        (BreaksRounds (rounds_asked (layout_of layout.entry) program.now options.limit options.every options.rule))
         (outside_change F.told F.faults S.left S.faults K.written K.faults R.written R.faults files.old files.new streams.entry streams.exit) result }
-    ensures files { HasCause (F.faults files.old) (F.faults files.new) (files_reported result) }
-    ensures input { FaultsReported input_answered (S.faults streams.entry.input.now) (S.faults (input_left streams.exit)) result }
-    ensures output { FaultsReported output_answered (K.faults streams.entry.output.now) (K.faults (output_left streams.exit)) result }
 {
     match load(alloc, layout, program, files) {
-        Ok(loaded) => run_loaded(alloc, loaded, rule, limit, every, streams),
+        Ok(loaded) => {
+            run_loaded(
+                alloc,
+                loaded,
+                options.rule,
+                options.limit,
+                options.every,
+                streams,
+            )
+        }
         Err(answer) => Ok(put_answer(answer, streams.report)),
     }
 }
