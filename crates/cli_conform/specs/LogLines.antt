@@ -1,5 +1,5 @@
 -- The report of a log (a format of this project).
-use Rattle.std.specs.Prelude.{ℕ, List, [], ◌∷◌, ◌++◌, codes, decimal, Option, Some, None}
+use Rattle.std.specs.Prelude.{ℕ, List, [], ◌++◌, codes, decimal, Option, Some, None}
 use Rattle.std.specs.List.{flat_map}
 use Rattle.texts.specs.Lines.{line, counted_line}
 use Rattle.cf_layout.specs.Layout.{Plan}
@@ -9,7 +9,6 @@ use Rattle.cf_semantics.specs.moves.Candidates.{candidates}
 use Rattle.cf_semantics.specs.state.State.{State}
 use Rattle.cf_log.specs.declared.kind.LogKind.{LogKind}
 use Rattle.cf_log.specs.declared.kind.LogKind.TheVariants as kind
-use Rattle.cf_log.specs.declared.said.ObservedPart.{ObservedPart}
 use Rattle.cf_conform.specs.declared.answer.Conformed.{Conformed}
 use Rattle.cf_conform.specs.declared.answer.Conformed.TheVariants.{Ran, LogEnd, BadLog, Differs}
 use Rattle.cf_conform.specs.declared.progress.LatestRetired.{LatestRetired}

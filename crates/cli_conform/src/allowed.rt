@@ -1,7 +1,7 @@
 //! The moves that can be made where a log ends.
 #![tactic(auto, unfolding(crate::specs::LogLines::allowed_line, crate::specs::LogLines::allowed_text))]
 
-ghost use Rattle.std.specs.Prelude.{◌≡◌, ◌++◌, codes};
+ghost use Rattle.std.specs.Prelude.{◌++◌, codes};
 ghost use Rattle.cf_bind.specs.MoveTexts.{move_line};
 ghost use Rattle.cf_report.specs.Putting.{PutsText};
 ghost use Rattle.cli_conform.specs.LogLines.{allowed_line, allowed_lines, allowed_text};

@@ -1,12 +1,10 @@
 //! The command `conform`.
 
-ghost use Rattle.std.specs.Prelude.{◌≡◌, ◌≤◌, Ok};
+ghost use Rattle.std.specs.Prelude.{◌≡◌, ◌≤◌};
 ghost use Rattle.run_options.specs.Limits.{most_limit};
-ghost use Rattle.cf_io.specs.Causes.{HasCause};
 ghost use Rattle.cli_arguments.specs.Views.{layout_of};
-ghost use Rattle.cli_files.specs.Causes.{files_answered, input_answered, output_answered};
-ghost use Rattle.cli_reports.specs.Reporting.{ReportsAll, ReportsOver};
-ghost use Rattle.cli_reports.specs.OutsideChanges.{streams_change, outside_change, input_left, output_left};
+ghost use Rattle.cli_reports.specs.Reporting.{ReportsCommand, ReportsRun};
+ghost use Rattle.cli_reports.specs.OutsideChanges.{streams_change, faults_change, outside_change};
 ghost use Rattle.cli_conform.specs.Conform.{conform_asked, JudgesCore, ComesOfLog, AnswersConform};
 
 use crate::closing::close_log;
@@ -26,11 +24,9 @@ fn conform_opened<S: Source, K: Sink, R: Sink>(
 ) -> Reported
     requires limit { limit ≤ most_limit }
     requires retired { opened.old.core.state.retired ≤ limit }
-    ensures judges { ReportsOver (JudgesCore limit opened.old.core opened.new.core)
-        (streams_change S.left K.written R.written R.faults streams.entry streams.exit) result }
-    ensures files { files_answered result.status ≡ Ok tt }
-    ensures input { HasCause (S.faults streams.entry.input.now) (S.faults (input_left streams.exit)) (input_answered result.status) }
-    ensures output { HasCause (K.faults streams.entry.output.now) (K.faults (output_left streams.exit)) (output_answered result.status) }
+    ensures { ReportsRun (JudgesCore limit opened.old.core opened.new.core)
+        (streams_change S.left K.written R.written R.faults streams.entry streams.exit)
+        (faults_change S.faults K.faults streams.entry streams.exit) result }
 {
     let RunStreams {
         input,
@@ -59,11 +55,9 @@ fn conform_loaded<S: Source, K: Sink, R: Sink>(
 ) -> Reported
     requires count { loaded.machine.retired ≡ 0 }
     requires limit { limit ≤ most_limit }
-    ensures comes { ReportsOver (ComesOfLog limit loaded.layout loaded.machine)
-        (streams_change S.left K.written R.written R.faults streams.entry streams.exit) result }
-    ensures files { files_answered result.status ≡ Ok tt }
-    ensures input { HasCause (S.faults streams.entry.input.now) (S.faults (input_left streams.exit)) (input_answered result.status) }
-    ensures output { HasCause (K.faults streams.entry.output.now) (K.faults (output_left streams.exit)) (output_answered result.status) }
+    ensures { ReportsRun (ComesOfLog limit loaded.layout loaded.machine)
+        (streams_change S.left K.written R.written R.faults streams.entry streams.exit)
+        (faults_change S.faults K.faults streams.entry streams.exit) result }
 {
     match open(alloc, loaded.layout, loaded.machine) {
         Ok(mut opened) => conform_opened(&mut opened, limit, streams),
@@ -85,11 +79,8 @@ pub fn conform_log<F: Files, S: Source, K: Sink, R: Sink>(
     streams: RunStreams<'_, S, K, R>,
 ) -> Reported
     requires { limit ≤ most_limit }
-    ensures answers { ReportsAll (AnswersConform (conform_asked (layout_of layout.entry) program.now limit))
+    ensures { ReportsCommand (AnswersConform (conform_asked (layout_of layout.entry) program.now limit))
         (outside_change F.told F.faults S.left S.faults K.written K.faults R.written R.faults files.old files.new streams.entry streams.exit) result }
-    ensures files { HasCause (F.faults files.old) (F.faults files.new) (files_answered result.status) }
-    ensures input { HasCause (S.faults streams.entry.input.now) (S.faults (input_left streams.exit)) (input_answered result.status) }
-    ensures output { HasCause (K.faults streams.entry.output.now) (K.faults (output_left streams.exit)) (output_answered result.status) }
 {
     match load(alloc, layout, program, files) {
         Ok(loaded) => conform_loaded(alloc, loaded, limit, streams),

@@ -1,6 +1,5 @@
-use Rattle.std.proofs.Common.{refl, arith}
-use Rattle.cf_report.proofs.Puttings.{has-front, has-more, has-same, put-all, put-nothing}
-use Rattle.cli_conform.proofs.CandidateLines.{line-after, line-next, lines-all}
+use Rattle.cf_report.proofs.Puttings.{has-front, has-more, has-same, put-nothing}
+use Rattle.cli_conform.proofs.CandidateLines.{line-after, line-next}
 use Rattle.cli_conform.proofs.allowed.put_listed.Goals as goal
 
 pub loop-place-init : goal.loop-place-init
