@@ -57,8 +57,8 @@ both_lines kinds.Stuck n seen wanted = []
 both_lines kinds.Memory n seen wanted = []
 
 -- the counts of the moves, as the report of a run has them
-abbrev pub tally_of : ℕ → OrderCounts → Tally
-tally_of moves counts = record { moves = moves; meets = counts.meets; kills = counts.kills; dead = counts.dead }
+abbrev pub order_tally : ℕ → OrderCounts → Tally
+order_tally moves counts = record { moves = moves; meets = counts.meets; kills = counts.kills; dead = counts.dead }
 
 -- the report of a wrong list: how it is wrong, and what the report of a run of its moves ends with
 unfoldable pub wrong_text : Plan → (moves : ℕ) → WrongKind → (retired : ℕ) → (seen wanted : Option Retired) → State → Tally → List ℕ
@@ -68,7 +68,7 @@ wrong_text plan moves kind retired seen wanted s tally =
 -- the same of what a search has found, where the last move retires this line
 abbrev pub wrong_report : Plan → WrongOrder → Option Retired → List ℕ
 wrong_report plan w seen = wrong_text plan (length w.moves.items) w.kind w.reached.retired seen w.wanted w.reached
-    (tally_of (length w.moves.items) w.counts)
+    (order_tally (length w.moves.items) w.counts)
 
 abbrev pub IsWrongReport : Plan → WrongOrder → List ℕ → Type 0
 IsWrongReport plan w report = (seen : Option Retired) × IsLeavingLine w.seen seen × (report ≡ wrong_report plan w seen)
@@ -86,8 +86,8 @@ orders_line More = line (codes "orders more than 18446744073709551615")
 orders_line Endless = []
 
 -- how many states are reached, moves lead on from them, of them have none, and lists of moves lead to these
-unfoldable pub counts_text : (states moves ends : ℕ) → Orders → List ℕ
-counts_text states moves ends orders =
+unfoldable pub search_counts_text : (states moves ends : ℕ) → Orders → List ℕ
+search_counts_text states moves ends orders =
     counted_line (codes "states ") states ++ counted_line (codes "moves ") moves ++ counted_line (codes "ends ") ends ++ orders_line orders
 
 -- more states are reached than may be

@@ -1,5 +1,6 @@
 -- What the command `orders` answers, and what it leaves of the outside.
 use Rattle.std.specs.Prelude.{◌≡◌, ◌⊎◌, ℕ, List, codes, length, Bool, true, false, Option, None, Some, Result, Ok, Err, IfSome}
+use Rattle.cf_io.specs.Causes.{HasCause}
 use Rattle.cf_io.specs.Puts.{Writes, WritesFront}
 use Rattle.cf_io.specs.Reads.{FilesSeen}
 use Rattle.rv_machine.specs.Hart.{Hart}
@@ -16,13 +17,16 @@ use Rattle.order_report.specs.Drawing.{IsDrawable}
 use Rattle.order_shapes.specs.Shapes.{IsEncodable}
 use Rattle.cli_arguments.specs.declared.command.OrdersOptions.{OrdersOptions}
 use Rattle.cli_arguments.specs.Words.{NamedLayout}
+use Rattle.cli_files.specs.Causes.{files_answered, input_answered, output_answered}
 use Rattle.cli_files.specs.Loading.{IsLoaded, IsLoadedLoosely, LacksLoaded, LacksLoadedLoosely}
 use Rattle.cli_files.specs.Memory.{LacksProcessor, SaysNoMemory}
-use Rattle.cli_files.specs.Outside.{Outside}
+use Rattle.cli_files.specs.Outside.{Outside, Report}
 use Rattle.cli_files.specs.declared.status.Status.{Status}
 use Rattle.cli_files.specs.declared.status.Status.TheVariants as status
+use Rattle.cli_reports.specs.Reporting.{ReportsAlone}
+use Rattle.cli_reports.specs.declared.reporting.Reported.{Reported}
 use Rattle.cli_orders.specs.EdgeTexts.{ShowsEdges}
-use Rattle.cli_orders.specs.OrderTexts.{DoEnd, IsWrongReport, counts_text, script_text, too_many_line}
+use Rattle.cli_orders.specs.OrderTexts.{DoEnd, IsWrongReport, search_counts_text, script_text, too_many_line}
 
 -- what the arguments ask of `orders`: where the layout is, the file with the program, and what the options say
 pub record OrdersAsked : Type 0 where
@@ -32,6 +36,15 @@ pub record OrdersAsked : Type 0 where
 
 abbrev pub orders_asked : NamedLayout → List ℕ → OrdersOptions → OrdersAsked
 orders_asked layout program options = record { layout = layout; program = program; options = options }
+
+-- what a call that has the output and the report leaves of them: the status says neither of a file nor of the input that it failed, and
+-- the count of the output's faults rose exactly where it says so
+pub record ReportsByOutput (answers : Option (List ℕ) → Option (List ℕ) → Status → List ℕ → Type 0) (before after : Option (List ℕ))
+    (faults_before faults_after : ℕ) (blank full : Report) (reported : Reported) : Type 0 where
+  pub comes : ReportsAlone (answers before after) blank full reported
+  pub files : files_answered reported.status ≡ Ok tt
+  pub input : input_answered reported.status ≡ Ok tt
+  pub output : HasCause faults_before faults_after (output_answered reported.status)
 
 -- a text was put to the output, and this is the status and such the report; or the output failed after a prefix of it
 abbrev pub PutsFirst : (text : List ℕ) → (said : Status) → (Reports : List ℕ → Type 0) → (before after : Option (List ℕ)) → Status → List ℕ → Type 0
@@ -43,7 +56,7 @@ PutsFirst text said Reports before after answer report =
 pub record PutsReached (edges : Bool) (r : OrdersReached) (before after : Option (List ℕ)) (answer : Status) (report : List ℕ) : Type 0 where
   pub text : List ℕ
   pub shows : ShowsEdges edges r text
-  pub puts : PutsFirst text status.Done (λ report. report ≡ counts_text (length (states_of r)) r.reached.edges r.reached.ends r.reached.orders)
+  pub puts : PutsFirst text status.Done (λ report. report ≡ search_counts_text (length (states_of r)) r.reached.edges r.reached.ends r.reached.orders)
       before after answer report
 
 -- what is put of what a search has found: of a wrong list of moves its script, and how it is wrong; or the moves and the

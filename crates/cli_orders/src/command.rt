@@ -1,14 +1,11 @@
 //! The command `orders`.
 
-ghost use Rattle.std.specs.Prelude.{◌≡◌, ◌≢◌, ◌≤◌, None, Ok, false, true};
+ghost use Rattle.std.specs.Prelude.{◌≡◌, ◌≢◌, ◌≤◌, None, false, true};
 ghost use Rattle.run_options.specs.Limits.{most_issues};
-ghost use Rattle.cf_io.specs.Causes.{HasCause};
 ghost use Rattle.cli_arguments.specs.Views.{layout_of};
-ghost use Rattle.cli_files.specs.Causes.{files_answered, input_answered, output_answered};
-ghost use Rattle.cli_files.specs.declared.status.Status.TheVariants.{Wrong as IsWrong};
 ghost use Rattle.cli_orders.specs.Orders.{AnswersOrders, ComesOfOrders, is_loose as is_loosely, orders_asked};
-ghost use Rattle.cli_reports.specs.OutsideChanges.{input_left, outside_change, output_left, streams_change};
-ghost use Rattle.cli_reports.specs.Reporting.{ReportsAll, ReportsOver};
+ghost use Rattle.cli_reports.specs.OutsideChanges.{streams_change, faults_change, outside_change};
+ghost use Rattle.cli_reports.specs.Reporting.{ReportsCommand, ReportsRun};
 
 use crate::found::put_found;
 use cf_io::{Files, Sink, Source};
@@ -40,11 +37,9 @@ fn search_images<S: Source, K: Sink, R: Sink>(
     requires count { images.machine.retired ≡ 0 }
     requires issues { options.issues ≤ most_issues }
     requires states { 1 ≤ options.states }
-    ensures comes { ReportsOver (ComesOfOrders options layout.now images.machine)
-        (streams_change S.left K.written R.written R.faults streams.entry streams.exit) result }
-    ensures files { files_answered result.status ≡ Ok tt }
-    ensures input { HasCause (S.faults streams.entry.input.now) (S.faults (input_left streams.exit)) (input_answered result.status) }
-    ensures output { HasCause (K.faults streams.entry.output.now) (K.faults (output_left streams.exit)) (output_answered result.status) }
+    ensures { ReportsRun (ComesOfOrders options layout.now images.machine)
+        (streams_change S.left K.written R.written R.faults streams.entry streams.exit)
+        (faults_change S.faults K.faults streams.entry streams.exit) result }
 {
     let _ = layout.stages();
     let found = search_orders(
@@ -79,11 +74,9 @@ fn search_images_loosely<S: Source, K: Sink, R: Sink>(
     requires issues { options.issues ≤ most_issues }
     requires states { 1 ≤ options.states }
     requires rule { options.without ≢ None }
-    ensures comes { ReportsOver (ComesOfOrders options layout.now images.machine)
-        (streams_change S.left K.written R.written R.faults streams.entry streams.exit) result }
-    ensures files { files_answered result.status ≡ Ok tt }
-    ensures input { HasCause (S.faults streams.entry.input.now) (S.faults (input_left streams.exit)) (input_answered result.status) }
-    ensures output { HasCause (K.faults streams.entry.output.now) (K.faults (output_left streams.exit)) (output_answered result.status) }
+    ensures { ReportsRun (ComesOfOrders options layout.now images.machine)
+        (streams_change S.left K.written R.written R.faults streams.entry streams.exit)
+        (faults_change S.faults K.faults streams.entry streams.exit) result }
 {
     let _ = layout.stages();
     let found = search_loosely(
@@ -116,11 +109,8 @@ fn search_strictly<F: Files, S: Source, K: Sink, R: Sink>(
     requires issues { options.issues ≤ most_issues }
     requires states { 1 ≤ options.states }
     requires rule { is_loosely options.without ≡ false }
-    ensures answers { ReportsAll (AnswersOrders (orders_asked (layout_of layout.entry) program.now options))
+    ensures { ReportsCommand (AnswersOrders (orders_asked (layout_of layout.entry) program.now options))
         (outside_change F.told F.faults S.left S.faults K.written K.faults R.written R.faults files.old files.new streams.entry streams.exit) result }
-    ensures files { HasCause (F.faults files.old) (F.faults files.new) (files_answered result.status) }
-    ensures input { HasCause (S.faults streams.entry.input.now) (S.faults (input_left streams.exit)) (input_answered result.status) }
-    ensures output { HasCause (K.faults streams.entry.output.now) (K.faults (output_left streams.exit)) (output_answered result.status) }
 {
     match load_images(alloc, layout, program, files) {
         Ok(LoadedImages { layout, images }) => search_images(
@@ -142,11 +132,8 @@ fn search_without_control<F: Files, S: Source, K: Sink, R: Sink>(
     requires issues { options.issues ≤ most_issues }
     requires states { 1 ≤ options.states }
     requires rule { is_loosely options.without ≡ true }
-    ensures answers { ReportsAll (AnswersOrders (orders_asked (layout_of layout.entry) program.now options))
+    ensures { ReportsCommand (AnswersOrders (orders_asked (layout_of layout.entry) program.now options))
         (outside_change F.told F.faults S.left S.faults K.written K.faults R.written R.faults files.old files.new streams.entry streams.exit) result }
-    ensures files { HasCause (F.faults files.old) (F.faults files.new) (files_answered result.status) }
-    ensures input { HasCause (S.faults streams.entry.input.now) (S.faults (input_left streams.exit)) (input_answered result.status) }
-    ensures output { HasCause (K.faults streams.entry.output.now) (K.faults (output_left streams.exit)) (output_answered result.status) }
 {
     match load_images_loosely(alloc, layout, program, files) {
         Ok(LooseImages { layout, images }) => search_images_loosely(
@@ -172,11 +159,8 @@ pub fn search_program<F: Files, S: Source, K: Sink, R: Sink>(
 ) -> Reported
     requires issues { options.issues ≤ most_issues }
     requires states { 1 ≤ options.states }
-    ensures answers { ReportsAll (AnswersOrders (orders_asked (layout_of layout.entry) program.now options))
+    ensures { ReportsCommand (AnswersOrders (orders_asked (layout_of layout.entry) program.now options))
         (outside_change F.told F.faults S.left S.faults K.written K.faults R.written R.faults files.old files.new streams.entry streams.exit) result }
-    ensures files { HasCause (F.faults files.old) (F.faults files.new) (files_answered result.status) }
-    ensures input { HasCause (S.faults streams.entry.input.now) (S.faults (input_left streams.exit)) (input_answered result.status) }
-    ensures output { HasCause (K.faults streams.entry.output.now) (K.faults (output_left streams.exit)) (output_answered result.status) }
 {
     if is_loose(options.without) {
         search_without_control(alloc, layout, program, options, files, streams)

@@ -1,10 +1,10 @@
 //! The report of a search that finds no wrong list of moves.
-#![tactic(auto, unfolding(crate::specs::OrderTexts::orders_line, crate::specs::OrderTexts::counts_text, crate::specs::OrderTexts::too_many_line))]
+#![tactic(auto, unfolding(crate::specs::OrderTexts::orders_line, crate::specs::OrderTexts::search_counts_text, crate::specs::OrderTexts::too_many_line))]
 
 ghost use Rattle.std.specs.Prelude.{◌≡◌, ◌+◌, ◌≤◌, ◌++◌, length};
 ghost use Rattle.texts.specs.Room.{page_room};
 ghost use Rattle.cli_files.specs.declared.status.Status.TheVariants.{Done as Carried, TooMany as OverFull};
-ghost use Rattle.cli_orders.specs.OrderTexts.{DoEnd, counts_text, orders_line, too_many_line};
+ghost use Rattle.cli_orders.specs.OrderTexts.{DoEnd, search_counts_text, orders_line, too_many_line};
 ghost use Rattle.order_graph.specs.OrderAnswers.{states_of};
 
 use cli_files::{Answer, Status};
@@ -28,7 +28,7 @@ fn push_orders(page: &mut Page, orders: Orders)
 /// How many states were reached, moves lead on from them, of them have none, and lists of moves lead to these.
 fn counts_page(states: u64, moves: u64, ends: u64, orders: Orders) -> Page
     requires { DoEnd orders }
-    ensures { result ≡ counts_text states moves ends orders }
+    ensures { result ≡ search_counts_text states moves ends orders }
 {
     let mut page = Page::new();
     page.push_counted(b"states ", states);
@@ -42,7 +42,7 @@ fn counts_page(states: u64, moves: u64, ends: u64, orders: Orders) -> Page
 pub(crate) fn counted(reached: &OrdersReached) -> Answer
     requires { DoEnd reached.now.reached.orders }
     ensures status { result.status ≡ Carried }
-    ensures closing { result.closing ≡ counts_text (length (states_of reached.now)) reached.now.reached.edges reached.now.reached.ends
+    ensures closing { result.closing ≡ search_counts_text (length (states_of reached.now)) reached.now.reached.edges reached.now.reached.ends
         reached.now.reached.orders }
 {
     Answer {

@@ -1,7 +1,7 @@
 //! The moves of a search, each with the numbers of the states before and after it.
 #![tactic(auto, unfolding(crate::specs::EdgeTexts::edge_line, crate::specs::EdgeTexts::edge_lines))]
 
-ghost use Rattle.std.specs.Prelude.{◌≡◌, ◌++◌, [], IfOk, OnOk, codes, decimal, length};
+ghost use Rattle.std.specs.Prelude.{◌≡◌, ◌++◌, IfOk, OnOk, codes, decimal, length};
 ghost use Rattle.std.specs.List.{flat_map};
 ghost use Rattle.cli_orders.specs.EdgeTexts.{HasEdgesOf, ShowsEdges, edge_line};
 ghost use Rattle.order_graph.specs.OrderAnswers.{IsSearched, states_of};

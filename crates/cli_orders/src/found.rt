@@ -1,12 +1,11 @@
 //! What is put of what a search has found.
 
-ghost use Rattle.std.specs.Prelude.{◌≡◌, ◌⊎◌, IfOk, Ok};
-ghost use Rattle.cf_io.specs.Causes.{HasCause};
-ghost use Rattle.cli_files.specs.Causes.{files_answered, input_answered, output_answered};
+ghost use Rattle.std.specs.Prelude.{◌≡◌, ◌⊎◌, IfOk};
 ghost use Rattle.cli_files.specs.Outside.{report_of};
 ghost use Rattle.cli_files.specs.declared.status.Status.TheVariants.{Wrong as IsWrong};
 ghost use Rattle.cli_orders.specs.OrderTexts.{DoEnd, IsWrongReport, script_text};
-ghost use Rattle.cli_orders.specs.Orders.{CanBePut, ComesOfFound, PutsFirst, PutsFound, PutsNothing, PutsReached};
+ghost use Rattle.cli_orders.specs.Orders.{CanBePut, ComesOfFound, PutsFirst, PutsFound, PutsNothing, PutsReached, ReportsByOutput};
+ghost use Rattle.cli_reports.specs.FileCommands.{AnswersByOutput};
 ghost use Rattle.cli_reports.specs.Reporting.{ReportsAlone};
 ghost use Rattle.order_graph.specs.OrderAnswers.{IsSearched};
 ghost use Rattle.order_graph.specs.declared.found.OrdersFound.TheVariants as founds;
@@ -47,13 +46,11 @@ fn put_wrong<K: Sink, R: Sink>(
     report: &mut R,
 ) -> Reported
     requires { CanBePut (founds.Wrong wrong.now) }
-    ensures comes { ReportsAlone (λ answer text.
-        PutsFirst (script_text wrong.now.moves.items) IsWrong (IsWrongReport layout.now wrong.now) (K.written output.old) (K.written output.new) answer text
-        ⊎ PutsNothing (K.written output.old) (K.written output.new) answer text)
+    ensures { ReportsByOutput (λ before after answer text.
+        PutsFirst (script_text wrong.now.moves.items) IsWrong (IsWrongReport layout.now wrong.now) before after answer text
+        ⊎ PutsNothing before after answer text)
+        (K.written output.old) (K.written output.new) (K.faults output.old) (K.faults output.new)
         (report_of (R.written report.old) (R.faults report.old)) (report_of (R.written report.new) (R.faults report.new)) result }
-    ensures files { files_answered result.status ≡ Ok tt }
-    ensures input { input_answered result.status ≡ Ok tt }
-    ensures output { HasCause (K.faults output.old) (K.faults output.new) (output_answered result.status) }
 {
     let script = match script_of(alloc, wrong.moves.as_slice()) {
         Ok(script) => script,
@@ -74,11 +71,8 @@ fn answer_reached<K: Sink>(
 ) -> Answer
     requires searched { IsSearched reached.old }
     requires end { DoEnd reached.old.reached.orders }
-    ensures comes { PutsReached edges reached.old (K.written output.old) (K.written output.new) result.status result.closing
-        ⊎ PutsNothing (K.written output.old) (K.written output.new) result.status result.closing }
-    ensures files { files_answered result.status ≡ Ok tt }
-    ensures input { input_answered result.status ≡ Ok tt }
-    ensures output { HasCause (K.faults output.old) (K.faults output.new) (output_answered result.status) }
+    ensures { AnswersByOutput (λ before after answer text. PutsReached edges reached.old before after answer text ⊎ PutsNothing before after answer text)
+        (K.written output.old) (K.written output.new) (K.faults output.old) (K.faults output.new) result }
 {
     let text = match shown_edges(alloc, edges, reached) {
         Ok(text) => text,
@@ -100,12 +94,9 @@ fn put_some<K: Sink, R: Sink>(
     report: &mut R,
 ) -> Reported
     requires { CanBePut found }
-    ensures comes { ReportsAlone (λ answer text. PutsFound options layout.now found (K.written output.old) (K.written output.new) answer text
-        ⊎ PutsNothing (K.written output.old) (K.written output.new) answer text)
+    ensures { ReportsByOutput (λ before after answer text. PutsFound options layout.now found before after answer text ⊎ PutsNothing before after answer text)
+        (K.written output.old) (K.written output.new) (K.faults output.old) (K.faults output.new)
         (report_of (R.written report.old) (R.faults report.old)) (report_of (R.written report.new) (R.faults report.new)) result }
-    ensures files { files_answered result.status ≡ Ok tt }
-    ensures input { input_answered result.status ≡ Ok tt }
-    ensures output { HasCause (K.faults output.old) (K.faults output.new) (output_answered result.status) }
 {
     match found {
         OrdersFound::Wrong(wrong) => put_wrong(alloc, layout, &wrong, output, report),
@@ -128,11 +119,9 @@ pub(crate) fn put_found<K: Sink, R: Sink>(
     report: &mut R,
 ) -> Reported
     requires { IfOk found CanBePut }
-    ensures comes { ReportsAlone (ComesOfFound options layout.now found (K.written output.old) (K.written output.new))
+    ensures { ReportsByOutput (ComesOfFound options layout.now found)
+        (K.written output.old) (K.written output.new) (K.faults output.old) (K.faults output.new)
         (report_of (R.written report.old) (R.faults report.old)) (report_of (R.written report.new) (R.faults report.new)) result }
-    ensures files { files_answered result.status ≡ Ok tt }
-    ensures input { input_answered result.status ≡ Ok tt }
-    ensures output { HasCause (K.faults output.old) (K.faults output.new) (output_answered result.status) }
 {
     match found {
         Ok(found) => put_some(alloc, layout, options, found, output, report),

@@ -1,7 +1,7 @@
 //! The script of a list of moves.
 #![tactic(auto, unfolding(crate::specs::OrderTexts::script_text))]
 
-ghost use Rattle.std.specs.Prelude.{◌≡◌, ◌++◌, IfOk, OnOk, vec_items};
+ghost use Rattle.std.specs.Prelude.{◌≡◌, ◌++◌, IfOk, OnOk};
 ghost use Rattle.texts.specs.Lines.{line as line_of};
 ghost use Rattle.cf_bind.specs.MoveTexts.{move_line};
 ghost use Rattle.cli_orders.specs.OrderTexts.{script_text};

@@ -6,7 +6,7 @@ ghost use Rattle.texts.specs.Lines.{counted_line};
 ghost use Rattle.cf_report.specs.Lines.{retired_line};
 ghost use Rattle.cf_report.specs.Putting.{PutsText};
 ghost use Rattle.order_report.specs.Drawing.{IsDrawable};
-ghost use Rattle.cli_orders.specs.OrderTexts.{both_lines, kind_word, named_line, tally_of, wrong_line, wrong_report, wrong_text};
+ghost use Rattle.cli_orders.specs.OrderTexts.{both_lines, kind_word, named_line, order_tally, wrong_line, wrong_report, wrong_text};
 
 use cf_io::{Failed, Sink, put_all};
 use cf_layout::LooseLayout;
@@ -122,7 +122,7 @@ fn put_count<R: Sink>(retired: u64, report: &mut R) -> Result<(), Failed>
 
 /// The counts of the moves.
 fn counts_of(moves: u64, counts: OrderCounts) -> Tally
-    ensures { result ≡ tally_of moves counts }
+    ensures { result ≡ order_tally moves counts }
 {
     Tally {
         moves,
@@ -142,23 +142,20 @@ fn retired_in(situation: &Situation) -> u64
 /// Puts the parts of the report of a wrong list, one after another.
 fn put_parts<R: Sink>(
     layout: &LooseLayout,
-    moves: u64,
-    kind: WrongKind,
+    wrong: &WrongOrder,
     retired: u64,
     seen: Option<Retired>,
-    wanted: Option<Retired>,
-    reached: &Situation,
     tally: &Tally,
     report: &mut R,
 ) -> Result<(), Failed>
-    requires { IsDrawable reached.now }
+    requires { IsDrawable wrong.now.reached }
     ensures { PutsText (R.written report.old) (R.written report.new) (R.faults report.old) (R.faults report.new)
-        (wrong_text layout.now moves kind retired seen wanted reached.now tally.now) result }
+        (wrong_text layout.now tally.now.moves wrong.now.kind retired seen wrong.now.wanted wrong.now.reached tally.now) result }
 {
-    put_head(moves, kind, report)?;
-    put_both(kind, retired, seen, wanted, report)?;
+    put_head(tally.moves, wrong.kind, report)?;
+    put_both(wrong.kind, retired, seen, wrong.wanted, report)?;
     put_count(retired, report)?;
-    put_state_rest(layout, reached, tally, report)
+    put_state_rest(layout, &wrong.reached, tally, report)
 }
 
 /// Puts the report of a wrong list of moves, whose last move retires this line.
@@ -172,16 +169,12 @@ pub(crate) fn put_report<R: Sink>(
     ensures { PutsText (R.written report.old) (R.written report.new)
         (R.faults report.old) (R.faults report.new) (wrong_report layout.now wrong.now seen) result }
 {
-    let moves = wrong.moves.len() as u64;
-    let tally = counts_of(moves, wrong.counts);
+    let tally = counts_of(wrong.moves.len() as u64, wrong.counts);
     put_parts(
         layout,
-        moves,
-        wrong.kind,
+        wrong,
         retired_in(&wrong.reached),
         seen,
-        wrong.wanted,
-        &wrong.reached,
         &tally,
         report,
     )

@@ -1,4 +1,5 @@
 use Rattle.std.proofs.Common.{refl}
+use Rattle.cli_files.proofs.NoStreams.{no-cause}
 use Rattle.order_graph.specs.OrderAnswers.{trial_of}
 use Rattle.cli_orders.proofs.Answering.{orders-come}
 use Rattle.cli_orders.proofs.Showing.{all_can_be_put}
@@ -10,7 +11,13 @@ put_found-requires g c =
     all_can_be_put (trial_of o.without c.args.layout.now c.args.images.machine o.issues) o.states c.search_orders-found.result c.stages.ensures.accepted.equipped
     c.search_orders-found.ensures.found
 
-pub returns-clause-comes : goal.returns-clause-comes
-returns-clause-comes g c =
-    orders-come c.args.options c.args.layout.now c.args.images.machine _ _ _ _ _ _ c.search_orders-found.result c.put_found.result
-    c.search_orders-found.ensures.found c.search_orders-found.ensures.table refl (rw c.loose.ensures at c.put_found.ensures.comes)
+pub returns : goal.returns
+returns g c = record {
+  reports = orders-come c.args.options c.args.layout.now c.args.images.machine _ _ _ _ _ _ c.search_orders-found.result c.put_found.result
+      c.search_orders-found.ensures.found c.search_orders-found.ensures.table refl (rw c.loose.ensures at c.put_found.ensures.comes);
+  faults = record {
+    files = c.put_found.ensures.files;
+    input = no-cause _ _ c.put_found.ensures.input;
+    output = c.put_found.ensures.output;
+  };
+}
