@@ -1,9 +1,6 @@
 //! The command `asm`.
 
-ghost use Rattle.std.specs.Prelude.{◌≡◌, Ok};
-ghost use Rattle.cf_io.specs.Causes.{HasCause};
-ghost use Rattle.cli_files.specs.Causes.{files_answered, input_answered, output_answered};
-ghost use Rattle.cli_reports.specs.FileCommands.{file_side};
+ghost use Rattle.cli_reports.specs.FileCommands.{AnswersByFile, AnswersByOutput, file_side, side_faults};
 ghost use Rattle.cli_asm.specs.Sources.{AssemblesSource, AnswersAsm};
 
 use crate::assembling::file_of;
@@ -17,10 +14,8 @@ const MOST_SOURCE: u64 = 1_048_577;
 
 /// Assembles a source that was read, and puts the file.
 fn assemble_source<K: Sink>(alloc: Global, source: &[u8], output: &mut K) -> Answer
-    ensures comes { AssemblesSource source.now (K.written output.old) (K.written output.new) result.status result.closing }
-    ensures files { files_answered result.status ≡ Ok tt }
-    ensures input { input_answered result.status ≡ Ok tt }
-    ensures output { HasCause (K.faults output.old) (K.faults output.new) (output_answered result.status) }
+    ensures { AnswersByOutput (AssemblesSource source.now) (K.written output.old) (K.written output.new)
+        (K.faults output.old) (K.faults output.new) result }
 {
     match file_of(alloc, source) {
         Ok(file) => put_text(file.as_slice(), output),
@@ -35,12 +30,9 @@ pub fn assemble_program<F: Files, K: Sink>(
     files: &mut F,
     output: &mut K,
 ) -> Answer
-    ensures answers { AnswersAsm source.now
+    ensures { AnswersByFile (AnswersAsm source.now)
         (file_side (F.told files.old) (K.written output.old)) (file_side (F.told files.new) (K.written output.new))
-        result.status result.closing }
-    ensures files { HasCause (F.faults files.old) (F.faults files.new) (files_answered result.status) }
-    ensures input { input_answered result.status ≡ Ok tt }
-    ensures output { HasCause (K.faults output.old) (K.faults output.new) (output_answered result.status) }
+        (side_faults (F.faults files.old) (K.faults output.old)) (side_faults (F.faults files.new) (K.faults output.new)) result }
 {
     match files.read(alloc, source, MOST_SOURCE) {
         Ok(bytes) => assemble_source(alloc, bytes.as_slice(), output),

@@ -1,11 +1,8 @@
 //! The command `check`.
 
-ghost use Rattle.std.specs.Prelude.{◌≡◌, Ok};
-ghost use Rattle.cf_io.specs.Causes.{HasCause};
 ghost use Rattle.cli_arguments.specs.Views.{layout_of};
-ghost use Rattle.cli_files.specs.Causes.{files_answered, input_answered, output_answered};
 ghost use Rattle.cli_check.specs.Check.{AnswersCheck, WritesText};
-ghost use Rattle.cli_reports.specs.FileCommands.{file_side};
+ghost use Rattle.cli_reports.specs.FileCommands.{AnswersByFile, AnswersByOutput, file_side, side_faults};
 
 use cf_io::{Files, Sink, put_all};
 use cf_layout::Layout;
@@ -16,10 +13,8 @@ use std::alloc::Global;
 
 /// Writes the layout in its canonical form.
 fn write_text<K: Sink>(alloc: Global, layout: &Layout, output: &mut K) -> Answer
-    ensures text { WritesText layout.now (K.written output.old) (K.written output.new) result.status result.closing }
-    ensures files { files_answered result.status ≡ Ok tt }
-    ensures input { input_answered result.status ≡ Ok tt }
-    ensures output { HasCause (K.faults output.old) (K.faults output.new) (output_answered result.status) }
+    ensures { AnswersByOutput (WritesText layout.now) (K.written output.old) (K.written output.new)
+        (K.faults output.old) (K.faults output.new) result }
 {
     let text = match write_layout(alloc, layout) {
         Ok(text) => text,
@@ -38,12 +33,9 @@ pub fn check_layout<F: Files, K: Sink>(
     files: &mut F,
     output: &mut K,
 ) -> Answer
-    ensures answers { AnswersCheck (layout_of word.entry)
+    ensures { AnswersByFile (AnswersCheck (layout_of word.entry))
         (file_side (F.told files.old) (K.written output.old)) (file_side (F.told files.new) (K.written output.new))
-        result.status result.closing }
-    ensures files { HasCause (F.faults files.old) (F.faults files.new) (files_answered result.status) }
-    ensures input { input_answered result.status ≡ Ok tt }
-    ensures output { HasCause (K.faults output.old) (K.faults output.new) (output_answered result.status) }
+        (side_faults (F.faults files.old) (K.faults output.old)) (side_faults (F.faults files.new) (K.faults output.new)) result }
 {
     match layout_at(alloc, word, files) {
         Ok(layout) => write_text(alloc, &layout, output),

@@ -1,11 +1,10 @@
 //! The command `list`.
 
-ghost use Rattle.std.specs.Prelude.{◌≡◌, Ok, OnOk, IfErr};
+ghost use Rattle.std.specs.Prelude.{OnOk, IfErr};
 ghost use Rattle.cf_io.specs.Causes.{HasCause};
 ghost use Rattle.cf_io.specs.Puts.{Writes};
-ghost use Rattle.cli_files.specs.Causes.{files_answered, input_answered, output_answered};
 ghost use Rattle.cli_list.specs.Causes.{output_listed};
-ghost use Rattle.cli_reports.specs.FileCommands.{file_side};
+ghost use Rattle.cli_reports.specs.FileCommands.{AnswersByFile, AnswersByOutput, file_side, side_faults};
 ghost use Rattle.cli_list.specs.Listings.{listing_of, IsListable, IsNotListed, ListsImage, AnswersList};
 
 use asm_listing::{ListingErr, put_elf_listing, put_flat_listing};
@@ -58,10 +57,8 @@ fn put_listing<K: Sink>(alloc: Global, image: &[u8], output: &mut K) -> Result<(
 
 /// Lists a program that was read.
 fn list_image<K: Sink>(alloc: Global, image: &[u8], output: &mut K) -> Answer
-    ensures comes { ListsImage image.now (K.written output.old) (K.written output.new) result.status result.closing }
-    ensures files { files_answered result.status ≡ Ok tt }
-    ensures input { input_answered result.status ≡ Ok tt }
-    ensures output { HasCause (K.faults output.old) (K.faults output.new) (output_answered result.status) }
+    ensures { AnswersByOutput (ListsImage image.now) (K.written output.old) (K.written output.new)
+        (K.faults output.old) (K.faults output.new) result }
 {
     match put_listing(alloc, image, output) {
         Ok(()) => done(),
@@ -78,13 +75,9 @@ pub fn list_program<F: Files, K: Sink>(
     files: &mut F,
     output: &mut K,
 ) -> Answer
-    ensures answers { AnswersList program.now
-        (file_side (F.told files.old) (K.written output.old))
-        (file_side (F.told files.new) (K.written output.new))
-        result.status result.closing }
-    ensures files { HasCause (F.faults files.old) (F.faults files.new) (files_answered result.status) }
-    ensures input { input_answered result.status ≡ Ok tt }
-    ensures output { HasCause (K.faults output.old) (K.faults output.new) (output_answered result.status) }
+    ensures { AnswersByFile (AnswersList program.now)
+        (file_side (F.told files.old) (K.written output.old)) (file_side (F.told files.new) (K.written output.new))
+        (side_faults (F.faults files.old) (K.faults output.old)) (side_faults (F.faults files.new) (K.faults output.new)) result }
 {
     match files.read(alloc, program, MOST_BYTES + 1) {
         Ok(image) => list_image(alloc, image.as_slice(), output),
