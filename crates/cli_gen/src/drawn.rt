@@ -1,15 +1,13 @@
 //! The command `gen`.
 
-ghost use Rattle.std.specs.Prelude.{◌≡◌, ◌≤◌, ℕ, [], Ok, IfOk, IfErr, length};
+ghost use Rattle.std.specs.Prelude.{◌≡◌, ◌≤◌, ℕ, [], IfOk, IfErr, length};
 ghost use Rattle.run_options.specs.Limits.{most_statements};
-ghost use Rattle.cf_io.specs.Causes.{HasCause};
 ghost use Rattle.cf_gen.specs.Program.{program_text};
-ghost use Rattle.cli_files.specs.Causes.{files_answered, input_answered, output_answered};
 ghost use Rattle.cli_files.specs.Memory.{SaysNoMemory};
 ghost use Rattle.cli_gen.specs.Drawn.{AnswersDrawn, BreaksDrawn, StartsDrawn};
-ghost use Rattle.cli_reports.specs.FileCommands.{PutsOrFails};
-ghost use Rattle.cli_reports.specs.Reporting.{ComesOver, FaultsReported, files_reported};
-ghost use Rattle.cli_reports.specs.OutsideChanges.{streams_change, input_left, output_left};
+ghost use Rattle.cli_reports.specs.FileCommands.{AnswersByOutput, PutsOrFails};
+ghost use Rattle.cli_reports.specs.Reporting.{CarriesOutRun};
+ghost use Rattle.cli_reports.specs.OutsideChanges.{streams_change, faults_change};
 
 use cf_gen::generate;
 use cf_io::{Failed, MemSink, Sink, Source};
@@ -29,10 +27,8 @@ const MOST_TEXT: usize = 1_048_576;
 pub fn put_drawn<K: Sink>(number: u32, output: &mut K) -> Answer
     requires some { 1 ≤ number }
     requires limit { number ≤ most_statements }
-    ensures comes { PutsOrFails (program_text number) (K.written output.old) (K.written output.new) result.status result.closing }
-    ensures files { files_answered result.status ≡ Ok tt }
-    ensures input { input_answered result.status ≡ Ok tt }
-    ensures output { HasCause (K.faults output.old) (K.faults output.new) (output_answered result.status) }
+    ensures { AnswersByOutput (PutsOrFails (program_text number)) (K.written output.old) (K.written output.new)
+        (K.faults output.old) (K.faults output.new) result }
 {
     match generate(number, output) {
         Ok(()) => done(),
@@ -101,11 +97,9 @@ pub fn run_drawn<S: Source, K: Sink, R: Sink>(
 ) -> Result<Reported, Failed>
     requires some { 1 ≤ number }
     requires limit { number ≤ most_statements }
-    ensures answers { ComesOver (AnswersDrawn number) (BreaksDrawn number)
-        (streams_change S.left K.written R.written R.faults streams.entry streams.exit) result }
-    ensures files { files_reported result ≡ Ok tt }
-    ensures input { FaultsReported input_answered (S.faults streams.entry.input.now) (S.faults (input_left streams.exit)) result }
-    ensures output { FaultsReported output_answered (K.faults streams.entry.output.now) (K.faults (output_left streams.exit)) result }
+    ensures { CarriesOutRun (AnswersDrawn number) (BreaksDrawn number)
+        (streams_change S.left K.written R.written R.faults streams.entry streams.exit)
+        (faults_change S.faults K.faults streams.entry streams.exit) result }
 {
     let machine = match drawn_machine(alloc, number) {
         Ok(machine) => machine,
