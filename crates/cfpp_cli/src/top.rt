@@ -23,7 +23,7 @@ use cli_list::list_program;
 use cli_machine::run_program;
 use cli_orders::search_program;
 use cli_reports::{Reported, RunStreams, put_answer, put_decided, put_text};
-use cli_rounds::run_in_rounds;
+use cli_rounds::{RoundsOptions, run_in_rounds};
 use cli_run::{Tail, run_processor};
 use cli_time::compare_layouts;
 use std::alloc::Global;
@@ -114,7 +114,10 @@ fn decide<F: Files, S: Source, K: Sink, R: Sink>(
                 every,
                 rule,
             },
-        ) => run_in_rounds(alloc, layout, program, rule, limit, every, files, streams),
+        ) => {
+            let options = RoundsOptions { limit, every, rule };
+            run_in_rounds(alloc, layout, program, options, files, streams)
+        }
         Ok(
             Command::Conform {
                 layout,

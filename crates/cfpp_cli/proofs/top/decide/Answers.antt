@@ -20,10 +20,13 @@ returns-in-Ok-Machine-clause-decided g c =
     record {
       reading = Ok (machine c.in-Ok-Machine.program.now o.limit o.show_retired o.mul o.every);
       reads = rw c.in-Ok-Machine.field-0-is at c.in-Ok-Machine.ensures.answers;
-      comes = c.run_program.ensures.answers;
-      files = c.run_program.ensures.files;
-      input = c.run_program.ensures.input;
+      comes = c.run_program.ensures.comes;
+      files = c.run_program.ensures.faults.files;
+      input = c.run_program.ensures.faults.input;
     }
+
+pub returns-in-Ok-Machine-clause-output : goal.returns-in-Ok-Machine-clause-output
+returns-in-Ok-Machine-clause-output g c = c.run_program.ensures.faults.output
 
 pub returns-in-Ok-Run-clause-decided : goal.returns-in-Ok-Run-clause-decided
 returns-in-Ok-Run-clause-decided g c =
@@ -31,10 +34,13 @@ returns-in-Ok-Run-clause-decided g c =
     record {
       reading = Ok (run (layout_of c.in-Ok-Run.layout) c.in-Ok-Run.program.now (schedule_view o.schedule) o.limit o.reporting);
       reads = rw c.in-Ok-Run.field-0-is at c.in-Ok-Run.ensures.answers;
-      comes = c.run_processor.ensures.answers;
-      files = c.run_processor.ensures.files;
-      input = c.run_processor.ensures.input;
+      comes = c.run_processor.ensures.comes;
+      files = c.run_processor.ensures.faults.files;
+      input = c.run_processor.ensures.faults.input;
     }
+
+pub returns-in-Ok-Run-clause-output : goal.returns-in-Ok-Run-clause-output
+returns-in-Ok-Run-clause-output g c = c.run_processor.ensures.faults.output
 
 pub returns-in-Ok-Moves-clause-decided : goal.returns-in-Ok-Moves-clause-decided
 returns-in-Ok-Moves-clause-decided g c =
@@ -42,10 +48,13 @@ returns-in-Ok-Moves-clause-decided g c =
       reading = Ok (moves (layout_of c.in-Ok-Moves.layout) c.in-Ok-Moves.program.now (schedule_view c.in-Ok-Moves.schedule) c.in-Ok-Moves.limit
           c.in-Ok-Moves.every);
       reads = rw c.in-Ok-Moves.field-0-is at c.in-Ok-Moves.ensures.answers;
-      comes = c.run_processor-in-Ok-Moves.ensures.answers;
-      files = c.run_processor-in-Ok-Moves.ensures.files;
-      input = c.run_processor-in-Ok-Moves.ensures.input;
+      comes = c.run_processor-in-Ok-Moves.ensures.comes;
+      files = c.run_processor-in-Ok-Moves.ensures.faults.files;
+      input = c.run_processor-in-Ok-Moves.ensures.faults.input;
     }
+
+pub returns-in-Ok-Moves-clause-output : goal.returns-in-Ok-Moves-clause-output
+returns-in-Ok-Moves-clause-output g c = c.run_processor-in-Ok-Moves.ensures.faults.output
 
 pub returns-in-Ok-Check-clause-decided : goal.returns-in-Ok-Check-clause-decided
 returns-in-Ok-Check-clause-decided g c =
@@ -194,10 +203,13 @@ returns-in-Ok-Gen-default-true-clause-decided g c =
           c.in-Ok-Gen-default-true.ensures.answers;
       comes = comes-beside (AnswersDrawn n before after (told c.args.streams.report.now))
           (BreaksDrawn n before after (told c.args.streams.report.now) (told left.1.1.0))
-          (g.F.Files.told c.args.files.now ≡ g.F.Files.told c.args.files.now) _ _ c.run_drawn.result refl c.run_drawn.ensures.answers;
-      files = no-cause _ _ c.run_drawn.ensures.files;
-      input = c.run_drawn.ensures.input;
+          (g.F.Files.told c.args.files.now ≡ g.F.Files.told c.args.files.now) _ _ c.run_drawn.result refl c.run_drawn.ensures.comes;
+      files = no-cause _ _ c.run_drawn.ensures.faults.files;
+      input = c.run_drawn.ensures.faults.input;
     }
+
+pub returns-in-Ok-Gen-default-true-clause-output : goal.returns-in-Ok-Gen-default-true-clause-output
+returns-in-Ok-Gen-default-true-clause-output g c = c.run_drawn.ensures.faults.output
 
 pub returns-in-Ok-Rounds-clause-decided : goal.returns-in-Ok-Rounds-clause-decided
 returns-in-Ok-Rounds-clause-decided g c =
@@ -205,21 +217,27 @@ returns-in-Ok-Rounds-clause-decided g c =
       reading = Ok (rounds (layout_of c.in-Ok-Rounds.layout) c.in-Ok-Rounds.program.now c.in-Ok-Rounds.limit c.in-Ok-Rounds.every
           c.in-Ok-Rounds.rule);
       reads = rw c.in-Ok-Rounds.field-0-is at c.in-Ok-Rounds.ensures.answers;
-      comes = c.run_in_rounds.ensures.answers;
-      files = c.run_in_rounds.ensures.files;
-      input = c.run_in_rounds.ensures.input;
+      comes = c.run_in_rounds.ensures.comes;
+      files = c.run_in_rounds.ensures.faults.files;
+      input = c.run_in_rounds.ensures.faults.input;
     }
+
+pub returns-in-Ok-Rounds-clause-output : goal.returns-in-Ok-Rounds-clause-output
+returns-in-Ok-Rounds-clause-output g c = c.run_in_rounds.ensures.faults.output
 
 pub returns-in-Ok-Conform-clause-decided : goal.returns-in-Ok-Conform-clause-decided
 returns-in-Ok-Conform-clause-decided g c =
-    let told = c.conform_log.ensures.answers in
+    let told = c.conform_log.ensures.reports in
     record {
       reading = Ok (conform (layout_of c.in-Ok-Conform.layout) c.in-Ok-Conform.program.now c.in-Ok-Conform.limit);
       reads = rw c.in-Ok-Conform.field-0-is at c.in-Ok-Conform.ensures.answers;
       comes = ([], told.0, told.1, shows-none _ _ _ _ told.2);
-      files = c.conform_log.ensures.files;
-      input = c.conform_log.ensures.input;
+      files = c.conform_log.ensures.faults.files;
+      input = c.conform_log.ensures.faults.input;
     }
+
+pub returns-in-Ok-Conform-clause-output : goal.returns-in-Ok-Conform-clause-output
+returns-in-Ok-Conform-clause-output g c = c.conform_log.ensures.faults.output
 
 pub returns-in-Ok-Debug-clause-decided : goal.returns-in-Ok-Debug-clause-decided
 returns-in-Ok-Debug-clause-decided g c =
@@ -256,14 +274,17 @@ returns-in-Ok-Debug-clause-output g c =
 
 pub returns-in-Ok-Orders-clause-decided : goal.returns-in-Ok-Orders-clause-decided
 returns-in-Ok-Orders-clause-decided g c =
-    let told = c.search_program.ensures.answers in
+    let told = c.search_program.ensures.reports in
     record {
       reading = Ok (orders (layout_of c.in-Ok-Orders.layout) c.in-Ok-Orders.program.now c.in-Ok-Orders.options);
       reads = rw c.in-Ok-Orders.field-0-is at c.in-Ok-Orders.ensures.answers;
       comes = ([], told.0, told.1, shows-none _ _ _ _ told.2);
-      files = c.search_program.ensures.files;
-      input = c.search_program.ensures.input;
+      files = c.search_program.ensures.faults.files;
+      input = c.search_program.ensures.faults.input;
     }
+
+pub returns-in-Ok-Orders-clause-output : goal.returns-in-Ok-Orders-clause-output
+returns-in-Ok-Orders-clause-output g c = c.search_program.ensures.faults.output
 
 pub returns-in-Ok-Time-clause-decided : goal.returns-in-Ok-Time-clause-decided
 returns-in-Ok-Time-clause-decided g c =
