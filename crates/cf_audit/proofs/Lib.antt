@@ -5,5 +5,6 @@ pub mod Trying
 pub mod Coming
 pub mod Turning
 pub mod Unique
+pub mod Finding
 pub mod Sequential
 pub mod SmallNumbers

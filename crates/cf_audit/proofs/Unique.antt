@@ -1,5 +1,5 @@
 -- A text is the trace of one run, and the trace of no run where it goes wrong.
-use Rattle.std.proofs.Common.{◌≡◌, ℕ, zero, suc, ◌+◌, ◌<◌, true, false, List, [], ◌∷◌, ◌++◌, length, Option, Some, None, inl, inr, refl, sym, ap, subst, ◌∙◌, append-nil, append_assoc, length-append, arith}
+use Rattle.std.proofs.Common.{◌≡◌, ℕ, zero, suc, ◌+◌, ◌<◌, true, false, List, [], ◌∷◌, ◌++◌, length, Some, None, inl, inr, refl, sym, ap, subst, ◌∙◌, append-nil, append_assoc, length-append, arith}
 use Rattle.std.specs.Prelude.{Bool, slice_get, codes, decimal, ◌||◌, ◌==◌}
 use Rattle.std.proofs.lemmas.List.{append_cancel_left}
 use Rattle.run_options.specs.Reportings as show
@@ -17,11 +17,8 @@ use Rattle.cf_run.specs.Going.{moment_of, Finds, IsMade, Leads}
 use Rattle.cf_run.specs.Headline.{AreTexts}
 use Rattle.cf_run.specs.Made.{Made, retirement, shown, all_shown}
 use Rattle.cf_run.proofs.Retirements.{made-texts, one-text}
-use Rattle.cf_audit.specs.declared.answer.Audit.{Audit}
-use Rattle.cf_audit.specs.declared.answer.Audit.TheVariants.{Agrees, Wrong, ReadFault}
 use Rattle.run_scripts.specs.declared.trace_refusal.TraceKind.{TraceKind}
 use Rattle.run_scripts.specs.declared.trace_refusal.TraceKind.TheVariants.{NotAMove, Barred, Differs, Cut}
-use Rattle.cf_audit.specs.Audits.{Audits, AgreesWithAll}
 use Rattle.cf_audit.specs.Traces.{most_retired, AreReadBack, IsReadBack, IsTrace, PartsAt, TraceFails, GoesWrong, has_line}
 use Rattle.cf_audit.proofs.Coming.{shown-some}
 use Rattle.cf_audit.proofs.FirstLines.{one_told}
@@ -62,14 +59,14 @@ same_group plan m n a b h k same =
     )
 
 -- two moves that are made at a moment, whose groups begin one text, are one move, and the same comes after the groups
-record IsOneMove (plan : Plan) (m : Moment) (a b : Made) (x y : List ℕ) : Type 0 where
-  move : a.move ≡ b.move
-  state : a.state ≡ b.state
-  after : x ≡ y
+pub record IsOneMove (plan : Plan) (m : Moment) (a b : Made) (x y : List ℕ) : Type 0 where
+  pub move : a.move ≡ b.move
+  pub state : a.state ≡ b.state
+  pub after : x ≡ y
 
-one_move : (plan : Plan) (m : Moment) (n : ℕ) (a b : Made) (x y : List ℕ) → IsMade plan most_retired m a → IsMade plan most_retired m b → IsReadBack a.move →
-    IsReadBack b.move → shown show.moves plan n a ++ x ≡ shown show.moves plan n b ++ y → IsOneMove plan m a b x y
-one_move plan m n a b x y h k reads tells same =
+pub one-move : (plan : Plan) (m : Moment) (n : ℕ) (a b : Made) (x y : List ℕ) → IsMade plan most_retired m a → IsMade plan most_retired m b →
+    IsReadBack a.move → IsReadBack b.move → shown show.moves plan n a ++ x ≡ shown show.moves plan n b ++ y → IsOneMove plan m a b x y
+one-move plan m n a b x y h k reads tells same =
     let lines = one_told n a.move b.move (rest_of_group plan a ++ x) (rest_of_group plan b ++ y) reads tells (sym (group_parts plan n a x) ∙ same
     ∙ group_parts plan n b y) in
     let groups = same_group plan m n a b h k lines.0 in
@@ -91,8 +88,8 @@ leads_rest plan told m last rest made trace finds leads =
     subst (λ (r : List ℕ). Leads plan most_retired (Some told) (next plan (record m { rest = r }) made.move) trace last) finds leads
 
 -- an empty text begins with no group
-no_group : (plan : Plan) (n : ℕ) (made : Made) (more : List ℕ) → [] ≡ shown show.moves plan n made ++ more → ⊥
-no_group plan n made more e =
+pub no-group : (plan : Plan) (n : ℕ) (made : Made) (more : List ℕ) → [] ≡ shown show.moves plan n made ++ more → ⊥
+no-group plan n made more e =
     let size : 0 ≡ length (shown show.moves plan n made ++ more) = ap length e in
     absurd (omega (arith, size, length-append (shown show.moves plan n made) more, shown-some plan n made))
 
@@ -102,12 +99,12 @@ same_count : (plan : Plan) (told : List ℕ) (m : Moment) (n : ℕ) (a b : List 
     → all_shown show.moves plan n a ≡ all_shown show.moves plan n b → length a ≡ length b
 unfolding Leads all_shown
 same_count plan told m n [] [] last end h k reads tells same = refl
-same_count plan told m n [] (made ∷ b) last end h k reads tells same = absurd (no_group plan n made (all_shown show.moves plan (n + 1) b) same)
-same_count plan told m n (made ∷ a) [] last end h k reads tells same = absurd (no_group plan n made (all_shown show.moves plan (n + 1) a) (sym same))
+same_count plan told m n [] (made ∷ b) last end h k reads tells same = absurd (no-group plan n made (all_shown show.moves plan (n + 1) b) same)
+same_count plan told m n (made ∷ a) [] last end h k reads tells same = absurd (no-group plan n made (all_shown show.moves plan (n + 1) a) (sym same))
 same_count plan told m n (first ∷ a) (other ∷ b) last end (r, f, i, h) (s, g, j, k) (read, reads) (tell, tells) same =
     let here : IsMade plan most_retired m first = at_rest plan told m r first f i in
     let there : IsMade plan most_retired m other = at_rest plan told m s other g j in
-    let one = one_move plan m n first other (all_shown show.moves plan (n + 1) a) (all_shown show.moves plan (n + 1) b) here there read tell same in
+    let one = one-move plan m n first other (all_shown show.moves plan (n + 1) a) (all_shown show.moves plan (n + 1) b) here there read tell same in
     let left : Leads plan most_retired (Some told) (next plan m first.move) a last = leads_rest plan told m last r first a f h in
     let right : Leads plan most_retired (Some told) (next plan m first.move) b end = subst
     (λ (mv : Move). Leads plan most_retired (Some told) (next plan m mv) b end) (sym one.move) (leads_rest plan told m end s other b g k) in
@@ -148,22 +145,22 @@ not_parted plan told m n made left more place stop is reads same p =
     let group : p.group ≡ shown show.moves plan n made = g.is ∙ groups.1 in
     p.differs (ap (λ (t : List ℕ). slice_get t place) (same ∙ ap (λ (t : List ℕ). t ++ more) (sym group)) ∙ get_front p.group more place p.other p.goes_on)
 
-not_failing : (plan : Plan) (told : List ℕ) (m : Moment) (n : ℕ) (made : Made) (left more : List ℕ) (place : ℕ) (kind : TraceKind) (stop : Moment) →
+pub not-failing : (plan : Plan) (told : List ℕ) (m : Moment) (n : ℕ) (made : Made) (left more : List ℕ) (place : ℕ) (kind : TraceKind) (stop : Moment) →
     IsMade plan most_retired m made → IsReadBack made.move → left ≡ shown show.moves plan n made ++ more →
     TraceFails plan (Some told) m n left place kind stop → ⊥
 unfolding TraceFails
-not_failing plan told m n made left more place NotAMove stop is reads same (has, none, at, still) =
+not-failing plan told m n made left more place NotAMove stop is reads same (has, none, at, still) =
     none made.move (record { told = reads; after = rest_of_group plan made ++ more; is = same ∙ group_parts plan n made more })
-not_failing plan told m n made left more place (Barred b) stop is reads same (mv, begins, barred, at, still) =
+not-failing plan told m n made left more place (Barred b) stop is reads same (mv, begins, barred, at, still) =
     let moves = one_told n mv made.move begins.after (rest_of_group plan made ++ more) begins.told reads (sym begins.is ∙ same
     ∙ group_parts plan n made more) in
     let free : bar plan m.state mv ≡ None = ap (bar plan m.state) moves.0 ∙ is.allowed in
     absurd (cc)
-not_failing plan told m n made left more place Differs stop is reads same (p, at) = not_parted plan told m n made left more place stop is reads same p
-not_failing plan told m n made left more place Cut stop is reads same (inl (none, at, still)) =
+not-failing plan told m n made left more place Differs stop is reads same (p, at) = not_parted plan told m n made left more place stop is reads same p
+not-failing plan told m n made left more place Cut stop is reads same (inl (none, at, still)) =
     let has : has_line left ≡ true = ap has_line (same ∙ group_parts plan n made more) ∙ line_there n made.move (rest_of_group plan made ++ more) in
     absurd (cc)
-not_failing plan told m n made left more place Cut stop is reads same (inr (p, at)) = not_parted plan told m n made left more place stop is reads same p
+not-failing plan told m n made left more place Cut stop is reads same (inr (p, at)) = not_parted plan told m n made left more place stop is reads same p
 
 -- a text that fails after the groups of some moves is not the trace of a run
 no_trace : (plan : Plan) (told : List ℕ) (m : Moment) (n k : ℕ) (a b : List Made) (last end : Moment) (left : List ℕ) (place : ℕ) (kind : TraceKind)
@@ -177,14 +174,14 @@ no_trace plan told m n k [] (made ∷ b) last end left place kind stop count h (
     let number : k ≡ n = omega (arith, count) in
     let here : TraceFails plan (Some told) m n left place kind stop = subst (λ (i : ℕ). TraceFails plan (Some told) m i left place kind stop) number
     (subst (λ (q : Moment). TraceFails plan (Some told) q k left place kind stop) h fails) in
-    not_failing plan told m n made left (all_shown show.moves plan (n + 1) b) place kind stop there tell same here
+    not-failing plan told m n made left (all_shown show.moves plan (n + 1) b) place kind stop there tell same here
 no_trace plan told m n k (made ∷ a) [] last end left place kind stop count h l reads tells some fails same =
-    no_group plan n made (all_shown show.moves plan (n + 1) a ++ left) (sym same ∙ append_assoc (shown show.moves plan n made)
+    no-group plan n made (all_shown show.moves plan (n + 1) a ++ left) (sym same ∙ append_assoc (shown show.moves plan n made)
     (all_shown show.moves plan (n + 1) a) left)
 no_trace plan told m n k (first ∷ a) (other ∷ b) last end left place kind stop count (r, f, i, h) (s, g, j, l) (read, reads) (tell, tells) some fails same =
     let here : IsMade plan most_retired m first = at_rest plan told m r first f i in
     let there : IsMade plan most_retired m other = at_rest plan told m s other g j in
-    let one = one_move plan m n first other (all_shown show.moves plan (n + 1) a ++ left) (all_shown show.moves plan (n + 1) b) here there read tell
+    let one = one-move plan m n first other (all_shown show.moves plan (n + 1) a ++ left) (all_shown show.moves plan (n + 1) b) here there read tell
     (sym (append_assoc (shown show.moves plan n first) (all_shown show.moves plan (n + 1) a) left) ∙ same) in
     let before : Leads plan most_retired (Some told) (next plan m first.move) a last = leads_rest plan told m last r first a f h in
     let after : Leads plan most_retired (Some told) (next plan m first.move) b end = subst
@@ -216,13 +213,3 @@ wrong-for-none core told text line n kind stop end w b =
     ∙ sym w.agrees.parts ∙ b.is in
     no_trace core.plan told (moment_of core told) 1 (w.n + 1) a.trace b.trace w.last end w.left w.place kind stop
     (omega (arith, a.count)) first second a.read_back b.read_back w.agrees.some w.fails whole
-
--- so what an audit answers is the only answer
-pub agrees-with-all : (core new : Processor) (told now : Option (List ℕ)) (text : List ℕ) (answer : Audit) → Audits core new told now text answer →
-    AgreesWithAll core told text answer
-unfolding Audits
-agrees-with-all core new None now text answer h = tt
-agrees-with-all core new (Some told) now text (Agrees m) (last, trace, stands) = λ n end other. one-count core told text m n last end trace other
-agrees-with-all core new (Some told) now text (Wrong line kind) (stop, wrong, stands) = λ n end other. wrong-for-none core told text line n kind stop end wrong
-    other
-agrees-with-all core new (Some told) now text ReadFault h = λ n end other. tt

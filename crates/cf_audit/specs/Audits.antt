@@ -1,18 +1,20 @@
 -- The outcome of an audit of a recorded trace, and what a trace that agrees says about the sequential machine.
-use Rattle.std.specs.Prelude.{◌≡◌, ℕ, ◌+◌, List, [], Option, Some, None}
+use Rattle.std.specs.Prelude.{◌≡◌, ℕ, ◌+◌, List, [], ◌++◌, Option, Some, None}
 use Rattle.run_options.specs.Reportings as show
 use Rattle.rv_machine.specs.Hart.{Hart}
 use Rattle.rv_machine.specs.Machine.{Machine}
 use Rattle.cf_layout.specs.Layout.{Plan}
+use Rattle.cf_bind.specs.declared.moves.Move.{Move}
 use Rattle.cf_semantics.specs.state.Layouts.{isa_of}
 use Rattle.cf_semantics.specs.runs.Lines.{Line, sequence}
 use Rattle.cf_semantics.specs.state.State.{Moment}
 use Rattle.theory_unknown_input.specs.UnknownInput.{GoesTo}
-use Rattle.cf_core.specs.Processors.{Processor, opened}
-use Rattle.cf_run.specs.Headline.{machine_on, AreTexts}
-use Rattle.cf_run.specs.Made.{all_shown}
+use Rattle.cf_core.specs.Processors.{Processor, in_state, opened}
+use Rattle.cf_run.specs.Headline.{machine_on, AreTexts, IsRight, IsRightOnTheWay}
+use Rattle.cf_run.specs.Made.{all_shown, moves_of}
 use Rattle.cf_audit.specs.declared.answer.Audit.{Audit}
 use Rattle.cf_audit.specs.declared.answer.Audit.TheVariants.{Agrees, Wrong, ReadFault}
+use Rattle.cf_audit.specs.Findings.{Findings, GoesWrongFinding, IsTraceFinding}
 use Rattle.cf_audit.specs.Traces.{IsTrace, ReachesMoment, GoesWrong, StopsAtCall}
 
 -- the trace is that of a run of this many moves, at whose end the processor and the input are; or it goes wrong in this
@@ -30,10 +32,21 @@ IsAgreement n (Agrees m) = m ≡ n
 IsAgreement n (Wrong line kind) = ⊥
 IsAgreement n ReadFault = Unit {0}
 
--- over an input whose remaining bytes are known, each trace of a run gets this answer
-abbrev pub AgreesWithAll : Processor → Option (List ℕ) → List ℕ → Audit → Type 0
-AgreesWithAll core None text answer = Unit {0}
-AgreesWithAll core (Some rest) text answer =
+-- this is what the moves of the audit found: the processor is where they lead
+abbrev pub AreFound : Findings → (core new : Processor) → List ℕ → Audit → Type 0
+AreFound found core new text (Agrees n) =
+    (last : Moment) × IsTraceFinding found core text n last × (new ≡ in_state core last.state)
+AreFound found core new text (Wrong line kind) =
+    (stop : Moment) × GoesWrongFinding found core text line kind stop × (new ≡ in_state core stop.state)
+AreFound found core new text ReadFault = Unit {0}
+
+-- over an input whose remaining bytes are known, each trace of a run gets this answer; over an unknown one each trace of a
+-- run whose moves find the same of it as those of the audit
+abbrev pub AgreesWithAll : (core new : Processor) → Option (List ℕ) → List ℕ → Audit → Type 0
+AgreesWithAll core new None text answer =
+    (found : Findings) × AreFound found core new text answer
+    × ((n : ℕ) (last : Moment) → IsTraceFinding found core text n last → IsAgreement n answer)
+AgreesWithAll core new (Some rest) text answer =
     (n : ℕ) (last : Moment) → IsTrace core (Some rest) text n last → IsAgreement n answer
 
 -- These are the instructions that the sequential machine retires which starts on this hart: its first ones, as many as
@@ -42,18 +55,35 @@ abbrev pub AreRetired : Plan → Hart → Option (List ℕ) → ℕ → List Lin
 AreRetired plan hart (Some rest) n written = written ≡ sequence (isa_of plan) (machine_on hart rest) n
 AreRetired plan hart None n written = (at : Machine) × GoesTo (isa_of plan) (machine_on hart []) n at written
 
--- The retirement lines of the run whose trace the text is are those of the sequential machine that starts on this hart:
--- a line for each of its first instructions, up to some number, in their order, numbered by the machine's count.
-pub record RetiresAs (core : Processor) (hart : Hart) (told : Option (List ℕ)) (text : List ℕ) (n : ℕ) : Type 0 where
-  pub last : Moment
-  pub is : IsTrace core told text n last
+-- The moves that were made up to any moment of the run are right, on the machine that starts on this hart with what the
+-- input tells. Where it tells nothing they are right over an input each of whose calls finds some, and from there the
+-- others lead to the last moment, with these lines of retired instructions.
+abbrev pub AreRightThroughout : Plan → Hart → Option (List ℕ) → List Move → Moment → List Line → Type 0
+AreRightThroughout plan hart (Some rest) moves last written =
+    (made more : List Move) → moves ≡ made ++ more → IsRight plan (machine_on hart rest) made
+AreRightThroughout plan hart None moves last written =
+    (made more : List Move) → moves ≡ made ++ more → IsRightOnTheWay plan hart made more last written
+
+-- The run whose trace the text is, and which leads to this moment, is one of the sequential machine that starts on this
+-- hart, at each of its moments. Its retirement lines are a line for each of the machine's first instructions, up to some
+-- number, in their order, numbered by the machine's count.
+pub record TracesMachine (core : Processor) (hart : Hart) (told : Option (List ℕ)) (text : List ℕ) (n : ℕ) (last : Moment)
+    (is : IsTrace core told text n last) : Type 0 where
   pub retired : ℕ
   pub written : List Line
   pub machine : AreRetired core.plan hart told retired written
   pub lines : AreTexts (hart.retired + 1) written (all_shown show.retired core.plan 1 is.trace)
+  pub throughout : AreRightThroughout core.plan hart told (moves_of is.trace) last written
 
--- This holds of each trace that agrees, on whatever hart the processor was opened.
-unfoldable pub RetiresSequentially : Processor → Option (List ℕ) → List ℕ → Audit → Type 0
-RetiresSequentially core told text (Agrees n) =
-    (hart : Hart) → core ≡ opened core.plan hart → RetiresAs core hart told text n
-RetiresSequentially core told text answer = Unit {0}
+-- The trace is that of a run of this many moves, at whose end the processor and the input are; and on whatever hart the
+-- processor was opened, that run is one of the machine.
+pub record EndsTrace (core new : Processor) (told now : Option (List ℕ)) (text : List ℕ) (n : ℕ) : Type 0 where
+  pub last : Moment
+  pub is : IsTrace core told text n last
+  pub reaches : ReachesMoment core new told now last
+  pub machine : (hart : Hart) → core ≡ opened core.plan hart → TracesMachine core hart told text n last is
+
+-- This holds of each trace that agrees.
+unfoldable pub AgreesSequentially : (core new : Processor) → (told now : Option (List ℕ)) → List ℕ → Audit → Type 0
+AgreesSequentially core new told now text (Agrees n) = EndsTrace core new told now text n
+AgreesSequentially core new told now text answer = Unit {0}

@@ -9,7 +9,7 @@ ghost use Rattle.cf_core.specs.Processors.{IsOpened};
 ghost use Rattle.cf_audit.specs.Limits.{most_trace};
 ghost use Rattle.cf_audit.specs.Traces.{has_line, line_of};
 ghost use Rattle.cf_audit.specs.Turns.{stand_by, ComparisonAnswers, Tests, input_tested};
-ghost use Rattle.cf_audit.specs.Audits.{Audits, AgreesWithAll, RetiresSequentially};
+ghost use Rattle.cf_audit.specs.Audits.{Audits, AgreesSequentially, AgreesWithAll};
 
 use crate::answer::Audit;
 use crate::compared::Compared;
@@ -141,9 +141,9 @@ fn advance<S: Source>(
 /// that were made lead: those of the groups before, and for `Differs`, and for `Cut` within a group, also the move of
 /// this group.
 ///
-/// So the lines of retired instructions in a trace that agrees are those of the sequential machine, in its order,
-/// whatever made the trace and in whatever order its moves were made: with the input's remaining bytes where these are
-/// known, and otherwise with some input that each call finds.
+/// So the run of a trace that agrees is one of the sequential machine at each of its moments, and the lines of retired
+/// instructions in it are the machine's, in its order, whatever made the trace and in whatever order its moves were made:
+/// with the input's remaining bytes where these are known, and otherwise with some input that each call finds.
 ///
 /// `ReadFault` comes only where the input failed a call of the environment, and its count of faults rose. The program's
 /// output is discarded.
@@ -152,8 +152,8 @@ pub fn audit<S: Source>(core: &mut Core, trace: &[u8], input: &mut S) -> Audit
     requires retired { core.old.state.retired ≡ 0 }
     requires size { length trace.now ≤ most_trace }
     ensures audits { Audits core.old core.new (S.left input.old) (S.left input.new) trace.now result }
-    ensures agrees { AgreesWithAll core.old (S.left input.old) trace.now result }
-    ensures sequential { RetiresSequentially core.old (S.left input.old) trace.now result }
+    ensures agrees { AgreesWithAll core.old core.new (S.left input.old) trace.now result }
+    ensures sequential { AgreesSequentially core.old core.new (S.left input.old) (S.left input.new) trace.now result }
     ensures input { HasCause (S.faults input.old) (S.faults input.new) (input_tested (Some result)) }
 {
     known(core);

@@ -1,55 +1,76 @@
 -- What an audit found is what the command answers.
-use Rattle.std.proofs.Common.{◌≡◌, ℕ, List, Option, Some, None, Ok, refl, ap}
+use Rattle.std.proofs.Common.{◌≡◌, ℕ, List, [], Option, Some, None, Ok, refl, ap}
+use Rattle.std.specs.Prelude.{codes}
 use Rattle.rv_machine.specs.Hart.{Hart}
 use Rattle.cf_layout.specs.Layout.{Plan}
 use Rattle.cf_core.specs.Processors.{Processor, opened}
 use Rattle.cf_audit.specs.declared.answer.Audit.{Audit}
 use Rattle.cf_audit.specs.declared.answer.Audit.TheVariants as found
-use Rattle.cf_audit.specs.Audits.{Audits, AgreesWithAll, IsAgreement, RetiresAs, RetiresSequentially}
+use Rattle.cf_audit.specs.Audits.{AgreesSequentially, AgreesWithAll, AreFound, Audits, IsAgreement}
+use Rattle.cf_audit.specs.Findings.{Findings}
 use Rattle.cf_audit.specs.Turns.{input_tested}
 use Rattle.cli_files.specs.Causes.{files_answered, input_answered, output_answered}
 use Rattle.cli_files.specs.declared.status.Status.{Status}
-use Rattle.cli_audit.specs.Audit.{audit_status, audit_report, AnswersText, AcceptsTrace, AcceptsRuns, ComesOfTrace}
+use Rattle.cli_files.specs.declared.status.Status.TheVariants as status
+use Rattle.texts.specs.Lines.{line}
+use Rattle.cli_audit.specs.Audit.{audit_status, audit_report, AnswersText, AcceptsTrace, AcceptsRuns, ComesOfTrace, IsTraceOf, IsWhatWasFound}
 use Rattle.cli_audit.specs.Reports.{trace_of}
 
--- the lines of a trace that agrees are those of the machine on whose hart the processor was opened
-retires : (plan : Plan) (hart : Hart) (told : Option (List ℕ)) (text : List ℕ) (n : ℕ) →
-    RetiresSequentially (opened plan hart) told text (found.Agrees n) → RetiresAs (opened plan hart) hart told text n
-unfolding RetiresSequentially opened
-retires plan hart told text n h = h hart refl
+-- the run of a trace that agrees is one of the machine on whose hart the processor was opened
+traced : (plan : Plan) (hart : Hart) (new : Processor) (before after : Option (List ℕ)) (text : List ℕ) (n : ℕ) →
+    AgreesSequentially (opened plan hart) new before after text (found.Agrees n) → IsTraceOf plan hart text before after n
+unfolding AgreesSequentially opened
+traced plan hart new before after text n e = record { last = e.last; is = e.is; input = e.reaches.input; machine = e.machine hart refl }
 
 answers : (plan : Plan) (hart : Hart) (new : Processor) (text : List ℕ) (before after : Option (List ℕ)) (a : Audit) →
-    Audits (opened plan hart) new before after text a → RetiresSequentially (opened plan hart) before text a →
+    Audits (opened plan hart) new before after text a → AgreesSequentially (opened plan hart) new before after text a →
     AnswersText plan hart text before after (audit_status a) (audit_report a)
 unfolding Audits
-answers plan hart new text before after (found.Agrees n) (last, is, stands) lines =
-    (n, record { last = last; is = is; input = stands.input; retires = retires plan hart before text n lines }, refl)
-answers plan hart new text before after (found.Wrong number kind) (stop, wrong, stands) lines =
+answers plan hart new text before after (found.Agrees n) is machine = (n, traced plan hart new before after text n machine, refl)
+answers plan hart new text before after (found.Wrong number kind) (stop, wrong, stands) machine =
     (record { stop = stop; wrong = wrong; input = stands.input }, refl)
-answers plan hart new text before after found.ReadFault stops lines = ((new, stops), refl)
+answers plan hart new text before after found.ReadFault stops machine = ((new, stops), refl)
 
 accepted : (n : ℕ) (a : Audit) → IsAgreement n a → AcceptsTrace n (audit_status a) (audit_report a)
 accepted n (found.Agrees m) same = ap trace_of same
 accepted n (found.Wrong number kind) h = h
 accepted n found.ReadFault h = tt
 
-accepts : (plan : Plan) (hart : Hart) (text : List ℕ) (told : Option (List ℕ)) (a : Audit) →
-    AgreesWithAll (opened plan hart) told text a → AcceptsRuns plan hart text told (audit_status a) (audit_report a)
-accepts plan hart text None a h = tt
-accepts plan hart text (Some rest) a h = λ n last is. accepted n a (h n last is)
+-- what the moves of an audit found, by its status
+found_by : (plan : Plan) (hart : Hart) (new : Processor) (text : List ℕ) (finds : Findings) (a : Audit) → AreFound finds (opened plan hart) new text a →
+    IsWhatWasFound finds plan hart text (audit_status a) (audit_report a)
+found_by plan hart new text finds (found.Agrees n) (last, is, reaches) = (n, last, is, refl)
+found_by plan hart new text finds (found.Wrong number kind) (stop, wrong, reaches) = (stop, wrong)
+found_by plan hart new text finds found.ReadFault h = tt
+
+accepts : (plan : Plan) (hart : Hart) (new : Processor) (text : List ℕ) (told : Option (List ℕ)) (a : Audit) →
+    AgreesWithAll (opened plan hart) new told text a → AcceptsRuns plan hart text told (audit_status a) (audit_report a)
+accepts plan hart new text None a (finds, are, h) = (finds, found_by plan hart new text finds a are, λ n last is. accepted n a (h n last is))
+accepts plan hart new text (Some rest) a h = λ n last is. accepted n a (h n last is)
 
 pub comes : (core new : Processor) (plan : Plan) (hart : Hart) (text : List ℕ) (before after : Option (List ℕ)) (a : Audit)
     (answer : Status) (report : List ℕ) → core ≡ opened plan hart → Audits core new before after text a →
-    AgreesWithAll core before text a → RetiresSequentially core before text a → answer ≡ audit_status a → report ≡ audit_report a →
+    AgreesWithAll core new before text a → AgreesSequentially core new before after text a → answer ≡ audit_status a → report ≡ audit_report a →
     ComesOfTrace plan hart text before after answer report
-comes core new plan hart text before after a answer report is audits agrees lines said told =
+comes core new plan hart text before after a answer report is audits agrees machine said told =
     let audited : Audits (opened plan hart) new before after text a = rw is at audits in
-    let all : AgreesWithAll (opened plan hart) before text a = rw is at agrees in
-    let retired : RetiresSequentially (opened plan hart) before text a = rw is at lines in
+    let all : AgreesWithAll (opened plan hart) new before text a = rw is at agrees in
+    let traces : AgreesSequentially (opened plan hart) new before after text a = rw is at machine in
     rw (said, told) (record {
-      answers = answers plan hart new text before after a audited retired;
-      accepts = accepts plan hart text before a all;
+      answers = answers plan hart new text before after a audited traces;
+      accepts = accepts plan hart new text before a all;
     })
+
+-- where memory for the processor is refused nothing was found
+none_found : (plan : Plan) (hart : Hart) (text : List ℕ) (told : Option (List ℕ)) →
+    AcceptsRuns plan hart text told status.NoMemory (line (codes "no memory"))
+none_found plan hart text None = (λ k. [], tt, λ n last is. tt)
+none_found plan hart text (Some rest) = λ n last is. tt
+
+pub comes-no-memory : (plan : Plan) (hart : Hart) (text : List ℕ) (told : Option (List ℕ)) (answer : Status) (report : List ℕ) → answer ≡ status.NoMemory →
+    report ≡ line (codes "no memory") → ComesOfTrace plan hart text told told answer report
+comes-no-memory plan hart text told answer report is says =
+    rw (is, says) (record { answers = (refl, refl); accepts = none_found plan hart text told })
 
 -- what was found says of no file that it failed, nor of the output, and of the input exactly where the call did
 pub files-left : (a : Audit) → files_answered (audit_status a) ≡ Ok tt

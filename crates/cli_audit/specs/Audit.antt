@@ -9,7 +9,8 @@ use Rattle.cf_core.specs.Processors.{Processor, opened}
 use Rattle.cf_audit.specs.declared.answer.Audit.{Audit}
 use Rattle.cf_audit.specs.declared.answer.Audit.TheVariants as found
 use Rattle.run_scripts.specs.declared.trace_refusal.TraceKind.{TraceKind}
-use Rattle.cf_audit.specs.Audits.{RetiresAs}
+use Rattle.cf_audit.specs.Audits.{TracesMachine}
+use Rattle.cf_audit.specs.Findings.{Findings, GoesWrongFinding, IsTraceFinding}
 use Rattle.cf_audit.specs.Traces.{IsTrace, GoesWrong, StopsAtCall}
 use Rattle.texts.specs.Lines.{line}
 use Rattle.cli_arguments.specs.Words.{NamedLayout}
@@ -56,14 +57,14 @@ audit_report (found.Wrong number kind) = bad_trace (fault.Line number kind)
 audit_report found.ReadFault = line (codes "read fault input")
 
 -- the text is the trace of a run of n moves of the layout's processor, opened on the hart; the run leaves this of the
--- input; and the lines of retirement in the trace are those of the sequential machine that starts on the hart: a line for
--- each of its first instructions, in their order
+-- input; it is one of the sequential machine that starts on the hart, at each of its moments, and the lines of retirement
+-- in the trace are the machine's: a line for each of its first instructions, in their order
 pub record IsTraceOf (plan : Plan) (hart : Hart) (text : List ℕ) (before after : Option (List ℕ)) (n : ℕ) :
     Type 0 where
   pub last : Moment
   pub is : IsTrace (opened plan hart) before text n last
   pub input : Becomes before after last.rest
-  pub retires : RetiresAs (opened plan hart) hart before text n
+  pub machine : TracesMachine (opened plan hart) hart before text n last is
 
 -- the text is the trace of no run, which is seen in this line, for this reason; the moves that were made leave this of the input
 pub record IsNoTraceOf (plan : Plan) (hart : Hart) (text : List ℕ) (before after : Option (List ℕ)) (number : ℕ)
@@ -96,9 +97,20 @@ AcceptsTrace n status.Done report = report ≡ trace_of n
 AcceptsTrace n (status.BadTrace why) report = ⊥
 AcceptsTrace n _ report = Unit {0}
 
--- over an input that tells what it has left, each trace of a run is answered in this way
+-- this is what the moves of the audit found of an input that tells nothing of what it has left, where one took place
+abbrev pub IsWhatWasFound : Findings → Plan → Hart → List ℕ → Status → List ℕ → Type 0
+IsWhatWasFound found plan hart text status.Done report =
+    (n : ℕ) × (last : Moment) × IsTraceFinding found (opened plan hart) text n last × (report ≡ trace_of n)
+IsWhatWasFound found plan hart text (status.BadTrace (fault.Line number kind)) report =
+    (stop : Moment) × GoesWrongFinding found (opened plan hart) text number kind stop
+IsWhatWasFound found plan hart text _ report = Unit {0}
+
+-- over an input that tells what it has left, each trace of a run is answered in this way; over another one each trace of a
+-- run whose moves find the same of it as those of the audit
 abbrev pub AcceptsRuns : Plan → Hart → List ℕ → Option (List ℕ) → Status → List ℕ → Type 0
-AcceptsRuns plan hart text None answer report = Unit {0}
+AcceptsRuns plan hart text None answer report =
+    (found : Findings) × IsWhatWasFound found plan hart text answer report
+    × ((n : ℕ) (last : Moment) → IsTraceFinding found (opened plan hart) text n last → AcceptsTrace n answer report)
 AcceptsRuns plan hart text (Some rest) answer report =
     (n : ℕ) (last : Moment) → IsTrace (opened plan hart) (Some rest) text n last → AcceptsTrace n answer report
 

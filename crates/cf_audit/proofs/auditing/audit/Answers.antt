@@ -1,8 +1,8 @@
 use Rattle.std.proofs.Common.{◌∙◌, arith, refl}
 use Rattle.cf_audit.proofs.Coming.{comes-first, comes-on, comes-falls, counts-small, retires-below}
-use Rattle.cf_audit.proofs.Sequential.{retires-sequentially}
+use Rattle.cf_audit.proofs.Sequential.{agrees-sequentially}
 use Rattle.cf_audit.proofs.Turning.{audited}
-use Rattle.cf_audit.proofs.Unique.{agrees-with-all}
+use Rattle.cf_audit.proofs.Finding.{agrees-with-all}
 use Rattle.cf_audit.proofs.auditing.audit.Goals as goal
 
 pub loop-answer-init : goal.loop-answer-init
@@ -41,5 +41,5 @@ returns-in-Some-clause-agrees g c = agrees-with-all _ _ _ _ _ _ (audited _ _ _ _
 
 pub returns-in-Some-clause-sequential : goal.returns-in-Some-clause-sequential
 returns-in-Some-clause-sequential g c =
-    retires-sequentially _ _ _ _ _ _ c.known.ensures.accepted c.known.ensures.registers (audited _ _ _ _ _ c.requires.size refl
+    agrees-sequentially _ _ _ _ _ _ c.known.ensures.accepted c.known.ensures.registers (audited _ _ _ _ _ c.requires.size refl
     (refl, refl) c.loop-answer.invariant.comes c.in-Some.ensures.tests)

@@ -1,7 +1,7 @@
 use Rattle.std.proofs.Common.{◌∙◌, ap}
 use Rattle.cf_run.proofs.Opened.{newly-opened}
 use Rattle.cli_files.specs.Causes.{files_answered, input_answered, output_answered}
-use Rattle.cli_audit.proofs.Audited.{comes, files-left, input-stopped, output-left}
+use Rattle.cli_audit.proofs.Audited.{comes, comes-no-memory, files-left, input-stopped, output-left}
 use Rattle.cli_audit.proofs.audit.audit_loaded.Goals as goal
 
 pub audit-requires-clause-opened : goal.audit-requires-clause-opened
@@ -21,3 +21,6 @@ returns-in-Ok-clause-input g c =
 
 pub returns-in-Ok-clause-output : goal.returns-in-Ok-clause-output
 returns-in-Ok-clause-output g c = ap output_answered c.answer_of.ensures.status ∙ output-left c.audit.result
+
+pub returns-in-Err-clause-comes : goal.returns-in-Err-clause-comes
+returns-in-Err-clause-comes g c = comes-no-memory _ _ _ _ _ _ c.no_memory.ensures.status c.no_memory.ensures.closing
