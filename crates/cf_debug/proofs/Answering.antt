@@ -1,38 +1,33 @@
 -- What commands and lines leave, from what their parts leave.
-use Rattle.std.proofs.Common.{◌≡◌, ◌≢◌, ℕ, zero, suc, ◌+◌, ◌<◌, ◌≤◌, List, [], ◌∷◌, ◌++◌, length, Option, Some, None, Bool, true, false, Ok, Err, refl, sym, ap, subst, ◌∙◌, append-nil, append_assoc, inl, inr, arith}
-use Rattle.std.specs.Prelude.{◌⊎◌, Result, codes}
+use Rattle.std.proofs.Common.{◌≡◌, ◌≢◌, ℕ, zero, suc, ◌+◌, List, [], ◌∷◌, ◌++◌, Option, Some, None, Ok, Err, refl, sym, ap, subst, ◌∙◌, append-nil, append_assoc, inl, inr, arith}
+use Rattle.std.specs.Prelude.{Result, codes}
 use Rattle.std.specs.Result.{IsErrAnd}
 use Rattle.cf_io.specs.Causes.{HasCause}
-use Rattle.cf_io.specs.Puts.{Writes, WritesFront}
+use Rattle.cf_io.specs.Puts.{Writes}
 use Rattle.cf_io.specs.declared.failed.Failed.{Failed}
 use Rattle.cf_io.proofs.Owing.{writes-again, front-again}
 use Rattle.cf_bind.specs.declared.moves.Bar.{Bar}
 use Rattle.cf_bind.specs.declared.moves.Move.{Move as AnyMove}
 use Rattle.cf_semantics.specs.declared.event.Event.{Event}
 use Rattle.cf_semantics.specs.moves.Bars.{bar}
-use Rattle.cf_semantics.specs.moves.Kept.{Kept, restored}
-use Rattle.cf_core.specs.Processors.{Processor, in_state}
+use Rattle.cf_semantics.specs.moves.Kept.{Kept}
+use Rattle.cf_core.specs.Processors.{Processor}
 use Rattle.texts.specs.Lines.{counted_line}
 use Rattle.report_refusals.specs.Bars.{bar_text}
 use Rattle.cf_report.specs.Putting.{PutsText}
-use Rattle.cf_run.specs.Made.{Made}
 use Rattle.cf_debug.specs.declared.answer.Broken.{Broken}
 use Rattle.cf_debug.specs.declared.answer.Broken.TheVariants as broken
 use Rattle.cf_debug.specs.declared.answer.Debugged.{Debugged}
 use Rattle.cf_debug.specs.declared.answer.Debugged.TheVariants.{Done, Limit, ReadFault, WriteFault, ReportFault}
 use Rattle.cf_debug.specs.declared.command.DebugCommand.{DebugCommand}
-use Rattle.cf_debug.specs.declared.command.DebugCommand.TheVariants.{Nothing, Move, Auto, Show, Break, Back, End}
+use Rattle.cf_debug.specs.declared.command.DebugCommand.TheVariants.{Move, Auto, Back, End}
 use Rattle.cf_debug.specs.declared.command.Refusal.{Refusal}
 use Rattle.cf_debug.specs.Commands.{command_in}
-use Rattle.cf_debug.specs.Driving.{Turn, DriveTakes, Passes, Pauses, Drives, first_turn, next_turn}
-use Rattle.cf_debug.specs.Making.{ProcessorState, MakesAndKeeps, MakesKeptOrFails, FailsOne, processor_state}
+use Rattle.cf_debug.specs.Making.{ProcessorState, MakesKeptOrFails, processor_state}
 use Rattle.cf_debug.specs.Outcomes.{CommandLeaves, DrivesOut, PutsBack, of_report, output_broken, report_broken}
-use Rattle.cf_debug.specs.Replies.{DebuggerState, debugger_state, AnswersLine, AnswersAll, AnswersPart, Automates, CommandAnswers, CommandAnswersPart, FailsAnswer, SessionGoesOn, IsAtLimit, Moves, RunsAground, OnlyAnswers, TakesBack, TakesMoves, TakesNewest, back_text, moved_text, refused_line, refusal_text}
+use Rattle.cf_debug.specs.Replies.{DebuggerState, debugger_state, AnswersLine, AnswersAll, AnswersPart, Automates, CommandAnswers, CommandAnswersPart, FailsAnswer, SessionGoesOn, IsAtLimit, Moves, RunsAground, TakesBack, TakesMoves, moved_text, refused_line, refusal_text}
 use Rattle.rv_text.specs.Lines.{without_return}
-use Rattle.cf_debug.specs.Sessions.{LineLeaves, FinishesSession, StaysOnRun, UsesByte, commands_ended, ended_by, output_ended, report_ended}
-use Rattle.cf_debug.specs.Standing.{StandsAfterMoves, IsOnRun}
-use Rattle.cf_debug.proofs.KeptMoves.{makes-stands}
-use Rattle.cf_debug.proofs.Standing.{stands-back, stands-on_run}
+use Rattle.cf_debug.specs.Sessions.{LineLeaves, FinishesSession, UsesByte, commands_ended, ended_by, output_ended, report_ended}
 
 -- Commands --
 
@@ -276,79 +271,7 @@ answers-more [] line begin now new first text (same, none) h =
 answers-more (one ∷ lines) line begin now new first text (next, front, rest, h, all, is) more =
     (next, front, rest ++ text, h, answers-more lines line next now new rest text all more, ap (λ (t : List ℕ). t ++ text) is ∙ append_assoc front rest text)
 
--- Runs --
-
-passes_stand : (start : Processor) (stop : Option ℕ) (first last : Turn) (now new : ProcessorState) (trace : List Made) →
-    StandsAfterMoves start now.core now.ring → Passes stop first now trace last new → StandsAfterMoves start new.core new.ring
-unfolding Passes
-passes_stand start stop first last now new [] h (same, is) = subst (λ (b : ProcessorState). StandsAfterMoves start b.core b.ring) (sym is) h
-passes_stand start stop first last now new (made ∷ trace) h (next, takes, free, more) =
-    passes_stand start stop (next_turn first now made) last next new trace (makes-stands start made.move made.event now next h takes.makes) more
-
-pauses_stand : (start : Processor) (n : ℕ) (stop : Option ℕ) (count : ℕ) (at : Turn) (now new : ProcessorState) (last : List Made) →
-    StandsAfterMoves start now.core now.ring → Pauses n stop count at now new last → StandsAfterMoves start new.core new.ring
-pauses_stand start n stop count at now new [] h (same, why) = subst (λ (b : ProcessorState). StandsAfterMoves start b.core b.ring) (sym same) h
-pauses_stand start n stop count at now new (made ∷ []) h (few, takes, hit) = makes-stands start made.move made.event now new h takes.makes
-pauses_stand start n stop count at now new (made ∷ other ∷ more) h none = absurd none
-
-same_stands : (start : Processor) (now new : ProcessorState) → StandsAfterMoves start now.core now.ring → new ≡ now → StandsAfterMoves start new.core new.ring
-same_stands start now new h same = subst (λ (b : ProcessorState). StandsAfterMoves start b.core b.ring) (sym same) h
-
-processor_same : (start : Processor) (now new : DebuggerState) → StandsAfterMoves start now.processor.core now.processor.ring → new ≡ now →
-    StandsAfterMoves start new.processor.core new.processor.ring
-processor_same start now new h same = subst (λ (d : DebuggerState). StandsAfterMoves start d.processor.core d.processor.ring) (sym same) h
-
-newest_stand : (start : Processor) (now new : ProcessorState) (text : List ℕ) → StandsAfterMoves start now.core now.ring → TakesNewest now new text →
-    StandsAfterMoves start new.core new.ring
-newest_stand start now new text h (older, k, there, is, line) =
-    let before : StandsAfterMoves start now.core (older ++ k ∷ []) = subst (StandsAfterMoves start now.core) there h in
-    subst (StandsAfterMoves start new.core) (sym (ap (λ (b : ProcessorState). b.ring) is))
-    (stands-back start now.core new.core older k before (ap (λ (b : ProcessorState). b.core) is))
-
-takes_stand : (start : Processor) (n : ℕ) (now new : ProcessorState) (text : List ℕ) → StandsAfterMoves start now.core now.ring →
-    TakesMoves n now new text → StandsAfterMoves start new.core new.ring
-unfolding TakesMoves
-takes_stand start zero now new text h (same, none) = same_stands start now new h same
-takes_stand start (suc n) now new text h (between, lines, last, before, newest, is) =
-    newest_stand start between new last (takes_stand start n now between lines h before) newest
-
--- each command keeps a session on its run
-carries_stand : (start : Processor) (command : DebugCommand) (now new : DebuggerState) (text : List ℕ) →
-    StandsAfterMoves start now.processor.core now.processor.ring → CommandAnswers command now new text →
-    StandsAfterMoves start new.processor.core new.processor.ring
-unfolding CommandAnswers
-carries_stand start Nothing now new text h c = processor_same start now new h c.0
-carries_stand start (Move mv) now new text h (same, inl (spent, r)) = same_stands start now.processor new.processor h r.0
-carries_stand start (Move mv) now new text h (same, inr (inl (below, (b, is, r)))) = same_stands start now.processor new.processor h r.0
-carries_stand start (Move mv) now new text h (same, inr (inr (below, (e, makes, is)))) = makes-stands start mv e now.processor new.processor h makes
-carries_stand start (Auto n) now new text h (same, inl (spent, r)) = same_stands start now.processor new.processor h r.0
-carries_stand start (Auto n) now new text h (same, inr (below, (count, lines, d, is))) =
-    pauses_stand start n now.stop (length d.trace) d.at d.now new.processor d.last (passes_stand start now.stop first_turn d.at now.processor d.now d.trace h
-    d.passes) d.pauses
-carries_stand start (Show view) now new text h c = processor_same start now new h c.0
-carries_stand start (Break stop) now new text h c = same_stands start now.processor new.processor h (ap (λ (d : DebuggerState). d.processor) c.0)
-carries_stand start (Back n) now new text h (same, inl all) = takes_stand start n now.processor new.processor text h all
-carries_stand start (Back n) now new text h (same, inr (m, lines, few, some, none, is)) =
-    takes_stand start m now.processor new.processor lines h some
-carries_stand start End now new text h c = processor_same start now new h c.0
-
--- so does each line that is answered
-pub answers-stand : (start : Processor) (told : Result DebugCommand Refusal) (now new : DebuggerState) (text : List ℕ) →
-    StandsAfterMoves start now.processor.core now.processor.ring → AnswersLine told now new text → StandsAfterMoves start new.processor.core new.processor.ring
-unfolding AnswersLine
-answers-stand start (Ok command) now new text h a = carries_stand start command now new text h a.1
-answers-stand start (Err refusal) now new text h a = processor_same start now new h a.0
-
--- and a line that ends the session leaves it there
-pub ends-on_run : (start : Processor) (line : List ℕ) (now new : DebuggerState) (written after : Option (List ℕ)) (answer : Debugged) →
-    StandsAfterMoves start now.processor.core now.processor.ring → LineLeaves line now new written after (Some answer) →
-    StaysOnRun start new.processor.core answer
-unfolding LineLeaves
-ends-on_run start line now new written after Done h e = stands-on_run start new.processor.core new.processor.ring (processor_same start now new h e.1)
-ends-on_run start line now new written after Limit h e = absurd e
-ends-on_run start line now new written after ReadFault h e = absurd e
-ends-on_run start line now new written after WriteFault h e = tt
-ends-on_run start line now new written after ReportFault h e = tt
+-- Faults --
 
 -- the commands did not fail there
 pub ends-fed : (line : List ℕ) (now new : DebuggerState) (written after : Option (List ℕ)) (answer : Debugged) (before faults : ℕ) → faults ≡ before →
@@ -360,40 +283,14 @@ ends-fed line now new written after ReadFault before faults still e = absurd e
 ends-fed line now new written after WriteFault before faults still e = record { never_falls = omega (arith, still); rose = tt; still = still }
 ends-fed line now new written after ReportFault before faults still e = record { never_falls = omega (arith, still); rose = tt; still = still }
 
--- a byte that is used keeps a session on its run too
-pub uses-stand : (start : Processor) (byte : ℕ) (line later : List ℕ) (now new : DebuggerState) (written after : Option (List ℕ)) →
-    StandsAfterMoves start now.processor.core now.processor.ring → UsesByte byte line later now new written after None →
-    StandsAfterMoves start new.processor.core new.processor.ring
-unfolding LineLeaves
-uses-stand start byte line later now new written after h (inl (other, held_is, same, still, goes)) = processor_same start now new h same
-uses-stand start byte line later now new written after h (inr (end, empty, (text, a, put))) =
-    answers-stand start (command_in (without_return line)) now new text h a
-
-pub uses-on_run : (start : Processor) (byte : ℕ) (line later : List ℕ) (now new : DebuggerState) (written after : Option (List ℕ)) (answer : Debugged) →
-    StandsAfterMoves start now.processor.core now.processor.ring → UsesByte byte line later now new written after (Some answer) →
-    StaysOnRun start new.processor.core answer
-uses-on_run start byte line later now new written after answer h (inl (other, held_is, same, still, goes)) = absurd (cc)
-uses-on_run start byte line later now new written after answer h (inr (end, empty, ends)) =
-    ends-on_run start (without_return line) now new written after answer h ends
-
+-- nor at a byte that is used
 pub uses-fed : (byte : ℕ) (line later : List ℕ) (now new : DebuggerState) (written after : Option (List ℕ)) (answer : Debugged) (before faults : ℕ) →
     faults ≡ before → UsesByte byte line later now new written after (Some answer) → HasCause before faults (commands_ended (Some answer))
 uses-fed byte line later now new written after answer before faults still (inl (other, held_is, same, none, goes)) = absurd (cc)
 uses-fed byte line later now new written after answer before faults still (inr (end, empty, ends)) =
     ends-fed (without_return line) now new written after answer before faults still ends
 
--- and at the end of the commands
-pub finishes-on_run : (start : Processor) (line : List ℕ) (now new : DebuggerState) (written after : Option (List ℕ)) (answer : Debugged) →
-    StandsAfterMoves start now.processor.core now.processor.ring → FinishesSession line now new written after answer →
-    StaysOnRun start new.processor.core answer
-unfolding LineLeaves
-finishes-on_run start line now new written after answer h (inl (empty, done, same, still)) =
-    subst (StaysOnRun start new.processor.core) (sym done) (stands-on_run start new.processor.core new.processor.ring (processor_same start now new h same))
-finishes-on_run start line now new written after answer h (inr (inl (some, done, (text, a, put)))) =
-    subst (StaysOnRun start new.processor.core) (sym done) (stands-on_run start new.processor.core new.processor.ring
-    (answers-stand start (command_in line) now new text h a))
-finishes-on_run start line now new written after answer h (inr (inr (some, ends))) = ends-on_run start line now new written after answer h ends
-
+-- nor at the end of the commands
 pub finishes-fed : (line : List ℕ) (now new : DebuggerState) (written after : Option (List ℕ)) (answer : Debugged) (before faults : ℕ) → faults ≡ before →
     FinishesSession line now new written after answer → HasCause before faults (commands_ended (Some answer))
 finishes-fed line now new written after answer before faults still (inl (empty, done, same, none)) =

@@ -167,7 +167,7 @@ takes-newest core new ring later k mv there is named =
 pub back-stands : (core new : Processor) (ring later : List Kept) (k : Kept) → StandsSomewhere core ring → ring ≡ later ++ k ∷ [] →
     new ≡ in_state core (restored core.state k) → StandsSomewhere new later
 back-stands core new ring later k (start, h) there is =
-    (start, stands-back start core new later k (subst (StandsAfterMoves start core) there h) is)
+    (start, stands-back start core new later k None None (subst (λ (kept : List Kept). StandsAfterMoves start core kept None None) there h) is)
 
 pub none-stands : (core : Processor) (ring later : List Kept) → StandsSomewhere core ring → ring ≡ [] → later ≡ [] → StandsSomewhere core later
 none-stands core ring later h none left = subst (StandsSomewhere core) (none ∙ sym left) h

@@ -29,8 +29,9 @@ use Rattle.cf_debug.specs.Driving.{Turn, DriveTakes, Passes, Pauses, Drives, Dri
 use Rattle.cf_debug.specs.Limits.{most_retired}
 use Rattle.cf_debug.specs.Making.{ProcessorState, MakesAndKeeps, MakesKeptOrFails, FailsOne}
 use Rattle.cf_debug.specs.Outcomes.{DrivesOut, IsNextTurn, Steers}
-use Rattle.cf_debug.specs.Standing.{StandsAfterMoves, StandsSomewhere}
-use Rattle.cf_debug.proofs.KeptMoves.{makes-stands}
+use Rattle.cf_debug.specs.Standing.{StandsSomewhere}
+use Rattle.cf_debug.proofs.KeptMoves.{makes-somewhere}
+use Rattle.cf_debug.proofs.Standing.{nothing-written}
 
 -- One move --
 
@@ -126,10 +127,6 @@ pub record Comes (stop : Option ℕ) (start now : ProcessorState) (held : Turn) 
   pub many : count ≡ length trace
   pub put : Writes written after (retirements trace)
 
-nothing_put : (told : Option (List ℕ)) → Writes told told []
-nothing_put None = tt
-nothing_put (Some told) = ap Some (sym (append-nil told))
-
 pub comes-first : (stop : Option ℕ) (start : ProcessorState) (policy : Option Move) (held stages : ℕ) (written : Option (List ℕ)) → policy ≡ None →
     held ≡ stopped stages 0 → stages ≡ start.core.plan.stages → Comes stop start start (chooser rules.Any policy held) written written 0
 unfolding Passes retirements
@@ -141,7 +138,7 @@ comes-first stop start policy held stages written fresh_policy zero_held beside 
   policy = fresh_policy;
   count_is = zero_held ∙ ap (λ (n : ℕ). stopped n 0) beside;
   many = refl;
-  put = nothing_put written;
+  put = nothing-written written;
 }
 
 -- the same is offered by the whole count
@@ -225,8 +222,7 @@ comes-more stop start now new held later written between after count last goes_o
 pub steers-stands : (stop : Option ℕ) (at later : Turn) (now new : ProcessorState) (written after : Option (List ℕ)) (last : Bool) →
     StandsSomewhere now.core now.ring → Steers stop at later now new written after (Ok last) → StandsSomewhere new.core new.ring
 unfolding Steers
-steers-stands stop at later now new written after last (start, h) (made, takes, hit, next, put) =
-    (start, makes-stands start made.move made.event now new h takes.makes)
+steers-stands stop at later now new written after last h (made, takes, hit, next, put) = makes-somewhere made.move made.event now new h takes.makes
 
 -- the number of stages stays
 pub steers-plan : (stop : Option ℕ) (at later : Turn) (now new : ProcessorState) (written after : Option (List ℕ)) (last : Bool) →

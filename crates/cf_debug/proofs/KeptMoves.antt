@@ -2,6 +2,7 @@
 use Rattle.std.proofs.Common.{◌≡◌, ◌≢◌, ℕ, ◌+◌, ◌≤◌, List, [], ◌∷◌, ◌++◌, Option, Some, None, Ok, Err, refl, sym, ap, subst, ◌∙◌, append-nil, inl, inr, arith}
 use Rattle.std.specs.Prelude.{◌⊎◌}
 use Rattle.cf_io.specs.Causes.{HasCause}
+use Rattle.cf_io.specs.Puts.{Writes}
 use Rattle.rv_machine.specs.Streams.{Streams, streams_of}
 use Rattle.cf_layout.specs.Layout.{Plan}
 use Rattle.cf_bind.specs.declared.moves.Move.{Move}
@@ -20,8 +21,8 @@ use Rattle.cf_core.proofs.Steps.{next_moved}
 use Rattle.cf_run.proofs.AfterOutput.{next-after}
 use Rattle.cf_debug.specs.Making.{ProcessorState, MakesAndKeeps, FailsOne, processor_state}
 use Rattle.cf_debug.specs.Rings.{WasKept, ring_after, with_record}
-use Rattle.cf_debug.specs.Standing.{StandsAfterMoves}
-use Rattle.cf_debug.proofs.Standing.{stands-kept, stands-served}
+use Rattle.cf_debug.specs.Standing.{StandsAfterMoves, StandsNow, StandsSomewhere}
+use Rattle.cf_debug.proofs.Standing.{stands-kept, stands-served, stands-untold}
 
 -- what is kept of a move, unless it is Serve
 pub serves-or : (mv : Move) → (mv ≡ Serve) ⊎ ((mv ≢ Serve) × ((plan : Plan) (s : State) (ring : List Kept) →
@@ -99,7 +100,8 @@ same_some x y h = cc
 
 -- the moment after a move that finds nothing left, whatever was written before
 after_move : (now new : ProcessorState) (mv : Move) → Makes now.core new.core mv (streams_of (Some []) now.output) (streams_of (Some []) new.output) →
-    (added : List ℕ) × ((before : List ℕ) → next now.core.plan (record { state = now.core.state; rest = []; output = before }) mv
+    (added : List ℕ) × Writes now.output new.output added
+    × ((before : List ℕ) → next now.core.plan (record { state = now.core.state; rest = []; output = before }) mv
     ≡ record { state = new.core.state; rest = []; output = before ++ added })
 after_move now new mv m =
     let plan : Plan = now.core.plan in
@@ -108,6 +110,7 @@ after_move now new mv m =
     ≡ record { state = new.core.state; rest = later; output = m.added } in
     let blank : P [] [] = subst (P []) (sym none) (subst (λ (rest : List ℕ). P rest m.later) m.told m.is) in (
       m.added,
+      m.leaves.output,
       λ before.
           ap (λ (output : List ℕ). next plan (record { state = now.core.state; rest = []; output = output }) mv) (sym (append-nil before))
           ∙ next-after plan before (record { state = now.core.state; rest = []; output = [] }) mv
@@ -119,27 +122,46 @@ moved_core : (now new : ProcessorState) (mv : Move) → mv ≢ Serve → Makes n
     (streams_of (Some []) new.output) → new.core ≡ in_state now.core (moved now.core.plan now.core.state mv)
 moved_core now new mv other m =
     let plan : Plan = now.core.plan in
-    let led = (after_move now new mv m).1 [] in
+    let led = (after_move now new mv m).2 [] in
     let state : new.core.state ≡ moved plan now.core.state mv = ap (λ (t : Moment). t.state) (sym led
     ∙ next_moved plan (record { state = now.core.state; rest = []; output = [] }) mv other) in
     ap (λ (p : Plan). record { plan = p; state = new.core.state }) m.plan ∙ ap (in_state now.core) state
 
+-- a move other than Serve writes nothing
+nothing_added : (now new : ProcessorState) (mv : Move) → mv ≢ Serve → (m : Makes now.core new.core mv (streams_of (Some []) now.output)
+    (streams_of (Some []) new.output)) → Writes now.output new.output []
+nothing_added now new mv other m =
+    let plan : Plan = now.core.plan in
+    let led = after_move now new mv m in
+    let none : led.0 ≡ [] = ap (λ (t : Moment). t.output) (sym (led.2 [])
+    ∙ next_moved plan (record { state = now.core.state; rest = []; output = [] }) mv other) in
+    subst (Writes now.output new.output) none led.1
+
 -- a session stays on its run after a move
-pub makes-stands : (start : Processor) (mv : Move) (e : Event) (now new : ProcessorState) → StandsAfterMoves start now.core now.ring →
-    MakesAndKeeps mv e now new → StandsAfterMoves start new.core new.ring
+pub makes-stands : (start : Processor) (mv : Move) (e : Event) (blank : Option (List ℕ)) (now new : ProcessorState) → StandsNow start blank now →
+    MakesAndKeeps mv e now new → StandsNow start blank new
 unfolding ring_after kept
-makes-stands start mv e now new h m = of (serves-or mv)
+makes-stands start mv e blank now new h m = of (serves-or mv)
   where
     of : (mv ≡ Serve) ⊎ ((mv ≢ Serve) × ((plan : Plan) (s : State) (ring : List Kept) → ring_after plan s mv ring ≡ with_record ring (kept plan s mv))) →
-        StandsAfterMoves start new.core new.ring
+        StandsNow start blank new
     of (inl serves) =
         let P : Move → Type 0 = λ v. (bar now.core.plan now.core.state v ≡ None) × Makes now.core new.core v (streams_of (Some []) now.output)
         (streams_of (Some []) new.output) × (new.ring ≡ ring_after now.core.plan now.core.state v now.ring) in
         let here : P Serve = subst P serves (m.allowed, m.makes, m.ring) in
         let led = after_move now new Serve here.1 in
-        subst (StandsAfterMoves start new.core) (sym here.2) (stands-served start now.core new.core now.ring led.0 h here.0 m.makes.plan led.1)
+        subst (λ (ring : List Kept). StandsAfterMoves start new.core ring blank new.output) (sym here.2)
+        (stands-served start now.core new.core now.ring blank now.output new.output led.0 h here.0 m.makes.plan led.2 led.1)
     of (inr (other, is)) =
         let k : Kept = kept now.core.plan now.core.state mv in
         let was : WasKept now.core.plan now.core.state k = record { stood = m.stood other; allowed = m.allowed; other = other; is = refl } in
-        subst (StandsAfterMoves start new.core) (sym (m.ring ∙ is now.core.plan now.core.state now.ring))
-        (stands-kept start now.core new.core now.ring k h was (moved_core now new mv other m.makes))
+        subst (λ (ring : List Kept). StandsAfterMoves start new.core ring blank new.output) (sym (m.ring ∙ is now.core.plan now.core.state now.ring))
+        (stands-kept start now.core new.core now.ring blank now.output new.output k h was (moved_core now new mv other m.makes)
+        (nothing_added now new mv other m.makes))
+
+-- so it does from some processor, whatever was written
+pub makes-somewhere : (mv : Move) (e : Event) (now new : ProcessorState) → StandsSomewhere now.core now.ring → MakesAndKeeps mv e now new →
+    StandsSomewhere new.core new.ring
+makes-somewhere mv e now new (start, h) m =
+    let told : StandsNow start None now = stands-untold start now.core now.ring None None now.output h in
+    (start, stands-untold start new.core new.ring None new.output None (makes-stands start mv e None now new told m))

@@ -2,9 +2,11 @@ pub mod Kept
 pub mod Listing
 pub mod Standing
 pub mod KeptMoves
+pub mod Aground
 pub mod InTurn
 pub mod Cutting
 pub mod Ranges
 pub mod Answering
+pub mod OnRun
 pub mod Backwards
 pub mod Sessions

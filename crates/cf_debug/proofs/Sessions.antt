@@ -18,8 +18,8 @@ use Rattle.cf_debug.specs.Limits.{most_bytes, most_taken}
 use Rattle.cf_debug.specs.Making.{ProcessorState}
 use Rattle.cf_debug.specs.Replies.{DebuggerState, debugger_state, AnswersAll}
 use Rattle.cf_debug.specs.Sessions.{AnswersLines, AnswersWhole, Debugs, LineLeaves, EndsAtFault, EndsAtLast, EndsAtLimit, EndsAtLine, EndsSession, FinishesSession, IsNext, Session, Taken, UsesByte, session_of}
-use Rattle.cf_debug.specs.Standing.{StandsAfterMoves}
-use Rattle.cf_debug.proofs.Answering.{answers-more, answers-stand, ends-same}
+use Rattle.cf_debug.proofs.Answering.{answers-more, ends-same}
+use Rattle.cf_debug.proofs.Standing.{nothing-written}
 use Rattle.cf_debug.proofs.Cutting.{gives-again, gives-none, has-byte, has-end, has-none, held-last, held-more, held-none, held-some, held-whole}
 
 -- the bytes that were used so far: their whole lines are answered, and this is held of the unfinished one
@@ -33,10 +33,6 @@ pub record Comes (before : Session) (begin now : DebuggerState) (commands report
   pub has : HasLines used lines unfinished
   pub line_is : line ≡ held unfinished
   pub answers : AnswersLines lines begin now before.report report
-
-nothing_put : (told : Option (List ℕ)) → Writes told told []
-nothing_put None = tt
-nothing_put (Some told) = ap Some (sym (append-nil told))
 
 -- before the first byte
 pub comes-first : (before : Session) (begin : DebuggerState) (line : List ℕ) (feed : Feeding) → line ≡ [] → feed ≡ record { rest = []; left = 16777216 } →
@@ -54,7 +50,7 @@ comes-first before begin line feed empty new =
       unfinished = [];
       has = has-none;
       line_is = empty;
-      answers = ([], (refl, refl), nothing_put before.report);
+      answers = ([], (refl, refl), nothing-written before.report);
     }
 
 -- what was taken, with the byte that is used next

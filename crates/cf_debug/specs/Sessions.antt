@@ -15,7 +15,6 @@ use Rattle.cf_debug.specs.Cutting.{HasLines, held, last_line}
 use Rattle.cf_debug.specs.Limits.{most_bytes, most_taken}
 use Rattle.cf_debug.specs.Making.{ProcessorState, processor_state}
 use Rattle.cf_debug.specs.Replies.{DebuggerState, debugger_state, AnswersLine, AnswersAll, AnswersPart, FailsAnswer}
-use Rattle.cf_debug.specs.Standing.{IsOnRun}
 
 -- what a session shows from outside: the processor, and what the commands and the report expose
 pub record Session : Type 0 where
@@ -128,14 +127,6 @@ EndsSession before after begin new ReportFault = EndsAtLine before after begin n
 pub record Debugs (before after : Session) (answer : Debugged) : Type 0 where
   pub stop : Option ℕ
   pub ends : EndsSession before after (debugger_state before.processor None) (debugger_state after.processor stop) answer
-
--- unless the output or the report failed, the processor is at a moment of a run
-abbrev pub StaysOnRun : (start core : Processor) → Debugged → Type 0
-StaysOnRun start core Done = IsOnRun start core
-StaysOnRun start core Limit = IsOnRun start core
-StaysOnRun start core ReadFault = IsOnRun start core
-StaysOnRun start core WriteFault = Unit {0}
-StaysOnRun start core ReportFault = Unit {0}
 
 -- an error where the commands failed the session
 abbrev pub commands_ended : Option Debugged → Result (Unit {0}) (Unit {0})

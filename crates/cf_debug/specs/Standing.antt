@@ -1,16 +1,25 @@
 -- Where a session is: at a moment of a run, whatever moves were made and taken back.
-use Rattle.std.specs.Prelude.{◌≡◌, List, [], length}
+use Rattle.std.specs.Prelude.{◌≡◌, ℕ, List, [], length, Option, Some, None}
+use Rattle.cf_io.specs.Puts.{Writes}
 use Rattle.rv_machine.specs.Hart.{Hart}
+use Rattle.rv_machine.specs.Machine.{Machine}
+use Rattle.rv_machine.specs.Streams.{streams_of}
+use Rattle.cf_bind.specs.declared.moves.Move.{Move}
 use Rattle.cf_semantics.specs.moves.Kept.{Kept}
 use Rattle.cf_semantics.specs.runs.Runs.{IsReached}
 use Rattle.cf_semantics.specs.state.State.{Moment}
-use Rattle.cf_core.specs.Processors.{Processor, in_state, opened}
-use Rattle.cf_run.specs.Headline.{machine_on}
+use Rattle.cf_core.specs.Processors.{Processor, opened}
+use Rattle.cf_run.specs.Headline.{machine_on, moment_after, IsRight, StandsAt, FailsOutput}
+use Rattle.cf_run.specs.Moving.{RunPlace, place_of}
+use Rattle.cf_run.specs.Reaching.{no_tally}
+use Rattle.cf_debug.specs.declared.answer.Debugged.{Debugged}
+use Rattle.cf_debug.specs.declared.answer.Debugged.TheVariants.{Done, Limit, ReadFault, WriteFault, ReportFault}
+use Rattle.cf_debug.specs.Making.{ProcessorState}
 use Rattle.cf_debug.specs.Rings.{RecordsLead}
 
--- moves of a run with empty input lead from the processor, as it was opened, to this one; and the last of them are kept
--- in the ring
-pub record StandsAfterMoves (start core : Processor) (ring : List Kept) : Type 0 where
+-- moves of a run with empty input lead from the processor, as it was opened, to this one, and what they write was added
+-- to the output, none of it by the last of them, which are kept in the ring
+pub record StandsAfterMoves (start core : Processor) (ring : List Kept) (blank full : Option (List ℕ)) : Type 0 where
   pub hart : Hart
   pub opened_is : start ≡ opened start.plan hart
   pub wide : length hart.regs ≡ 32
@@ -19,15 +28,33 @@ pub record StandsAfterMoves (start core : Processor) (ring : List Kept) : Type 0
   pub none : older.rest ≡ []
   pub kept : RecordsLead start.plan older.state ring core.state
   pub plan : core.plan ≡ start.plan
+  pub output : Writes blank full older.output
 
--- the processor is at a moment of a run of the machine on which it was opened
-pub record IsOnRun (start core : Processor) : Type 0 where
+-- the same of a session, whose output exposed this as it began
+abbrev pub StandsNow : Processor → Option (List ℕ) → ProcessorState → Type 0
+StandsNow start blank now = StandsAfterMoves start now.core now.ring blank now.output
+
+-- the same, from some processor, whatever was written
+abbrev pub StandsSomewhere : Processor → List Kept → Type 0
+StandsSomewhere core ring = (start : Processor) × StandsAfterMoves start core ring None None
+
+-- a processor with an input of which nothing is left, and with what the output exposes
+abbrev pub place_at : Processor → Option (List ℕ) → RunPlace
+place_at core output = place_of core (streams_of (Some []) output) None no_tally
+
+-- how a session that ended in this way is left: at the moment; or the output failed the call that was to be served there
+abbrev pub IsLeftAt : Machine → Moment → (begin new : RunPlace) → Debugged → Type 0
+IsLeftAt x m begin new Done = StandsAt m begin new
+IsLeftAt x m begin new Limit = StandsAt m begin new
+IsLeftAt x m begin new ReadFault = StandsAt m begin new
+IsLeftAt x m begin new WriteFault = FailsOutput x m begin new
+IsLeftAt x m begin new ReportFault = StandsAt m begin new
+
+-- The session is left at a moment to which moves lead that are right, from the machine on which the processor was opened
+-- and with nothing to read; what they write is what was added to the output.
+pub record IsOnRun (start core : Processor) (blank full : Option (List ℕ)) (answer : Debugged) : Type 0 where
   pub hart : Hart
   pub opened_is : start ≡ opened start.plan hart
-  pub moment : Moment
-  pub reached : IsReached start.plan (machine_on hart []) moment
-  pub is : core ≡ in_state start moment.state
-
--- the same, from some processor
-abbrev pub StandsSomewhere : Processor → List Kept → Type 0
-StandsSomewhere core ring = (start : Processor) × StandsAfterMoves start core ring
+  pub moves : List Move
+  pub right : IsRight start.plan (machine_on hart []) moves
+  pub left : IsLeftAt (machine_on hart []) (moment_after start.plan (machine_on hart []) moves) (place_at start blank) (place_at core full) answer

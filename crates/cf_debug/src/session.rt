@@ -8,8 +8,8 @@ ghost use Rattle.cf_debug.specs.Lending.{debugger_state_left, debugger_state_len
 ghost use Rattle.cf_debug.specs.Limits.{most_retired};
 ghost use Rattle.cf_debug.specs.Making.{processor_state};
 ghost use Rattle.cf_debug.specs.Outcomes.{output_broken, report_broken};
-ghost use Rattle.cf_debug.specs.Sessions.{Debugs, LineLeaves, FinishesSession, StaysOnRun, UsesByte, commands_ended, ended_by, output_ended, report_ended, session_of};
-ghost use Rattle.cf_debug.specs.Standing.{StandsSomewhere};
+ghost use Rattle.cf_debug.specs.Sessions.{Debugs, LineLeaves, FinishesSession, UsesByte, commands_ended, ended_by, output_ended, report_ended, session_of};
+ghost use Rattle.cf_debug.specs.Standing.{IsOnRun, StandsSomewhere};
 
 use crate::answer::{Broken, Debugged};
 use crate::carrying::{carry_out, told};
@@ -121,8 +121,8 @@ fn finish<K: Sink, R: Sink>(
 ///
 /// The lines are answered in order, and a refused one changes nothing. The answers are written to the report, and the
 /// guest's output to the output; the guest's input is empty. At the end the ring has the records of the moves that were
-/// made last and not taken back; unless the output or the report failed, the processor is at a moment of a run of the
-/// machine on which it was opened.
+/// made last and not taken back. The processor is at a moment of a run of the machine on which it was opened, and what the
+/// moves of that run write was added to the output; or the output failed the call that was to be served there.
 ///
 /// `Done` comes at `end` and at the end of the commands. `Limit` comes where 16,777,216 bytes were taken, no whole line
 /// among them is `end`, and there is one more byte. `ReadFault` comes only where the commands failed, after the answers
@@ -143,7 +143,7 @@ pub fn debug<S: Source, K: Sink, R: Sink>(
         (session_of (processor_state core.old ring.old (K.written output.old)) (S.left commands.old) (R.written report.old))
         (session_of (processor_state core.new ring.new (K.written output.new)) (S.left commands.new) (R.written report.new))
         result }
-    ensures on_run { StaysOnRun core.old core.new result }
+    ensures on_run { IsOnRun core.old core.new (K.written output.old) (K.written output.new) result }
     ensures commands { HasCause (S.faults commands.old) (S.faults commands.new) (commands_ended (Some result)) }
     ensures output { HasCause (K.faults output.old) (K.faults output.new) (output_ended (Some result)) }
     ensures report { HasCause (R.faults report.old) (R.faults report.new) (report_ended (Some result)) }

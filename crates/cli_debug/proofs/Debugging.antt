@@ -10,7 +10,8 @@ use Rattle.cf_debug.specs.declared.answer.Debugged.{Debugged}
 use Rattle.cf_debug.specs.declared.answer.Debugged.TheVariants.{ReportFault}
 use Rattle.cf_debug.specs.Making.{processor_state}
 use Rattle.cf_debug.specs.Replies.{debugger_state}
-use Rattle.cf_debug.specs.Sessions.{Debugs, StaysOnRun, session_of}
+use Rattle.cf_debug.specs.Sessions.{Debugs, session_of}
+use Rattle.cf_debug.specs.Standing.{IsOnRun}
 use Rattle.cli_files.specs.Deciding.{Decides}
 use Rattle.cli_files.specs.Outside.{Outside}
 use Rattle.cli_files.specs.declared.answer.Answer.{Answer}
@@ -24,7 +25,7 @@ has : (plan : Plan) (hart : Hart) (core last : Processor) (kept : List Kept) (be
     (ended : Debugged) → core ≡ opened plan hart →
     Debugs (session_of (processor_state core [] before.output) before.input blank) (session_of (processor_state last kept after.output) after.input full)
     ended →
-    StaysOnRun core last ended → HasSession plan hart before after blank full ended
+    IsOnRun core last before.output after.output ended → HasSession plan hart before after blank full ended
 has plan hart core last kept before after blank full ended is session stays = record {
   last = last;
   kept = kept;
@@ -37,8 +38,9 @@ pub decides-session : (plan : Plan) (hart : Hart) (core last : Processor) (ring 
     (blank full : Option (List ℕ)) (ended : Debugged) (result : Result Answer Failed) → core ≡ opened plan hart → ring ≡ [] →
     Debugs (session_of (processor_state core ring before.output) before.input blank) (session_of (processor_state last kept after.output) after.input full)
     ended →
-    StaysOnRun core last ended → IfOk result (λ answer. ended ≢ ReportFault) → IfOk result (λ answer. answer.status ≡ session_status ended) →
-    IfOk result (λ answer. answer.closing ≡ closing_of_session ended) → IfErr result (λ failed. ended ≡ ReportFault) →
+    IsOnRun core last before.output after.output ended → IfOk result (λ answer. ended ≢ ReportFault) →
+    IfOk result (λ answer. answer.status ≡ session_status ended) → IfOk result (λ answer. answer.closing ≡ closing_of_session ended) →
+    IfErr result (λ failed. ended ≡ ReportFault) →
     Decides (ComesOfCommands plan hart before after) (BreaksSession plan hart before after blank full) blank full result
 decides-session plan hart core last ring kept before after blank full ended (Ok answer) is empty session stays works status closing fails =
     let had : Debugs (session_of (processor_state core [] before.output) before.input blank)

@@ -8,7 +8,8 @@ use Rattle.cf_core.specs.Processors.{Processor, opened}
 use Rattle.cf_debug.specs.declared.answer.Debugged.{Debugged}
 use Rattle.cf_debug.specs.declared.answer.Debugged.TheVariants.{Done, Limit, ReadFault, WriteFault, ReportFault}
 use Rattle.cf_debug.specs.Making.{processor_state}
-use Rattle.cf_debug.specs.Sessions.{Debugs, StaysOnRun, session_of}
+use Rattle.cf_debug.specs.Sessions.{Debugs, session_of}
+use Rattle.cf_debug.specs.Standing.{IsOnRun}
 use Rattle.texts.specs.Lines.{line}
 use Rattle.cli_arguments.specs.Words.{NamedLayout}
 use Rattle.cli_files.specs.Loading.{IsLoaded, LacksLoaded}
@@ -34,15 +35,16 @@ closing_of_session ReadFault = line (codes "read fault input")
 closing_of_session WriteFault = line (codes "write fault output")
 closing_of_session ReportFault = []
 
--- a session on the processor of the layout, as it is opened on the hart, with nothing kept; the input has its commands. The
--- processor is left at a moment of a run, unless the output or the report failed
+-- a session on the processor of the layout, as it is opened on the hart, with nothing kept; the input has its commands. It is
+-- left at a moment of a run of the program's machine, with the output that the run's moves write; or the output failed the
+-- call that was to be served there
 pub record HasSession (plan : Plan) (hart : Hart) (before after : Streams) (blank full : Option (List ℕ))
     (ended : Debugged) : Type 0 where
   pub last : Processor
   pub kept : List Kept
   pub session : Debugs (session_of (processor_state (opened plan hart) [] before.output) before.input blank)
       (session_of (processor_state last kept after.output) after.input full) ended
-  pub on_run : StaysOnRun (opened plan hart) last ended
+  pub on_run : IsOnRun (opened plan hart) last before.output after.output ended
 
 -- a session took place; this is the whole report: the answers to its commands, and after them how it ended
 pub record AnswersSession (plan : Plan) (hart : Hart) (before after : Streams) (answer : Status)

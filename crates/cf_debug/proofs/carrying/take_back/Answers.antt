@@ -1,11 +1,13 @@
-use Rattle.std.proofs.Common.{subst}
+use Rattle.std.proofs.Common.{List, None, subst}
+use Rattle.cf_semantics.specs.moves.Kept.{Kept}
 use Rattle.cf_debug.specs.Standing.{StandsAfterMoves}
 use Rattle.cf_debug.proofs.Backwards.{back-stands, newest-failed, newest-put, none-failed, none-put, none-stands, takes-newest}
 use Rattle.cf_debug.proofs.Standing.{stands-after}
 use Rattle.cf_debug.proofs.carrying.take_back.Goals as goal
 
 pub back-requires : goal.back-requires
-back-requires g c = stands-after c.requires.stands.0 _ _ _ (subst (StandsAfterMoves c.requires.stands.0 c.args.core.now) c.in-Some.ensures c.requires.stands.1)
+back-requires g c = stands-after c.requires.stands.0 _ _ _ None None
+    (subst (λ (ring : List Kept). StandsAfterMoves c.requires.stands.0 c.args.core.now ring None None) c.in-Some.ensures c.requires.stands.1)
 
 pub returns-in_err-put_back-in-Some-clause-puts : goal.returns-in_err-put_back-in-Some-clause-puts
 returns-in_err-put_back-in-Some-clause-puts g c = newest-failed _ _ _ _ _ _ _ _ _ _ c.in_err-put_back-in-Some.was c.from_residual.ensures.1

@@ -1,4 +1,4 @@
-use Rattle.std.proofs.Common.{refl, sym, ap, subst, ◌∙◌, inr}
+use Rattle.std.proofs.Common.{None, refl, sym, ap, subst, ◌∙◌, inr}
 use Rattle.cf_layout.specs.Accepted.{IsAccepted}
 use Rattle.cf_layout.specs.Layout.{Plan}
 use Rattle.cf_debug.proofs.InTurn.{comes-first, comes-more, drives-break, drives-broken, drives-enough, drives-over, steers-plan, steers-stands}
@@ -22,7 +22,7 @@ returns-then-not-goes_on-clause-drives g c = drives-over _ _ _ _ _ _ _ _ c.loop-
     (inr (c.goes_on.ensures.no c.if-not-goes_on.true))
 
 pub advance-requires-clause-some : goal.advance-requires-clause-some
-advance-requires-clause-some g c = stands-offered c.loop-made.invariant.stands.0 _ _ _ c.loop-made.invariant.stands.1 c.loop-made.invariant.accepted
+advance-requires-clause-some g c = stands-offered c.loop-made.invariant.stands.0 _ _ None None _ c.loop-made.invariant.stands.1 c.loop-made.invariant.accepted
     (c.goes_on.ensures.yes c.if-not-goes_on.false).unended
 
 pub returns-in-Ok-true-clause-drives : goal.returns-in-Ok-true-clause-drives

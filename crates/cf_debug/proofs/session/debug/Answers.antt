@@ -1,5 +1,6 @@
 use Rattle.std.proofs.Common.{refl, ◌∙◌}
-use Rattle.cf_debug.proofs.Answering.{finishes-fed, finishes-on_run, uses-fed, uses-on_run, uses-stand}
+use Rattle.cf_debug.proofs.Answering.{finishes-fed, uses-fed}
+use Rattle.cf_debug.proofs.OnRun.{finishes-on_run, uses-on_run, uses-stand}
 use Rattle.cf_debug.proofs.Sessions.{comes-first, comes-more, comes-nearer, ends-at_line, ends-byte, ends-fault, ends-last, ends-limit}
 use Rattle.cf_debug.proofs.Standing.{stands-first, stands-on_run}
 use Rattle.cf_debug.proofs.session.debug.Goals as goal
@@ -7,7 +8,8 @@ use Rattle.cf_debug.proofs.session.debug.Goals as goal
 pub loop-byte-init : goal.loop-byte-init
 loop-byte-init g c = record {
   comes = comes-first _ _ _ _ c.new-line.ensures c.new-feed.ensures;
-  stands = stands-first _ _ c.requires.opened c.known.ensures.registers c.requires.ring;
+  stands = stands-first _ _ _ c.requires.opened c.known.ensures.registers c.requires.ring;
+  accepted = c.known.ensures.accepted;
   commands = refl;
   output = refl;
   report = refl;
@@ -20,7 +22,7 @@ returns-in-Some-clause-session g c = record {
 }
 
 pub returns-in-Some-clause-on_run : goal.returns-in-Some-clause-on_run
-returns-in-Some-clause-on_run g c = uses-on_run _ _ _ _ _ _ _ _ _ c.loop-byte.invariant.stands c.in-Some.ensures.uses
+returns-in-Some-clause-on_run g c = uses-on_run _ _ _ _ _ _ _ _ _ _ c.loop-byte.invariant.accepted c.loop-byte.invariant.stands c.in-Some.ensures.uses
 
 pub returns-in-Some-clause-commands : goal.returns-in-Some-clause-commands
 returns-in-Some-clause-commands g c = uses-fed _ _ _ _ _ _ _ _ _ _ (c.in-Byte.ensures.cause.still ∙ c.loop-byte.invariant.commands) c.in-Some.ensures.uses
@@ -31,7 +33,8 @@ loop-byte-smaller g c = comes-nearer _ _ _ _ _ c.in-Byte.ensures.feeds
 pub loop-byte-preserved : goal.loop-byte-preserved
 loop-byte-preserved g c = record {
   comes = comes-more _ _ _ _ _ _ _ _ _ _ _ _ _ c.loop-byte.invariant.comes c.in-Byte.ensures.feeds c.in_default.ensures.uses;
-  stands = uses-stand _ _ _ _ _ _ _ _ c.loop-byte.invariant.stands c.in_default.ensures.uses;
+  stands = uses-stand _ _ _ _ _ _ _ _ _ c.loop-byte.invariant.stands c.in_default.ensures.uses;
+  accepted = c.loop-byte.invariant.accepted;
   commands = c.in-Byte.ensures.cause.still ∙ c.loop-byte.invariant.commands;
   output = c.in_default.ensures.output.still ∙ c.loop-byte.invariant.output;
   report = c.in_default.ensures.report.still ∙ c.loop-byte.invariant.report;
@@ -44,7 +47,7 @@ returns-in-AtEnd-clause-session g c = record {
 }
 
 pub returns-in-AtEnd-clause-on_run : goal.returns-in-AtEnd-clause-on_run
-returns-in-AtEnd-clause-on_run g c = finishes-on_run _ _ _ _ _ _ _ c.loop-byte.invariant.stands c.finish.ensures.finishes
+returns-in-AtEnd-clause-on_run g c = finishes-on_run _ _ _ _ _ _ _ _ c.loop-byte.invariant.accepted c.loop-byte.invariant.stands c.finish.ensures.finishes
 
 pub returns-in-AtEnd-clause-commands : goal.returns-in-AtEnd-clause-commands
 returns-in-AtEnd-clause-commands g c = finishes-fed _ _ _ _ _ _ _ _ (c.in-AtEnd.ensures.cause.still ∙ c.loop-byte.invariant.commands) c.finish.ensures.finishes
@@ -56,7 +59,7 @@ returns-in-TooMany-clause-session g c = record {
 }
 
 pub returns-in-TooMany-clause-on_run : goal.returns-in-TooMany-clause-on_run
-returns-in-TooMany-clause-on_run g c = stands-on_run _ _ _ c.loop-byte.invariant.stands
+returns-in-TooMany-clause-on_run g c = stands-on_run _ _ _ _ _ _ c.loop-byte.invariant.accepted (λ x m begin new s. s) c.loop-byte.invariant.stands
 
 pub returns-in-Fault-clause-session : goal.returns-in-Fault-clause-session
 returns-in-Fault-clause-session g c = record {
@@ -65,4 +68,4 @@ returns-in-Fault-clause-session g c = record {
 }
 
 pub returns-in-Fault-clause-on_run : goal.returns-in-Fault-clause-on_run
-returns-in-Fault-clause-on_run g c = stands-on_run _ _ _ c.loop-byte.invariant.stands
+returns-in-Fault-clause-on_run g c = stands-on_run _ _ _ _ _ _ c.loop-byte.invariant.accepted (λ x m begin new s. s) c.loop-byte.invariant.stands

@@ -1,8 +1,9 @@
 use Rattle.std.proofs.Common.{◌≡◌, ◌+◌, None, length}
+use Rattle.cf_layout.specs.Accepted.{IsAccepted}
 use Rattle.cf_debug.specs.Making.{processor_state}
 use Rattle.cf_debug.specs.Replies.{DebuggerState, debugger_state}
 use Rattle.cf_debug.specs.Sessions.{Session, session_of}
-use Rattle.cf_debug.specs.Standing.{StandsAfterMoves}
+use Rattle.cf_debug.specs.Standing.{StandsNow}
 use Rattle.cf_debug.proofs.Sessions.{Comes}
 use Rattle.cf_debug.proofs.session.debug.Given as goal
 
@@ -17,7 +18,8 @@ invariant-loop-byte g l =
     let before : Session = session_of begin.processor (left l.initial.commands) (reported l.initial.report) in
     record {
       comes : Comes before begin now (left l.commands) (reported l.report) l.line l.feed;
-      stands : StandsAfterMoves l.initial.core l.core l.ring;
+      stands : StandsNow l.initial.core (written l.initial.output) now.processor;
+      accepted : IsAccepted l.initial.core.plan;
       commands : g.S.Source.faults l.commands ≡ g.S.Source.faults l.initial.commands;
       output : g.K.Sink.faults l.output ≡ g.K.Sink.faults l.initial.output;
       report : g.R.Sink.faults l.report ≡ g.R.Sink.faults l.initial.report;
