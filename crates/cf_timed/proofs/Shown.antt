@@ -67,6 +67,8 @@ breaks-shown r rule limit core before first blank full acc wide can fresh_is h =
       last = h.last;
       picked = h.picked;
       are_earliest = h.are_earliest;
+      sequential = h.sequential;
+      bounded = h.bounded;
       front = subst (WritesFront blank full)
           (ap (λ (w : MoveLines). watched_text counts writes core.plan rule (first_turn core.state) w h.reached.trace) fresh_is
           ∙ lines-watched core.plan rule (first_turn core.state) 0 h.reached.trace (omega (arith, small))) h.front;

@@ -1,21 +1,29 @@
 -- A timed run that is watched: what the watcher has noted and written, one more move, and the run once it stops.
-use Rattle.std.proofs.Common.{◌≡◌, ◌∙◌, refl, sym, ap, subst, ℕ, ◌≤◌, List, [], Option, None}
+use Rattle.std.proofs.Common.{◌≡◌, ◌∙◌, refl, sym, ap, subst, ℕ, ◌≤◌, List, [], Option, None, length}
 use Rattle.std.specs.Prelude.{Result, Ok, Err}
 use Rattle.std.specs.Result.{IsErr}
 use Rattle.std.proofs.lemmas.Bool.{false≢true}
 use Rattle.cf_io.specs.declared.failed.Failed.{Failed}
 use Rattle.run_options.specs.declared.guess_rule.GuessRule.{GuessRule}
+use Rattle.run_options.specs.Reportings as show
 use Rattle.cf_io.specs.Puts.{Writes, WritesFront}
 use Rattle.cf_io.proofs.Owing.{front-again, writes-again, writes-nothing}
+use Rattle.cf_layout.specs.Accepted.{IsAccepted}
 use Rattle.cf_layout.specs.Layout.{Plan}
 use Rattle.cf_core.specs.Processors.{Processor}
 use Rattle.rv_machine.specs.Streams.{Streams}
 use Rattle.cf_report.specs.declared.tally.Tally.{Tally}
 use Rattle.run_finishes.specs.declared.finish.Ran.{Ran as Answer}
-use Rattle.cf_run.specs.Made.{Made}
+use Rattle.run_finishes.specs.declared.finish.Ran.TheVariants as ran
+use Rattle.run_finishes.specs.declared.finish.Scripted.TheVariants.{Ran}
+use Rattle.cf_run.specs.Headline.{Gets, RunsSequentially, StopsAt}
+use Rattle.cf_run.specs.Made.{Made, moves_of}
 use Rattle.cf_run.specs.Moving.{RunPlace, place_of}
-use Rattle.cf_run.specs.Policies.{chooser}
-use Rattle.cf_run.specs.Reaching.{no_tally}
+use Rattle.cf_run.specs.Policies.{chooser, first_pick, later_picks}
+use Rattle.cf_run.specs.Reaching.{Reaches, no_tally}
+use Rattle.cf_run.proofs.Bounds.{reached-bounded}
+use Rattle.cf_run.proofs.Headline.{comes_sequentially}
+use Rattle.cf_run.proofs.Stopping.{comes_here}
 use Rattle.cf_sched.specs.Paces.{stopped}
 use Rattle.cf_timed.specs.declared.answer.Timed.{Timed}
 use Rattle.cf_timed.specs.declared.step.TimedStep.{TimedStep}
@@ -82,14 +90,23 @@ watched-more noted text r rule limit begin now new clock after step first watche
           });
     }
 
+-- a run that its report stops is one of the sequential machine
+breaks_sequentially : (limit : ℕ) (begin new : RunPlace) → IsAccepted begin.core.plan → length begin.core.state.regs ≡ 32 → begin.report ≡ None →
+    (h : Reaches limit show.report begin new) → RunsSequentially show.report (moves_of h.trace) begin new (Ran ran.ReportFault)
+unfolding StopsAt Gets
+breaks_sequentially limit begin new accepted wide silent h =
+    comes_sequentially limit show.report begin new (moves_of h.trace) (Ran ran.ReportFault) accepted wide
+    (comes_here limit show.report begin new new (Ran ran.ReportFault) h refl (λ x m s. s)
+    (λ text w. subst (λ (o : Option (List ℕ)). WritesFront o new.report text) (sym silent) tt))
+
 -- or the report failed after it
 pub watched-breaks : {W : Type 0} (noted : W → Made → TimedMove → W) (text : W → Made → TimedMove → List ℕ) (r : GuessRule) (rule : DelayRule) (limit : ℕ)
     (begin now new : RunPlace) (clock after : SiteTimes) (step : TimedStep) (first watcher : W) (blank told full : Option (List ℕ)) (held later : ℕ) →
-    IsBegun rule limit begin → ComesWatched noted text r rule limit begin now clock first watcher blank told held → now.core.state.retired ≤ limit →
-    MakesEarliest limit r now new held later clock after step →
+    IsBegun rule limit begin → begin.report ≡ None → ComesWatched noted text r rule limit begin now clock first watcher blank told held →
+    now.core.state.retired ≤ limit → MakesEarliest limit r now new held later clock after step →
     WritesFront told full (text watcher (made_as step.done.mv step.event new.core.state) step.done) →
     BreaksWatched noted text r rule limit begin first blank full
-watched-breaks noted text r rule limit begin now new clock after step first watcher blank told full held later b c within m front =
+watched-breaks noted text r rule limit begin now new clock after step first watcher blank told full held later b silent c within m front =
     let plan : Plan = begin.core.plan in
     let t : TimedTurn = first_turn begin.core.state in
     let made : Made = made_as step.done.mv step.event new.core.state in
@@ -103,6 +120,9 @@ watched-breaks noted text r rule limit begin now new clock after step first watc
       last = chooser r [] more.turn.count;
       picked = more.picked;
       are_earliest = more.so_far.are_earliest;
+      sequential = breaks_sequentially limit begin new b.accepted b.wide silent more.reached;
+      bounded = reached-bounded r first_pick later_picks limit show.report begin new more.picks (chooser r [] more.turn.count) b.accepted b.wide b.is_opened
+          more.reached more.picked;
       front = subst (λ (l : List Made). WritesFront blank full (watched_text noted text plan rule t first l))
           (sym (trace-more r rule limit begin now new clock after step held later b c.comes within m))
           (subst (WritesFront blank full)

@@ -1,5 +1,5 @@
 -- A timed run: the moves that finish earliest, one after another, and what the clock knows about them.
-use Rattle.std.specs.Prelude.{◌≡◌, ◌≤◌, ℕ, List, [], Option, Some, None, Result, Ok, Err}
+use Rattle.std.specs.Prelude.{◌≡◌, ◌≤◌, ◌-◌, ℕ, List, [], Option, Some, None, Result, Ok, Err}
 use Rattle.run_options.specs.declared.guess_rule.GuessRule.{GuessRule}
 use Rattle.run_options.specs.Limits.{most_timed_limit}
 use Rattle.run_options.specs.Reportings as show
@@ -15,9 +15,10 @@ use Rattle.run_finishes.specs.declared.finish.Ran.TheVariants as ran
 use Rattle.run_finishes.specs.declared.finish.Scripted.TheVariants.{Ran}
 use Rattle.run_finishes.specs.Stopped.{input_stopped, output_stopped}
 use Rattle.cf_run.specs.Ending.{EndsSequentially}
-use Rattle.cf_run.specs.Made.{Made}
+use Rattle.cf_run.specs.Headline.{RunsSequentially}
+use Rattle.cf_run.specs.Made.{Made, moves_of}
 use Rattle.cf_run.specs.Moving.{RunPlace, place_of}
-use Rattle.cf_run.specs.Policies.{CanRun, Chooser, Picks, RunsRight, first_pick, fresh, later_picks}
+use Rattle.cf_run.specs.Policies.{CanRun, Chooser, Picks, RunsRight, first_pick, fresh, later_picks, most_moves}
 use Rattle.cf_run.specs.Reaching.{Reaches, no_tally}
 use Rattle.cf_timed.specs.declared.answer.Timed.{Timed}
 use Rattle.cf_timed.specs.declared.answer.Timed.TheVariants.{Exit, Trap, Limit, ReadFault, WriteFault}
@@ -84,7 +85,8 @@ pub record RunsWatched {W : Type 0} (noted : W → Made → TimedMove → W) (te
   pub noted_all : later ≡ watched noted begin.core.plan rule (first_turn begin.core.state) first run.right.runs.reaches.trace
   pub put : Writes blank full (watched_text noted text begin.core.plan rule (first_turn begin.core.state) first run.right.runs.reaches.trace)
 
--- the report failed after a move of such a run: a part of this text about its moves so far was written
+-- the report failed after a move of such a run: a part of this text about its moves so far was written; by these moves it
+-- is a run of the sequential machine, and they are at most a stated number
 pub record BreaksTimed (text : List Made → List ℕ) (r : GuessRule) (rule : DelayRule) (limit : ℕ) (begin : RunPlace) (blank full : Option (List ℕ)) : Type 0 where
   pub now : RunPlace
   pub reached : Reaches limit show.report begin now
@@ -92,6 +94,8 @@ pub record BreaksTimed (text : List Made → List ℕ) (r : GuessRule) (rule : D
   pub last : Chooser (List ℕ)
   pub picked : Picks first_pick later_picks begin.core.plan (fresh r picks) begin.core.state reached.trace last
   pub are_earliest : AreEarliest r begin.core.plan rule (first_turn begin.core.state) picks reached.trace
+  pub sequential : RunsSequentially show.report (moves_of reached.trace) begin now (Ran ran.ReportFault)
+  pub bounded : now.tally.moves ≤ most_moves begin.core.plan (now.core.state.retired - begin.core.state.retired)
   pub front : WritesFront blank full (text reached.trace)
 
 -- the text is what a watcher writes
