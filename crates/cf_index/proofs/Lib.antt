@@ -20,6 +20,7 @@ pub mod FirstsAfter
 pub mod There
 pub mod Independence
 pub mod Ranks
+pub mod PickedFrom
 pub mod Guided
 pub mod Firsts
 pub mod OneIssue

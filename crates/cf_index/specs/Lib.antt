@@ -6,6 +6,7 @@ pub mod Ranks
 pub mod GuessRules
 pub mod Allowed
 pub mod Words
+pub mod PickedFrom
 pub mod Spread
 pub mod Sites
 pub mod Alone

@@ -18,7 +18,7 @@ use cf_core::{Core, Masks};
 /// The stages where a Climb comes after the rank.
 // The word is made only where one can.
 #[inline(always)]
-fn climbs_after(core: &Core, masks: &Masks, last: Rank) -> u32
+pub(crate) fn climbs_after(core: &Core, masks: &Masks, last: Rank) -> u32
     requires { masks.now ≡ masks_of core.now.plan core.now.state }
     ensures { (k : ℕ) → has_bit result k ≡ (has_bit (passing_of core.now.plan core.now.state).climb k && is_past last (mv.Climb (k + 1))) }
 {
@@ -32,7 +32,7 @@ fn climbs_after(core: &Core, masks: &Masks, last: Rank) -> u32
 /// The stages where a Fall comes after the rank.
 // The word is made only where one can.
 #[inline(always)]
-fn falls_after(core: &Core, masks: &Masks, last: Rank) -> u32
+pub(crate) fn falls_after(core: &Core, masks: &Masks, last: Rank) -> u32
     requires { masks.now ≡ masks_of core.now.plan core.now.state }
     ensures { (k : ℕ) → has_bit result k ≡ (has_bit (passing_of core.now.plan core.now.state).fall k && is_past last (mv.Fall (k + 1))) }
 {

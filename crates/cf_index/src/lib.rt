@@ -16,10 +16,12 @@ mod rank;
 mod sharing;
 mod soon;
 mod stages;
+mod sweeping;
 mod visiting;
 mod words;
 
 pub use candidates::Candidates;
 pub use rank::Rank;
 pub use sharing::shares;
+pub use sweeping::{ClimbKind, FallKind, MeetKind, SweptKind};
 pub use visiting::Visitor;

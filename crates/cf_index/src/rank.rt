@@ -122,6 +122,14 @@ impl Rank {
         }
     }
 
+    /// Whether it is that of Emit, or of a Climb, a Fall or a Meet.
+    #[inline(always)]
+    pub fn is_before_execute(self) -> bool
+        ensures { result ≡ (nat_lt 0 self.kind && nat_lt self.kind 5) }
+    {
+        ISSUE < self.kind && self.kind < EXECUTE
+    }
+
     /// The stages of the word at which the move of this kind comes after the rank.
     #[inline(always)]
     #[tactic(auto, using(crate::proofs::Ranks::above))]

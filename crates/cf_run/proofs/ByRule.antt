@@ -1,6 +1,6 @@
 -- What a policy is offered under a guess rule: moves that are allowed, at least one while the program goes on, and no Issue
 -- except where the hold rule permits it.
-use Rattle.std.proofs.Common.{◌≡◌, ℕ, ◌<◌, ◌≤◌, List, length, Some, None, true}
+use Rattle.std.proofs.Common.{◌≡◌, ℕ, ◌≤◌, List, length, Some, None, true}
 use Rattle.std.specs.Prelude.{slice_get}
 use Rattle.run_options.specs.declared.guess_rule.GuessRule.{GuessRule}
 use Rattle.rv_machine.specs.Machine.{Machine}

@@ -21,28 +21,18 @@ use Rattle.cf_run.specs.Made.{Made, moves_of}
 use Rattle.cf_run.specs.Moving.{RunPlace, MoveDoes}
 use Rattle.cf_run.specs.Policies.{Chooser, chooser, fresh, choice, offered_to, Picks, TakesPick, Turned, StopsAtPick, StopsPolicy, RunsPolicy, ChoiceAsks, PolicyUnasked, made_last, most_moves}
 use Rattle.cf_run.specs.Reaching.{no_tally, Reaches}
+use Rattle.cf_run.specs.Sweeps.{HasPicked}
 use Rattle.cf_run.proofs.Bounds.{bound_grows, bound_small, reached-bounded, reached-offered}
-use Rattle.cf_run.proofs.ByPolicy.{PicksTo, chooser_after, turned-more, turned-picks, unasked-turn}
+use Rattle.cf_run.proofs.Asked.{one-more}
+use Rattle.cf_run.proofs.ByPolicy.{PicksTo, chooser_after, taken, turned-more, turned-picks, turned-trace, unasked-turn}
 use Rattle.cf_run.proofs.Runs.{reached-none, none-trace, made-within}
 use Rattle.cf_run.proofs.Stopped.{offered-stopped, paced-stopped}
-
--- the picks so far lead from one RunPlace to another, and leave this policy, and this count, which stops where the
--- candidates are held
-pub record Comes {P : Type 0} (rule : GuessRule) (picked : P → List Move → ℕ) (onward : P → List Move → P) (limit : ℕ) (shows : Reporting) (begin now : RunPlace)
-    (first current : P)
-    (held : ℕ) : Type 0 where
-  pub at : Chooser P
-  pub reached : Reaches limit shows begin now
-  pub picks : PicksTo rule picked onward begin first reached.trace at
-  pub rule_is : at.rule ≡ rule
-  pub policy_is : current ≡ at.policy
-  pub count_is : held ≡ stopped begin.core.plan.stages at.count
 
 -- no pick yet
 pub comes-first : {P : Type 0} (rule : GuessRule) (picked : P → List Move → ℕ) (onward : P → List Move → P) (limit : ℕ) (shows : Reporting) (begin : RunPlace)
     (policy : P)
     (held stages : ℕ) → begin.tally ≡ no_tally → stages ≡ begin.core.plan.stages → held ≡ stopped stages 0 →
-    Comes rule picked onward limit shows begin begin policy policy held
+    HasPicked rule picked onward limit shows begin begin policy policy held
 unfolding Picks
 comes-first rule picked onward limit shows begin policy held stages none beside zero_held = record {
   at = fresh rule policy;
@@ -60,7 +50,7 @@ same_plan limit shows begin now h = ap (λ (p : Processor). p.plan) h.core
 -- what is offered with the count that stops is what is offered
 offers : {P : Type 0} (rule : GuessRule) (picked : P → List Move → ℕ) (onward : P → List Move → P) (limit : ℕ) (shows : Reporting) (begin now : RunPlace)
     (first current : P)
-    (held : ℕ) → (c : Comes rule picked onward limit shows begin now first current held) → offered_by rule now.core.plan held now.core.state
+    (held : ℕ) → (c : HasPicked rule picked onward limit shows begin now first current held) → offered_by rule now.core.plan held now.core.state
     ≡ offered_by c.at.rule now.core.plan c.at.count now.core.state
 offers rule picked onward limit shows begin now first current held c =
     ap (λ (n : ℕ). offered_by rule now.core.plan n now.core.state) (c.count_is ∙ ap (λ (p : Plan). stopped p.stages c.at.count)
@@ -71,7 +61,7 @@ offers rule picked onward limit shows begin now first current held c =
 -- so the pick is the same
 chosen_same : {P : Type 0} (rule : GuessRule) (picked : P → List Move → ℕ) (onward : P → List Move → P) (limit : ℕ) (shows : Reporting) (begin now : RunPlace)
     (first current : P)
-    (held : ℕ) → (c : Comes rule picked onward limit shows begin now first current held) → choice picked now.core.plan
+    (held : ℕ) → (c : HasPicked rule picked onward limit shows begin now first current held) → choice picked now.core.plan
     (chooser rule current held) now.core.state
     ≡ choice picked now.core.plan c.at now.core.state
 chosen_same {P} rule picked onward limit shows begin now first current held c =
@@ -81,7 +71,7 @@ chosen_same {P} rule picked onward limit shows begin now first current held c =
 -- and the policy after it
 onward_same : {P : Type 0} (rule : GuessRule) (picked : P → List Move → ℕ) (onward : P → List Move → P) (limit : ℕ) (shows : Reporting) (begin now : RunPlace)
     (first current : P)
-    (held : ℕ) → (c : Comes rule picked onward limit shows begin now first current held) → onward current
+    (held : ℕ) → (c : HasPicked rule picked onward limit shows begin now first current held) → onward current
     (offered_to now.core.plan (chooser rule current held) now.core.state) ≡ onward c.at.policy (offered_to now.core.plan c.at now.core.state)
 onward_same {P} rule picked onward limit shows begin now first current held c =
     ap (λ (moves : List Move). onward current moves) (offers rule picked onward limit shows begin now first current held c)
@@ -90,7 +80,7 @@ onward_same {P} rule picked onward limit shows begin now first current held c =
 -- the move that is taken by the count that stops is taken
 took : {P : Type 0} (rule : GuessRule) (picked : P → List Move → ℕ) (onward : P → List Move → P) (limit : ℕ) (shows : Reporting) (begin now new : RunPlace)
     (first current : P)
-    (held : ℕ) → (c : Comes rule picked onward limit shows begin now first current held) → TakesPick picked limit shows (chooser rule current held) now new →
+    (held : ℕ) → (c : HasPicked rule picked onward limit shows begin now first current held) → TakesPick picked limit shows (chooser rule current held) now new →
     TakesPick picked limit shows c.at now new
 took rule picked onward limit shows begin now new first current held c t = record {
   goes = t.goes;
@@ -102,8 +92,8 @@ took rule picked onward limit shows begin now new first current held c t = recor
 
 -- one more pick
 pub comes-more : {P : Type 0} (rule : GuessRule) (picked : P → List Move → ℕ) (onward : P → List Move → P) (limit : ℕ) (shows : Reporting) (begin now new : RunPlace)
-    (first current : P) (held : ℕ) (later : Chooser P) → Comes rule picked onward limit shows begin now first current held →
-    Turned picked onward limit shows now new (chooser rule current held) later → Comes rule picked onward limit shows begin new first later.policy later.count
+    (first current : P) (held : ℕ) (later : Chooser P) → HasPicked rule picked onward limit shows begin now first current held →
+    Turned picked onward limit shows now new (chooser rule current held) later → HasPicked rule picked onward limit shows begin new first later.policy later.count
 unfolding took
 comes-more {P} rule picked onward limit shows begin now new first current held later c t =
     let takes : TakesPick picked limit shows c.at now new = took rule picked onward limit shows begin now new first current held c t.takes in
@@ -123,7 +113,7 @@ comes-more {P} rule picked onward limit shows begin now new first current held l
 -- a stream that no move used is unchanged, with one more pick
 pub unasked-comes : {P T : Type 0} (rule : GuessRule) (picked : P → List Move → ℕ) (onward : P → List Move → P) (asks : Processor → Move →
     Type 0) (limit : ℕ) (shows : Reporting) (begin now new : RunPlace) (first current : P) (held : ℕ) (later : Chooser P)
-    (c : Comes rule picked onward limit shows begin now first current held) (t : Turned picked onward limit shows now new (chooser rule current held) later)
+    (c : HasPicked rule picked onward limit shows begin now first current held) (t : Turned picked onward limit shows now new (chooser rule current held) later)
     (before between rest : T)
     → ((SomeAsks asks begin.core.plan begin.core.state c.reached.trace → ⊥) → between ≡ before) →
     ((ChoiceAsks asks picked limit (chooser rule current held) now.core → ⊥) → rest ≡ between)
@@ -145,11 +135,23 @@ unasked-comes rule picked onward asks limit shows begin now new first current he
     })))
     unasked
 
+-- and a stream that a move used was used, with one more pick
+pub asked-comes : {P : Type 0} (rule : GuessRule) (picked : P → List Move → ℕ) (onward : P → List Move → P) (asks : Processor → Move →
+    Type 0) (limit : ℕ) (shows : Reporting) (begin now new : RunPlace) (first current : P) (held : ℕ) (later : Chooser P)
+    (c : HasPicked rule picked onward limit shows begin now first current held) (t : Turned picked onward limit shows now new (chooser rule current held) later)
+    → SomeAsks asks begin.core.plan begin.core.state c.reached.trace →
+    SomeAsks asks begin.core.plan begin.core.state (comes-more rule picked onward limit shows begin now new first current held later c t).reached.trace
+unfolding comes-more
+asked-comes rule picked onward asks limit shows begin now new first current held later c t some =
+    let takes = took rule picked onward limit shows begin now new first current held c t.takes in
+    subst (SomeAsks asks begin.core.plan begin.core.state) (sym (turned-trace picked limit shows begin now new c.at c.reached takes))
+    (one-more asks limit shows begin now c.reached (taken picked limit shows c.at now new takes) (inl some))
+
 -- while it goes on the policy is offered a move
 pub comes-offered : {P : Type 0} (rule : GuessRule) (picked : P → List Move → ℕ) (onward : P → List Move → P) (limit : ℕ) (shows : Reporting)
     (begin now : RunPlace) (first current : P)
     (held : ℕ) → IsAccepted begin.core.plan → length begin.core.state.regs ≡ 32 → IsOpened begin.core →
-    Comes rule picked onward limit shows begin now first current held
+    HasPicked rule picked onward limit shows begin now first current held
     → now.core.state.ending ≡ None → 0 < length (offered_by rule now.core.plan held now.core.state)
 comes-offered rule picked onward limit shows begin now first current held accepted wide o c unended =
     reached-offered rule picked onward limit shows begin now first c.at accepted wide o c.reached c.picks unended rule held
@@ -158,7 +160,7 @@ comes-offered rule picked onward limit shows begin now first current held accept
 pub comes-bounded : {P : Type 0} (rule : GuessRule) (picked : P → List Move → ℕ) (onward : P → List Move → P) (limit : ℕ) (shows : Reporting)
     (begin now : RunPlace) (first current : P)
     (held : ℕ) → IsAccepted begin.core.plan → length begin.core.state.regs ≡ 32 → IsOpened begin.core →
-    Comes rule picked onward limit shows begin now first current held
+    HasPicked rule picked onward limit shows begin now first current held
     → now.core.state.retired ≤ limit → now.tally.moves ≤ most_moves begin.core.plan limit
 comes-bounded rule picked onward limit shows begin now first current held accepted wide o c within =
     let a = reached-bounded rule picked onward limit shows begin now first c.at accepted wide o c.reached c.picks in
@@ -169,7 +171,7 @@ comes-bounded rule picked onward limit shows begin now first current held accept
 pub comes-counted : {P : Type 0} (rule : GuessRule) (picked : P → List Move → ℕ) (onward : P → List Move → P) (limit : ℕ) (shows : Reporting)
     (begin now : RunPlace) (first current : P)
     (held : ℕ) → IsAccepted begin.core.plan → length begin.core.state.regs ≡ 32 → IsOpened begin.core →
-    Comes rule picked onward limit shows begin now first current held
+    HasPicked rule picked onward limit shows begin now first current held
     → now.core.state.retired ≤ limit → limit ≤ most_limit → now.tally.moves + 1 < 2 ^ 63
 comes-counted rule picked onward limit shows begin now first current held accepted wide o c within few =
     let a = comes-bounded rule picked onward limit shows begin now first current held accepted wide o c within in
@@ -192,7 +194,7 @@ turned-counted picked onward limit shows now new at later t = ap (λ (tally : Ta
 pub comes-nearer : {P : Type 0} (rule : GuessRule) (picked : P → List Move → ℕ) (onward : P → List Move → P) (limit : ℕ) (shows : Reporting)
     (begin now new : RunPlace)
     (first current : P) (held : ℕ) (later : Chooser P) → IsAccepted begin.core.plan → length begin.core.state.regs ≡ 32 → IsOpened begin.core →
-    Comes rule picked onward limit shows begin now first current held → Turned picked onward limit shows now new (chooser rule current held) later
+    HasPicked rule picked onward limit shows begin now first current held → Turned picked onward limit shows now new (chooser rule current held) later
     → most_moves begin.core.plan limit - new.tally.moves < most_moves begin.core.plan limit - now.tally.moves
 comes-nearer rule picked onward limit shows begin now new first current held later accepted wide o c t =
     let a = comes-bounded rule picked onward limit shows begin new first later.policy later.count accepted wide o
@@ -206,7 +208,7 @@ comes-nearer rule picked onward limit shows begin now new first current held lat
 
 -- the run stops where it has arrived
 stops_same : {P : Type 0} (rule : GuessRule) (picked : P → List Move → ℕ) (onward : P → List Move → P) (limit : ℕ) (shows : Reporting) (begin now new : RunPlace)
-    (first current later : P) (held : ℕ) (answer : Answer) → (c : Comes rule picked onward limit shows begin now first current held) →
+    (first current later : P) (held : ℕ) (answer : Answer) → (c : HasPicked rule picked onward limit shows begin now first current held) →
     StopsPolicy picked onward limit shows (chooser rule current held) now new later answer → StopsPolicy picked onward limit shows c.at now new later answer
 stops_same {P} rule picked onward limit shows begin now new first current later held answer c stops = go answer stops
   where
@@ -231,14 +233,14 @@ stops_same {P} rule picked onward limit shows begin now new first current later 
 
 -- the moves of a run that stops there
 pub all-made : {P : Type 0} (rule : GuessRule) (picked : P → List Move → ℕ) (onward : P → List Move → P) (limit : ℕ) (shows : Reporting) (begin now new : RunPlace)
-    (first current later : P) (held : ℕ) (answer : Answer) → Comes rule picked onward limit shows begin now first current held →
+    (first current later : P) (held : ℕ) (answer : Answer) → HasPicked rule picked onward limit shows begin now first current held →
     StopsPolicy picked onward limit shows (chooser rule current held) now new later answer → List Move
 all-made rule picked onward limit shows begin now new first current later held answer c stops =
     moves_of c.reached.trace ++ made_last picked onward limit shows c.at now new later answer
     (stops_same rule picked onward limit shows begin now new first current later held answer c stops)
 
 pub comes-runs : {P : Type 0} (rule : GuessRule) (picked : P → List Move → ℕ) (onward : P → List Move → P) (limit : ℕ) (shows : Reporting) (begin now new : RunPlace)
-    (first current later : P) (held : ℕ) (answer : Answer) → (c : Comes rule picked onward limit shows begin now first current held) →
+    (first current later : P) (held : ℕ) (answer : Answer) → (c : HasPicked rule picked onward limit shows begin now first current held) →
     (stops : StopsPolicy picked onward limit shows (chooser rule current held) now new later answer)
     → RunsPolicy rule picked onward limit shows begin new first later (all-made rule picked onward limit shows begin now new first current later held answer
     c stops)
@@ -268,7 +270,7 @@ turned-plan picked onward limit shows now new at later t = t.takes.does.makes.ma
 
 -- what uses the stream at the next pick by the count that stops uses it there
 choice-asks : {P : Type 0} (asks : Processor → Move → Type 0) (rule : GuessRule) (picked : P → List Move → ℕ) (onward : P → List Move →
-    P) (limit : ℕ) (shows : Reporting) (begin now : RunPlace) (first current : P) (held : ℕ) → (c : Comes rule picked onward limit shows begin now first current
+    P) (limit : ℕ) (shows : Reporting) (begin now : RunPlace) (first current : P) (held : ℕ) → (c : HasPicked rule picked onward limit shows begin now first current
     held) →
     ChoiceAsks asks picked limit (chooser rule current held) now.core → ChoiceAsks asks picked limit c.at now.core
 choice-asks asks rule picked onward limit shows begin now first current held c a =
@@ -283,7 +285,7 @@ choice-asks asks rule picked onward limit shows begin now first current held c a
 -- a stream that no move of the run used is unchanged
 pub comes-unasked : {P S K : Type 0} (rule : GuessRule) (picked : P → List Move → ℕ) (onward : P → List Move →
     P) (limit : ℕ) (shows : Reporting) (begin now new : RunPlace) (first current later : P) (held : ℕ) (answer : Answer) (before between rest : S)
-    (blank half full : K) → (c : Comes rule picked onward limit shows begin now first current held) →
+    (blank half full : K) → (c : HasPicked rule picked onward limit shows begin now first current held) →
     StopsPolicy picked onward limit shows (chooser rule current held) now new later answer
     → ((SomeAsks AsksInput begin.core.plan begin.core.state c.reached.trace → ⊥) → between ≡ before) →
     ((ChoiceAsks AsksInput picked limit (chooser rule current held) now.core → ⊥) → rest ≡ between)

@@ -17,6 +17,7 @@ pub mod Bounds
 pub mod ByPolicy
 pub mod Stopped
 pub mod Coming
+pub mod Turning
 pub mod Headline
 pub mod Ending
 pub mod Opened

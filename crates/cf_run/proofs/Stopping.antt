@@ -1,5 +1,5 @@
 -- How a run stops, at whatever moment it has reached.
-use Rattle.std.proofs.Common.{◌≡◌, ℕ, ◌<◌, List, [], ◌∷◌, ◌++◌, Option, Some, None, Err, true, arith, refl, sym, ap, subst, ◌∙◌, take, append_assoc}
+use Rattle.std.proofs.Common.{◌≡◌, ℕ, ◌<◌, List, [], ◌∷◌, ◌++◌, Option, Some, None, Err, true, refl, sym, ap, subst, ◌∙◌, take, append_assoc}
 use Rattle.std.proofs.lemmas.List.{append_cancel_left}
 use Rattle.run_options.specs.declared.reporting.Reporting.{Reporting}
 use Rattle.run_options.specs.Reportings as show

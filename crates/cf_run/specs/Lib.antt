@@ -7,3 +7,4 @@ pub mod Asking
 pub mod Headline
 pub mod Ending
 pub mod Policies
+pub mod Sweeps

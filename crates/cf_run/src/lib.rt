@@ -7,13 +7,16 @@ mod finished;
 pub mod laws;
 mod making;
 mod policy;
+mod rule;
 mod script;
 mod showing;
+mod sweep;
 
 pub use facts::known;
 pub use finished::over;
 pub use making::make_and_show;
 pub use policy::run_policy;
+pub use rule::run_rule;
 pub use run_finishes::{Ran, Scripted};
 pub use run_options::{Reporting, Show};
 pub use script::run_script;

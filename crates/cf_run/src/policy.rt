@@ -40,7 +40,7 @@ fn choose<P: Policy>(core: &Core, candidates: &mut Candidates, policy: &mut P, p
 
 /// Makes the move that the policy picks, or returns why the run stops.
 #[inline(always)]
-fn advance<P: Policy, S: Source, K: Sink, R: Sink>(
+pub(crate) fn advance<P: Policy, S: Source, K: Sink, R: Sink>(
     core: &mut Core,
     candidates: &mut Candidates,
     policy: &mut P,

@@ -1,6 +1,8 @@
 //! The policy that takes the candidates in turn.
 
-ghost use Rattle.std.specs.Prelude.{◌≡◌, ◌<◌, None, Some, length, slice_get};
+ghost use Rattle.std.specs.Prelude.{◌≡◌, ◌<◌, MatchOption, None, Some, length, slice_get};
+ghost use Rattle.cf_index.specs.Order.{slide_place};
+ghost use Rattle.cf_index.specs.Ranks.{rank_of};
 ghost use Rattle.cf_sched.specs.Paces.{offers};
 ghost use Rattle.cf_sched.specs.Policies.{round_on, round_pick};
 
@@ -44,10 +46,26 @@ impl Round {
         }
     }
 
-    /// Records the pick.
+    /// The last pick.
+    #[inline(always)]
+    pub fn last(&self) -> Option<Move>
+        ensures { result ≡ self.now }
+    {
+        self.last
+    }
+
+    /// The rank of the last pick. Where nothing was picked, it is that of a Slide.
+    #[inline(always)]
+    pub fn rank(&self) -> Rank
+        ensures { MatchOption self.now (result.kind ≡ slide_place) (λ mv. result ≡ rank_of mv) }
+    {
+        self.rank
+    }
+
+    /// Records a pick.
     // The rank is set first, so that the compiler knows it where it knows the pick.
     #[inline(always)]
-    fn keep(&mut self, mv: Move)
+    pub fn keep(&mut self, mv: Move)
         ensures { self.new ≡ Some mv }
     {
         let rank = Rank::of(mv);

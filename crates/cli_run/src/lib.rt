@@ -2,6 +2,7 @@
 #![tactic(auto)]
 
 mod by_policy;
+mod by_rule;
 mod by_script;
 mod closing;
 mod run;

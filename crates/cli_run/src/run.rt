@@ -12,6 +12,7 @@ ghost use Rattle.cli_reports.specs.OutsideChanges.{streams_change, faults_change
 ghost use Rattle.cli_files.specs.Schedules.{ready_schedule_view, FitsScript};
 
 use crate::by_policy::run_by_policy;
+use crate::by_rule::run_by_rule;
 use crate::by_script::run_by_script;
 use crate::tail::{Tail, add_tail};
 use cf_core::Core;
@@ -52,7 +53,7 @@ fn run_scheduled<S: Source, K: Sink, R: Sink>(
         }
         ReadySchedule::Rule(rule) => {
             let round = Round::new();
-            run_by_policy(core, candidates, round, *rule, limit, reporting, streams)
+            run_by_rule(core, candidates, round, *rule, limit, reporting, streams)
         }
     }
 }

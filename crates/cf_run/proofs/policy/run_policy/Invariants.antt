@@ -4,7 +4,7 @@ use Rattle.cf_core.specs.Asking.{AsksInput, AsksOutput}
 use Rattle.cf_run.specs.Asking.{SomeAsks}
 use Rattle.cf_run.specs.Moving.{RunPlace, place_of}
 use Rattle.cf_run.specs.Policies.{most_moves}
-use Rattle.cf_run.proofs.Coming.{Comes}
+use Rattle.cf_run.specs.Sweeps.{HasPicked}
 use Rattle.cf_run.proofs.policy.run_policy.Given as goal
 
 -- the picks that were made so far lead here, and no fault was counted
@@ -16,7 +16,7 @@ invariant-loop-ran g l =
     let start : RunPlace = place_of l.initial.core (streams_of (left l.initial.input) (written l.initial.output)) (reported l.initial.report) l.initial.tally in
     let now : RunPlace = place_of l.core (streams_of (left l.input) (written l.output)) (reported l.report) l.tally in
     record {
-      comes : Comes l.fn.rule g.P.Policy.picked g.P.Policy.onward l.limit l.reporting start now l.initial.policy l.policy l.pace.count;
+      comes : HasPicked l.fn.rule g.P.Policy.picked g.P.Policy.onward l.limit l.reporting start now l.initial.policy l.policy l.pace.count;
       rule : l.pace.rule ≡ l.fn.rule;
       stages : l.pace.stages ≡ l.core.plan.stages;
       input_asked : (SomeAsks AsksInput start.core.plan start.core.state comes.reached.trace → ⊥) → l.input ≡ l.initial.input;

@@ -1,0 +1,120 @@
+//! The kinds of moves over the stages that a sweep makes, one stage after another.
+
+ghost use Rattle.std.specs.Prelude.{◌≡◌, ℕ, ◌≤◌, Bool, IfSome, List, None, Some, find};
+ghost use Rattle.run_options.specs.declared.guess_rule.GuessRule.{GuessRule};
+ghost use Rattle.cf_bind.specs.declared.moves.Move.{Move as Step};
+ghost use Rattle.cf_bind.specs.declared.moves.Move.TheVariants as mv;
+ghost use Rattle.cf_layout.specs.Layout.{Plan};
+ghost use Rattle.cf_semantics.specs.state.State.{State};
+ghost use Rattle.cf_index.specs.Order.{kind_place};
+ghost use Rattle.cf_index.specs.Ranks.{is_past, rank_of};
+ghost use Rattle.cf_index.specs.PickedFrom.{IsPickedFrom, from_climb, from_execute, from_fall, from_meet};
+
+use crate::ahead::{climbs_after, falls_after};
+use crate::bits::lowest;
+use crate::rank::{MEET, Rank};
+use crate::stages::meets;
+use cf_bind::Move;
+use cf_core::Core;
+
+/// A kind of move over the stages: Climb, Fall or Meet.
+pub trait SweptKind {
+    /// The move of this kind at a stage.
+    ghost at_stage: { ℕ → Step };
+
+    /// What is allowed of this kind and of those after it.
+    ghost from: { Plan → State → List Step };
+
+    /// What is allowed of the kinds after it.
+    ghost beyond: { Plan → State → List Step };
+
+    /// The move at the stage.
+    fn at(i: u32) -> Move
+        ensures value { result ≡ at_stage i }
+        ensures after { 2 ≤ kind_place result }
+        ensures before { kind_place result ≤ 4 }
+        ensures picked { (rule : GuessRule) (held : Bool) (plan : Plan) (s : State) → plan.stages ≤ 32 → IsPickedFrom rule held plan s (Some result) (rank_of result) (from plan s) };
+
+    /// The first stage past the rank at which the move is allowed.
+    fn next(core: &Core, last: Rank) -> Option<u32>
+        ensures here { IfSome result (λ i. find (is_past last) (from core.now.plan core.now.state) ≡ Some (at_stage i)) }
+        ensures gone { result ≡ None → find (is_past last) (beyond core.now.plan core.now.state) ≡ find (is_past last) (from core.now.plan core.now.state) };
+}
+
+/// Climb, by stage.
+pub struct ClimbKind;
+
+/// Fall, by stage.
+pub struct FallKind;
+
+/// Meet, by stage.
+pub struct MeetKind;
+
+impl SweptKind for ClimbKind {
+    ghost at_stage = { mv.Climb };
+
+    ghost from = { from_climb };
+
+    ghost beyond = { from_fall };
+
+    #[inline(always)]
+    #[tactic(auto, using(crate::proofs::PickedFrom::climbed_on))]
+    fn at(i: u32) -> Move {
+        Move::Climb(i)
+    }
+
+    #[inline(always)]
+    fn next(core: &Core, last: Rank) -> Option<u32> {
+        let masks = core.masks();
+        match lowest(climbs_after(core, &masks, last)) {
+            Some(k) => Some(k + 1),
+            None => None,
+        }
+    }
+}
+
+impl SweptKind for FallKind {
+    ghost at_stage = { mv.Fall };
+
+    ghost from = { from_fall };
+
+    ghost beyond = { from_meet };
+
+    #[inline(always)]
+    #[tactic(auto, using(crate::proofs::PickedFrom::fallen_on))]
+    fn at(i: u32) -> Move {
+        Move::Fall(i)
+    }
+
+    #[inline(always)]
+    fn next(core: &Core, last: Rank) -> Option<u32> {
+        let masks = core.masks();
+        match lowest(falls_after(core, &masks, last)) {
+            Some(k) => Some(k + 1),
+            None => None,
+        }
+    }
+}
+
+impl SweptKind for MeetKind {
+    ghost at_stage = { mv.Meet };
+
+    ghost from = { from_meet };
+
+    ghost beyond = { from_execute };
+
+    #[inline(always)]
+    #[tactic(auto, using(crate::proofs::PickedFrom::met_on))]
+    fn at(i: u32) -> Move {
+        Move::Meet(i)
+    }
+
+    #[inline(always)]
+    fn next(core: &Core, last: Rank) -> Option<u32> {
+        let masks = core.masks();
+        match lowest(last.after(MEET, meets(core, &masks))) {
+            Some(k) => Some(k + 1),
+            None => None,
+        }
+    }
+}

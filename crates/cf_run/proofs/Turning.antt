@@ -1,0 +1,292 @@
+-- Turns of the rule: what a Climb, a Fall or a Meet leaves as it is, and where some turns lead.
+use Rattle.std.specs.Prelude.{◌&&◌, find}
+use Rattle.std.proofs.lemmas.Bool.Decides.{nat_tests}
+use Rattle.std.proofs.Common.{◌≡◌, ◌∙◌, sym, refl, ap, subst, ℕ, zero, suc, ◌+◌, ◌-◌, ◌≤◌, ◌<◌, List, [], Bool, true, nat_lt, Option, Some, None, Ok, Err, arith}
+use Rattle.run_options.specs.Limits.{most_limit}
+use Rattle.run_options.specs.declared.guess_rule.GuessRule.{GuessRule}
+use Rattle.run_options.specs.declared.reporting.Reporting.{Reporting}
+use Rattle.cf_io.specs.Puts.{Writes}
+use Rattle.cf_io.proofs.Owing.{writes-nothing}
+use Rattle.rv_machine.specs.Streams.{Streams}
+use Rattle.cf_layout.specs.Accepted.{IsAccepted}
+use Rattle.cf_layout.specs.Layout.{Plan}
+use Rattle.cf_bind.specs.declared.moves.Move.{Move}
+use Rattle.cf_bind.specs.declared.moves.Move.TheVariants as mv
+use Rattle.cf_semantics.specs.declared.event.Event.{Event}
+use Rattle.cf_semantics.specs.moves.Bars.{bar}
+use Rattle.cf_semantics.specs.moves.Moves.{moved, next}
+use Rattle.cf_semantics.specs.state.Options.{on}
+use Rattle.cf_semantics.specs.state.State.{State, Moment, cell_at}
+use Rattle.cf_core.specs.Processors.{Processor}
+use Rattle.cf_core.specs.Stepping.{MakesOrFails}
+use Rattle.cf_core.specs.declared.fault.Fault.{Fault}
+use Rattle.cf_core.specs.declared.fault.Fault.TheVariants as fault
+use Rattle.cf_index.specs.Order.{kind_place, slide_place}
+use Rattle.cf_index.specs.PickedFrom.{IsPickedFrom, from_climb}
+use Rattle.cf_index.specs.Ranks.{is_past, rank_of}
+use Rattle.cf_index.specs.declared.rank.Rank.{Rank}
+use Rattle.cf_index.proofs.PickedFrom.{picked_after}
+use Rattle.cf_sched.specs.Paces.{offered_by, stopped}
+use Rattle.cf_sched.specs.Policies.{round_on, round_pick}
+use Rattle.cf_semantics.specs.moves.Holding.{is_held, paced}
+use Rattle.cf_semantics.specs.state.Drained.{is_drained}
+use Rattle.cf_report.specs.declared.tally.Tally.{Tally}
+use Rattle.cf_run.specs.Made.{CanCount, Made, counted, shown}
+use Rattle.cf_run.specs.Moving.{RunPlace, MoveDoes, place_of}
+use Rattle.cf_run.specs.Policies.{Turned, chooser, choice, most_moves}
+use Rattle.cf_run.specs.Reaching.{GoesOn}
+use Rattle.cf_run.specs.Sweeps.{HasPicked, IsUnderway, ShowsNothing, SweepsTo, TurnsTo}
+use Rattle.cf_run.proofs.ByRule.{ruled-allowed}
+use Rattle.cf_run.proofs.Runs.{can-count}
+use Rattle.cf_run.specs.Asking.{SomeAsks}
+use Rattle.cf_core.specs.Asking.{AsksInput, AsksOutput}
+use Rattle.cf_run.proofs.Coming.{asked-comes, comes-counted, comes-more, comes-nearer, turned-counted, turned-plan}
+
+-- What stays --
+
+-- the program has ended as before, and as many instructions have retired
+pub record Keeps (s t : State) : Type 0 where
+  pub ending : t.ending ≡ s.ending
+  pub retired : t.retired ≡ s.retired
+
+on_keeps : {X : Type 0} (o : Option X) (s : State) (f : X → State) → ((x : X) → Keeps s (f x)) → Keeps s (on o s f)
+on_keeps None s f all = record { ending = refl; retired = refl }
+on_keeps (Some x) s f all = all x
+
+moved_keeps : (plan : Plan) (s : State) (m : Move) → 2 ≤ kind_place m → kind_place m ≤ 4 → Keeps s (moved plan s m)
+unfolding moved
+moved_keeps plan s (mv.Climb i) after before =
+    on_keeps (cell_at s.cells i) s _ (λ c. on_keeps (cell_at s.cells (i + 1)) s _ (λ d. record { ending = refl; retired = refl }))
+moved_keeps plan s (mv.Fall i) after before =
+    on_keeps (cell_at s.cells i) s _ (λ c. on_keeps (cell_at s.cells (i - 1)) s _ (λ d. record { ending = refl; retired = refl }))
+moved_keeps plan s (mv.Meet i) after before =
+    on_keeps (cell_at s.cells i) s _ (λ c. on_keeps c.passenger s _ (λ p. on_keeps c.packet s _ (λ k. record { ending = refl; retired = refl })))
+moved_keeps plan s (mv.Issue g) after before = absurd (omega (arith, after))
+moved_keeps plan s mv.Emit after before = absurd (omega (arith, after))
+moved_keeps plan s (mv.Execute i) after before = absurd (omega (arith, before))
+moved_keeps plan s (mv.Send i) after before = absurd (omega (arith, before))
+moved_keeps plan s (mv.Launch i) after before = absurd (omega (arith, before))
+moved_keeps plan s (mv.Slide k c) after before = absurd (omega (arith, before))
+moved_keeps plan s mv.Access after before = absurd (omega (arith, before))
+moved_keeps plan s (mv.Recover i) after before = absurd (omega (arith, before))
+moved_keeps plan s mv.Leave after before = absurd (omega (arith, before))
+moved_keeps plan s mv.Exit after before = absurd (omega (arith, before))
+moved_keeps plan s mv.Serve after before = absurd (omega (arith, before))
+
+next_state : (plan : Plan) (m : Moment) (v : Move) → kind_place v ≤ 4 → (next plan m v).state ≡ moved plan m.state v
+unfolding next
+next_state plan m (mv.Issue g) before = refl
+next_state plan m mv.Emit before = refl
+next_state plan m (mv.Climb i) before = refl
+next_state plan m (mv.Fall i) before = refl
+next_state plan m (mv.Meet i) before = refl
+next_state plan m (mv.Execute i) before = refl
+next_state plan m (mv.Send i) before = refl
+next_state plan m (mv.Launch i) before = refl
+next_state plan m (mv.Slide k c) before = refl
+next_state plan m mv.Access before = refl
+next_state plan m (mv.Recover i) before = refl
+next_state plan m mv.Leave before = refl
+next_state plan m mv.Exit before = refl
+next_state plan m mv.Serve before = absurd (omega (arith, before))
+
+pub makes_keeps : (old new : Processor) (m : Move) (before after : Streams) (e : Event) → 2 ≤ kind_place m → kind_place m ≤ 4 →
+    MakesOrFails old new m before after (Ok e) → Keeps old.state new.state
+unfolding MakesOrFails
+makes_keeps old new m before after e late early makes =
+    let from : Moment = record { state = old.state; rest = makes.0.rest; output = [] } in
+    let state : moved old.plan old.state m ≡ new.state = sym (next_state old.plan from m early) ∙ ap (λ (t : Moment). t.state) makes.0.is in
+    subst (Keeps old.state) state (moved_keeps old.plan old.state m late early)
+
+-- no Serve
+no_serve : (m : Move) → kind_place m ≤ 4 → m ≡ mv.Serve → ⊥
+no_serve m early is = let late = ap kind_place is in absurd (omega (arith, early, late))
+
+-- so neither stream fails it
+pub never_fails : (old new : Processor) (m : Move) (before after : Streams) (f : Fault) → kind_place m ≤ 4 → MakesOrFails old new m before after (Err f) → ⊥
+unfolding MakesOrFails
+never_fails old new m before after fault.Read early h = no_serve m early h.0
+never_fails old new m before after fault.Write early h = no_serve m early h.0
+
+-- where nothing is shown of a move
+unshown : (show : Reporting) (plan : Plan) (n : ℕ) (made : Made) → ShowsNothing show → [] ≡ shown show plan n made
+unfolding shown
+unshown show plan n made none = rw (none.report, none.never) refl
+
+pub does_unshown : (show : Reporting) (m : Move) (old new : Processor) (before after : Streams) (report : Option (List ℕ)) (tally later : Tally) (e : Event) →
+    ShowsNothing show → bar old.plan old.state m ≡ None → MakesOrFails old new m before after (Ok e) → later ≡ counted tally m e →
+    MoveDoes show m (place_of old before report tally) (place_of new after report later) (Ok e)
+unfolding MakesOrFails MoveDoes
+does_unshown show m old new before after report tally later e none free makes counts = record {
+  makes = record { allowed = free; makes = makes.0; is_event = makes.1; tally = counts };
+  report = subst (Writes report report) (unshown show old.plan later.moves (record { move = m; event = e; state = new.state }) none) (writes-nothing report);
+}
+
+-- What is picked --
+
+-- the first move past the rank is the rule's choice
+pub chosen : (rule : GuessRule) (plan : Plan) (count : ℕ) (s : State) (last : Option Move) (r : Rank) (moves : List Move) (m : Move) →
+    IsPickedFrom rule (is_held plan count) plan s last r moves → find (is_past r) moves ≡ Some m →
+    choice round_pick plan (chooser rule last count) s ≡ Some m
+unfolding IsPickedFrom offered_by
+chosen rule plan count s last r moves m picked found = picked m found
+
+-- so nothing bars it
+pub chosen_free : (rule : GuessRule) (plan : Plan) (count : ℕ) (s : State) (last : Option Move) (r : Rank) (moves : List Move) (m : Move) →
+    IsPickedFrom rule (is_held plan count) plan s last r moves → find (is_past r) moves ≡ Some m → bar plan s m ≡ None
+chosen_free rule plan count s last r moves m picked found = ruled-allowed rule plan count s _ m (chosen rule plan count s last r moves m picked found)
+
+-- and once it is made, the rule has made one turn
+pub chosen_turn : (rule : GuessRule) (limit : ℕ) (show : Reporting) (now new : RunPlace) (last : Option Move) (held count : ℕ) (r : Rank) (moves : List Move)
+    (m : Move) (e : Event) → IsPickedFrom rule (is_held now.core.plan held) now.core.plan now.core.state last r moves → find (is_past r) moves ≡ Some m →
+    GoesOn limit now.core.state → MoveDoes show m now new (Ok e) →
+    count ≡ stopped now.core.plan.stages (paced held m e (is_drained new.core.state)) →
+    Turned round_pick round_on limit show now new (chooser rule last held) (chooser rule (Some m) count)
+chosen_turn rule limit show now new last held count r moves m e picked found goes does counts =
+    let c = chosen rule now.core.plan held now.core.state last r moves m picked found in
+    record {
+      takes = record { goes = goes; move = m; choice_is = c; event = e; does = does };
+      policy_is = sym c;
+      count_is = counts;
+    }
+
+-- Turn after turn --
+
+pub no_turns : (rule : GuessRule) (limit : ℕ) (show : Reporting) (now : RunPlace) (last : Option Move) (held : ℕ) →
+    SweepsTo rule limit show now now last last held held
+unfolding SweepsTo TurnsTo
+no_turns rule limit show now last held = (0, (refl, refl, refl))
+
+pub one_more_turn : (rule : GuessRule) (limit : ℕ) (show : Reporting) (now between new : RunPlace) (last pick later : Option Move) (held count new_held : ℕ) →
+    SweepsTo rule limit show now between last pick held count →
+    Turned round_pick round_on limit show between new (chooser rule pick count) (chooser rule later new_held) →
+    SweepsTo rule limit show now new last later held new_held
+unfolding SweepsTo TurnsTo
+one_more_turn rule limit show now between new last pick later held count new_held (n, turns) t = (suc n, (between, pick, count, turns, t))
+
+turns_on : (rule : GuessRule) (limit : ℕ) (show : Reporting) (now between new : RunPlace) (last pick later : Option Move) (held count new_held n : ℕ) →
+    SweepsTo rule limit show now between last pick held count → TurnsTo rule limit show n between new pick later count new_held →
+    SweepsTo rule limit show now new last later held new_held
+unfolding TurnsTo
+turns_on rule limit show now between new last pick later held count new_held zero first (place, policy, counts) =
+    rw (place, policy, counts) first
+turns_on rule limit show now between new last pick later held count new_held (suc n) first (place, p, c, turns, t) =
+    one_more_turn rule limit show now place new last p later held c new_held
+    (turns_on rule limit show now between place last pick p held count c n first turns) t
+
+-- one sweep after another
+pub sweeps_on : (rule : GuessRule) (limit : ℕ) (show : Reporting) (now between new : RunPlace) (last pick later : Option Move) (held count new_held : ℕ) →
+    SweepsTo rule limit show now between last pick held count → SweepsTo rule limit show between new pick later count new_held →
+    SweepsTo rule limit show now new last later held new_held
+unfolding SweepsTo
+sweeps_on rule limit show now between new last pick later held count new_held first (n, turns) =
+    turns_on rule limit show now between new last pick later held count new_held n first turns
+
+-- a run that is under way still is after one more turn
+pub underway_more : (rule : GuessRule) (limit : ℕ) (show : Reporting) (now new : RunPlace) (last later : Option Move) (held count : ℕ) →
+    IsUnderway rule limit show now last held → Turned round_pick round_on limit show now new (chooser rule last held) (chooser rule later count) →
+    IsUnderway rule limit show new later count
+underway_more rule limit show now new last later held count u t = record {
+  begin = u.begin;
+  first = u.first;
+  accepted = u.accepted;
+  registers = u.registers;
+  opened = u.opened;
+  comes = comes-more rule round_pick round_on limit show u.begin now new u.first last held (chooser rule later count) u.comes t;
+}
+
+-- where a run has come by a sweep, whose moves used what was used before
+pub record ComesBy (rule : GuessRule) (limit : ℕ) (show : Reporting) (begin now new : RunPlace) (first current later : Option Move) (held count : ℕ)
+    (c : HasPicked rule round_pick round_on limit show begin now first current held) : Type 0 where
+  pub comes : HasPicked rule round_pick round_on limit show begin new first later count
+  pub input : SomeAsks AsksInput begin.core.plan begin.core.state c.reached.trace →
+      SomeAsks AsksInput begin.core.plan begin.core.state comes.reached.trace
+  pub output : SomeAsks AsksOutput begin.core.plan begin.core.state c.reached.trace →
+      SomeAsks AsksOutput begin.core.plan begin.core.state comes.reached.trace
+
+comes_turns : (rule : GuessRule) (limit : ℕ) (show : Reporting) (begin now new : RunPlace) (first current later : Option Move) (held count n : ℕ)
+    (c : HasPicked rule round_pick round_on limit show begin now first current held) → TurnsTo rule limit show n now new current later held count →
+    ComesBy rule limit show begin now new first current later held count c
+unfolding TurnsTo
+comes_turns rule limit show begin now new first current later held count zero c (place, policy, counts) =
+    subst (λ (p : RunPlace). ComesBy rule limit show begin now p first current later held count c) (sym place)
+    (subst (λ (p : Option Move). ComesBy rule limit show begin now now first current p held count c) (sym policy)
+    (subst (λ (k : ℕ). ComesBy rule limit show begin now now first current current held k c) (sym counts)
+    (record { comes = c; input = λ a. a; output = λ a. a })))
+comes_turns rule limit show begin now new first current later held count (suc n) c (between, pick, k, turns, t) =
+    let so_far = comes_turns rule limit show begin now between first current pick held k n c turns in
+    record {
+      comes = comes-more rule round_pick round_on limit show begin between new first pick k (chooser rule later count) so_far.comes t;
+      input = λ a. asked-comes rule round_pick round_on AsksInput limit show begin between new first pick k (chooser rule later count) so_far.comes t
+          (so_far.input a);
+      output = λ a. asked-comes rule round_pick round_on AsksOutput limit show begin between new first pick k (chooser rule later count) so_far.comes t
+          (so_far.output a);
+    }
+
+pub comes-by : (rule : GuessRule) (limit : ℕ) (show : Reporting) (begin now new : RunPlace) (first current later : Option Move) (held count : ℕ)
+    (c : HasPicked rule round_pick round_on limit show begin now first current held) → SweepsTo rule limit show now new current later held count →
+    ComesBy rule limit show begin now new first current later held count c
+unfolding SweepsTo
+comes-by rule limit show begin now new first current later held count c (n, turns) =
+    comes_turns rule limit show begin now new first current later held count n c turns
+
+-- the layout is unchanged, and no fewer moves are counted
+pub record Grows (now new : RunPlace) : Type 0 where
+  pub plan : new.core.plan ≡ now.core.plan
+  pub moves : now.tally.moves ≤ new.tally.moves
+
+turns_grow : (rule : GuessRule) (limit : ℕ) (show : Reporting) (now new : RunPlace) (current later : Option Move) (held count n : ℕ) →
+    TurnsTo rule limit show n now new current later held count → Grows now new
+unfolding TurnsTo
+turns_grow rule limit show now new current later held count zero (place, policy, counts) = rw place (record { plan = refl; moves = omega arith })
+turns_grow rule limit show now new current later held count (suc n) (between, pick, k, turns, t) =
+    let so_far = turns_grow rule limit show now between current pick held k n turns in
+    let counted_one = turned-counted round_pick round_on limit show between new (chooser rule pick k) (chooser rule later count) t in
+    record {
+      plan = turned-plan round_pick round_on limit show between new (chooser rule pick k) (chooser rule later count) t ∙ so_far.plan;
+      moves = let m = so_far.moves in omega (arith, m, counted_one);
+    }
+
+pub sweeps_grow : (rule : GuessRule) (limit : ℕ) (show : Reporting) (now new : RunPlace) (current later : Option Move) (held count : ℕ) →
+    SweepsTo rule limit show now new current later held count → Grows now new
+unfolding SweepsTo
+sweeps_grow rule limit show now new current later held count (n, turns) = turns_grow rule limit show now new current later held count n turns
+
+-- so one more move can be counted, and fewer are left after a turn
+pub underway_counts : (rule : GuessRule) (limit : ℕ) (show : Reporting) (now : RunPlace) (last : Option Move) (held : ℕ) →
+    IsUnderway rule limit show now last held → GoesOn limit now.core.state → limit ≤ most_limit → CanCount now.tally
+underway_counts rule limit show now last held u goes few_limit =
+    let below = goes.below in
+    let few = comes-counted rule round_pick round_on limit show u.begin now u.first last held u.accepted u.registers u.opened u.comes (omega (arith, below))
+    few_limit in
+    can-count limit show u.begin now u.comes.reached (omega (arith, few))
+
+pub underway_nearer : (rule : GuessRule) (limit : ℕ) (show : Reporting) (now new : RunPlace) (last later : Option Move) (held count : ℕ) (plan : Plan) →
+    IsUnderway rule limit show now last held → Turned round_pick round_on limit show now new (chooser rule last held) (chooser rule later count) →
+    now.core.plan ≡ plan → most_moves plan limit - new.tally.moves < most_moves plan limit - now.tally.moves
+underway_nearer rule limit show now new last later held count plan u t is =
+    let same : now.core.plan ≡ u.begin.core.plan = ap (λ (p : Processor). p.plan) u.comes.reached.core in
+    subst (λ (p : Plan). most_moves p limit - new.tally.moves < most_moves p limit - now.tally.moves) (sym same ∙ is)
+    (comes-nearer rule round_pick round_on limit show u.begin now new u.first last held (chooser rule later count) u.accepted u.registers u.opened u.comes t)
+
+-- an accepted layout has at most 32 stages
+pub few_stages : (plan old shown : Plan) → plan ≡ old → shown ≡ old → IsAccepted shown → plan.stages ≤ 32
+few_stages plan old shown is same accepted = (subst IsAccepted (same ∙ sym is) accepted).stages.1
+
+-- after a move whose rank is before Execute, the rule picks the first past its rank
+before_execute : (r : Rank) → (nat_lt 0 r.kind && nat_lt r.kind 5) ≡ true → (1 ≤ r.kind) × (r.kind < slide_place)
+before_execute r test = (grind (arith, nat_tests, test), grind (arith, nat_tests, test))
+
+pub picks_past : (rule : GuessRule) (held : Bool) (plan : Plan) (s : State) (last : Move) (r : Rank) → plan.stages ≤ 32 → r ≡ rank_of last →
+    (nat_lt 0 r.kind && nat_lt r.kind 5) ≡ true → IsPickedFrom rule held plan s (Some last) r (from_climb plan s)
+picks_past rule held plan s last r few is test =
+    let within = before_execute r test in
+    let kind : r.kind ≡ kind_place last = ap (λ (q : Rank). q.kind) is in
+    let after : 1 ≤ kind_place last = let low = within.0 in omega (arith, kind, low) in
+    let inside : kind_place last < slide_place = let high = within.1 in omega (arith, kind, high) in
+    subst (λ (q : Rank). IsPickedFrom rule held plan s (Some last) q (from_climb plan s)) (sym is)
+    (picked_after rule held plan s last few after (λ e. absurd (omega (arith, inside, e))))
+
+-- fewer are left after a sweep and one more turn
+pub fewer_left : (most now between new : ℕ) → now ≤ between → most - new < most - between → most - new < most - now
+fewer_left most now between new grows near = omega (arith, grows, near)

@@ -1,0 +1,32 @@
+use Rattle.std.proofs.Common.{◌≡◌, ◌-◌, ◌≤◌}
+use Rattle.rv_machine.specs.Streams.{streams_of}
+use Rattle.cf_core.specs.Asking.{AsksInput, AsksOutput}
+use Rattle.cf_sched.specs.Policies.{round_on, round_pick}
+use Rattle.cf_run.specs.Asking.{SomeAsks}
+use Rattle.cf_run.specs.Moving.{RunPlace, place_of}
+use Rattle.cf_run.specs.Policies.{most_moves}
+use Rattle.cf_run.specs.Sweeps.{HasPicked}
+use Rattle.cf_run.proofs.rule.run_rule.Given as goal
+
+-- the picks that were made so far lead here, and no fault was counted
+abbrev pub invariant-loop-ran : goal.invariant-loop-ran
+invariant-loop-ran g l =
+    let left = g.S.Source.left in
+    let written = g.K.Sink.written in
+    let reported = g.R.Sink.written in
+    let start : RunPlace = place_of l.initial.core (streams_of (left l.initial.input) (written l.initial.output)) (reported l.initial.report) l.initial.tally in
+    let now : RunPlace = place_of l.core (streams_of (left l.input) (written l.output)) (reported l.report) l.tally in
+    record {
+      comes : HasPicked l.fn.rule round_pick round_on l.limit l.reporting start now l.initial.round l.round l.pace.count;
+      rule : l.pace.rule ≡ l.fn.rule;
+      stages : l.pace.stages ≡ l.core.plan.stages;
+      input_asked : (SomeAsks AsksInput start.core.plan start.core.state comes.reached.trace → ⊥) → l.input ≡ l.initial.input;
+      output_asked : (SomeAsks AsksOutput start.core.plan start.core.state comes.reached.trace → ⊥) → l.output ≡ l.initial.output;
+      within : l.core.state.retired ≤ l.limit;
+      input : g.S.Source.faults l.input ≡ g.S.Source.faults l.initial.input;
+      output : g.K.Sink.faults l.output ≡ g.K.Sink.faults l.initial.output;
+      report : g.R.Sink.faults l.report ≡ g.R.Sink.faults l.initial.report;
+    }
+
+abbrev pub decreases-loop-ran : goal.decreases-loop-ran
+decreases-loop-ran g l = most_moves l.initial.core.plan l.limit - l.tally.moves

@@ -1,0 +1,155 @@
+//! The run by the rule.
+
+ghost use Rattle.std.specs.Prelude.{◌≡◌, ◌-◌, ◌≤◌, Some};
+ghost use Rattle.run_options.specs.Limits.{most_limit};
+ghost use Rattle.cf_io.specs.Causes.{HasCause};
+ghost use Rattle.run_finishes.specs.declared.finish.Scripted.TheVariants as scripted;
+ghost use Rattle.cf_sched.specs.Policies.{round_on, round_pick};
+ghost use Rattle.cf_run.specs.Ending.{EndsSequentially};
+ghost use Rattle.cf_run.specs.Moving.{place_by};
+ghost use Rattle.cf_run.specs.Policies.{CanRun, PolicyUnasked, RunsRight, most_moves};
+ghost use Rattle.run_finishes.specs.Stopped.{input_stopped, output_stopped, report_stopped};
+ghost use Rattle.cf_run.specs.Reaching.{no_tally};
+ghost use Rattle.cf_run.specs.Sweeps.{IsUnderway, ShowsNothing, SweepsTo};
+
+use crate::facts::known;
+use crate::finished::over;
+use crate::policy::advance;
+use crate::sweep::{SweepPlace, sweep_stages};
+use cf_bind::Move;
+use cf_core::Core;
+use cf_index::Candidates;
+use cf_io::{Sink, Source};
+use cf_report::Tally;
+use cf_sched::{Pace, Round};
+use run_finishes::Ran;
+use run_options::{GuessRule, Reporting, Show};
+
+/// Makes all Climbs, Falls and Meets that the rule picks next, one after another, where nothing is shown of them.
+#[inline(always)]
+fn sweep_after<S: Source, K: Sink, R: Sink>(
+    core: &mut Core,
+    last: Move,
+    round: &mut Round,
+    pace: &mut Pace,
+    limit: u64,
+    reporting: Reporting,
+    input: &mut S,
+    output: &mut K,
+    report: &R,
+    tally: &mut Tally,
+)
+    requires last { round.old ≡ Some last }
+    requires underway { IsUnderway pace.old.rule limit reporting
+        (place_by S.left K.written R.written core.old input.old output.old report.now tally.old) round.old pace.old.count }
+    requires limit { limit ≤ most_limit }
+    requires within { core.old.state.retired ≤ limit }
+    requires stages { pace.old.stages ≡ core.old.plan.stages }
+    requires shows { ShowsNothing reporting }
+    ensures sweeps { SweepsTo pace.old.rule limit reporting
+        (place_by S.left K.written R.written core.old input.old output.old report.now tally.old)
+        (place_by S.left K.written R.written core.new input.new output.new report.now tally.new)
+        round.old round.new pace.old.count pace.new.count }
+    ensures within { core.new.state.retired ≤ limit }
+    ensures rule { pace.new.rule ≡ pace.old.rule }
+    ensures stages { pace.new.stages ≡ core.new.plan.stages }
+    ensures input { input.new ≡ input.old }
+    ensures output { output.new ≡ output.old }
+{
+    let _stages = core.layout().stages();
+    let rank = round.rank();
+    if !rank.is_before_execute() {
+        return;
+    }
+    if over(core, limit).is_none() {
+        let from = SweepPlace { last, rank };
+        let place = sweep_stages(
+            core, from, pace, limit, reporting, input, output, report, tally,
+        );
+        round.keep(place.last);
+    }
+}
+
+/// Makes some of the moves that the rule picks next, one after another; none where something is shown of them.
+#[inline(always)]
+fn sweep<S: Source, K: Sink, R: Sink>(
+    core: &mut Core,
+    round: &mut Round,
+    pace: &mut Pace,
+    limit: u64,
+    reporting: Reporting,
+    input: &mut S,
+    output: &mut K,
+    report: &R,
+    tally: &mut Tally,
+)
+    requires underway { IsUnderway pace.old.rule limit reporting
+        (place_by S.left K.written R.written core.old input.old output.old report.now tally.old) round.old pace.old.count }
+    requires limit { limit ≤ most_limit }
+    requires within { core.old.state.retired ≤ limit }
+    requires stages { pace.old.stages ≡ core.old.plan.stages }
+    ensures sweeps { SweepsTo pace.old.rule limit reporting
+        (place_by S.left K.written R.written core.old input.old output.old report.now tally.old)
+        (place_by S.left K.written R.written core.new input.new output.new report.now tally.new)
+        round.old round.new pace.old.count pace.new.count }
+    ensures within { core.new.state.retired ≤ limit }
+    ensures rule { pace.new.rule ≡ pace.old.rule }
+    ensures stages { pace.new.stages ≡ core.new.plan.stages }
+    ensures input { input.new ≡ input.old }
+    ensures output { output.new ≡ output.old }
+{
+    match (round.last(), reporting.show, reporting.every) {
+        (Some(last), Show::Report, None) => sweep_after(
+            core, last, round, pace, limit, reporting, input, output, report, tally,
+        ),
+        _ => {}
+    }
+}
+
+/// Runs the rule on an opened processor. It does what `run_policy` does with it, and makes the moves of a kind over the stages
+/// in a loop of their own.
+pub fn run_rule<S: Source, K: Sink, R: Sink>(
+    core: &mut Core,
+    candidates: &mut Candidates,
+    round: &mut Round,
+    rule: GuessRule,
+    limit: u64,
+    reporting: Reporting,
+    input: &mut S,
+    output: &mut K,
+    report: &mut R,
+    tally: &mut Tally,
+) -> Ran
+    requires begins { CanRun limit core.old }
+    requires tally { tally.old ≡ no_tally }
+    ensures run { RunsRight rule round_pick round_on limit reporting
+        (place_by S.left K.written R.written core.old input.old output.old report.old tally.old)
+        (place_by S.left K.written R.written core.new input.new output.new report.new tally.new)
+        round.old round.new result }
+    ensures ends { EndsSequentially limit
+        (place_by S.left K.written R.written core.old input.old output.old report.old tally.old)
+        (place_by S.left K.written R.written core.new input.new output.new report.new tally.new)
+        (scripted.Ran result) }
+    ensures bounded { tally.new.moves ≤ most_moves core.old.plan (core.new.state.retired - core.old.state.retired) }
+    ensures input { HasCause (S.faults input.old) (S.faults input.new) (input_stopped (Some result)) }
+    ensures output { HasCause (K.faults output.old) (K.faults output.new) (output_stopped (Some result)) }
+    ensures report { HasCause (R.faults report.old) (R.faults report.new) (report_stopped (Some result)) }
+    ensures asked { PolicyUnasked rule round_pick round_on limit reporting
+        (place_by S.left K.written R.written core.old input.old output.old report.old tally.old)
+        (place_by S.left K.written R.written core.new input.new output.new report.new tally.new)
+        round.old round.new result (input.new ≡ input.old) (output.new ≡ output.old) }
+{
+    known(core);
+    let mut pace = Pace::new(rule, core.layout().stages());
+    loop {
+        sweep(
+            core, round, &mut pace, limit, reporting, input, output, report, tally,
+        );
+        let end = advance(
+            core, candidates, round, &mut pace, limit, reporting, input, output, report, tally,
+        );
+        if let Some(ran) = end {
+            return ran;
+        }
+    }
+}

@@ -1,0 +1,202 @@
+//! A sweep of the rule over the stages: all Climbs, then all Falls, then all Meets that it picks one after another.
+
+ghost use Rattle.std.specs.Prelude.{◌≡◌, ◌+◌, ◌<◌, ◌≤◌, ◌^◌, IfSome, None, Some};
+ghost use Rattle.run_options.specs.Limits.{most_limit};
+ghost use Rattle.cf_semantics.specs.moves.Bars.{bar};
+ghost use Rattle.cf_index.specs.Order.{kind_place};
+ghost use Rattle.cf_index.specs.PickedFrom.{from_climb};
+ghost use Rattle.cf_sched.specs.Policies.{round_on, round_pick};
+ghost use Rattle.cf_run.specs.Made.{CanCount};
+ghost use Rattle.cf_run.specs.Moving.{MoveDoes, place_by};
+ghost use Rattle.cf_run.specs.Policies.{Turned, chooser};
+ghost use Rattle.cf_run.specs.Reaching.{GoesOn};
+ghost use Rattle.cf_run.specs.Sweeps.{IsUnderway, PicksFrom, ShowsNothing, SweepsTo};
+
+use crate::counting::count;
+use cf_bind::Move;
+use cf_core::{Core, Event};
+use cf_index::{ClimbKind, FallKind, MeetKind, Rank, SweptKind};
+use cf_io::{Sink, Source};
+use cf_report::Tally;
+use cf_sched::Pace;
+use run_options::Reporting;
+
+/// Where a sweep is: the last pick of the rule, and the rank from which it looks for the next one.
+#[derive(Clone, Copy)]
+pub(crate) struct SweepPlace {
+    pub(crate) last: Move,
+    pub(crate) rank: Rank,
+}
+
+/// Makes and counts an allowed Climb, Fall or Meet, where nothing is shown.
+#[inline(always)]
+#[tactic(auto, unfolding(crate::specs::Moving::MoveDoes))]
+fn make_unshown<S: Source, K: Sink, R: Sink>(
+    core: &mut Core,
+    mv: Move,
+    reporting: Reporting,
+    input: &mut S,
+    output: &mut K,
+    report: &R,
+    tally: &mut Tally,
+) -> Event
+    requires after { 2 ≤ kind_place mv }
+    requires before { kind_place mv ≤ 4 }
+    requires allowed { bar core.old.plan core.old.state mv ≡ None }
+    requires retired { core.old.state.retired + 1 < 2 ^ 64 }
+    requires counts { CanCount tally.old }
+    requires shows { ShowsNothing reporting }
+    ensures does { MoveDoes reporting mv
+        (place_by S.left K.written R.written core.old input.old output.old report.now tally.old)
+        (place_by S.left K.written R.written core.new input.new output.new report.now tally.new)
+        (Ok result) }
+    ensures ending { core.new.state.ending ≡ core.old.state.ending }
+    ensures retired { core.new.state.retired ≡ core.old.state.retired }
+    ensures input { input.new ≡ input.old }
+    ensures output { output.new ≡ output.old }
+{
+    let _report = report;
+    match core.make(mv, input, output) {
+        Ok(event) => {
+            count(tally, mv, &event);
+            event
+        }
+        Err(_) => Event::Plain,
+    }
+}
+
+/// Makes the next move of the kind, where the rule picks it, and answers where the sweep is then; or answers that there is none.
+#[inline(always)]
+fn take_turn<T: SweptKind, S: Source, K: Sink, R: Sink>(
+    core: &mut Core,
+    from: SweepPlace,
+    pace: &mut Pace,
+    limit: u64,
+    reporting: Reporting,
+    input: &mut S,
+    output: &mut K,
+    report: &R,
+    tally: &mut Tally,
+) -> Option<SweepPlace>
+    requires picked { PicksFrom pace.old core.old (Some from.last) from.rank (T.from core.old.plan core.old.state) }
+    requires goes { GoesOn limit core.old.state }
+    requires limit { limit ≤ most_limit }
+    requires stages { pace.old.stages ≡ core.old.plan.stages }
+    requires counts { CanCount tally.old }
+    requires shows { ShowsNothing reporting }
+    ensures turned { IfSome result (λ next. Turned round_pick round_on limit reporting
+        (place_by S.left K.written R.written core.old input.old output.old report.now tally.old)
+        (place_by S.left K.written R.written core.new input.new output.new report.now tally.new)
+        (chooser pace.old.rule (Some from.last) pace.old.count) (chooser pace.old.rule (Some next.last) pace.new.count)) }
+    ensures picked { IfSome result (λ next. PicksFrom pace.new core.new (Some next.last) next.rank (T.from core.new.plan core.new.state)) }
+    ensures goes { GoesOn limit core.new.state }
+    ensures rule { pace.new.rule ≡ pace.old.rule }
+    ensures plan { core.new.plan ≡ core.old.plan }
+    ensures stages { pace.new.stages ≡ pace.old.stages }
+    ensures gone { result ≡ None → PicksFrom pace.old core.old (Some from.last) from.rank (T.beyond core.old.plan core.old.state) }
+    ensures core { result ≡ None → core.new ≡ core.old }
+    ensures pace { result ≡ None → pace.new ≡ pace.old }
+    ensures tally { result ≡ None → tally.new ≡ tally.old }
+    ensures input { input.new ≡ input.old }
+    ensures output { output.new ≡ output.old }
+{
+    let _stages = core.layout().stages();
+    let Some(stage) = T::next(core, from.rank) else {
+        return None;
+    };
+    let mv = T::at(stage);
+    let event = make_unshown(core, mv, reporting, input, output, report, tally);
+    pace.saw(mv, &event, core.drained());
+    Some(SweepPlace {
+        last: mv,
+        rank: Rank::of(mv),
+    })
+}
+
+/// Makes the moves of the kind that the rule picks one after another.
+#[inline(always)]
+fn sweep_kind<T: SweptKind, S: Source, K: Sink, R: Sink>(
+    core: &mut Core,
+    from: SweepPlace,
+    pace: &mut Pace,
+    limit: u64,
+    reporting: Reporting,
+    input: &mut S,
+    output: &mut K,
+    report: &R,
+    tally: &mut Tally,
+) -> SweepPlace
+    requires picked { PicksFrom pace.old core.old (Some from.last) from.rank (T.from core.old.plan core.old.state) }
+    requires goes { GoesOn limit core.old.state }
+    requires limit { limit ≤ most_limit }
+    requires stages { pace.old.stages ≡ core.old.plan.stages }
+    requires underway { IsUnderway pace.old.rule limit reporting
+        (place_by S.left K.written R.written core.old input.old output.old report.now tally.old) (Some from.last) pace.old.count }
+    requires shows { ShowsNothing reporting }
+    ensures sweeps { SweepsTo pace.old.rule limit reporting
+        (place_by S.left K.written R.written core.old input.old output.old report.now tally.old)
+        (place_by S.left K.written R.written core.new input.new output.new report.now tally.new)
+        (Some from.last) (Some result.last) pace.old.count pace.new.count }
+    ensures picked { PicksFrom pace.new core.new (Some result.last) result.rank (T.beyond core.new.plan core.new.state) }
+    ensures underway { IsUnderway pace.new.rule limit reporting
+        (place_by S.left K.written R.written core.new input.new output.new report.now tally.new) (Some result.last) pace.new.count }
+    ensures goes { GoesOn limit core.new.state }
+    ensures rule { pace.new.rule ≡ pace.old.rule }
+    ensures stages { pace.new.stages ≡ core.new.plan.stages }
+    ensures plan { core.new.plan ≡ core.old.plan }
+    ensures input { input.new ≡ input.old }
+    ensures output { output.new ≡ output.old }
+{
+    let mut place = from;
+    loop {
+        let turned = take_turn::<T, S, K, R>(
+            core, place, pace, limit, reporting, input, output, report, tally,
+        );
+        match turned {
+            Some(next) => place = next,
+            None => return place,
+        }
+    }
+}
+
+/// Makes the Climbs, then the Falls, then the Meets that the rule picks one after another, until it picks another move.
+// A call of its own: with it the loop of a run stays small.
+#[inline(never)]
+pub(crate) fn sweep_stages<S: Source, K: Sink, R: Sink>(
+    core: &mut Core,
+    from: SweepPlace,
+    pace: &mut Pace,
+    limit: u64,
+    reporting: Reporting,
+    input: &mut S,
+    output: &mut K,
+    report: &R,
+    tally: &mut Tally,
+) -> SweepPlace
+    requires picked { PicksFrom pace.old core.old (Some from.last) from.rank (from_climb core.old.plan core.old.state) }
+    requires goes { GoesOn limit core.old.state }
+    requires limit { limit ≤ most_limit }
+    requires stages { pace.old.stages ≡ core.old.plan.stages }
+    requires underway { IsUnderway pace.old.rule limit reporting
+        (place_by S.left K.written R.written core.old input.old output.old report.now tally.old) (Some from.last) pace.old.count }
+    requires shows { ShowsNothing reporting }
+    ensures sweeps { SweepsTo pace.old.rule limit reporting
+        (place_by S.left K.written R.written core.old input.old output.old report.now tally.old)
+        (place_by S.left K.written R.written core.new input.new output.new report.now tally.new)
+        (Some from.last) (Some result.last) pace.old.count pace.new.count }
+    ensures goes { GoesOn limit core.new.state }
+    ensures rule { pace.new.rule ≡ pace.old.rule }
+    ensures stages { pace.new.stages ≡ core.new.plan.stages }
+    ensures input { input.new ≡ input.old }
+    ensures output { output.new ≡ output.old }
+{
+    let climbed = sweep_kind::<ClimbKind, S, K, R>(
+        core, from, pace, limit, reporting, input, output, report, tally,
+    );
+    let fallen = sweep_kind::<FallKind, S, K, R>(
+        core, climbed, pace, limit, reporting, input, output, report, tally,
+    );
+    sweep_kind::<MeetKind, S, K, R>(
+        core, fallen, pace, limit, reporting, input, output, report, tally,
+    )
+}

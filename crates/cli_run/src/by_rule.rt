@@ -1,0 +1,53 @@
+//! A run of the processor by the rule.
+
+ghost use Rattle.std.specs.Prelude.{◌≡◌, Ok};
+ghost use Rattle.cf_run.specs.Policies.{CanRun};
+ghost use Rattle.cf_sched.specs.Policies.{round_on, round_pick};
+ghost use Rattle.cli_files.specs.Causes.{input_answered, output_answered};
+ghost use Rattle.cli_reports.specs.Reporting.{ComesOver, FaultsReported, files_reported};
+ghost use Rattle.cli_run.specs.Run.{ByPolicy, RunsCore, BreaksCore};
+ghost use Rattle.cli_reports.specs.OutsideChanges.{streams_change, input_left, output_left};
+
+use crate::closing::close;
+use cf_core::Core;
+use cf_index::Candidates;
+use cf_io::{Failed, Sink, Source};
+use cf_run::{Reporting, Scripted, run_rule};
+use cf_sched::Round;
+use cli_processor::no_moves;
+use cli_reports::{Reported, RunStreams};
+use run_options::GuessRule;
+
+/// Runs the opened processor by the rule, from the moves that the guess rule keeps, and puts what is shown
+/// and the closing lines.
+// A call of its own, with the rule as a local, so that the compiler keeps its state in registers.
+#[inline(never)]
+pub fn run_by_rule<S: Source, K: Sink, R: Sink>(
+    core: &mut Core,
+    candidates: &mut Candidates,
+    round: Round,
+    rule: GuessRule,
+    limit: u64,
+    reporting: Reporting,
+    streams: RunStreams<'_, S, K, R>,
+) -> Result<Reported, Failed>
+    requires begins { CanRun limit core.old }
+    ensures runs { ComesOver (RunsCore limit reporting core.old core.new (ByPolicy rule round_pick round_on limit reporting round))
+        (BreaksCore limit reporting core.old (ByPolicy rule round_pick round_on limit reporting round))
+        (streams_change S.left K.written R.written R.faults streams.entry streams.exit) result }
+    ensures files { files_reported result ≡ Ok tt }
+    ensures input { FaultsReported input_answered (S.faults streams.entry.input.now) (S.faults (input_left streams.exit)) result }
+    ensures output { FaultsReported output_answered (K.faults streams.entry.output.now) (K.faults (output_left streams.exit)) result }
+{
+    let mut round = round;
+    let RunStreams {
+        input,
+        output,
+        report,
+    } = streams;
+    let mut tally = no_moves();
+    let ran = run_rule(
+        core, candidates, &mut round, rule, limit, reporting, input, output, report, &mut tally,
+    );
+    close(core, limit, Scripted::Ran(ran), &tally, report)
+}
