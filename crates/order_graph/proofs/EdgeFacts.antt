@@ -1,5 +1,5 @@
 -- An edge from a node, made and judged.
-use Rattle.std.proofs.Common.{◌≡◌, ℕ, zero, suc, ◌+◌, ◌<◌, ◌^◌, List, [], ◌∷◌, ◌++◌, Option, Some, None, false, length, map, get_or, take, refl, sym, ap, subst, ◌∙◌, arith}
+use Rattle.std.proofs.Common.{◌≡◌, ℕ, zero, suc, ◌+◌, ◌<◌, ◌^◌, List, [], ◌∷◌, ◌++◌, Option, Some, None, false, length, map, get_or, take, refl, sym, ap, subst, ◌∙◌, arith, inl, inr}
 use Rattle.std.specs.Prelude.{IfNone, slice_get}
 use Rattle.std.specs.List.{All, Contains}
 use Rattle.std.proofs.lemmas.List.{length-map}
@@ -27,19 +27,20 @@ use Rattle.order_judging.specs.declared.judging.FailedTest.{FailedTest}
 use Rattle.order_judging.specs.FirstTests.{IsMoveJudged, IsStateJudged, reached}
 use Rattle.order_judging.specs.Places.{IsPlaceOf}
 use Rattle.order_search.specs.declared.graph.Edge.{Edge}
-use Rattle.order_search.specs.Paths.{EdgeView}
+use Rattle.order_search.specs.Paths.{EdgeView, HasEdgeFault}
 use Rattle.order_search.specs.Views.{IsJudged, TellsFault, seen}
 use Rattle.order_graph.specs.OrderTrial.{OrderTrial, first_moment, leads_on, moment_next}
 use Rattle.order_graph.specs.ChangesNext.{changes_next}
 use Rattle.order_graph.specs.Kinds.{kind_told}
 use Rattle.order_graph.specs.TrialParts.{HasPlace, IsSoundTrial}
-use Rattle.order_graph.specs.KeyGraph.{AreRightMoves, IsOrderKey, IsOrderNode, IsRightNode, IsWrongEdge, IsWrongFrom, IsWrongNode, IsWrongThere, edge_of, edges_from, first_node, memory_loaded, moves_from, node_next, state_of}
+use Rattle.order_graph.specs.KeyGraph.{AreRightMoves, IsOrderKey, IsOrderNode, IsRightNode, IsWrongAlong, IsWrongEdge, IsWrongFrom, IsWrongNode, IsWrongThere, edge_of, edges_from, first_node, memory_loaded, moves_from, node_next, state_of}
 use Rattle.order_graph.proofs.Changed.{changes_right}
-use Rattle.order_graph.proofs.Facts.{node_changes, order_facts}
+use Rattle.order_graph.proofs.Facts.{key_node, node_changes, order_facts, order_node}
 use Rattle.order_graph.proofs.Faults.{move_from}
+use Rattle.order_graph.proofs.Firsts.{judged_by_first}
 use Rattle.order_graph.proofs.Judgings.{move_told, moment_told}
 use Rattle.order_graph.proofs.Leading.{few_leading}
-use Rattle.order_graph.proofs.Nodes.{StandsFor, its_state}
+use Rattle.order_graph.proofs.Nodes.{StandsFor, its_key, its_state}
 use Rattle.order_graph.proofs.Paths.{stands_at}
 use Rattle.order_graph.proofs.Still.{goes_on}
 use Rattle.order_graph.proofs.Wrongs.{after_one, its_moves}
@@ -95,13 +96,13 @@ pub state_told : (t : OrderTrial) (n : Node) (place : MachinePlace) (moves : Lis
     IsOrderNode t n → HasPlace t n.situation →
     ((x : Machine) → after (isa_of t.plan) t.machine (gained t.machine n.situation) ≡ Some x → IsPlaceOf (isa_of t.plan) (memory_loaded t) x place) →
     ((x : Machine) (mem : Memory) → IsPlaceOf (isa_of t.plan) (memory_loaded t) x place → AreChangesOf (memory_loaded t) mem n.changes →
-    IsStateJudged x moves (in_memory n.situation mem) found) → moves ≡ moves_from t n → told ≡ kind_told found → TellsFault (IsWrongThere t n) told
+    IsStateJudged x moves (in_memory n.situation mem) found) → moves ≡ take 1 (moves_from t n) → told ≡ kind_told found → TellsFault (IsWrongThere t n) told
 state_told t n place moves found told is o h at judged e f =
     let x : Machine = h.at in
-    let all = moment_told t.plan t.machine x moves (state_of t n) h.count found
+    let first = subst (λ (l : List Move). IsStateJudged x l (state_of t n) found) e
     (judged x (memory_after n.changes (memory_loaded t)) (at x h.count) (record { lists = node_changes t n is o; makes = refl })) in
     subst (TellsFault (IsWrongThere t n)) (sym f)
-    (subst (λ (l : List Move). TellsFault (IsWrongMoment t.plan t.machine l (alone (state_of t n))) (kind_told found)) e all)
+    (moment_told t.plan t.machine x (moves_from t n) (state_of t n) h.count found (judged_by_first x (moves_from t n) (state_of t n) found first))
 
 -- one move more, which is not wrong
 order_more : (t : OrderTrial) (m : Moment) (issued : ℕ) (xs : List Move) (mv : Move) → IsOrder t.away t.plan t.most m issued xs →
@@ -136,12 +137,69 @@ next_right t n mv is h there none =
       is = ap (λ (k : Node). node_next t k mv) h.is ∙ sym (after_one t (first_node t) h.moves mv);
     }
 
+-- the fault of going along the move: that of the move, or otherwise that of the next node
+pub own_told : (t : OrderTrial) (n : Node) (mv : Move) (own : Option WrongKind) (kind : WrongKind) → own ≡ Some kind → TellsFault (IsWrongFrom t n mv) own →
+    TellsFault (IsWrongAlong t n mv) (Some kind)
+own_told t n mv own kind e told = let same = subst (TellsFault (IsWrongFrom t n mv)) e told in inl same
+
+not_own : (t : OrderTrial) (n : Node) (mv : Move) (own : Option WrongKind) → own ≡ None → TellsFault (IsWrongFrom t n mv) own →
+    (kind : WrongKind) → IsWrongFrom t n mv kind → ⊥
+not_own t n mv own e told = subst (TellsFault (IsWrongFrom t n mv)) e told
+
+pub next_right_told : (t : OrderTrial) (n next : Node) (mv : Move) (own : Option WrongKind) → IsSoundTrial t → IsRightNode t n → Contains (moves_from t n) mv →
+    next ≡ node_next t n mv → own ≡ None → TellsFault (IsWrongFrom t n mv) own → IsRightNode t next
+next_right_told t n next mv own is h there made e told = subst (IsRightNode t) (sym made) (next_right t n mv is h there (not_own t n mv own e told))
+
+pub there_told : (t : OrderTrial) (n next : Node) (mv : Move) (own found : Option WrongKind) → next ≡ node_next t n mv → own ≡ None →
+    TellsFault (IsWrongFrom t n mv) own → TellsFault (IsWrongThere t next) found → TellsFault (IsWrongAlong t n mv) found
+there_told t n next mv own None made e told there = λ kind w. by kind w
+  where
+    by : (kind : WrongKind) → IsWrongAlong t n mv kind → ⊥
+    by kind (inl w) = not_own t n mv own e told kind w
+    by kind (inr (none, w)) = there kind (subst (λ (k : Node). IsWrongThere t k kind) (sym made) w)
+there_told t n next mv own (Some kind) made e told there =
+    inr (not_own t n mv own e told, subst (λ (k : Node). IsWrongThere t k kind) made there)
+
+pub ruleset along = (own_told, next_right_told)
+
 pub key_told : (t : OrderTrial) (n next : Node) (mv : Move) (fault : Option WrongKind) (key : List ℕ) → IsSoundTrial t → IsRightNode t n →
-    Contains (moves_from t n) mv → next ≡ node_next t n mv → TellsFault (IsWrongFrom t n mv) fault → key ≡ key_of next → IsWhole next.situation →
+    Contains (moves_from t n) mv → next ≡ node_next t n mv → TellsFault (IsWrongAlong t n mv) fault → key ≡ key_of next → IsWhole next.situation →
     IfNone fault (IsOrderKey t key)
 key_told t n next mv (Some kind) key is h there e told is_key whole = tt
 key_told t n next mv None key is h there e told is_key whole =
-    record { node = next; right = subst (IsRightNode t) (sym e) (next_right t n mv is h there told); whole = whole; is = is_key }
+    let right = next_right t n mv is h there (λ kind w. told kind (inl w)) in
+    record { node = next; right = subst (IsRightNode t) (sym e) right; whole = whole; is = is_key }
+
+-- so it is that of the edge
+module _ (t : OrderTrial) (n next : Node) (mv : Move) (key : List ℕ) (is : IsSoundTrial t) (h : IsRightNode t n) (there : Contains (moves_from t n) mv)
+    (made : next ≡ node_next t n mv) (is_key : key ≡ key_of next) where
+  read : (k : Node) → IsRightNode t k → node_of (key_of k) ≡ k
+  read k r = let f = order_facts t k is (order_node t k r) in its_key t f.m f.issued k f.stands
+
+  its_end : ((kind : WrongKind) → IsWrongFrom t n mv kind → ⊥) → node_of key ≡ node_next t n mv
+  its_end none = ap node_of (is_key ∙ ap key_of made) ∙ read (node_next t n mv) (next_right t n mv is h there none)
+
+  edge_fault : (kind : WrongKind) → IsWrongAlong t n mv kind →
+      HasEdgeFault (IsWrongEdge t) (IsWrongNode t) (key_of n) (let e : EdgeView Move = record { label = mv; node = key } in e) kind
+  unfolding HasEdgeFault
+  edge_fault kind (inl w) = inl (subst (λ (k : Node). IsWrongFrom t k mv kind) (sym (read n h)) w)
+  edge_fault kind (inr (none, w)) = inr (
+    λ other v. none other (subst (λ (k : Node). IsWrongFrom t k mv other) (read n h) v),
+    subst (λ (k : Node). IsWrongThere t k kind) (sym (its_end none)) w,
+  )
+
+  fault_along : (kind : WrongKind) → HasEdgeFault (IsWrongEdge t) (IsWrongNode t) (key_of n) (let e : EdgeView Move = record { label = mv; node = key } in e) kind →
+      IsWrongAlong t n mv kind
+  unfolding HasEdgeFault
+  fault_along kind (inl w) = inl (subst (λ (k : Node). IsWrongFrom t k mv kind) (read n h) w)
+  fault_along kind (inr (none, w)) =
+      let free = λ (other : WrongKind) (v : IsWrongFrom t n mv other). none other (subst (λ (k : Node). IsWrongFrom t k mv other) (sym (read n h)) v) in
+      inr (free, subst (λ (k : Node). IsWrongThere t k kind) (its_end free) w)
+
+  pub edge_told : (fault : Option WrongKind) → TellsFault (IsWrongAlong t n mv) fault →
+      TellsFault (HasEdgeFault (IsWrongEdge t) (IsWrongNode t) (key_of n) (let e : EdgeView Move = record { label = mv; node = key } in e)) fault
+  edge_told None told = λ kind w. told kind (fault_along kind w)
+  edge_told (Some kind) told = edge_fault kind told
 
 -- one edge more
 pub edges_more : (f : Move → EdgeView Move) (es : List (Edge Move WrongKind)) (e : Edge Move WrongKind) (ms : List Move) (i : ℕ) (m : Move) →
@@ -166,10 +224,10 @@ all_more P (x ∷ xs) y all here (suc k) d within =
     all_more P xs y (λ j e inside. all (suc j) e (omega (arith, inside))) here k d (omega (arith, within))
 
 -- the edges of a node are judged, and few
-pub all_judged : (t : OrderTrial) (key : List ℕ) (n : Node) (es : List (Edge Move WrongKind)) → IsSoundTrial t → n ≡ node_of key →
-    All (λ (e : Edge Move WrongKind). TellsFault (IsWrongFrom t n e.label) e.fault) es → All (IsJudged (IsWrongEdge t key)) es
-all_judged t key n es is e all k d within =
-    subst (λ (m : Node). TellsFault (IsWrongFrom t m (get_or es k d).label) (get_or es k d).fault) e (all k d within)
+pub all_judged : (t : OrderTrial) (key : List ℕ) (n : Node) (es : List (Edge Move WrongKind)) → IsSoundTrial t → IsOrderKey t key → n ≡ node_of key →
+    All (IsJudged (HasEdgeFault (IsWrongEdge t) (IsWrongNode t) (key_of n))) es → All (IsJudged (HasEdgeFault (IsWrongEdge t) (IsWrongNode t) key)) es
+all_judged t key n es is h e all =
+    subst (λ (k : List ℕ). All (IsJudged (HasEdgeFault (IsWrongEdge t) (IsWrongNode t) k)) es) (ap key_of (e ∙ key_node t key is h) ∙ sym h.is) all
 
 pub edges_few : (t : OrderTrial) (n : Node) (es : List (Edge Move WrongKind)) → length (all_moves t.plan) < 2 ^ 32 →
     map seen es ≡ map (edge_of t n) (moves_from t n) → length es < 2 ^ 32
@@ -182,11 +240,6 @@ pub edges_of_key : (t : OrderTrial) (key : List ℕ) (n : Node) (es : List (Edge
 unfolding edges_from
 edges_of_key t key n es e so = so ∙ ap (λ (m : Node). map (edge_of t m) (moves_from t m)) e
 
--- the fault of a key is that of its node
-pub node_fault : (t : OrderTrial) (key : List ℕ) (n : Node) (fault : Option WrongKind) → n ≡ node_of key → TellsFault (IsWrongThere t n) fault →
-    TellsFault (IsWrongNode t key) fault
-node_fault t key n fault e h = subst (λ (k : Node). TellsFault (IsWrongThere t k) fault) e h
-
 -- one turn of the loop over the moves
 pub edges_grown : (f : Move → EdgeView Move) (es new : List (Edge Move WrongKind)) (e : Edge Move WrongKind) (ms : List Move) (i : ℕ) (d : Move) →
     new ≡ es ++ e ∷ [] →
@@ -198,7 +251,3 @@ edges_grown f es new e ms i d grown so within same =
 
 pub all_grown : {A : Type 0} (P : A → Type 0) (es new : List A) (e : A) → new ≡ es ++ e ∷ [] → All P es → P e → All P new
 all_grown P es new e grown all here = subst (All P) (sym grown) (all_more P es e all here)
-
-pub fault_named : (t : OrderTrial) (n : Node) (mv : Move) (e : Edge Move WrongKind) → seen e ≡ edge_of t n mv → TellsFault (IsWrongFrom t n mv) e.fault →
-    TellsFault (IsWrongFrom t n e.label) e.fault
-fault_named t n mv e same h = subst (λ (x : Move). TellsFault (IsWrongFrom t n x) e.fault) (sym (ap (λ (v : EdgeView Move). v.label) same)) h

@@ -9,6 +9,7 @@ pub mod Lists
 pub mod Places
 pub mod Facts
 pub mod Judgings
+pub mod Firsts
 pub mod Trials
 pub mod EdgeFacts
 pub mod Wrongs

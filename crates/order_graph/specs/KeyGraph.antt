@@ -1,10 +1,13 @@
 -- The graph that is searched: its nodes are the keys of states, and its edges the moves that lead on.
-use Rattle.std.specs.Prelude.{◌≡◌, ℕ, List, [], ◌∷◌, map}
+use Rattle.std.specs.Prelude.{◌≡◌, ◌⊎◌, ◌&&◌, ◌||◌, ℕ, List, [], ◌∷◌, Bool, not, nat_lt, map}
 use Rattle.mem_regions.specs.Memory.{Memory}
 use Rattle.cf_bind.specs.declared.moves.Move.{Move}
+use Rattle.cf_semantics.specs.claims.Weight.{is_issue}
 use Rattle.cf_semantics.specs.runs.Runs.{opened}
+use Rattle.cf_semantics.specs.state.Options.{is_some}
 use Rattle.cf_semantics.specs.state.State.{State, Moment}
 use Rattle.mem_changes.specs.Applied.{memory_after}
+use Rattle.order_model.specs.RuleBars.{bar_without}
 use Rattle.order_model.specs.Situations.{alone, in_memory}
 use Rattle.order_keys.specs.declared.node.Node.{Node}
 use Rattle.order_keys.specs.Keys.{key_of, node_of}
@@ -27,6 +30,10 @@ state_of t n = in_memory n.situation (memory_after n.changes (memory_loaded t))
 -- the moves that lead on from a node
 abbrev pub moves_from : OrderTrial → Node → List Move
 moves_from t n = leads_on t (state_of t n) n.issues
+
+-- whether the move leads on from a node
+abbrev pub leads_from : OrderTrial → Node → Move → Bool
+leads_from t n mv = not (is_some (bar_without t.away t.plan (state_of t n) mv)) && (nat_lt n.issues t.most || not (is_issue mv))
 
 -- the node to which a move leads
 unfoldable pub node_next : OrderTrial → Node → Move → Node
@@ -55,12 +62,16 @@ edge_of t n mv = record { label = mv; node = key_of (node_next t n mv) }
 unfoldable pub edges_from : OrderTrial → List ℕ → List (EdgeView Move)
 edges_from t key = let n = node_of key in map (edge_of t n) (moves_from t n)
 
--- the move from the node is wrong in this way, and the node is
+-- the move from the node is wrong in this way; and the node is
 abbrev pub IsWrongFrom : OrderTrial → Node → Move → WrongKind → Type 0
 IsWrongFrom t n mv kind = IsWrongMove t.away t.plan t.machine (alone (state_of t n)) mv kind
 
 abbrev pub IsWrongThere : OrderTrial → Node → WrongKind → Type 0
 IsWrongThere t n kind = IsWrongMoment t.plan t.machine (moves_from t n) (alone (state_of t n)) kind
+
+-- going along the move is wrong in this way: the move is, or otherwise the node that it leads to
+abbrev pub IsWrongAlong : OrderTrial → Node → Move → WrongKind → Type 0
+IsWrongAlong t n mv kind = IsWrongFrom t n mv kind ⊎ (((other : WrongKind) → IsWrongFrom t n mv other → ⊥) × IsWrongThere t (node_next t n mv) kind)
 
 -- the same of an edge, and of a key
 abbrev pub IsWrongEdge : OrderTrial → List ℕ → EdgeView Move → WrongKind → Type 0

@@ -1,15 +1,20 @@
 //! The moves that lead on from a node, made and judged.
 
-ghost use Rattle.std.specs.Prelude.{◌≡◌, ◌<◌, ◌≤◌, ◌^◌, map, length, IfNone, IfOk, OnOk};
+ghost use Rattle.std.specs.Option.{option_to_list};
+ghost use Rattle.std.specs.Prelude.{◌≡◌, ◌≤◌, map, take, IfNone, IfOk, OnOk};
 ghost use Rattle.std.specs.List.{All, Contains};
+ghost use Rattle.cf_semantics.specs.claims.Weight.{is_issue as issues};
 ghost use Rattle.mem_changes.specs.Applied.{memory_after};
 ghost use Rattle.mem_changes.specs.Differing.{AreChangesOf};
 ghost use Rattle.order_claims.specs.MoveLists.{issued_with};
 ghost use Rattle.order_graph.specs.Kinds.{kind_by, kind_told};
-ghost use Rattle.order_graph.specs.KeyGraph.{IsOrderKey, IsOrderNode, IsRightNode, IsWrongFrom, IsWrongThere, edge_of, memory_loaded, moves_from, node_next};
+ghost use Rattle.order_graph.specs.KeyGraph.{IsOrderKey, IsOrderNode, IsRightNode, IsWrongAlong, IsWrongEdge, IsWrongFrom, IsWrongNode, IsWrongThere, edge_of, leads_from, memory_loaded, moves_from, node_next};
+ghost use Rattle.order_keys.specs.Keys.{key_of};
 ghost use Rattle.order_keys.specs.Situations.{bare};
+ghost use Rattle.order_search.specs.Paths.{HasEdgeFault};
 ghost use Rattle.order_search.specs.Views.{IsJudged, TellsFault, seen};
 
+use crate::copying::{copy, copy_into};
 use crate::trial::{Trial, note_trial};
 use cf_bind::Move;
 use mem_regions::Regions;
@@ -39,6 +44,37 @@ pub(crate) fn note_bare(situation: &Situation)
     let _ = situation.lane.len();
 }
 
+/// Makes the next node the one to which the move leads; the memory, which was the node's, is that one's.
+fn step_into(
+    alloc: Global,
+    trial: &Trial,
+    mem: &mut Regions,
+    node: &Node,
+    m: Move,
+    next: &mut Node,
+) -> Result<(), AllocError>
+    requires node { IsOrderNode trial.now node.now }
+    requires memory { mem.old ≡ memory_after node.now.changes (memory_loaded trial.now) }
+    requires leads { Contains (moves_from trial.now node.now) m }
+    ensures node { OnOk result (next.new ≡ node_next trial.now node.now m) }
+    ensures memory { OnOk result (AreChangesOf (memory_loaded trial.now) mem.new next.new.changes) }
+{
+    note_trial(trial);
+    copy_into(alloc, node, next)?;
+    next.situation.make_changing(
+        alloc,
+        trial.away,
+        &trial.layout,
+        &trial.image,
+        mem,
+        &mut next.changes,
+        m,
+    )?;
+    note_bare(&next.situation);
+    next.issues = issues_with(node.issues, m);
+    Ok(())
+}
+
 /// The node to which the move leads; the memory, which was the node's, is that one's.
 pub(crate) fn step(
     alloc: Global,
@@ -53,24 +89,9 @@ pub(crate) fn step(
     ensures node { IfOk result (λ next. next ≡ node_next trial.now node.now m) }
     ensures memory { IfOk result (λ next. AreChangesOf (memory_loaded trial.now) mem.new next.changes) }
 {
-    note_trial(trial);
-    let mut situation = node.situation.copy(alloc)?;
-    let mut changes = node.changes.copy()?;
-    situation.make_changing(
-        alloc,
-        trial.away,
-        &trial.layout,
-        &trial.image,
-        mem,
-        &mut changes,
-        m,
-    )?;
-    note_bare(&situation);
-    Ok(Node {
-        situation,
-        changes,
-        issues: issues_with(node.issues, m),
-    })
+    let mut next = copy(alloc, node)?;
+    step_into(alloc, trial, mem, node, m, &mut next)?;
+    Ok(next)
 }
 
 /// In which way a list of moves is wrong, by the test that fails.
@@ -128,27 +149,120 @@ fn fault_of_move(
     Ok(told(found))
 }
 
-/// The edge of a move from a node, whose memory this is, and which is left as it is.
+/// Whether the move is Issue.
+fn is_issue(m: Move) -> bool
+    ensures { result ≡ issues m }
+{
+    matches!(m, Move::Issue(_))
+}
+
+/// Whether the move leads on from a node, in whose memory this is.
+fn leads_on(trial: &Trial, mem: &Regions, node: &Node, m: Move) -> bool
+    requires { mem.now ≡ memory_after node.now.changes (memory_loaded trial.now) }
+    ensures { result ≡ leads_from trial.now node.now m }
+{
+    (node.issues < trial.issues || !is_issue(m))
+        && node
+            .situation
+            .bar(trial.away, &trial.layout, mem, m)
+            .is_none()
+}
+
+/// The first of the moves that lead on from a node, in whose memory this is.
+#[tactic(auto, using(crate::proofs::Firsts::firsts))]
+fn first_move(trial: &Trial, mem: &Regions, node: &Node) -> Option<Move>
+    requires { mem.now ≡ memory_after node.now.changes (memory_loaded trial.now) }
+    ensures { option_to_list result ≡ take 1 (moves_from trial.now node.now) }
+{
+    note_trial(trial);
+    for m in &trial.moves {
+        if leads_on(trial, mem, node, *m) {
+            return Some(*m);
+        }
+    }
+    None
+}
+
+/// In what the state of a node is wrong, if it is; the memory is the node's.
+fn fault_of(trial: &Trial, mem: &Regions, node: &Node) -> Option<WrongKind>
+    requires node { IsRightNode trial.now node.now }
+    requires memory { mem.now ≡ memory_after node.now.changes (memory_loaded trial.now) }
+    ensures { TellsFault (IsWrongThere trial.now node.now) result }
+{
+    note_trial(trial);
+    let first = first_move(trial, mem, node);
+    let found = judge_state(
+        &trial.image,
+        trial.place(&node.situation),
+        &node.situation,
+        &node.changes,
+        first.as_slice(),
+    );
+    told(found)
+}
+
+/// In what the state of a node is wrong, if it is; the memory is that of the node before, and is left as it is.
+fn fault_there(trial: &Trial, mem: &mut Regions, before: &Node, node: &Node) -> Option<WrongKind>
+    requires before { IsRightNode trial.now before.now }
+    requires node { IsRightNode trial.now node.now }
+    requires memory { mem.old ≡ memory_after before.now.changes (memory_loaded trial.now) }
+    ensures kept { mem.new ≡ mem.old }
+    ensures fault { TellsFault (IsWrongThere trial.now node.now) result }
+{
+    note_trial(trial);
+    before.changes.turn_into(&node.changes, &trial.image, mem);
+    let fault = fault_of(trial, mem, node);
+    node.changes.turn_into(&before.changes, &trial.image, mem);
+    fault
+}
+
+/// In what the move from a node to the next is wrong, or otherwise the next node, if one is; the memory is that of the node
+/// before, and is left as it is.
+#[tactic(auto, using(crate::proofs::EdgeFacts::along))]
+fn fault_along(
+    alloc: Global,
+    trial: &Trial,
+    mem: &mut Regions,
+    node: &Node,
+    m: Move,
+    next: &Node,
+) -> Result<Option<WrongKind>, AllocError>
+    requires node { IsRightNode trial.now node.now }
+    requires memory { mem.old ≡ memory_after node.now.changes (memory_loaded trial.now) }
+    requires leads { Contains (moves_from trial.now node.now) m }
+    requires next { next.now ≡ node_next trial.now node.now m }
+    ensures kept { OnOk result (mem.new ≡ mem.old) }
+    ensures fault { IfOk result (TellsFault (IsWrongAlong trial.now node.now m)) }
+{
+    note_trial(trial);
+    match fault_of_move(alloc, trial, mem, node, m, next)? {
+        Some(kind) => Ok(Some(kind)),
+        None => Ok(fault_there(trial, mem, node, next)),
+    }
+}
+
+/// The edge of a move from a node, whose memory this is, and which is left as it is; the move is made in the next node.
 fn edge(
     alloc: Global,
     trial: &Trial,
     mem: &mut Regions,
     node: &Node,
     m: Move,
+    next: &mut Node,
 ) -> Result<Edge<Move, WrongKind>, AllocError>
     requires node { IsRightNode trial.now node.now }
     requires memory { mem.old ≡ memory_after node.now.changes (memory_loaded trial.now) }
     requires leads { Contains (moves_from trial.now node.now) m }
     ensures kept { OnOk result (mem.new ≡ mem.old) }
     ensures edge { IfOk result (λ edge. seen edge ≡ edge_of trial.now node.now m) }
-    ensures fault { IfOk result (λ edge. TellsFault (IsWrongFrom trial.now node.now m) edge.fault) }
+    ensures fault { IfOk result (IsJudged (HasEdgeFault (IsWrongEdge trial.now) (IsWrongNode trial.now) (key_of node.now))) }
     ensures key { IfOk result (λ edge. IfNone edge.fault (IsOrderKey trial.now edge.node.items)) }
 {
     note_trial(trial);
-    let next = step(alloc, trial, mem, node, m)?;
+    step_into(alloc, trial, mem, node, m, next)?;
     next.changes.turn_into(&node.changes, &trial.image, mem);
-    let fault = fault_of_move(alloc, trial, mem, node, m, &next)?;
-    let key = write_key(alloc, &next)?;
+    let fault = fault_along(alloc, trial, mem, node, m, &*next)?;
+    let key = write_key(alloc, &*next)?;
     Ok(Edge {
         label: m,
         fault,
@@ -188,37 +302,15 @@ pub(crate) fn edges_of(
     requires memory { mem.old ≡ memory_after node.now.changes (memory_loaded trial.now) }
     ensures kept { OnOk result (mem.new ≡ mem.old) }
     ensures edges { IfOk result (λ edges. map seen edges.items ≡ map (edge_of trial.now node.now) (moves_from trial.now node.now)) }
-    ensures faults { IfOk result (λ edges. All (λ edge. TellsFault (IsWrongFrom trial.now node.now edge.label) edge.fault) edges.items) }
+    ensures faults { IfOk result (λ edges. All (IsJudged (HasEdgeFault (IsWrongEdge trial.now) (IsWrongNode trial.now) (key_of node.now))) edges.items) }
     ensures keys { IfOk result (λ edges. All (λ edge. IfNone edge.fault (IsOrderKey trial.now edge.node.items)) edges.items) }
 {
     let moves = moves_on(alloc, trial, mem, node)?;
-    let mut edges = Vec::new(alloc);
+    let mut next = copy(alloc, node)?;
+    let mut edges = Vec::with_capacity(alloc, moves.len())?;
     for m in &moves {
-        let judged = edge(alloc, trial, mem, node, *m)?;
+        let judged = edge(alloc, trial, mem, node, *m, &mut next)?;
         edges.push(judged)?;
     }
     Ok(edges)
-}
-
-/// In what the state of a node is wrong, if it is; the memory is the node's.
-pub(crate) fn fault_of(
-    alloc: Global,
-    trial: &Trial,
-    mem: &Regions,
-    node: &Node,
-) -> Result<Option<WrongKind>, AllocError>
-    requires node { IsRightNode trial.now node.now }
-    requires memory { mem.now ≡ memory_after node.now.changes (memory_loaded trial.now) }
-    ensures { IfOk result (TellsFault (IsWrongThere trial.now node.now)) }
-{
-    note_trial(trial);
-    let moves = moves_on(alloc, trial, mem, node)?;
-    let found = judge_state(
-        &trial.image,
-        trial.place(&node.situation),
-        &node.situation,
-        &node.changes,
-        &moves,
-    );
-    Ok(told(found))
 }

@@ -6,7 +6,7 @@ ghost use Rattle.mem_changes.specs.Differing.{AreChangesOf};
 ghost use Rattle.order_graph.specs.KeyGraph.{IsOrderKey, IsRightNode, memory_loaded};
 ghost use Rattle.order_keys.specs.Keys.{node_of as node_with};
 
-use crate::edges::{edges_of, fault_of};
+use crate::edges::edges_of;
 use crate::trial::{Trial, note_trial};
 use cf_bind::Move;
 use mem_regions::Regions;
@@ -62,14 +62,5 @@ impl Graph for OrderGraph {
         let edges = edges_of(alloc, &self.trial, &mut self.mem, &node)?;
         node.changes.take_back(&self.trial.image, &mut self.mem);
         Ok(edges)
-    }
-
-    fn fault(&mut self, alloc: Global, key: &[u8]) -> Result<Option<WrongKind>, AllocError> {
-        note_trial(&self.trial);
-        let node = node_of(alloc, &self.trial, key)?;
-        node.changes.apply(&self.trial.image, &mut self.mem);
-        let fault = fault_of(alloc, &self.trial, &self.mem, &node)?;
-        node.changes.take_back(&self.trial.image, &mut self.mem);
-        Ok(fault)
     }
 }

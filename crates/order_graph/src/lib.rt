@@ -2,6 +2,7 @@
 //! moves that is wrong, or the states that are reached.
 #![tactic(auto)]
 
+mod copying;
 mod counting;
 mod edges;
 mod found;

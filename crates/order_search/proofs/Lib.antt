@@ -1,5 +1,5 @@
-mod Keys
 mod Pieces
+mod Chaining
 mod Numbering
 mod Precedence
 mod Exploring
@@ -11,4 +11,5 @@ mod Counts
 mod Settled
 mod Sweeping
 mod Turns
+mod Passing
 mod Searches

@@ -7,7 +7,7 @@ use Rattle.std.proofs.lemmas.List.{length-drop, take-append-le, drop-append-le, 
 use Rattle.order_search.specs.Rows.{pieces, AreEnds, row_at, start_of}
 
 -- as many as there are ends
-pub as_many : (from : ℕ) (ends numbers : List ℕ) → length (pieces from ends numbers) ≡ length ends
+pub as_many : {X : Type 0} (from : ℕ) (ends : List ℕ) (numbers : List X) → length (pieces from ends numbers) ≡ length ends
 as_many from [] numbers = refl
 as_many from (end ∷ ends) numbers = ap suc (as_many end ends numbers)
 
@@ -29,7 +29,7 @@ is_piece from (end ∷ ends) total (suc (suc number)) h within =
     let r = is_piece end ends total (suc number) h.1 (omega (arith, within)) in record { order = r.order; inside = r.inside }
 
 -- the list with a number is this piece
-pub row_is : (from : ℕ) (ends numbers : List ℕ) (number : ℕ) → number < length ends →
+pub row_is : {X : Type 0} (from : ℕ) (ends : List ℕ) (numbers : List X) (number : ℕ) → number < length ends →
     row_at (pieces from ends numbers) number ≡ slice_range numbers (start_of from ends number) (slice_index ends number)
 row_is from [] numbers number within = absurd (omega (arith, within))
 row_is from (end ∷ ends) numbers zero within = refl
@@ -39,19 +39,19 @@ row_is from (end ∷ ends) numbers (suc (suc number)) within = row_is end ends n
 pub ruleset piece = (row_is, is_piece, as_many)
 
 -- a piece is as before when more numbers follow
-within_still : (numbers more : List ℕ) (from end : ℕ) → from ≤ end → end ≤ length numbers →
+within_still : {X : Type 0} (numbers more : List X) (from end : ℕ) → from ≤ end → end ≤ length numbers →
     slice_range (numbers ++ more) from end ≡ slice_range numbers from end
 within_still numbers more from end order inside =
     ap (take (end - from)) (drop-append-le from numbers more (omega (arith, order, inside)))
     ∙ take-append-le (end - from) (drop from numbers) more (omega (arith, order, inside, length-drop from numbers))
 
-last_piece : (numbers more : List ℕ) (from : ℕ) → from ≡ length numbers → slice_range (numbers ++ more) from (length numbers + length more) ≡ more
+last_piece : {X : Type 0} (numbers more : List X) (from : ℕ) → from ≡ length numbers → slice_range (numbers ++ more) from (length numbers + length more) ≡ more
 last_piece numbers more from is =
     ap (take (length numbers + length more - from)) (ap (λ n. drop n (numbers ++ more)) is ∙ drop-append_seam numbers more)
     ∙ take_all (length numbers + length more - from) more (omega (arith, is))
 
 -- one list more
-pub one_more : (from : ℕ) (ends numbers more : List ℕ) → AreEnds from ends (length numbers) →
+pub one_more : {X : Type 0} (from : ℕ) (ends : List ℕ) (numbers more : List X) → AreEnds from ends (length numbers) →
     pieces from (ends ++ (length numbers + length more) ∷ []) (numbers ++ more) ≡ pieces from ends numbers ++ more ∷ []
 one_more from [] numbers more h = ap (λ l. l ∷ []) (last_piece numbers more from h)
 one_more from (end ∷ ends) numbers more h =

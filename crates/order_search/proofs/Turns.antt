@@ -61,10 +61,12 @@ reread wrong flawed nodes new entered after at e answer same a h = subst (GoesAl
 pub leads_to_node : {L F : Type 0} (known : Type 0) (wrong : EdgeFaults L F) (flawed : NodeFaults F) (nodes new : List (List ℕ)) (entered after : List
     (Entered L))
     (at to : ℕ) (e : EdgeView L) (said : Option F) → GoesAlong wrong flawed nodes new entered after at e (Node to) →
-    MatchOption said ((fault : F) → wrong (node_at nodes at) e fault → ⊥) (λ fault. wrong (node_at nodes at) e fault) → IfNone said known → known
-unfolding GoesAlong
+    MatchOption said ((fault : F) → HasEdgeFault wrong flawed (node_at nodes at) e fault → ⊥) (λ fault. HasEdgeFault wrong flawed (node_at nodes at) e fault) →
+    IfNone said known → known
+unfolding GoesAlong HasEdgeFault
 leads_to_node known wrong flawed nodes new entered after at to e None goes judged leads = leads
-leads_to_node known wrong flawed nodes new entered after at to e (Some fault) goes judged leads = absurd (goes.0.edge fault judged)
+leads_to_node known wrong flawed nodes new entered after at to e (Some fault) goes (inl own) leads = absurd (goes.0.edge fault own)
+leads_to_node known wrong flawed nodes new entered after at to e (Some fault) goes (inr (none, there)) leads = absurd (goes.0.node fault there)
 
 -- the next edge of a list that is gone through leaves the node, at the next place
 pub leaving : {A L : Type 0} (see : A → EdgeView L) (leads : EdgesOf L) (yielded items left : List A) (edge : A) (node here : List ℕ) →

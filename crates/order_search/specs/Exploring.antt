@@ -1,5 +1,5 @@
 -- What a breadth-first search has reached (from graph theory).
-use Rattle.std.specs.Prelude.{◌≡◌, ◌≢◌, ℕ, ◌+◌, ◌<◌, List, [], ◌∷◌, ◌++◌, length, slice_get, Option, Some, None, ◌⊎◌}
+use Rattle.std.specs.Prelude.{◌≡◌, ◌≢◌, ℕ, ◌+◌, ◌<◌, List, [], ◌∷◌, ◌++◌, length, slice_get, Some, Bool, if◌then◌else◌, ◌⊎◌}
 use Rattle.std.specs.List.{Contains, AllPairs}
 use Rattle.order_search.specs.Numbers.{node_at}
 use Rattle.order_search.specs.declared.trail.Entered.{Entered}
@@ -66,15 +66,9 @@ pub record LeadsOn {L F : Type 0} (flawed : NodeFaults F) (old new : List (List 
   pub nodes : new ≡ old ++ e.node ∷ []
   pub more : after ≡ entered ++ record { from = at; label = e.label } ∷ []
 
--- how each node was reached, with one more, unless there is a fault
-abbrev pub entered_unless : {L F : Type 0} → Option F → List (Entered L) → Entered L → List (Entered L)
-entered_unless None entered by = entered ++ by ∷ []
-entered_unless (Some fault) entered by = entered
-
--- a fault, or else the number of a node
-abbrev pub passed_to : {F : Type 0} → Option F → ℕ → Passed F
-passed_to None number = Node number
-passed_to (Some fault) number = Fault fault
+-- how each node was reached, with one more if it is new
+abbrev pub entered_if : {L : Type 0} → Bool → List (Entered L) → Entered L → List (Entered L)
+entered_if is_new entered by = if is_new then entered ++ by ∷ [] else entered
 
 -- what going through an edge of the node at `at` does to the nodes reached, and to how each was; the answer is the edge's fault, or
 -- else the number of the node that it leads to

@@ -5,6 +5,7 @@ pub mod Answers
 pub mod Views
 pub mod Numbers
 pub mod Rows
+pub mod Chains
 pub mod Counting
 pub mod Exploring
 pub mod ReachedGraph

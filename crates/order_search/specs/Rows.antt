@@ -6,9 +6,9 @@ use Rattle.order_search.specs.Numbers.{node_at}
 use Rattle.order_search.specs.Paths.{EdgeView, EdgesOf}
 
 -- a list in pieces: from the place `from` to each of these ends in turn
-abbrev pub pieces : ℕ → List ℕ → List ℕ → List (List ℕ)
-pieces from [] numbers = []
-pieces from (end ∷ ends) numbers = slice_range numbers from end ∷ pieces end ends numbers
+abbrev pub pieces : {X : Type 0} → ℕ → List ℕ → List X → List (List X)
+pieces from [] list = []
+pieces from (end ∷ ends) list = slice_range list from end ∷ pieces end ends list
 
 -- the ends do not fall from the place `from` on, and the last of them is `total`
 abbrev pub AreEnds : ℕ → List ℕ → ℕ → Type 0
@@ -30,7 +30,7 @@ abbrev pub AreTargets : {L : Type 0} → List (List ℕ) → List ℕ → List (
 AreTargets nodes targets edges = AllZip (IsTarget nodes) targets edges
 
 -- the row with a number
-abbrev pub row_at : List (List ℕ) → ℕ → List ℕ
+abbrev pub row_at : {X : Type 0} → List (List X) → ℕ → List X
 row_at rows number = slice_index_or rows number []
 
 -- for each of the first nodes a row: the numbers of the nodes to which its edges lead

@@ -16,6 +16,6 @@ number_edge pair = record { label = pair.0.label; to = pair.1 }
 abbrev pub IsJudged : {L F : Type 0} → (EdgeView L → F → Type 0) → Edge L F → Type 0
 IsJudged {L} {F} wrong e = MatchOption e.fault ((fault : F) → wrong (seen e) fault → ⊥) (λ fault. wrong (seen e) fault)
 
--- the same of a node
+-- the same of what has a fault in itself
 abbrev pub TellsFault : {F : Type 0} → (F → Type 0) → Option F → Type 0
 TellsFault {F} flawed found = MatchOption found ((fault : F) → flawed fault → ⊥) (λ fault. flawed fault)

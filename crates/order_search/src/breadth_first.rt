@@ -3,6 +3,7 @@
 ghost use Rattle.std.specs.Prelude.{◌≡◌, ◌+◌, ◌*◌, ◌≤◌, ◌<◌, ◌^◌, length, map, IfNone, IfOk, OnOk, if◌then◌else◌};
 ghost use Rattle.std.specs.List.{All};
 ghost use Rattle.order_search.specs.Numbers.{node_at};
+ghost use Rattle.order_search.specs.Paths.{HasEdgeFault};
 ghost use Rattle.order_search.specs.Routes.{is_none};
 ghost use Rattle.order_search.specs.SearchAnswers.{AnswersOf, IsUnderWay, PassesEdges, Progress, Visits};
 ghost use Rattle.order_search.specs.Views.{IsJudged, seen};
@@ -27,19 +28,18 @@ pub enum SearchAnswer<L, F> {
 /// Goes through the edges of the node with the number `at`, and answers where that ends the search.
 fn go_through<G: Graph>(
     alloc: Global,
-    graph: &mut G,
+    graph: &G,
     trail: &mut Trail<G::Label>,
     at: u32,
     edges: Vec<Edge<G::Label, G::Fault>>,
     most: u32,
 ) -> Result<Option<SearchAnswer<G::Label, G::Fault>>, AllocError>
     requires inside { at < length trail.old.nodes }
-    requires edges { map seen edges.items ≡ G.leads graph.old (node_at trail.old.nodes at) }
-    requires judged { All (IsJudged (G.wrong graph.old (node_at trail.old.nodes at))) edges.items }
-    requires nodes { All (λ edge. IfNone edge.fault (G.is_node graph.old edge.node.items)) edges.items }
-    requires under_way { IsUnderWay (G.is_node graph.old) (G.leads graph.old) (G.wrong graph.old) (G.flawed graph.old) (node_at trail.old.nodes 0) most trail.old.nodes trail.old.entered.items trail.old.rows at 0 }
-    ensures passes { IfOk result (PassesEdges (G.is_node graph.old) (G.leads graph.old) (G.wrong graph.old) (G.flawed graph.old) most trail.old.nodes trail.new.nodes trail.new.entered.items trail.new.rows at) }
-    ensures graph { OnOk result (graph.new ≡ graph.old) }
+    requires edges { map seen edges.items ≡ G.leads graph.now (node_at trail.old.nodes at) }
+    requires judged { All (IsJudged (HasEdgeFault (G.wrong graph.now) (G.flawed graph.now) (node_at trail.old.nodes at))) edges.items }
+    requires nodes { All (λ edge. IfNone edge.fault (G.is_node graph.now edge.node.items)) edges.items }
+    requires under_way { IsUnderWay (G.is_node graph.now) (G.leads graph.now) (G.wrong graph.now) (G.flawed graph.now) (node_at trail.old.nodes 0) most trail.old.nodes trail.old.entered.items trail.old.rows at 0 }
+    ensures { IfOk result (PassesEdges (G.is_node graph.now) (G.leads graph.now) (G.wrong graph.now) (G.flawed graph.now) most trail.old.nodes trail.new.nodes trail.new.entered.items trail.new.rows at) }
 {
     let mut row = Vec::new(alloc);
     for edge in edges {
@@ -101,7 +101,7 @@ fn visit<G: Graph>(
     let edges = graph.edges(alloc, trail.nodes.get(at as usize))?;
     let sums = totals.with(&edges);
     *totals = sums;
-    go_through(alloc, graph, trail, at, edges, most)
+    go_through(alloc, &*graph, trail, at, edges, most)
 }
 
 /// Searches a graph from a node, breadth first: the nodes in the order in which they were first reached, and the edges of each in
@@ -127,12 +127,13 @@ pub fn search<G: Graph>(
         }
         at += 1;
     }
-    let orders = count_orders(alloc, &trail.rows)?;
     let Trail {
         nodes,
-        entered: _,
+        entered,
         rows,
     } = trail;
+    drop(entered);
+    let orders = count_orders(alloc, &rows)?;
     let Totals { edges, ends } = totals;
     Ok(SearchAnswer::Counted(Reached {
         nodes,

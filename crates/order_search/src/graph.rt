@@ -2,12 +2,12 @@
 
 ghost use Rattle.std.specs.Prelude.{◌≡◌, ◌<◌, ◌^◌, ℕ, List, map, length, IfNone, IfOk, OnOk};
 ghost use Rattle.std.specs.List.{All};
-ghost use Rattle.order_search.specs.Paths.{EdgeView};
-ghost use Rattle.order_search.specs.Views.{IsJudged, TellsFault, seen};
+ghost use Rattle.order_search.specs.Paths.{EdgeView, HasEdgeFault};
+ghost use Rattle.order_search.specs.Views.{IsJudged, seen};
 
 use std::alloc::{AllocError, Global};
 
-/// An edge: its label, its own fault, if it has one, and the node that it leads to.
+/// An edge: its label, the fault of going through it, if there is one, and the node that it leads to.
 #[derive(Drop)]
 pub struct Edge<L, F> {
     pub label: L,
@@ -36,7 +36,8 @@ pub trait Graph {
     /// What is wrong with a node.
     ghost flawed: { Self → List ℕ → Self.Fault → Type 0 };
 
-    /// The edges that leave a node, in their order. Only one without a fault need lead to a node.
+    /// The edges that leave a node, in their order, each with its own fault, or otherwise that of the node that it leads to. Only one
+    /// without a fault need lead to a node.
     fn edges(
         &mut self,
         alloc: Global,
@@ -45,13 +46,7 @@ pub trait Graph {
         requires { is_node self.old node.now }
         ensures edges { IfOk result (λ edges. map seen edges.items ≡ leads self.old node.now) }
         ensures few { IfOk result (λ edges. length edges.items < 2 ^ 32) }
-        ensures faults { IfOk result (λ edges. All (IsJudged (wrong self.old node.now)) edges.items) }
+        ensures faults { IfOk result (λ edges. All (IsJudged (HasEdgeFault (wrong self.old) (flawed self.old) node.now)) edges.items) }
         ensures nodes { IfOk result (λ edges. All (λ edge. IfNone edge.fault (is_node self.old edge.node.items)) edges.items) }
-        ensures same { OnOk result (self.new ≡ self.old) };
-
-    /// The fault of a node, if it has one. The search calls this where a node is reached for the first time.
-    fn fault(&mut self, alloc: Global, node: &[u8]) -> Result<Option<Self::Fault>, AllocError>
-        requires { is_node self.old node.now }
-        ensures fault { IfOk result (TellsFault (flawed self.old node.now)) }
         ensures same { OnOk result (self.new ≡ self.old) };
 }

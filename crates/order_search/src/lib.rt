@@ -2,6 +2,7 @@
 #![tactic(auto)]
 
 mod breadth_first;
+mod chains;
 mod graph;
 mod node_list;
 mod orders;

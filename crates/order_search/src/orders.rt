@@ -109,7 +109,7 @@ fn count_of(counts: &[Count], row: &[u32]) -> Count
 }
 
 /// Counts the routes from a node, where those from all nodes to which its edges lead are counted. Whether it did.
-fn settle(rows: &Rows, counts: &mut [Count], number: usize) -> bool
+fn settle(rows: &Rows<u32>, counts: &mut [Count], number: usize) -> bool
     requires inside { number < length rows.now }
     requires as_many { length counts.old ≡ length rows.now }
     requires within { All (λ row. All (λ to. to < length rows.now) row) rows.now }
@@ -127,7 +127,7 @@ fn settle(rows: &Rows, counts: &mut [Count], number: usize) -> bool
 }
 
 /// Goes through the nodes from the last to the first, and counts the routes where it can. Whether it counted any.
-fn settle_all(rows: &Rows, counts: &mut [Count]) -> bool
+fn settle_all(rows: &Rows<u32>, counts: &mut [Count]) -> bool
     requires as_many { length counts.old ≡ length rows.now }
     requires within { All (λ row. All (λ to. to < length rows.now) row) rows.now }
     ensures { SettlesFrom rows.now counts.old counts.new 0 result }
@@ -141,7 +141,7 @@ fn settle_all(rows: &Rows, counts: &mut [Count]) -> bool
 
 /// Goes through the nodes until no more routes can be counted. Since most edges lead to nodes that were reached later, this takes
 /// few turns.
-fn settle_in_turns(rows: &Rows, counts: &mut [Count])
+fn settle_in_turns(rows: &Rows<u32>, counts: &mut [Count])
     requires as_many { length counts.old ≡ length rows.now }
     requires within { All (λ row. All (λ to. to < length rows.now) row) rows.now }
     ensures swept { Sweeps rows.now counts.old counts.new }
@@ -151,7 +151,7 @@ fn settle_in_turns(rows: &Rows, counts: &mut [Count])
 }
 
 /// How many routes lead from the first node to the ends.
-pub(crate) fn count_orders(alloc: Global, rows: &Rows) -> Result<Orders, AllocError>
+pub(crate) fn count_orders(alloc: Global, rows: &Rows<u32>) -> Result<Orders, AllocError>
     requires some { 0 < length rows.now }
     requires within { All (λ row. All (λ to. to < length rows.now) row) rows.now }
     ensures { IfOk result (IsSettled rows.now) }

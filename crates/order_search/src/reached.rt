@@ -18,7 +18,7 @@ use std::marker::Model;
 #[derive(Drop)]
 pub struct Reached {
     pub(crate) nodes: NodeList,
-    pub(crate) rows: Rows,
+    pub(crate) rows: Rows<u32>,
     pub(crate) edges: u64,
     pub(crate) ends: u32,
     pub(crate) orders: Orders,

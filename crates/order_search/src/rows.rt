@@ -1,28 +1,28 @@
-//! Lists of numbers.
+//! Lists, one behind the other in memory.
 
-ghost use Rattle.std.specs.Prelude.{◌≡◌, ◌<◌, ◌≤◌, [], ◌∷◌, ◌++◌, length, IfOk, OnOk};
+ghost use Rattle.std.specs.Prelude.{◌≡◌, ◌<◌, ◌≤◌, [], ◌∷◌, ◌++◌, length, OnErr, OnOk};
 ghost use Rattle.std.specs.List.{slice_range};
 ghost use Rattle.order_search.specs.Rows.{row_at, start_of as begins_at};
 
 use std::alloc::{AllocError, Global};
 use std::marker::Model;
 
-/// Lists of numbers, one behind the other in memory. Contracts see the list of these lists.
+/// Lists, one behind the other in memory. Contracts see the list of these lists.
 #[derive(Drop)]
-pub(crate) struct Rows {
-    numbers: Vec<u32>,
+pub(crate) struct Rows<T: Copy + Drop> {
+    values: Vec<T>,
     ends: Vec<usize>,
 }
 
-impl Model for Rows {
-    ghost use Rattle.std.specs.Prelude.{ℕ, List, length};
+impl<T: Copy + Drop> Model for Rows<T> {
+    ghost use Rattle.std.specs.Prelude.{List, length};
     ghost use Rattle.order_search.specs.Rows.{pieces, AreEnds};
 
-    ghost Value = { List (List ℕ) };
+    ghost Value = { List (List T) };
 
-    ghost view = { λ rows. pieces 0 rows.ends.items rows.numbers.items };
+    ghost view = { λ rows. pieces 0 rows.ends.items rows.values.items };
 
-    ghost invariant = { λ rows. AreEnds 0 rows.ends.items (length rows.numbers.items) };
+    ghost invariant = { λ rows. AreEnds 0 rows.ends.items (length rows.values.items) };
 }
 
 /// Where the list with a number begins.
@@ -33,22 +33,22 @@ fn start_of(ends: &[usize], number: usize) -> usize
     if number == 0 { 0 } else { ends[number - 1] }
 }
 
-/// The numbers from one place to another.
-fn cut(numbers: &[u32], start: usize, end: usize) -> &[u32]
+/// The values from one place to another.
+fn cut<T: Copy>(values: &[T], start: usize, end: usize) -> &[T]
     requires order { start ≤ end }
-    requires inside { end ≤ length numbers.now }
-    ensures { result.now ≡ slice_range numbers.now start end }
+    requires inside { end ≤ length values.now }
+    ensures { result.now ≡ slice_range values.now start end }
 {
-    &numbers[start..end]
+    &values[start..end]
 }
 
-impl Rows {
+impl<T: Copy + Drop> Rows<T> {
     /// No lists.
-    pub(crate) fn new(alloc: Global) -> Rows
+    pub(crate) fn new(alloc: Global) -> Rows<T>
         ensures { result ≡ [] }
     {
         Rows {
-            numbers: Vec::new(alloc),
+            values: Vec::new(alloc),
             ends: Vec::new(alloc),
         }
     }
@@ -63,22 +63,23 @@ impl Rows {
 
     /// The list with a number.
     #[tactic(auto, using(crate::proofs::Pieces::piece))]
-    pub(crate) fn row(&self, number: usize) -> &[u32]
+    pub(crate) fn row(&self, number: usize) -> &[T]
         requires { number < length self.now }
         ensures { result.now ≡ row_at self.now number }
     {
         let start = start_of(&self.ends, number);
-        cut(&self.numbers, start, self.ends[number])
+        cut(&self.values, start, self.ends[number])
     }
 
     /// Adds a list.
     #[tactic(auto, using(crate::proofs::Pieces::pushing))]
-    pub(crate) fn push(&mut self, row: &[u32]) -> Result<(), AllocError>
-        ensures { OnOk result (self.new ≡ self.old ++ row.now ∷ []) }
+    pub(crate) fn push(&mut self, row: &[T]) -> Result<(), AllocError>
+        ensures added { OnOk result (self.new ≡ self.old ++ row.now ∷ []) }
+        ensures kept { OnErr result (self.new ≡ self.old) }
     {
         self.ends.reserve(1)?;
-        self.numbers.extend_from_slice(row)?;
-        self.ends.push(self.numbers.len())?;
+        self.values.extend_from_slice(row)?;
+        self.ends.push_reserved(self.values.len());
         Ok(())
     }
 }

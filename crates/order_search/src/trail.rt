@@ -1,10 +1,10 @@
 //! The nodes that a search has reached, and how it first reached each.
 
-ghost use Rattle.std.specs.Prelude.{◌≡◌, ◌+◌, ◌≤◌, ◌<◌, ◌^◌, ℕ, [], ◌∷◌, length, slice_get, Some, IfNone, IfOk, OnOk};
-ghost use Rattle.std.specs.List.{All};
-ghost use Rattle.order_search.specs.Exploring.{EndsWithLabel, GoesAlong, entered_unless, passed_to};
+ghost use Rattle.std.specs.Prelude.{◌≡◌, ◌≤◌, ◌<◌, ◌^◌, ℕ, [], ◌∷◌, length, slice_get, Some, IfOk, OnOk};
+ghost use Rattle.order_search.specs.Exploring.{EndsWithLabel, GoesAlong, entered_if};
 ghost use Rattle.order_search.specs.Numbers.{node_at};
-ghost use Rattle.order_search.specs.Views.{IsJudged, TellsFault, seen};
+ghost use Rattle.order_search.specs.Paths.{HasEdgeFault};
+ghost use Rattle.order_search.specs.Views.{IsJudged, seen};
 
 use crate::graph::{Edge, Graph};
 use crate::node_list::NodeList;
@@ -24,7 +24,7 @@ pub(crate) struct Entered<L> {
 pub(crate) struct Trail<L> {
     pub(crate) nodes: NodeList,
     pub(crate) entered: Vec<Entered<L>>,
-    pub(crate) rows: Rows,
+    pub(crate) rows: Rows<u32>,
 }
 
 /// What came of going through an edge.
@@ -44,13 +44,25 @@ impl<L: Copy + Drop> Trail<L> {
         ensures entered { IfOk result (λ trail. trail.entered.items ≡ []) }
         ensures rows { IfOk result (λ trail. trail.rows ≡ []) }
     {
-        let mut nodes = NodeList::new(alloc);
-        nodes.add(first)?;
+        let mut nodes = NodeList::new(alloc)?;
+        nodes.add(alloc, &first)?;
         Ok(Trail {
             nodes,
             entered: Vec::new(alloc),
             rows: Rows::new(alloc),
         })
+    }
+
+    /// Notes how the newest node was reached, if it is new.
+    fn enter(&mut self, is_new: bool, by: Entered<L>) -> Result<(), AllocError>
+        ensures nodes { self.new.nodes ≡ self.old.nodes }
+        ensures rows { self.new.rows ≡ self.old.rows }
+        ensures entered { OnOk result (self.new.entered.items ≡ entered_if is_new self.old.entered.items by) }
+    {
+        if is_new {
+            self.entered.push(by)?;
+        }
+        Ok(())
     }
 
     /// The labels by which the node with a number was reached, and one more.
@@ -72,72 +84,25 @@ impl<L: Copy + Drop> Trail<L> {
     }
 }
 
-/// The fault, where there is one, and else the number of the node.
-fn judged<F: Drop>(fault: Option<F>, number: usize) -> Passed<F>
-    requires { number < 2 ^ 32 }
-    ensures { result ≡ passed_to fault number }
-{
-    match fault {
-        Some(fault) => Passed::Fault(fault),
-        None => Passed::Node(number as u32),
-    }
-}
-
-/// Tests the newest node, and notes how it was reached, unless it has a fault.
-fn enter<G: Graph>(
-    alloc: Global,
-    graph: &mut G,
-    trail: &mut Trail<G::Label>,
-    number: usize,
-    by: Entered<G::Label>,
-) -> Result<Option<G::Fault>, AllocError>
-    requires inside { number < length trail.old.nodes }
-    requires node { G.is_node graph.old (node_at trail.old.nodes number) }
-    ensures fault { IfOk result (TellsFault (G.flawed graph.old (node_at trail.old.nodes number))) }
-    ensures nodes { IfOk result (λ fault. trail.new.nodes ≡ trail.old.nodes) }
-    ensures rows { IfOk result (λ fault. trail.new.rows ≡ trail.old.rows) }
-    ensures entered { IfOk result (λ fault. trail.new.entered.items ≡ entered_unless fault trail.old.entered.items by) }
-    ensures graph { OnOk result (graph.new ≡ graph.old) }
-{
-    let fault = graph.fault(alloc, trail.nodes.get(number))?;
-    if fault.is_none() {
-        trail.entered.push(by)?;
-    }
-    Ok(fault)
-}
-
-/// Goes through an edge of the node with the number `at`, and returns its fault, or the number of the node that it leads to. A
-/// node that is new is tested, and so is the first, which no edge may have led to before.
-#[tactic(auto, unfolding(crate::specs::Exploring::GoesAlong, crate::specs::Paths::HasEdgeFault))]
+/// Goes through an edge of the node with the number `at`, and returns its fault, or the number of the node that it leads to.
+#[tactic(auto, unfolding(crate::specs::Exploring::GoesAlong))]
 pub(crate) fn pass<G: Graph>(
     alloc: Global,
-    graph: &mut G,
+    graph: &G,
     trail: &mut Trail<G::Label>,
     at: u32,
     edge: Edge<G::Label, G::Fault>,
 ) -> Result<Passed<G::Fault>, AllocError>
     requires few { length trail.old.nodes < 2 ^ 32 }
-    requires nodes { All (G.is_node graph.old) trail.old.nodes }
-    requires judged { IsJudged (G.wrong graph.old (node_at trail.old.nodes at)) edge }
-    requires node { IfNone edge.fault (G.is_node graph.old edge.node.items) }
-    requires sound { (i : ℕ) (fault : _) → 0 < i → i < length trail.old.nodes → G.flawed graph.old (node_at trail.old.nodes i) fault → ⊥ }
-    ensures passed { IfOk result (GoesAlong (G.wrong graph.old) (G.flawed graph.old) trail.old.nodes trail.new.nodes trail.old.entered.items trail.new.entered.items at (seen edge)) }
+    requires judged { IsJudged (HasEdgeFault (G.wrong graph.now) (G.flawed graph.now) (node_at trail.old.nodes at)) edge }
+    ensures passed { IfOk result (GoesAlong (G.wrong graph.now) (G.flawed graph.now) trail.old.nodes trail.new.nodes trail.old.entered.items trail.new.entered.items at (seen edge)) }
     ensures rows { OnOk result (trail.new.rows ≡ trail.old.rows) }
-    ensures graph { OnOk result (graph.new ≡ graph.old) }
 {
     let Edge { label, fault, node } = edge;
     if let Some(fault) = fault {
         return Ok(Passed::Fault(fault));
     }
-    let place = trail.nodes.add(node)?;
-    if place.is_new {
-        let by = Entered { from: at, label };
-        let fault = enter(alloc, graph, trail, place.number, by)?;
-        return Ok(judged(fault, place.number));
-    }
-    if place.number == 0 {
-        let fault = graph.fault(alloc, trail.nodes.get(0))?;
-        return Ok(judged(fault, 0));
-    }
+    let place = trail.nodes.add(alloc, &node)?;
+    trail.enter(place.is_new, Entered { from: at, label })?;
     Ok(Passed::Node(place.number as u32))
 }

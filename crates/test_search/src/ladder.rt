@@ -1,6 +1,7 @@
 //! A graph whose paths are easily counted.
 
-ghost use Rattle.std.specs.Prelude.{◌≡◌, [], ◌∷◌, None, IfOk};
+ghost use Rattle.std.specs.Prelude.{◌≡◌, [], ◌∷◌, IfOk};
+ghost use Rattle.test_search.specs.Ladders.{fault_at};
 
 use order_search::{Edge, Graph};
 use std::alloc::{AllocError, Global};
@@ -13,15 +14,30 @@ pub(crate) struct Ladder {
     pub(crate) broken: Option<u8>,
 }
 
-/// An edge to the node with a number.
-fn edge_to(alloc: Global, label: u8, number: u8) -> Result<Edge<u8, u8>, AllocError>
+/// The fault of the node with a number, where this one is broken.
+fn fault_of(broken: Option<u8>, number: u8) -> Option<u8>
+    ensures { result ≡ fault_at broken number }
+{
+    match broken {
+        Some(place) if place == number => Some(number),
+        _ => None,
+    }
+}
+
+/// An edge to the node with a number, where this one is broken.
+fn edge_to(
+    alloc: Global,
+    label: u8,
+    number: u8,
+    broken: Option<u8>,
+) -> Result<Edge<u8, u8>, AllocError>
     ensures label { IfOk result (λ edge. edge.label ≡ label) }
-    ensures fault { IfOk result (λ edge. edge.fault ≡ None) }
+    ensures fault { IfOk result (λ edge. edge.fault ≡ fault_at broken number) }
     ensures node { IfOk result (λ edge. edge.node.items ≡ number ∷ []) }
 {
     Ok(Edge {
         label,
-        fault: None,
+        fault: fault_of(broken, number),
         node: vec![in alloc; number]?,
     })
 }
@@ -41,22 +57,15 @@ impl Graph for Ladder {
 
     ghost flawed = { λ ladder node fault. IsBroken ladder.broken node fault };
 
+    #[tactic(auto, using(crate::proofs::Broken::breaking))]
     fn edges(&mut self, alloc: Global, node: &[u8]) -> Result<Vec<Edge<u8, u8>>, AllocError> {
         let number = node[0];
         if number < self.last {
-            let left = edge_to(alloc, 0, number + 1)?;
-            let right = edge_to(alloc, 1, number + 1)?;
+            let left = edge_to(alloc, 0, number + 1, self.broken)?;
+            let right = edge_to(alloc, 1, number + 1, self.broken)?;
             let edges = vec![in alloc; left, right]?;
             return Ok(edges);
         }
         Ok(Vec::new(alloc))
-    }
-
-    fn fault(&mut self, _alloc: Global, node: &[u8]) -> Result<Option<u8>, AllocError> {
-        let number = node[0];
-        match self.broken {
-            Some(broken) if broken == number => Ok(Some(number)),
-            _ => Ok(None),
-        }
     }
 }

@@ -4,7 +4,7 @@ use Rattle.mem_changes.specs.Applied.{memory_after}
 use Rattle.mem_changes.specs.Differing.{AreChanges}
 use Rattle.order_graph.specs.OrderTrial.{OrderTrial}
 use Rattle.order_graph.specs.KeyGraph.{memory_loaded}
-use Rattle.order_graph.proofs.EdgeFacts.{key_told}
+use Rattle.order_graph.proofs.EdgeFacts.{edge_told, key_told}
 use Rattle.order_graph.proofs.Facts.{node_changes, order_node}
 use Rattle.order_graph.proofs.edges.edge.Goals as goal
 
@@ -18,5 +18,9 @@ returns-clause-kept c = c.in_ok-fault.ensures.kept
     ∙ sym c.requires.memory
 
 pub returns-clause-key : goal.returns-clause-key
-returns-clause-key c = key_told c.args.trial.now c.args.node.now c.in_ok-next.next c.args.m c.in_ok-fault.fault c.in_ok-key.key.items c.note_trial.ensures c.requires.node
-    c.requires.leads c.in_ok-next.ensures.node c.in_ok-fault.ensures.fault c.in_ok-key.ensures.key c.in_ok-key.ensures.whole
+returns-clause-key c = key_told c.args.trial.now c.args.node.now c.step_into.new.next c.args.m c.in_ok-fault.fault c.in_ok-key.key.items c.note_trial.ensures c.requires.node
+    c.requires.leads c.in_ok-step_into.ensures.node c.in_ok-fault.ensures.fault c.in_ok-key.ensures.key c.in_ok-key.ensures.whole
+
+pub returns-clause-fault : goal.returns-clause-fault
+returns-clause-fault c = edge_told c.args.trial.now c.args.node.now c.step_into.new.next c.args.m c.in_ok-key.key.items c.note_trial.ensures c.requires.node
+    c.requires.leads c.in_ok-step_into.ensures.node c.in_ok-key.ensures.key c.in_ok-fault.fault c.in_ok-fault.ensures.fault

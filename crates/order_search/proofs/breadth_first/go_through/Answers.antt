@@ -4,39 +4,25 @@ use Rattle.std.specs.List.{All}
 use Rattle.std.proofs.lemmas.List.{map-append, append-nil, length-append, length-map, nil_from_length}
 use Rattle.std.proofs.lemmas.List.Elements.{All-head, All-tail}
 use Rattle.std.specs.Vec.Iter.{into_iter_items}
-use Rattle.order_search.specs.Exploring.{GoesAlong}
 use Rattle.order_search.specs.Numbers.{node_at}
+use Rattle.order_search.specs.Paths.{HasEdgeFault}
 use Rattle.order_search.specs.Rows.{AreTargets}
 use Rattle.order_search.specs.SearchAnswers.{IsUnderWay}
 use Rattle.order_search.specs.Views.{IsJudged, seen}
 use Rattle.order_search.proofs.Turns.{reread, leads_to_node, leaving, moved, passed, found, earlier, inside_still, too_many, went_on, row_on, row_done}
 use Rattle.order_search.proofs.breadth_first.go_through.Goals as goal
 
-pub pass-requires-clause-nodes : goal.pass-requires-clause-nodes
-pass-requires-clause-nodes g c =
-    subst (λ graph. All (g.G.Graph.is_node graph) c.loop-edge.trail.nodes) (sym c.loop-edge.invariant.graph) c.loop-edge.invariant.under_way.all_known
-
 pub pass-requires-clause-few : goal.pass-requires-clause-few
 pass-requires-clause-few g c = omega (arith, c.loop-edge.invariant.under_way.room)
 
-pub pass-requires-clause-node : goal.pass-requires-clause-node
-pass-requires-clause-node g c =
-    subst (λ graph. IfNone c.in-Some.edge.fault (g.G.Graph.is_node graph c.in-Some.edge.node.items)) (sym c.loop-edge.invariant.graph)
-    (All-head (λ edge. IfNone edge.fault (g.G.Graph.is_node c.args.graph.now edge.node.items)) c.in-Some.edge (into_iter_items c.next.new.self)
-    (subst (All (λ edge. IfNone edge.fault (g.G.Graph.is_node c.args.graph.now edge.node.items))) c.in-Some.ensures.steps.0 c.loop-edge.invariant.all_known))
-
 pub pass-requires-clause-judged : goal.pass-requires-clause-judged
 pass-requires-clause-judged g c =
-    subst (λ graph. IsJudged (g.G.Graph.wrong graph (node_at c.loop-edge.trail.nodes c.args.at)) c.in-Some.edge) (sym c.loop-edge.invariant.graph)
-    (subst (λ node. IsJudged (g.G.Graph.wrong c.args.graph.now node) c.in-Some.edge) (sym c.loop-edge.invariant.node)
-    (All-head (IsJudged (g.G.Graph.wrong c.args.graph.now (node_at c.args.trail.now.nodes c.args.at))) c.in-Some.edge (into_iter_items c.next.new.self)
-    (subst (All (IsJudged (g.G.Graph.wrong c.args.graph.now
-    (node_at c.args.trail.now.nodes c.args.at)))) c.in-Some.ensures.steps.0 c.loop-edge.invariant.judged)))
-
-pub pass-requires-clause-sound : goal.pass-requires-clause-sound
-pass-requires-clause-sound g c = λ i fault above within there.
-    c.loop-edge.invariant.under_way.explored.sound i fault above within
-    (subst (λ graph. g.G.Graph.flawed graph (node_at c.loop-edge.trail.nodes i) fault) c.loop-edge.invariant.graph there)
+    subst (λ node. IsJudged (HasEdgeFault (g.G.Graph.wrong c.args.graph.now) (g.G.Graph.flawed c.args.graph.now) node) c.in-Some.edge)
+    (sym c.loop-edge.invariant.node)
+    (All-head (IsJudged (HasEdgeFault (g.G.Graph.wrong c.args.graph.now) (g.G.Graph.flawed c.args.graph.now) (node_at c.args.trail.now.nodes c.args.at)))
+    c.in-Some.edge (into_iter_items c.next.new.self)
+    (subst (All (IsJudged (HasEdgeFault (g.G.Graph.wrong c.args.graph.now) (g.G.Graph.flawed c.args.graph.now)
+    (node_at c.args.trail.now.nodes c.args.at)))) c.in-Some.ensures.steps.0 c.loop-edge.invariant.judged))
 
 pub labels-requires-clause-earlier : goal.labels-requires-clause-earlier
 labels-requires-clause-earlier g c =
@@ -44,9 +30,7 @@ labels-requires-clause-earlier g c =
     (g.G.Graph.flawed c.args.graph.now) _ _ _ _ _ _ _
     (seen c.in-Some.edge) c.in-Fault.fault
     (reread (g.G.Graph.wrong c.args.graph.now) (g.G.Graph.flawed c.args.graph.now) _ _ _ _ _ _ _ _ c.in-Fault.is
-    (subst (λ graph. GoesAlong (g.G.Graph.wrong graph) (g.G.Graph.flawed graph) c.loop-edge.trail.nodes c.pass.new.trail.nodes
-    c.loop-edge.trail.entered.items c.pass.new.trail.entered.items c.args.at
-    (seen c.in-Some.edge) c.in_ok-fault.field-0) c.loop-edge.invariant.graph c.in_ok-fault.ensures.passed))
+    c.in_ok-fault.ensures.passed)
     c.loop-edge.invariant.under_way.explored
 
 pub labels-requires-clause-inside : goal.labels-requires-clause-inside
@@ -55,13 +39,11 @@ labels-requires-clause-inside g c =
     (g.G.Graph.flawed c.args.graph.now) _ _ _ _ _ _ _
     (seen c.in-Some.edge) c.in-Fault.fault c.loop-edge.invariant.inside
     (reread (g.G.Graph.wrong c.args.graph.now) (g.G.Graph.flawed c.args.graph.now) _ _ _ _ _ _ _ _ c.in-Fault.is
-    (subst (λ graph. GoesAlong (g.G.Graph.wrong graph) (g.G.Graph.flawed graph) c.loop-edge.trail.nodes c.pass.new.trail.nodes
-    c.loop-edge.trail.entered.items c.pass.new.trail.entered.items c.args.at
-    (seen c.in-Some.edge) c.in_ok-fault.field-0) c.loop-edge.invariant.graph c.in_ok-fault.ensures.passed))
+    c.in_ok-fault.ensures.passed)
     c.loop-edge.invariant.under_way.explored
 
-pub returns-in-Fault-clause-passes : goal.returns-in-Fault-clause-passes
-returns-in-Fault-clause-passes g c =
+pub returns-in-Fault : goal.returns-in-Fault
+returns-in-Fault g c =
     found (g.G.Graph.is_node c.args.graph.now) (g.G.Graph.leads c.args.graph.now) (g.G.Graph.wrong c.args.graph.now)
     (g.G.Graph.flawed c.args.graph.now) _ _ _ _ _ _ _ c.args.most
     (seen c.in-Some.edge) c.in-Fault.fault
@@ -71,23 +53,21 @@ returns-in-Fault-clause-passes g c =
     (node_at c.args.trail.now.nodes c.args.at)
     (node_at c.loop-edge.trail.nodes c.args.at) c.in-Some.ensures.steps.0 c.loop-edge.invariant.rest c.loop-edge.invariant.node)
     (reread (g.G.Graph.wrong c.args.graph.now) (g.G.Graph.flawed c.args.graph.now) _ _ _ _ _ _ _ _ c.in-Fault.is
-    (subst (λ graph. GoesAlong (g.G.Graph.wrong graph) (g.G.Graph.flawed graph) c.loop-edge.trail.nodes c.pass.new.trail.nodes
-    c.loop-edge.trail.entered.items c.pass.new.trail.entered.items c.args.at
-    (seen c.in-Some.edge) c.in_ok-fault.field-0) c.loop-edge.invariant.graph c.in_ok-fault.ensures.passed))
+    c.in_ok-fault.ensures.passed)
     c.in_ok-labels-in-Fault.ensures c.loop-edge.invariant.under_way.explored
 
-pub returns-then-len-most-clause-passes : goal.returns-then-len-most-clause-passes
-returns-then-len-most-clause-passes g c =
+pub returns-then-len-most : goal.returns-then-len-most
+returns-then-len-most g c =
     let all = subst (All (λ edge. IfNone edge.fault
     (g.G.Graph.is_node c.args.graph.now edge.node.items))) c.in-Some.ensures.steps.0 c.loop-edge.invariant.all_known in
-    let judged = subst (λ node. IsJudged (g.G.Graph.wrong c.args.graph.now node) c.in-Some.edge) (sym c.loop-edge.invariant.node)
-    (All-head (IsJudged (g.G.Graph.wrong c.args.graph.now (node_at c.args.trail.now.nodes c.args.at))) c.in-Some.edge (into_iter_items c.next.new.self)
-    (subst (All (IsJudged (g.G.Graph.wrong c.args.graph.now
+    let judged = subst (λ node. IsJudged (HasEdgeFault (g.G.Graph.wrong c.args.graph.now) (g.G.Graph.flawed c.args.graph.now) node) c.in-Some.edge)
+    (sym c.loop-edge.invariant.node)
+    (All-head (IsJudged (HasEdgeFault (g.G.Graph.wrong c.args.graph.now) (g.G.Graph.flawed c.args.graph.now) (node_at c.args.trail.now.nodes c.args.at)))
+    c.in-Some.edge (into_iter_items c.next.new.self)
+    (subst (All (IsJudged (HasEdgeFault (g.G.Graph.wrong c.args.graph.now) (g.G.Graph.flawed c.args.graph.now)
     (node_at c.args.trail.now.nodes c.args.at)))) c.in-Some.ensures.steps.0 c.loop-edge.invariant.judged)) in
     let goes = reread (g.G.Graph.wrong c.args.graph.now) (g.G.Graph.flawed c.args.graph.now) _ _ _ _ _ _ _ _ c.in-Node.is
-    (subst (λ graph. GoesAlong (g.G.Graph.wrong graph) (g.G.Graph.flawed graph) c.loop-edge.trail.nodes c.pass.new.trail.nodes
-    c.loop-edge.trail.entered.items c.pass.new.trail.entered.items c.args.at
-    (seen c.in-Some.edge) c.in_ok-fault.field-0) c.loop-edge.invariant.graph c.in_ok-fault.ensures.passed) in
+    c.in_ok-fault.ensures.passed in
     let on = passed (g.G.Graph.is_node c.args.graph.now) (g.G.Graph.leads c.args.graph.now) (g.G.Graph.wrong c.args.graph.now)
     (g.G.Graph.flawed c.args.graph.now)
     (node_at c.args.trail.now.nodes 0) c.loop-edge.trail.nodes c.pass.new.trail.nodes c.loop-edge.trail.entered.items c.pass.new.trail.entered.items
@@ -112,14 +92,14 @@ pub loop-edge-preserved : goal.loop-edge-preserved
 loop-edge-preserved g c =
     let all = subst (All (λ edge. IfNone edge.fault
     (g.G.Graph.is_node c.args.graph.now edge.node.items))) c.in-Some.ensures.steps.0 c.loop-edge.invariant.all_known in
-    let judged = subst (λ node. IsJudged (g.G.Graph.wrong c.args.graph.now node) c.in-Some.edge) (sym c.loop-edge.invariant.node)
-    (All-head (IsJudged (g.G.Graph.wrong c.args.graph.now (node_at c.args.trail.now.nodes c.args.at))) c.in-Some.edge (into_iter_items c.next.new.self)
-    (subst (All (IsJudged (g.G.Graph.wrong c.args.graph.now
+    let judged = subst (λ node. IsJudged (HasEdgeFault (g.G.Graph.wrong c.args.graph.now) (g.G.Graph.flawed c.args.graph.now) node) c.in-Some.edge)
+    (sym c.loop-edge.invariant.node)
+    (All-head (IsJudged (HasEdgeFault (g.G.Graph.wrong c.args.graph.now) (g.G.Graph.flawed c.args.graph.now) (node_at c.args.trail.now.nodes c.args.at)))
+    c.in-Some.edge (into_iter_items c.next.new.self)
+    (subst (All (IsJudged (HasEdgeFault (g.G.Graph.wrong c.args.graph.now) (g.G.Graph.flawed c.args.graph.now)
     (node_at c.args.trail.now.nodes c.args.at)))) c.in-Some.ensures.steps.0 c.loop-edge.invariant.judged)) in
     let goes = reread (g.G.Graph.wrong c.args.graph.now) (g.G.Graph.flawed c.args.graph.now) _ _ _ _ _ _ _ _ c.in-Node.is
-    (subst (λ graph. GoesAlong (g.G.Graph.wrong graph) (g.G.Graph.flawed graph) c.loop-edge.trail.nodes c.pass.new.trail.nodes
-    c.loop-edge.trail.entered.items c.pass.new.trail.entered.items c.args.at
-    (seen c.in-Some.edge) c.in_ok-fault.field-0) c.loop-edge.invariant.graph c.in_ok-fault.ensures.passed) in
+    c.in_ok-fault.ensures.passed in
     let on = passed (g.G.Graph.is_node c.args.graph.now) (g.G.Graph.leads c.args.graph.now) (g.G.Graph.wrong c.args.graph.now)
     (g.G.Graph.flawed c.args.graph.now)
     (node_at c.args.trail.now.nodes 0) c.loop-edge.trail.nodes c.pass.new.trail.nodes c.loop-edge.trail.entered.items c.pass.new.trail.entered.items
@@ -135,7 +115,6 @@ loop-edge-preserved g c =
     c.in-Some.edge.fault goes judged (All-head (λ edge. IfNone edge.fault (g.G.Graph.is_node c.args.graph.now edge.node.items)) c.in-Some.edge
     (into_iter_items c.next.new.self) all))
     c.loop-edge.invariant.under_way.explored in record {
-      graph = c.in_ok-fault.ensures.graph ∙ c.loop-edge.invariant.graph;
       under_way = subst (λ n. IsUnderWay (g.G.Graph.is_node c.args.graph.now) (g.G.Graph.leads c.args.graph.now) (g.G.Graph.wrong c.args.graph.now)
           (g.G.Graph.flawed c.args.graph.now)
           (node_at c.args.trail.now.nodes 0) c.args.most c.pass.new.trail.nodes c.pass.new.trail.entered.items c.pass.new.trail.rows c.args.at n)
@@ -151,9 +130,9 @@ loop-edge-preserved g c =
           (omega arith) c.loop-edge.invariant.under_way on));
       rest = moved seen c.loop-edge.yielded (into_iter_items c.loop-edge.edge-iterator) (into_iter_items c.next.new.self) c.in-Some.edge
           c.in-Some.ensures.steps.0 ∙ c.loop-edge.invariant.rest;
-      judged = All-tail (IsJudged (g.G.Graph.wrong c.args.graph.now (node_at c.args.trail.now.nodes c.args.at))) c.in-Some.edge
-          (into_iter_items c.next.new.self)
-          (subst (All (IsJudged (g.G.Graph.wrong c.args.graph.now
+      judged = All-tail (IsJudged (HasEdgeFault (g.G.Graph.wrong c.args.graph.now) (g.G.Graph.flawed c.args.graph.now)
+          (node_at c.args.trail.now.nodes c.args.at))) c.in-Some.edge (into_iter_items c.next.new.self)
+          (subst (All (IsJudged (HasEdgeFault (g.G.Graph.wrong c.args.graph.now) (g.G.Graph.flawed c.args.graph.now)
           (node_at c.args.trail.now.nodes c.args.at)))) c.in-Some.ensures.steps.0 c.loop-edge.invariant.judged);
       all_known = All-tail (λ edge. IfNone edge.fault (g.G.Graph.is_node c.args.graph.now edge.node.items)) c.in-Some.edge
           (into_iter_items c.next.new.self) all;
@@ -171,10 +150,10 @@ loop-edge-preserved g c =
 
 pub loop-edge-init : goal.loop-edge-init
 loop-edge-init g c = record {
-  graph = refl;
   under_way = c.requires.under_way;
   rest = ap (map seen) c.into_iter-edge-iterator.ensures.into_iter_gives.0 ∙ c.requires.edges;
-  judged = subst (All (IsJudged (g.G.Graph.wrong c.args.graph.now (node_at c.args.trail.now.nodes c.args.at))))
+  judged = subst (All (IsJudged (HasEdgeFault (g.G.Graph.wrong c.args.graph.now) (g.G.Graph.flawed c.args.graph.now)
+      (node_at c.args.trail.now.nodes c.args.at))))
       (sym c.into_iter-edge-iterator.ensures.into_iter_gives.0) c.requires.judged;
   all_known = subst (All (λ edge. IfNone edge.fault (g.G.Graph.is_node c.args.graph.now edge.node.items)))
       (sym c.into_iter-edge-iterator.ensures.into_iter_gives.0) c.requires.nodes;
@@ -190,19 +169,16 @@ returns g c =
     (arith, c.loop-edge.edge-iterator.rest.ok, c.in-None.ensures.steps.0)) in
     let whole : map seen c.loop-edge.yielded ≡ g.G.Graph.leads c.args.graph.now (node_at c.loop-edge.trail.nodes c.args.at) =
     sym (append-nil (map seen c.loop-edge.yielded)) ∙ ap (λ l. map seen c.loop-edge.yielded ++ map seen l) (sym none) ∙ c.loop-edge.invariant.rest
-    ∙ ap (g.G.Graph.leads c.args.graph.now) (sym c.loop-edge.invariant.node) in record {
-      passes = (
-        subst (λ rows. IsUnderWay (g.G.Graph.is_node c.args.graph.now) (g.G.Graph.leads c.args.graph.now) (g.G.Graph.wrong c.args.graph.now)
-            (g.G.Graph.flawed c.args.graph.now)
-            (node_at c.args.trail.now.nodes 0) c.args.most c.loop-edge.trail.nodes c.loop-edge.trail.entered.items rows (c.args.at + 1) 0)
-            (sym (c.in_ok-push-2.ensures ∙ ap (λ row. c.loop-edge.trail.rows ++ row ∷ []) c.deref.ensures.value))
-            (row_done (g.G.Graph.is_node c.args.graph.now) (g.G.Graph.leads c.args.graph.now) (g.G.Graph.wrong c.args.graph.now)
-            (g.G.Graph.flawed c.args.graph.now)
-            (node_at c.args.trail.now.nodes 0)
-            c.args.most c.loop-edge.trail.nodes c.loop-edge.trail.entered.items c.loop-edge.trail.rows c.args.at (length c.loop-edge.yielded)
-            c.loop-edge.row.items c.loop-edge.invariant.inside (sym (length-map c.loop-edge.yielded seen) ∙ ap length whole)
-            (subst (AreTargets c.loop-edge.trail.nodes c.loop-edge.row.items) whole c.loop-edge.invariant.row) c.loop-edge.invariant.under_way),
-        c.loop-edge.invariant.same,
-      );
-      graph = c.loop-edge.invariant.graph;
-    }
+    ∙ ap (g.G.Graph.leads c.args.graph.now) (sym c.loop-edge.invariant.node) in (
+      subst (λ rows. IsUnderWay (g.G.Graph.is_node c.args.graph.now) (g.G.Graph.leads c.args.graph.now) (g.G.Graph.wrong c.args.graph.now)
+          (g.G.Graph.flawed c.args.graph.now)
+          (node_at c.args.trail.now.nodes 0) c.args.most c.loop-edge.trail.nodes c.loop-edge.trail.entered.items rows (c.args.at + 1) 0)
+          (sym (c.in_ok-push-2.ensures.added ∙ ap (λ row. c.loop-edge.trail.rows ++ row ∷ []) c.deref.ensures.value))
+          (row_done (g.G.Graph.is_node c.args.graph.now) (g.G.Graph.leads c.args.graph.now) (g.G.Graph.wrong c.args.graph.now)
+          (g.G.Graph.flawed c.args.graph.now)
+          (node_at c.args.trail.now.nodes 0)
+          c.args.most c.loop-edge.trail.nodes c.loop-edge.trail.entered.items c.loop-edge.trail.rows c.args.at (length c.loop-edge.yielded)
+          c.loop-edge.row.items c.loop-edge.invariant.inside (sym (length-map c.loop-edge.yielded seen) ∙ ap length whole)
+          (subst (AreTargets c.loop-edge.trail.nodes c.loop-edge.row.items) whole c.loop-edge.invariant.row) c.loop-edge.invariant.under_way),
+      c.loop-edge.invariant.same,
+    )

@@ -16,4 +16,4 @@ returns-clause-visits g c =
     (subst (λ graph. IfOk c.go_through.result (PassesEdges (g.G.Graph.is_node graph) (g.G.Graph.leads graph) (g.G.Graph.wrong graph)
     (g.G.Graph.flawed graph) c.args.most
     c.args.trail.now.nodes c.go_through.new.trail.nodes c.go_through.new.trail.entered.items c.go_through.new.trail.rows c.args.at))
-    c.in_ok-edges.ensures.same c.go_through.ensures.passes)
+    c.in_ok-edges.ensures.same c.go_through.ensures)

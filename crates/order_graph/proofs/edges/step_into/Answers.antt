@@ -1,42 +1,41 @@
 -- A move that leads on is made in a copy of the node.
 use Rattle.std.proofs.Common.{◌≡◌, ◌+◌, ◌<◌, ◌^◌, None, sym, subst, ap, ◌∙◌}
-use Rattle.cf_semantics.specs.state.State.{State}
 use Rattle.mem_changes.specs.Differing.{AreChangesOf}
-use Rattle.mem_changes.specs.MemoryChanges.{MemoryChanges}
 use Rattle.order_model.specs.RuleBars.{bar_without}
 use Rattle.order_model.specs.RuleMoves.{next_without}
 use Rattle.order_model.specs.Situations.{alone, in_memory}
+use Rattle.order_keys.specs.declared.node.Node.{Node}
 use Rattle.order_graph.specs.OrderTrial.{OrderTrial}
 use Rattle.order_graph.specs.KeyGraph.{memory_loaded}
 use Rattle.order_graph.proofs.Facts.{node_allows, node_count, node_issues, node_memory, node_stepped}
-use Rattle.order_graph.proofs.edges.step.Goals as goal
+use Rattle.order_graph.proofs.edges.step_into.Goals as goal
 
 pub make_changing-requires-clause-allowed : goal.make_changing-requires-clause-allowed
 make_changing-requires-clause-allowed c =
-    subst (λ (t : OrderTrial). bar_without t.away t.plan (in_memory c.in_ok-situation.situation c.args.mem.now) c.args.m ≡ None) (sym c.trial.view_is)
-    (subst (λ (s : State). bar_without c.args.trial.now.away c.args.trial.now.plan (in_memory s c.args.mem.now) c.args.m ≡ None) (sym c.in_ok-situation.ensures)
+    subst (λ (t : OrderTrial). bar_without t.away t.plan (in_memory c.copy_into.new.to.situation c.args.mem.now) c.args.m ≡ None) (sym c.trial.view_is)
+    (subst (λ (k : Node). bar_without c.args.trial.now.away c.args.trial.now.plan (in_memory k.situation c.args.mem.now) c.args.m ≡ None) (sym c.in_ok-copy_into.ensures)
     (node_allows c.args.trial.now c.args.node.now c.args.mem.now c.args.m c.requires.memory c.requires.leads))
 
 pub make_changing-requires-clause-count : goal.make_changing-requires-clause-count
 make_changing-requires-clause-count c =
-    subst (λ (s : State). s.retired + 1 < 2 ^ 64) (sym c.in_ok-situation.ensures) (node_count c.args.trial.now c.args.node.now c.note_trial.ensures c.requires.node)
+    subst (λ (k : Node). k.situation.retired + 1 < 2 ^ 64) (sym c.in_ok-copy_into.ensures) (node_count c.args.trial.now c.args.node.now c.note_trial.ensures c.requires.node)
 
 pub make_changing-requires-clause-changes : goal.make_changing-requires-clause-changes
 make_changing-requires-clause-changes c =
-    subst (λ (t : OrderTrial). AreChangesOf (memory_loaded t) c.args.mem.now c.in_ok-changes.changes) (sym c.trial.view_is)
-    (subst (λ (k : MemoryChanges). AreChangesOf (memory_loaded c.args.trial.now) c.args.mem.now k) (sym c.in_ok-changes.ensures)
+    subst (λ (t : OrderTrial). AreChangesOf (memory_loaded t) c.args.mem.now c.copy_into.new.to.changes) (sym c.trial.view_is)
+    (subst (λ (k : Node). AreChangesOf (memory_loaded c.args.trial.now) c.args.mem.now k.changes) (sym c.in_ok-copy_into.ensures)
     (node_memory c.args.trial.now c.args.node.now c.args.mem.now c.note_trial.ensures c.requires.node c.requires.memory))
 
-pub issues_with-requires : goal.issues_with-requires
-issues_with-requires c = node_issues c.args.trial.now c.args.node.now c.note_trial.ensures c.requires.node
+pub issues_with-next-requires : goal.issues_with-next-requires
+issues_with-next-requires c = node_issues c.args.trial.now c.args.node.now c.note_trial.ensures c.requires.node
 
 pub returns-clause-node : goal.returns-clause-node
 returns-clause-node c =
     node_stepped c.args.trial.now c.args.node.now c.args.m c.args.mem.now c.make_changing.new.mem c.make_changing.new.self c.make_changing.new.changes
-    c.issues_with.result c.note_trial.ensures c.requires.node c.requires.memory
+    c.issues_with-next.result c.note_trial.ensures c.requires.node c.requires.memory
     (subst (λ (t : OrderTrial). in_memory c.make_changing.new.self c.make_changing.new.mem
     ≡ (next_without t.away t.plan (alone (in_memory c.args.node.now.situation c.args.mem.now)) c.args.m).state) c.trial.view_is
     (c.in_ok-make_changing.ensures.state
-    ∙ ap (λ (s : State). (next_without c.trial.inside.away c.trial.inside.layout (alone (in_memory s c.args.mem.now)) c.args.m).state) c.in_ok-situation.ensures))
+    ∙ ap (λ (k : Node). (next_without c.trial.inside.away c.trial.inside.layout (alone (in_memory k.situation c.args.mem.now)) c.args.m).state) c.in_ok-copy_into.ensures))
     (subst (λ (t : OrderTrial). AreChangesOf (memory_loaded t) c.make_changing.new.mem c.make_changing.new.changes) c.trial.view_is c.in_ok-make_changing.ensures.changes)
-    c.note_bare.ensures c.issues_with.ensures
+    c.note_bare.ensures c.issues_with-next.ensures
