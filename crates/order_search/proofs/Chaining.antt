@@ -5,12 +5,13 @@ use Rattle.std.proofs.lemmas.Bool.Decides.{nat_tests}
 use Rattle.std.proofs.lemmas.List.{get_or-set_same, get_or-set_other, length-set, length-append, length-map, get_or-map, map-append}
 use Rattle.std.proofs.Math.ListN.{get_or-append}
 use Rattle.std.proofs.Math.Seq.{get_or-append_seam}
-use Rattle.order_search.specs.Chains.{AreChains, IsTop, bucket_of}
+use Rattle.order_search.specs.Chains.{AreChains, IsHighestBelow, bucket_of}
 use Rattle.order_search.specs.Numbers.{node_at}
 use Rattle.order_search.specs.Rows.{row_at}
 
 -- what is below a place is as before when one more number follows
-still : (buckets : List ℕ) (more bucket from top : ℕ) → from ≤ length buckets → IsTop buckets bucket from top → IsTop (buckets ++ more ∷ []) bucket from top
+still : (buckets : List ℕ) (more bucket from top : ℕ) → from ≤ length buckets →
+    IsHighestBelow buckets bucket from top → IsHighestBelow (buckets ++ more ∷ []) bucket from top
 still buckets more bucket from top within t = record {
   below = t.below;
   there = λ some. get_or-append buckets (more ∷ []) 0 (top - 1) (omega (arith, some, t.below, within)) ∙ t.there some;
@@ -18,7 +19,8 @@ still buckets more bucket from top within t = record {
 }
 
 -- the new number is the highest of its bucket
-newest : (buckets : List ℕ) (bucket from top : ℕ) → from ≡ length buckets + 1 → top ≡ length buckets + 1 → IsTop (buckets ++ bucket ∷ []) bucket from top
+newest : (buckets : List ℕ) (bucket from top : ℕ) → from ≡ length buckets + 1 → top ≡ length buckets + 1 →
+    IsHighestBelow (buckets ++ bucket ∷ []) bucket from top
 newest buckets bucket from top e f = record {
   below = omega (arith, e, f);
   there = λ some. ap (λ i. get_or (buckets ++ bucket ∷ []) i 0) (omega (arith, f)) ∙ get_or-append_seam buckets bucket [] 0;
@@ -26,8 +28,9 @@ newest buckets bucket from top e f = record {
 }
 
 -- and of no other
-passed_over : (buckets : List ℕ) (more bucket from top : ℕ) → from ≡ length buckets + 1 → (more ≡ bucket → ⊥) → IsTop buckets bucket (length buckets) top →
-    IsTop (buckets ++ more ∷ []) bucket from top
+passed_over : (buckets : List ℕ) (more bucket from top : ℕ) → from ≡ length buckets + 1 → (more ≡ bucket → ⊥) →
+    IsHighestBelow buckets bucket (length buckets) top →
+    IsHighestBelow (buckets ++ more ∷ []) bucket from top
 passed_over buckets more bucket from top e other t =
     let old = still buckets more bucket (length buckets) top (omega arith) t in record {
       below = omega (arith, e, t.below);
@@ -36,7 +39,7 @@ passed_over buckets more bucket from top e other t =
     }
   where
     by : (i : ℕ) → top ≤ i → i < from → get_or (buckets ++ more ∷ []) i 0 ≡ bucket → (last : Bool) → (i == length buckets) ≡ last →
-        IsTop (buckets ++ more ∷ []) bucket (length buckets) top → ⊥
+        IsHighestBelow (buckets ++ more ∷ []) bucket (length buckets) top → ⊥
     by i above under is true q old =
         let at : i ≡ length buckets = grind (arith, nat_tests) in
         other (sym (get_or-append_seam buckets more [] 0) ∙ ap (λ k. get_or (buckets ++ more ∷ []) k 0) (sym at) ∙ is)
@@ -56,34 +59,37 @@ number_added buckets heads links bucket top inside e c = record {
     longer = length-append buckets (bucket ∷ [])
 
     head : (b : ℕ) → b < length heads → (same : Bool) → (b == bucket) ≡ same →
-        IsTop (buckets ++ bucket ∷ []) b (length (buckets ++ bucket ∷ [])) (get_or (set heads bucket top) b 0)
+        IsHighestBelow (buckets ++ bucket ∷ []) b (length (buckets ++ bucket ∷ [])) (get_or (set heads bucket top) b 0)
     head b within true q =
         let is : b ≡ bucket = grind (arith, nat_tests) in
         rw is (newest buckets bucket _ _ longer (get_or-set_same heads bucket top 0 inside ∙ e ∙ omega (arith, c.as_many)))
     head b within false q =
         let other : bucket ≡ b → ⊥ = λ is. (let no : ⊥ = grind (arith, nat_tests) in no) in
         let apart : b ≡ bucket → ⊥ = λ is. other (sym is) in
-        subst (IsTop (buckets ++ bucket ∷ []) b (length (buckets ++ bucket ∷ []))) (sym (get_or-set_other heads bucket b top 0 apart))
+        subst (IsHighestBelow (buckets ++ bucket ∷ []) b (length (buckets ++ bucket ∷ []))) (sym (get_or-set_other heads bucket b top 0 apart))
         (passed_over buckets bucket b _ _ longer other (c.first b within))
 
     link : (number : ℕ) → number < length links + 1 → (last : Bool) → (number == length links) ≡ last →
-        IsTop (buckets ++ bucket ∷ []) (get_or (buckets ++ bucket ∷ []) number 0) number (get_or (links ++ get_or heads bucket 0 ∷ []) number 0)
+        IsHighestBelow (buckets ++ bucket ∷ []) (get_or (buckets ++ bucket ∷ []) number 0) number (get_or (links ++ get_or heads bucket 0 ∷ []) number 0)
     link number within true q =
         let is : number ≡ length links = grind (arith, nat_tests) in
         let at : number ≡ length buckets = is ∙ c.as_many in
-        let mine : get_or (buckets ++ bucket ∷ []) number 0 ≡ bucket = ap (λ k. get_or (buckets ++ bucket ∷ []) k 0) at ∙ get_or-append_seam buckets bucket [] 0 in
+        let mine : get_or (buckets ++ bucket ∷ []) number 0 ≡ bucket =
+        ap (λ k. get_or (buckets ++ bucket ∷ []) k 0) at ∙ get_or-append_seam buckets bucket [] 0 in
         let next : get_or (links ++ get_or heads bucket 0 ∷ []) number 0 ≡ get_or heads bucket 0 =
         ap (λ k. get_or (links ++ get_or heads bucket 0 ∷ []) k 0) is ∙ get_or-append_seam links (get_or heads bucket 0) [] 0 in
-        subst (λ b. IsTop (buckets ++ bucket ∷ []) b number (get_or (links ++ get_or heads bucket 0 ∷ []) number 0)) (sym mine)
-        (subst (IsTop (buckets ++ bucket ∷ []) bucket number) (sym next)
+        subst (λ b. IsHighestBelow (buckets ++ bucket ∷ []) b number (get_or (links ++ get_or heads bucket 0 ∷ []) number 0)) (sym mine)
+        (subst (IsHighestBelow (buckets ++ bucket ∷ []) bucket number) (sym next)
         (still buckets bucket bucket number (get_or heads bucket 0) (omega (arith, at))
-        (subst (λ from. IsTop buckets bucket from (get_or heads bucket 0)) (sym at) (c.first bucket inside))))
+        (subst (λ from. IsHighestBelow buckets bucket from (get_or heads bucket 0)) (sym at) (c.first bucket inside))))
     link number within false q =
         let under : number < length links = grind (arith, nat_tests) in
-        let mine : get_or (buckets ++ bucket ∷ []) number 0 ≡ get_or buckets number 0 = get_or-append buckets (bucket ∷ []) 0 number (omega (arith, under, c.as_many)) in
-        let next : get_or (links ++ get_or heads bucket 0 ∷ []) number 0 ≡ get_or links number 0 = get_or-append links (get_or heads bucket 0 ∷ []) 0 number under in
-        subst (λ b. IsTop (buckets ++ bucket ∷ []) b number (get_or (links ++ get_or heads bucket 0 ∷ []) number 0)) (sym mine)
-        (subst (IsTop (buckets ++ bucket ∷ []) (get_or buckets number 0) number) (sym next)
+        let mine : get_or (buckets ++ bucket ∷ []) number 0 ≡ get_or buckets number 0 =
+        get_or-append buckets (bucket ∷ []) 0 number (omega (arith, under, c.as_many)) in
+        let next : get_or (links ++ get_or heads bucket 0 ∷ []) number 0 ≡ get_or links number 0 =
+        get_or-append links (get_or heads bucket 0 ∷ []) 0 number under in
+        subst (λ b. IsHighestBelow (buckets ++ bucket ∷ []) b number (get_or (links ++ get_or heads bucket 0 ∷ []) number 0)) (sym mine)
+        (subst (IsHighestBelow (buckets ++ bucket ∷ []) (get_or buckets number 0) number) (sym next)
         (still buckets bucket _ number _ (omega (arith, under, c.as_many)) (c.next number under)))
 
 -- the node is none of those from this number on, and the number below is in its bucket
@@ -124,7 +130,7 @@ module _ (nodes : List (List ℕ)) (heads links : List ℕ) (node : List ℕ) (c
       }
     where
       by : (i : ℕ) → get_or links number 0 ≤ i → i < length nodes → node_at nodes i ≡ node →
-          IsTop (map (bucket_of (length heads)) nodes) (get_or (map (bucket_of (length heads)) nodes) number 0) number (get_or links number 0) →
+          IsHighestBelow (map (bucket_of (length heads)) nodes) (get_or (map (bucket_of (length heads)) nodes) number 0) number (get_or links number 0) →
           get_or (map (bucket_of (length heads)) nodes) number 0 ≡ bucket → (beyond : Bool) → leb number i ≡ beyond → (same : Bool) → (i == number) ≡ same → ⊥
       by i above under is t mine false p same q = t.highest i above (grind (arith, nat_tests))
           (bucket_at (length heads) nodes i under ∙ ap (bucket_of (length heads)) is ∙ sym e ∙ sym mine)

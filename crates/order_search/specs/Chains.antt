@@ -11,7 +11,7 @@ unfoldable pub bucket_of : ℕ → List ℕ → ℕ
 bucket_of buckets node = hash_of node % buckets
 
 -- 1 more than the highest number below `from` that is in the bucket, or 0 where none is; these are the buckets of the numbers
-pub record IsTop (buckets : List ℕ) (bucket from top : ℕ) : Type 0 where
+pub record IsHighestBelow (buckets : List ℕ) (bucket from top : ℕ) : Type 0 where
   pub below : top ≤ from
   pub there : 0 < top → slice_index buckets (top - 1) ≡ bucket
   pub highest : (i : ℕ) → top ≤ i → i < from → slice_index buckets i ≡ bucket → ⊥
@@ -20,5 +20,5 @@ pub record IsTop (buckets : List ℕ) (bucket from top : ℕ) : Type 0 where
 pub record AreChains (buckets heads links : List ℕ) : Type 0 where
   pub some : 0 < length heads
   pub as_many : length links ≡ length buckets
-  pub first : (bucket : ℕ) → bucket < length heads → IsTop buckets bucket (length buckets) (slice_index heads bucket)
-  pub next : (number : ℕ) → number < length links → IsTop buckets (slice_index buckets number) number (slice_index links number)
+  pub first : (bucket : ℕ) → bucket < length heads → IsHighestBelow buckets bucket (length buckets) (slice_index heads bucket)
+  pub next : (number : ℕ) → number < length links → IsHighestBelow buckets (slice_index buckets number) number (slice_index links number)

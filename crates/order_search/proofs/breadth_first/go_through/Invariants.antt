@@ -15,7 +15,8 @@ invariant-loop-edge g l = record {
       (node_at l.fn.trail.nodes 0) l.most
       l.trail.nodes l.trail.entered.items l.trail.rows l.at (length l.yielded);
   rest : map seen l.yielded ++ map seen (into_iter_items l.edge-iterator) ≡ g.G.Graph.leads l.fn.graph (node_at l.fn.trail.nodes l.at);
-  judged : All (IsJudged (HasEdgeFault (g.G.Graph.wrong l.fn.graph) (g.G.Graph.flawed l.fn.graph) (node_at l.fn.trail.nodes l.at))) (into_iter_items l.edge-iterator);
+  judged : All (IsJudged (HasEdgeFault (g.G.Graph.wrong l.fn.graph) (g.G.Graph.flawed l.fn.graph)
+      (node_at l.fn.trail.nodes l.at))) (into_iter_items l.edge-iterator);
   all_known : All (λ edge. IfNone edge.fault (g.G.Graph.is_node l.fn.graph edge.node.items)) (into_iter_items l.edge-iterator);
   row : AreTargets l.trail.nodes l.row.items (map seen l.yielded);
   inside : l.at < length l.trail.nodes;

@@ -19,7 +19,9 @@ loop-top-preserved c =
     let next : c.index-in-loop-top.result.now ≡ get_or c.args.chains.now.links.items (c.loop-top.top - 1) 0 = cc (c.index-in-loop-top.ensures, at) in
     let other : node_at c.args.nodes.now (c.loop-top.top - 1) ≡ c.args.node.now → ⊥ =
     λ same. true≢false (sym (c.is_same.ensures.1 (c.row.ensures ∙ same)) ∙ c.if-is_same.false) in record {
-      sought = subst (IsSought (map (bucket_of (length c.args.chains.now.heads.items)) c.args.nodes.now) c.args.nodes.now c.args.node.now c.args.bucket) (sym next)
-          (sought_next c.args.nodes.now c.args.chains.now.heads.items c.args.chains.now.links.items c.args.node.now c.requires.chains c.args.bucket c.loop-top.top
+      sought = subst (IsSought (map (bucket_of (length c.args.chains.now.heads.items)) c.args.nodes.now)
+          c.args.nodes.now c.args.node.now c.args.bucket) (sym next)
+          (sought_next c.args.nodes.now c.args.chains.now.heads.items c.args.chains.now.links.items c.args.node.now c.requires.chains c.args.bucket
+          c.loop-top.top
           (c.loop-top.top - 1) c.requires.bucket (omega (arith, c.loop-top-test.true)) other c.loop-top.invariant.sought);
     }
