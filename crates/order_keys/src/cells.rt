@@ -31,6 +31,7 @@ impl Pack for Cell {
 
     ghost unpacked = { unpacked_cell };
 
+    #[inline(always)]
     #[tactic(auto, unfolding(crate::specs::Cells::packed_cell))]
     fn pack(&self, key: &mut Vec<u8>) -> Result<(), AllocError> {
         if is_empty(self) {
@@ -42,6 +43,7 @@ impl Pack for Cell {
         }
     }
 
+    #[inline(always)]
     #[tactic(auto, unfolding(crate::specs::Cells::unpacked_cell))]
     fn unpack(key: &mut Unread<'_>) -> Cell {
         if key.byte() == 0 {
@@ -64,12 +66,14 @@ impl Pack for Op {
 
     ghost unpacked = { unpacked_op };
 
+    #[inline(always)]
     #[tactic(auto, unfolding(crate::specs::Cells::packed_op))]
     fn pack(&self, key: &mut Vec<u8>) -> Result<(), AllocError> {
         (self.pc, self.instr).pack(key)?;
         (self.a, self.b, self.answer).pack(key)
     }
 
+    #[inline(always)]
     #[tactic(auto, unfolding(crate::specs::Cells::unpacked_op))]
     fn unpack(key: &mut Unread<'_>) -> Op {
         let (pc, instr) = <(u32, Instr)>::unpack(key);

@@ -13,12 +13,14 @@ impl<A: Pack, B: Pack> Pack for (A, B) {
 
     ghost unpacked = { unpacked_pair A.unpacked B.unpacked };
 
+    #[inline(always)]
     #[tactic(auto, unfolding(crate::specs::Compounds::packed_pair))]
     fn pack(&self, key: &mut Vec<u8>) -> Result<(), AllocError> {
         self.0.pack(key)?;
         self.1.pack(key)
     }
 
+    #[inline(always)]
     #[tactic(auto, unfolding(crate::specs::Compounds::unpacked_pair))]
     fn unpack(key: &mut Unread<'_>) -> (A, B) {
         let first = A::unpack(key);
@@ -34,6 +36,7 @@ impl<A: Pack, B: Pack, C: Pack> Pack for (A, B, C) {
 
     ghost unpacked = { unpacked_triple A.unpacked B.unpacked C.unpacked };
 
+    #[inline(always)]
     #[tactic(auto, unfolding(crate::specs::Compounds::packed_triple))]
     fn pack(&self, key: &mut Vec<u8>) -> Result<(), AllocError> {
         self.0.pack(key)?;
@@ -41,6 +44,7 @@ impl<A: Pack, B: Pack, C: Pack> Pack for (A, B, C) {
         self.2.pack(key)
     }
 
+    #[inline(always)]
     #[tactic(auto, unfolding(crate::specs::Compounds::unpacked_triple))]
     fn unpack(key: &mut Unread<'_>) -> (A, B, C) {
         let first = A::unpack(key);
@@ -57,6 +61,7 @@ impl<T: Pack> Pack for Option<T> {
 
     ghost unpacked = { unpacked_option T.unpacked };
 
+    #[inline(always)]
     #[tactic(auto, unfolding(crate::specs::Compounds::packed_option))]
     fn pack(&self, key: &mut Vec<u8>) -> Result<(), AllocError> {
         match self {
@@ -71,6 +76,7 @@ impl<T: Pack> Pack for Option<T> {
         }
     }
 
+    #[inline(always)]
     #[tactic(auto, unfolding(crate::specs::Compounds::unpacked_option))]
     fn unpack(key: &mut Unread<'_>) -> Option<T> {
         if key.byte() == 0 {

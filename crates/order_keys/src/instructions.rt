@@ -117,6 +117,7 @@ impl Pack for Instr {
 
     ghost unpacked = { unpacked_instr };
 
+    #[inline(always)]
     #[tactic(auto, unfolding(crate::specs::Instructions::packed_instr, crate::specs::Instructions::packed_fields))]
     fn pack(&self, key: &mut Vec<u8>) -> Result<(), AllocError> {
         let instruction = *self;
@@ -148,6 +149,7 @@ impl Pack for Instr {
         }
     }
 
+    #[inline(always)]
     #[tactic(auto, unfolding(crate::specs::Instructions::unpacked_instr))]
     fn unpack(key: &mut Unread<'_>) -> Instr {
         let form = key.byte();

@@ -28,7 +28,7 @@ pub(crate) fn unpack_list<T: Pack>(
     ensures { IfOk result (λ list. record { value = list.items; left = key.new } ≡ unpacked_list T.unpacked key.old) }
 {
     let count = u64::unpack(key);
-    let mut list = Vec::new(alloc);
+    let mut list = Vec::with_capacity(alloc, count.min(64) as usize)?;
     for _ in 0..count {
         list.push(T::unpack(key))?;
     }

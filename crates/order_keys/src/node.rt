@@ -55,7 +55,6 @@ pub fn write_key(alloc: Global, node: &Node) -> Result<Vec<u8>, AllocError>
     pack_situation(&node.situation, &mut key)?;
     pack_changes(&node.changes, &mut key)?;
     node.issues.pack(&mut key)?;
-    key.shrink_to_fit();
     Ok(key)
 }
 

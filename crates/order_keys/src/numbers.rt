@@ -17,6 +17,7 @@ const FOUR: u8 = 254;
 const EIGHT: u8 = 255;
 
 /// Appends a number below 2^16, its lower byte first.
+#[inline(always)]
 #[tactic(auto, unfolding(crate::specs::Numbers::packed_two))]
 fn pack_two(number: u32, key: &mut Vec<u8>) -> Result<(), AllocError>
     requires { number < 65536 }
@@ -150,6 +151,7 @@ impl Pack for u32 {
 
     ghost unpacked = { unpacked_word };
 
+    #[inline(always)]
     #[tactic(auto, unfolding(crate::specs::Numbers::packed_word))]
     fn pack(&self, key: &mut Vec<u8>) -> Result<(), AllocError> {
         let number = *self;
@@ -165,6 +167,7 @@ impl Pack for u32 {
         }
     }
 
+    #[inline(always)]
     #[tactic(auto, unfolding(crate::specs::Numbers::unpacked_word))]
     fn unpack(key: &mut Unread<'_>) -> u32 {
         let first = key.byte();
@@ -185,6 +188,7 @@ impl Pack for u64 {
 
     ghost unpacked = { unpacked_long };
 
+    #[inline(always)]
     #[tactic(auto, unfolding(crate::specs::Numbers::packed_long))]
     fn pack(&self, key: &mut Vec<u8>) -> Result<(), AllocError> {
         let number = *self;
@@ -196,6 +200,7 @@ impl Pack for u64 {
         }
     }
 
+    #[inline(always)]
     #[tactic(auto, unfolding(crate::specs::Numbers::unpacked_long))]
     fn unpack(key: &mut Unread<'_>) -> u64 {
         if key.next() == EIGHT {
@@ -214,11 +219,13 @@ impl Pack for i32 {
 
     ghost unpacked = { unpacked_signed };
 
+    #[inline(always)]
     #[tactic(auto, unfolding(crate::specs::Numbers::packed_signed))]
     fn pack(&self, key: &mut Vec<u8>) -> Result<(), AllocError> {
         folded(*self).pack(key)
     }
 
+    #[inline(always)]
     #[tactic(auto, unfolding(crate::specs::Numbers::unpacked_signed))]
     fn unpack(key: &mut Unread<'_>) -> i32 {
         unfolded(u32::unpack(key))

@@ -40,6 +40,7 @@ impl Pack for PassengerFlags {
 
     ghost unpacked = { unpacked_flags };
 
+    #[inline(always)]
     #[tactic(auto, unfolding(crate::specs::PassengerFlags::packed_flags))]
     fn pack(&self, key: &mut Vec<u8>) -> Result<(), AllocError> {
         let made = bit(1, self.done) + bit(2, self.launched);
@@ -47,6 +48,7 @@ impl Pack for PassengerFlags {
         Ok(())
     }
 
+    #[inline(always)]
     #[tactic(auto, unfolding(crate::specs::PassengerFlags::unpacked_flags))]
     fn unpack(key: &mut Unread<'_>) -> PassengerFlags {
         let bits = key.byte();

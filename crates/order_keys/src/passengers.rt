@@ -17,6 +17,7 @@ impl Pack for Guess {
 
     ghost unpacked = { unpacked_guess };
 
+    #[inline(always)]
     #[tactic(auto, unfolding(crate::specs::Passengers::packed_guess))]
     fn pack(&self, key: &mut Vec<u8>) -> Result<(), AllocError> {
         match *self {
@@ -39,6 +40,7 @@ impl Pack for Guess {
         }
     }
 
+    #[inline(always)]
     #[tactic(auto, unfolding(crate::specs::Passengers::unpacked_guess))]
     fn unpack(key: &mut Unread<'_>) -> Guess {
         match key.byte() {
@@ -57,6 +59,7 @@ impl Pack for End {
 
     ghost unpacked = { unpacked_end };
 
+    #[inline(always)]
     #[tactic(auto, unfolding(crate::specs::Passengers::packed_end))]
     fn pack(&self, key: &mut Vec<u8>) -> Result<(), AllocError> {
         match *self {
@@ -71,6 +74,7 @@ impl Pack for End {
         }
     }
 
+    #[inline(always)]
     #[tactic(auto, unfolding(crate::specs::Passengers::unpacked_end))]
     fn unpack(key: &mut Unread<'_>) -> End {
         match key.byte() {
@@ -103,6 +107,7 @@ impl Pack for Passenger {
 
     ghost unpacked = { unpacked_passenger };
 
+    #[inline(always)]
     #[tactic(auto, unfolding(crate::specs::Passengers::packed_passenger))]
     fn pack(&self, key: &mut Vec<u8>) -> Result<(), AllocError> {
         (self.pc, self.what, self.guess).pack(key)?;
@@ -111,6 +116,7 @@ impl Pack for Passenger {
         (self.next, self.ending, self.owes).pack(key)
     }
 
+    #[inline(always)]
     #[tactic(auto, unfolding(crate::specs::Passengers::unpacked_passenger))]
     fn unpack(key: &mut Unread<'_>) -> Passenger {
         let (pc, what, guess) = <(u32, Option<Instr>, Guess)>::unpack(key);

@@ -8,6 +8,7 @@ use crate::unread::Unread;
 use std::alloc::{AllocError, Global};
 
 /// Appends what stands at a place behind this many empty ones, and returns how many empty ones are then not noted yet.
+#[inline(always)]
 #[tactic(auto, unfolding(crate::specs::Places::packed_runs))]
 fn pack_place(place: Option<u32>, empty: u64, key: &mut Vec<u8>) -> Result<u64, AllocError>
     requires { empty < 2 ^ 63 }
@@ -62,6 +63,7 @@ pub(crate) fn pack_registers(regs: &[u32], key: &mut Vec<u8>) -> Result<(), Allo
 }
 
 /// Takes what stands at a place, where this many empty ones come first.
+#[inline(always)]
 #[tactic(auto, unfolding(crate::specs::Places::next_place))]
 fn unpack_place(empty: &mut u64, key: &mut Unread<'_>) -> Option<u32>
     ensures { record { value = result; empty = empty.new; left = key.new } ≡ next_place empty.old key.old }

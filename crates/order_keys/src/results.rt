@@ -12,6 +12,7 @@ impl Pack for Packet {
 
     ghost unpacked = { unpacked_packet };
 
+    #[inline(always)]
     #[tactic(auto, unfolding(crate::specs::Results::packed_packet))]
     fn pack(&self, key: &mut Vec<u8>) -> Result<(), AllocError> {
         match *self {
@@ -30,6 +31,7 @@ impl Pack for Packet {
         }
     }
 
+    #[inline(always)]
     #[tactic(auto, unfolding(crate::specs::Results::unpacked_packet))]
     fn unpack(key: &mut Unread<'_>) -> Packet {
         match key.byte() {
@@ -50,6 +52,7 @@ impl Pack for Fetch {
 
     ghost unpacked = { unpacked_fetch };
 
+    #[inline(always)]
     #[tactic(auto, unfolding(crate::specs::Results::packed_fetch))]
     fn pack(&self, key: &mut Vec<u8>) -> Result<(), AllocError> {
         match *self {
@@ -64,6 +67,7 @@ impl Pack for Fetch {
         }
     }
 
+    #[inline(always)]
     #[tactic(auto, unfolding(crate::specs::Results::unpacked_fetch))]
     fn unpack(key: &mut Unread<'_>) -> Fetch {
         match key.byte() {
