@@ -1,12 +1,10 @@
 //! A run of the processor by the rule.
 
-ghost use Rattle.std.specs.Prelude.{◌≡◌, Ok};
 ghost use Rattle.cf_run.specs.Policies.{CanRun};
 ghost use Rattle.cf_sched.specs.Policies.{round_on, round_pick};
-ghost use Rattle.cli_files.specs.Causes.{input_answered, output_answered};
-ghost use Rattle.cli_reports.specs.Reporting.{ComesOver, FaultsReported, files_reported};
+ghost use Rattle.cli_reports.specs.Reporting.{CarriesOutRun};
 ghost use Rattle.cli_run.specs.Run.{ByPolicy, RunsCore, BreaksCore};
-ghost use Rattle.cli_reports.specs.OutsideChanges.{streams_change, input_left, output_left};
+ghost use Rattle.cli_reports.specs.OutsideChanges.{streams_change, faults_change};
 
 use crate::closing::close;
 use cf_core::Core;
@@ -32,12 +30,10 @@ pub fn run_by_rule<S: Source, K: Sink, R: Sink>(
     streams: RunStreams<'_, S, K, R>,
 ) -> Result<Reported, Failed>
     requires begins { CanRun limit core.old }
-    ensures runs { ComesOver (RunsCore limit reporting core.old core.new (ByPolicy rule round_pick round_on limit reporting round))
+    ensures { CarriesOutRun (RunsCore limit reporting core.old core.new (ByPolicy rule round_pick round_on limit reporting round))
         (BreaksCore limit reporting core.old (ByPolicy rule round_pick round_on limit reporting round))
-        (streams_change S.left K.written R.written R.faults streams.entry streams.exit) result }
-    ensures files { files_reported result ≡ Ok tt }
-    ensures input { FaultsReported input_answered (S.faults streams.entry.input.now) (S.faults (input_left streams.exit)) result }
-    ensures output { FaultsReported output_answered (K.faults streams.entry.output.now) (K.faults (output_left streams.exit)) result }
+        (streams_change S.left K.written R.written R.faults streams.entry streams.exit)
+        (faults_change S.faults K.faults streams.entry streams.exit) result }
 {
     let mut round = round;
     let RunStreams {

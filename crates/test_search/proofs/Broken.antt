@@ -1,7 +1,9 @@
 -- The fault of an edge is that of the node that it leads to.
 use Rattle.std.proofs.Common.{◌≡◌, ℕ, List, [], ◌∷◌, Option, Some, None, Bool, true, false, refl, sym, ap, ◌∙◌, arith, ◌⊎◌, inl, inr}
 use Rattle.std.specs.Prelude.{◌==◌, slice_index, MatchOption, if◌then◌else◌}
+use Rattle.std.specs.List.{All}
 use Rattle.std.proofs.lemmas.Bool.Decides.{nat_tests}
+use Rattle.std.proofs.lemmas.List.Elements.{All-cons, All-nil}
 use Rattle.order_search.specs.declared.graph.Edge.{Edge}
 use Rattle.order_search.specs.Paths.{EdgeView, HasEdgeFault}
 use Rattle.order_search.specs.Views.{IsJudged}
@@ -45,4 +47,13 @@ pub judged : (broken : Option ℕ) (from : List ℕ) (e : Edge ℕ ℕ) (number 
     IsJudged (HasEdgeFault (λ (k : List ℕ) (d : EdgeView ℕ) (g : ℕ). ⊥) (IsBroken broken) from) e
 judged broken from e number fault node = along broken from e.node.items e.label number e.fault fault node
 
-pub ruleset breaking = (judged)
+pub both_judged : (broken : Option ℕ) (from : List ℕ) (edges : List (Edge ℕ ℕ)) (left right : Edge ℕ ℕ) (number : ℕ) → edges ≡ left ∷ right ∷ [] →
+    left.fault ≡ fault_at broken number → left.node.items ≡ number ∷ [] → right.fault ≡ fault_at broken number → right.node.items ≡ number ∷ [] →
+    All (IsJudged (HasEdgeFault (λ (k : List ℕ) (d : EdgeView ℕ) (g : ℕ). ⊥) (IsBroken broken) from)) edges
+both_judged broken from edges left right number e left_fault left_node right_fault right_node =
+    let first = judged broken from left number left_fault left_node in
+    let second = judged broken from right number right_fault right_node in
+    let told = IsJudged (HasEdgeFault (λ (k : List ℕ) (d : EdgeView ℕ) (g : ℕ). ⊥) (IsBroken broken) from) in
+    rw e (All-cons told left (right ∷ []) first (All-cons told right [] second (All-nil told)))
+
+pub ruleset breaking = (judged, both_judged)

@@ -2,22 +2,17 @@ use Rattle.run_finishes.specs.declared.finish.Scripted.TheVariants.{Ran}
 use Rattle.cli_run.proofs.ProcessorRuns.{policy-closed, policy-input, policy-output, closed-input, closed-output, closed-files}
 use Rattle.cli_run.proofs.by_rule.run_by_rule.Goals as goal
 
-pub returns-clause-runs : goal.returns-clause-runs
-returns-clause-runs g c =
-    policy-closed c.args.rule _ _ _ _ _ _ _ _ _ _ _ _ _ _ c.run_rule-ran.result c.close.result
-    (rw c.no_moves-tally.ensures at c.run_rule-ran.ensures.run)
-    (rw c.no_moves-tally.ensures at c.run_rule-ran.ensures.ends)
-    c.run_rule-ran.ensures.bounded c.run_rule-ran.ensures.report c.close.ensures
-
-pub returns-clause-files : goal.returns-clause-files
-returns-clause-files g c = closed-files _ _ c.run_rule-ran.new.tally.moves (Ran c.run_rule-ran.result) _ _ _ c.close.result c.close.ensures
-
-pub returns-clause-input : goal.returns-clause-input
-returns-clause-input g c =
-    closed-input _ (Ran c.run_rule-ran.result) _ _ _ _ c.close.result _ _ c.close.ensures
-    (policy-input _ _ _ c.run_rule-ran.ensures.input)
-
-pub returns-clause-output : goal.returns-clause-output
-returns-clause-output g c =
-    closed-output _ (Ran c.run_rule-ran.result) _ _ _ _ c.close.result _ _ c.close.ensures
-    (policy-output _ _ _ c.run_rule-ran.ensures.output)
+pub returns : goal.returns
+returns g c = record {
+  comes = policy-closed c.args.rule _ _ _ _ _ _ _ _ _ _ _ _ _ _ c.run_rule-ran.result c.close.result
+      (rw c.no_moves-tally.ensures at c.run_rule-ran.ensures.run)
+      (rw c.no_moves-tally.ensures at c.run_rule-ran.ensures.ends)
+      c.run_rule-ran.ensures.bounded c.run_rule-ran.ensures.report c.close.ensures;
+  faults = record {
+    files = closed-files _ _ c.run_rule-ran.new.tally.moves (Ran c.run_rule-ran.result) _ _ _ c.close.result c.close.ensures;
+    input = closed-input _ (Ran c.run_rule-ran.result) _ _ _ _ c.close.result _ _ c.close.ensures
+        (policy-input _ _ _ c.run_rule-ran.ensures.input);
+    output = closed-output _ (Ran c.run_rule-ran.result) _ _ _ _ c.close.result _ _ c.close.ensures
+        (policy-output _ _ _ c.run_rule-ran.ensures.output);
+  };
+}
