@@ -113,7 +113,6 @@ fn a_busy_node_has_a_short_key(rt: HostRuntime) {
     let node = busy(rt.alloc()).expect(&rt, "memory for a node");
     let key = write_key(rt.alloc(), &node).expect(&rt, "memory for a key");
     assert!(rt; key.len() <= 160, "short");
-    assert!(rt; key.capacity() == key.len(), "no room to spare");
     let read = read_key(rt.alloc(), &key).expect(&rt, "memory for a node");
     let node = read.expect(&rt, "a node");
     let again = write_key(rt.alloc(), &node).expect(&rt, "memory for a key");
