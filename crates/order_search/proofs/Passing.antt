@@ -1,5 +1,5 @@
 -- Going through an edge.
-use Rattle.std.proofs.Common.{◌≡◌, ℕ, ◌++◌, ◌∷◌, [], List, Option, Some, None, Bool, true, false, refl, inl, inr}
+use Rattle.std.proofs.Common.{◌≡◌, ℕ, List, Option, Some, None, Bool, true, false, refl, inl, inr}
 use Rattle.std.specs.Prelude.{MatchOption}
 use Rattle.order_search.specs.declared.trail.Entered.{Entered}
 use Rattle.order_search.specs.declared.trail.Passed.TheVariants.{Node}

@@ -75,13 +75,13 @@ fn find(nodes: &Rows<u8>, chains: &Chains, node: &[u8], bucket: usize) -> Option
     requires inside { bucket < length chains.now.heads.items }
     ensures { MatchOption result (¬ Contains nodes.now node.now) (λ number. (number < length nodes.now) × (node_at nodes.now number ≡ node.now)) }
 {
-    let mut top = chains.heads[bucket] as usize;
+    let mut top = chains.heads[bucket];
     while top > 0 {
         let number = top - 1;
         if is_same(nodes.row(number), node) {
             return Some(number);
         }
-        top = chains.links[number] as usize;
+        top = chains.links[number];
     }
     None
 }

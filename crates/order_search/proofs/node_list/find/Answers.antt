@@ -15,8 +15,8 @@ loop-top-preserved c =
       c.requires.chains.as_many,
       length-map c.args.nodes.now (bucket_of (length c.args.chains.now.heads.items)),
     ) in
-    let at = get_or_default c.args.chains.now.links.items (c.loop-top.top - 1) c.index-in-loop-top.result.now 0 within in
-    let next : c.index-in-loop-top.result.now ≡ get_or c.args.chains.now.links.items (c.loop-top.top - 1) 0 = cc (c.index-in-loop-top.ensures, at) in
+    let at = get_or_default c.args.chains.now.links.items (c.loop-top.top - 1) c.index-top-in-loop-top.result.now 0 within in
+    let next : c.index-top-in-loop-top.result.now ≡ get_or c.args.chains.now.links.items (c.loop-top.top - 1) 0 = cc (c.index-top-in-loop-top.ensures, at) in
     let other : node_at c.args.nodes.now (c.loop-top.top - 1) ≡ c.args.node.now → ⊥ =
     λ same. true≢false (sym (c.is_same.ensures.1 (c.row.ensures ∙ same)) ∙ c.if-is_same.false) in record {
       sought = subst (IsSought (map (bucket_of (length c.args.chains.now.heads.items)) c.args.nodes.now)
