@@ -12,8 +12,9 @@ METHODS = re.compile(r"impl\b(?:<[^>]*>)? (?:(\w+)\S* for )?(\w+)")
 FUNCTION = re.compile(r" *(?:pub(?:\([a-z]+\))? )?(?:const )?fn (\w+)")
 # What the module adds to the name of a function that is generic.
 TYPES = re.compile(r"::<.*")
-# With the marks of this crate clang takes three times as long, and `time`, which alone needs it, is within its third without them.
-LEFT_OUT = {"cf_timed"}
+# With the marks of cf_timed clang takes three times as long, with those of the others a quarter longer; the commands that alone need
+# them rarely take long.
+LEFT_OUT = {"cf_timed", "run_ledger", "cf_log", "cf_conform", "cf_audit", "cf_debug"}
 
 
 def marked_in(source):

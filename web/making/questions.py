@@ -6,7 +6,7 @@ TOP = pathlib.Path(__file__).resolve().parent.parent.parent
 
 LESSON = re.compile(r"^## Lesson \d+: .*$", re.M)
 QUESTION = re.compile(r"^(\d+)\. (.+(?:\n   .+)*)", re.M)
-MARK = re.compile(r"\s*\*\(Predict asks it in `(\w+)`, move (\d+)\.\)\*$")
+MARK = re.compile(r"\s*\*\(Predict: `(\w+)`, move (\d+)\.\)\*$")
 GOAL = re.compile(r"by the goal `([^`]+)`,\s+with\s+\*Goal\*\s+in\s+`(\w+)`")
 ANSWERS = "**Answers.** "
 LINK = re.compile(r"\[([^]]*)\]\([^)]*\)")
