@@ -25,5 +25,6 @@ is refused, 126 the move of a line is barred, 128 a file or the input cannot be
 read, 129 output or report cannot be written, 130 memory is refused.
 
 Example:
-  cfpp moves plain wrong_guess.bin --script wrong_guess.script
+  cfpp moves plain examples/scripts/memory.bin \\
+      --script examples/scripts/memory.script
 ";
