@@ -30,9 +30,11 @@ def parser(name: str, text: Optional[str]) -> argparse.ArgumentParser:
 
 def start(name: str, main: Main) -> NoReturn:
     """Runs a program: what it refuses is one line on standard error. What reads its lines may stop before the last, as `head`
-    does."""
+    does; and who runs it may interrupt it."""
     signal.signal(signal.SIGPIPE, signal.SIG_DFL)
     try:
         sys.exit(main(sys.argv[1:]))
+    except KeyboardInterrupt:
+        sys.exit(128 + signal.SIGINT)
     except (OSError, Stop, ReadFault, Refused, NoProgram) as refusal:
         sys.exit(f"{name}: {refusal}")

@@ -75,15 +75,22 @@ tell_text() { # tell_text ARGUMENT..: says so where the program is a file of pri
     fi
 }
 
-filled() { # filled FORM REASON TEXT: the text with what the reason keeps, for the words that stand for it in the form
-    local form given word at made=
+filled() { # filled FORM REASON TEXT: the text with what the reason keeps, for the placeholders of the form; fails where it has another form
+    local form given word at made='' placeholder='^(xRR|[A-Z])$' remark='^(.*) \([A-Z] is [0-9]+\)(.*)$' text=$3
     read -r -a form <<<"$1"
     read -r -a given <<<"$2"
-    [ "${#form[@]}" -eq "${#given[@]}" ] && [ "${form[0]}" = "${given[0]}" ] || return 1
+    [ "${#form[@]}" -eq "${#given[@]}" ] || return 1
+    for at in "${!form[@]}"; do
+        [[ ${form[at]} = "${given[at]}" || ${form[at]} =~ $placeholder ]] || return 1
+    done
+    # A remark on a placeholder itself says nothing once that is filled in.
+    while [[ $text =~ $remark ]]; do
+        text=${BASH_REMATCH[1]}${BASH_REMATCH[2]}
+    done
     set -f
-    for word in $3; do
+    for word in $text; do
         for at in "${!form[@]}"; do
-            if [ "$at" -gt 0 ] && [[ $word =~ ^${form[at]}([^A-Za-z]*)$ ]]; then
+            if [[ ${form[at]} =~ $placeholder && $word =~ ^${form[at]}([^A-Za-z]*)$ ]]; then
                 word=${given[at]}${BASH_REMATCH[1]}
                 break
             fi
@@ -129,6 +136,10 @@ tell_refusal() { # tell_refusal LINE ARGUMENT..: explains the first line of a re
     reason=${reason#Elf }
     case $1 in
         "bad source line "*": NoLabel") tell_label "${line##* }" "${3-}" ;;
+        "bad source line "*": Text WrongCount "*)
+            tell_reason Assembly "$reason"
+            tell_label "${line##* }" "${3-}"
+            ;;
         "bad source line "*) tell_reason Assembly "$reason" ;;
         "barred at line "*) tell_reason Bars "$reason" ;;
         "bad layout: "*) tell_reason Layouts "$reason" ;;
@@ -137,6 +148,8 @@ tell_refusal() { # tell_refusal LINE ARGUMENT..: explains the first line of a re
         "bad delays line "*) tell_reason Delays "$reason" ;;
         "bad trace line "*": Barred "*) tell_reason Bars "${reason#Barred }" ;;
         "bad trace line "*) tell_reason Traces "$reason" ;;
+        "bad log line "*": Barred "*) tell_reason Bars "${reason#Barred }" ;;
+        "bad log line "*) tell_reason Logs "$reason" ;;
     esac
 }
 
@@ -153,12 +166,14 @@ explained() { # explained ARGUMENT..: hands the report on, with the hints
     tell_text "$@"
 }
 
-debug_by_hand() { # debug_by_hand PROGRAM COMMANDS debug LAYOUT GUEST: a session at a terminal; returns where nobody types
+debug_by_hand() { # debug_by_hand PROGRAM COMMANDS debug LAYOUT GUEST: a session at a terminal; returns where nobody types, or no session begins
     local program=$1 words=${2%/*}/debugger.txt session=${2%/*}/../session editor=()
     shift 2
     [ -t 0 ] || return 0
-    # rlwrap edits lines, keeps their history and completes the words of the commands, where it is installed.
-    if command -v rlwrap >/dev/null; then
+    # What refuses a session without commands refuses each; its report then gets the hints of any other.
+    "$program" "$@" </dev/null >/dev/null 2>&1 || return 0
+    # rlwrap edits lines, keeps their history and completes the words of the commands, where it is installed and the terminal can do that.
+    if command -v rlwrap >/dev/null && [ "${TERM-dumb}" != dumb ]; then
         editor=(rlwrap -C cfpp)
         [ ! -e "$words" ] || editor+=(-f "$words")
     fi

@@ -9,6 +9,7 @@ barred in red; the variable NO_COLOR, or TERM=dumb, leaves bold and red out. It 
 
 from __future__ import annotations
 
+import signal
 import subprocess
 import sys
 from typing import IO, Iterator, Sequence
@@ -101,6 +102,8 @@ def main(given: Sequence[str]) -> int:
     for name in ("CFPP", "LAYOUT", "PROGRAM"):
         parser.add_argument(name.lower(), metavar=name)
     arguments = parser.parse_args(given)
+    # The simulator may end before it has read its commands; what it says then is still shown.
+    signal.signal(signal.SIGPIPE, signal.SIG_IGN)
     decorator = Decorator(listing_of(arguments.cfpp, arguments.program), has_colours())
     session = Session([arguments.cfpp, "debug", arguments.layout, arguments.program], decorator)
     session.say(END_OF_ANSWERS)
