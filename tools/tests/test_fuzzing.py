@@ -32,3 +32,11 @@ def test_what_is_wrong_with_a_call():
     assert list(faults(refused)) == ["it was refused and wrote to the output"]
     assert list(faults(Call(["machine", "p"], -11)))[0] == "signal 11 ended it"
     assert "it did not end" in next(faults(Call(["machine", "p"])))
+
+
+def test_what_is_wrong_with_a_search_or_a_log():
+    counted = "states 1\nmoves 0\nends 1\norders 1\n"
+    assert list(faults(Call(["orders", "plain", "p"], 0, report=counted))) == []
+    assert list(faults(Call(["orders", "plain", "p"], 136, report=counted))) == ["its report has not the form of status 136"]
+    barred = Call(["conform", "plain", "p"], 134, report="bad log line 1: Barred LaneEmpty\n", is_recorded=True)
+    assert list(faults(barred)) == ["its report has not the form of status 134", "a trace that was recorded does not agree"]

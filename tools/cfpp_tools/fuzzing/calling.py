@@ -10,7 +10,7 @@ import time
 from typing import List
 
 from ..program import Name
-from .judging import SECONDS, Call
+from .judging import RECORDED, SECONDS, Call
 
 
 class Caller:
@@ -20,9 +20,15 @@ class Caller:
         self.program = program
         self.folder = pathlib.Path(folder)
 
+    def is_recorded(self, arguments: List[str]) -> bool:
+        """Whether a call judges a trace as it was recorded: `audit` the file that it names last, `conform` its input."""
+        judged = {"audit": arguments[-1], "conform": "input"}.get(arguments[0], "") if arguments else ""
+        files = [self.folder / RECORDED, self.folder / judged]
+        return all(file.is_file() for file in files) and files[0].read_bytes() == files[1].read_bytes()
+
     def call(self, arguments: List[str]) -> Call:
-        """A call on the guest's input, or the debugger's commands, in the file `input`."""
-        call = Call(arguments)
+        """A call on the guest's input, the debugger's commands or a log, in the file `input`."""
+        call = Call(arguments, is_recorded=self.is_recorded(arguments))
         guest_name = self.folder / "input"
         with open(guest_name if guest_name.exists() else os.devnull, "rb") as guest, open(
             self.folder / "output", "wb"

@@ -35,22 +35,30 @@ def some(draw: random.Random, *choices: List[str]) -> List[str]:
     return draw.choice(choices)
 
 
+def searched(draw: random.Random) -> List[str]:
+    """The options of a search of all orders, of few states."""
+    most = ["--issues", str(draw.choice([1, 2, 3])), "--states", str(draw.choice([1, 100, 2000]))]
+    return [*most, *some(draw, [], ["--show", "edges"]), *some(draw, [], ["--without", draw.choice(making.RULES)])]
+
+
 def on_program(draw: random.Random, put: Put) -> Case:
-    """The calls on a program. What a debugger takes for commands is input to any other guest."""
+    """The calls on a program. What a debugger takes for commands and `conform` for a log is input to any other guest."""
     if draw.random() < 0.5:
-        put("input", making.commands(draw))
+        put("input", draw.choice([making.commands, making.log])(draw))
     limit = ["--limit", str(draw.choice([0, 1, 50, 300]))]
     show = some(draw, [], ["--show", "report"], ["--show", "retired"])
     moves = some(draw, [], ["--show", "moves", "--seed", str(draw.getrandbits(32))])
     layout = draw.choice(LAYOUTS)
     yield ["machine", "program", *limit, *show, *some(draw, [], ["--mul"])]
-    yield ["run", layout, "program", *limit, *moves]
+    yield ["run", layout, "program", *limit, *moves, *some(draw, [], ["--every", "7"])]
     yield ["list", "program"]
     yield ["rounds", layout, "program", *limit]
-    yield ["time", "nothing", "program", layout, *limit]
+    yield ["time", "nothing", "program", layout, *limit, *some(draw, [], ["--input", "input"])]
     yield ["moves", layout, "program", "--script", "nothing", *limit]
     yield ["debug", layout, "program"]
     yield ["audit", layout, "program", "nothing"]
+    yield ["conform", layout, "program", *limit]
+    yield ["orders", layout, "program", *searched(draw)]
 
 
 def of_elf(draw: random.Random, put: Put) -> Case:
@@ -73,6 +81,8 @@ def of_layout(draw: random.Random, put: Put) -> Case:
     yield ["time", "nothing", "program", "plain", "layout", "--limit", "20"]
     yield ["moves", "layout", "program", "--script", "nothing", "--limit", "20"]
     yield ["audit", "layout", "program", "nothing"]
+    yield ["conform", "layout", "program"]
+    yield ["orders", "layout", "program", *searched(draw)]
 
 
 def of_script(draw: random.Random, put: Put) -> Case:
@@ -109,6 +119,20 @@ def of_trace(draw: random.Random, put: Put) -> Case:
     yield ["audit", layout, "program", "trace"]
 
 
+def of_log(draw: random.Random, put: Put) -> Case:
+    """A run on an empty input is recorded, and its trace is judged as a log, as it is and changed; and so is a log made at random."""
+    put("program", one_of(draw, making.image, files("*.bin")))
+    put("input", b"")
+    layout = draw.choice(LAYOUTS)
+    run = yield ["run", layout, "program", "--limit", str(draw.randint(0, 5)), "--show", "moves"]
+    log = judging.trace_of(run.report)
+    for name in (judging.RECORDED, "input"):
+        put(name, log)
+    yield ["conform", layout, "program"]
+    put("input", one_of(draw, making.log, [log]))
+    yield ["conform", layout, "program", *some(draw, [], ["--limit", "2"])]
+
+
 def of_commands(draw: random.Random, put: Put) -> Case:
     session = b"move issue next\nauto 30\nback\nshow\nregs\nmem 7f0ffff0 16\nend\n"
     sessions = [session, *files("*.commands"), *files("debug/*.commands")]
@@ -123,7 +147,7 @@ def of_words(draw: random.Random, put: Put) -> Case:
 
 
 KINDS: List[Callable[[random.Random, Put], Case]] = [of_elf, of_image, of_layout, of_script, of_source, of_delays, of_trace]
-KINDS += [of_commands, of_words]
+KINDS += [of_log, of_commands, of_words]
 
 
 def try_case(caller: Caller, draw: random.Random) -> Iterator[Tuple[Call, List[str]]]:

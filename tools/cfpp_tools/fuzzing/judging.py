@@ -6,8 +6,10 @@ import dataclasses
 from typing import Callable, Dict, Iterator, List, Optional
 
 from ..readers.audits import AuditReport, read_audit
+from ..readers.conforms import ConformReport, read_conform
 from ..readers.endings import REFUSALS, Ending, read_ending
 from ..readers.lines import Lines, ReadFault
+from ..readers.orders import OrdersReport, read_orders
 from ..readers.reports import Report
 from ..readers.runs import RunReport, read_run
 from ..readers.sessions import SessionReport, read_session
@@ -26,13 +28,15 @@ ALONE = REFUSALS | {"write fault"}
 
 @dataclasses.dataclass
 class Call:
-    """A call: its arguments, and how it went. The status is None where it did not end, and negative where a signal ended it."""
+    """A call: its arguments, whether it is on a trace as it was recorded, and how it went. The status is None where it did not end, and
+    negative where a signal ended it."""
 
     arguments: List[str]
     status: Optional[int] = None
     memory: int = 0
     report: str = ""
     output_size: int = 0
+    is_recorded: bool = False
 
     @property
     def command(self) -> str:
@@ -79,6 +83,25 @@ def is_session(report: Report, call: Call) -> bool:
     return isinstance(report, SessionReport) and (report.ending.status if report.ending else 0) == call.status
 
 
+def is_conformed(report: Report, call: Call) -> bool:
+    """Whether a log was gone through, and the report closed: with moves only where one can be made, and a line that should be only where
+    another is."""
+    if not isinstance(report, ConformReport) or report.ending.status != call.status or report.picture is None:
+        return False
+    reason = report.ending.reason or ""
+    lists_moves = report.ending.kind == "log end" or reason.startswith("Barred ")
+    return (lists_moves or not report.choices) and (reason == "Differs" or report.expected is None)
+
+
+def is_searched(report: Report, call: Call) -> bool:
+    """Whether all orders were counted, or one of them is wrong, which none is where no rule is taken away."""
+    if not isinstance(report, OrdersReport):
+        return False
+    if report.counts is not None:
+        return call.status == 0
+    return report.picture is not None and call.status == 136 and "--without" in call.arguments
+
+
 @dataclasses.dataclass(frozen=True)
 class Form:
     """How the report of a command is read, and what must hold of it where the call was not refused."""
@@ -90,6 +113,7 @@ class Form:
 RUN = Form(read_run, is_closed)
 FORMS: Dict[str, Form] = dict.fromkeys(("machine", "run", "rounds", "moves", "gen"), RUN)
 FORMS.update(time=Form(read_times, is_timed), audit=Form(read_audit, is_audited), debug=Form(read_session, is_session))
+FORMS.update(conform=Form(read_conform, is_conformed), orders=Form(read_orders, is_searched))
 
 
 def report_fault(call: Call) -> Optional[str]:
@@ -129,5 +153,5 @@ def faults(call: Call) -> Iterator[str]:
         yield fault
     if refusal(call) and call.output_size and call.status != 129:
         yield "it was refused and wrote to the output"
-    if call.command == "audit" and call.arguments[-1] == RECORDED and call.status == 132:
+    if call.is_recorded and call.status in (132, 134):
         yield "a trace that was recorded does not agree"

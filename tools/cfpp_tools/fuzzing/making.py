@@ -10,6 +10,8 @@ OPCODES = [0x37, 0x17, 0x6F, 0x67, 0x63, 0x03, 0x23, 0x13, 0x33, 0x0F, 0x73]
 CLASSES = ["add", "logic", "shift", "compare", "branch", "jump", "memory", "mul", "div"]
 KINDS = ["emit", "access", "leave", "exit", "serve"]
 STAGE_KINDS = ["climb", "fall", "meet", "execute", "send", "launch", "recover"]
+RULES = ["issue:LaneFull", "climb:NotMet", "fall:NotMet", "execute:Dead", "launch:NotMet", "recover:NotDone", "leave:NotDone"]
+RULES += ["exit:NotMet", "meet:die", "meet:garner", "meet:kill", "meet:update", "layout:ControlAboveMemory"]
 STATEMENTS = [
     "add x1, x2, x3", "addi x1, x1, 2047", "addi a0, a0, -2049", "lui x5, 0x12345", "lw x1, 4(x2)", "sw x1, 8(x2", "sw x1, -4(sp)",
     "beq x1, x2, near", "j near", "call near", "la x7, far", "li x5, 4294967295", "li t0, -2147483649", "jal x1, 0x00010010",
@@ -107,7 +109,9 @@ def delays(draw: random.Random) -> bytes:
 
 def command(draw: random.Random) -> str:
     return draw.choice([
-        f"move {move(draw)}", f"auto {draw.choice([0, 1, 20, 1000, 1000001])}", "show", "regs", "bound", "back", "end",
+        f"move {move(draw)}", move(draw), "moves", f"why {move(draw)}", f"list {draw.choice([0x10000, 0x10002, 0x7F000000]):08x}",
+        f"auto {draw.choice([0, 1, 20, 1000, 1000001])}", "show", "regs", "bound", "help", "end",
+        "back", f"back {draw.choice([0, 1, 5, 1024, 1025])}",
         f"mem {draw.choice([0x10000, 0x7F000000, 0x7F0FFFF8, draw.getrandbits(32)]):08x} {draw.choice([0, 1, 4, 16, 17])}",
         f"break {draw.choice(['none', '00010004', '1'])}", "frob", "", "x" * draw.choice([10, 256, 257]),
     ])  # fmt: skip
@@ -117,9 +121,31 @@ def commands(draw: random.Random) -> bytes:
     return "".join(f"{command(draw)}\n" for _ in range(draw.randint(0, 40))).encode()
 
 
+def observation(draw: random.Random) -> str:
+    """A line that says what a part of the processor holds, mostly as it is at the beginning."""
+    stage, register = draw.choice([0, 1, 2, 8, 33]), draw.randrange(34)
+    return draw.choice([
+        "fetch 00010000", "fetch 00010004", "fetch wait", "lane -", "lane x02", "cache -", f"stage {stage} empty", f"stage {stage}",
+        f"stage {stage} instruction | 00010000 next new - - x10=? -", f"siding {draw.randrange(3)} -", f"x{register:02}=00000000",
+        f"x{register:02}=7f0ffff0", "retire 1 00010000 00700513 x10=00000007", "ended exit 0", "# a comment", "",
+        "y" * draw.choice([511, 512, 513]),
+    ])  # fmt: skip
+
+
+def log_line(draw: random.Random, at: int) -> str:
+    """A line of a log, perhaps with a time, and if it is a move with its number."""
+    said = draw.choice([move(draw), f"move {draw.choice([at, 1])} {move(draw)}", observation(draw), observation(draw)])
+    return draw.choice([said, said, f"@{at} {said}", f"@{draw.choice([0, 5, 10**18 - 1, 10**18])} {said}"])
+
+
+def log(draw: random.Random) -> bytes:
+    return "".join(f"{log_line(draw, at)}\n" for at in range(1, draw.randint(1, 30))).encode()
+
+
 def words(draw: random.Random) -> List[str]:
     """Arguments that mostly are not those of a command."""
     known = ["run", "machine", "check", "asm", "list", "debug", "gen", "moves", "time", "rounds", "audit", "help", "--help"]
+    known += ["conform", "orders", "-h", "-V", "--every", "--guess", "--input", "--issues", "--states", "--without", "edges", "any"]
     known += ["--version", "plain", "program", "missing", "--limit", "--seed", "--script", "--show", "--mul", "--run", "moves"]
-    known += ["report", "retired", "sites", "0", "1", "1000000000", "1000000001", "4294967296", "", "-", "a/b", "\u00e9"]
+    known += ["report", "retired", "sites", "0", "1", "1000000000", "1000000001", "4294967296", "20k", "1001G", "", "-", "a/b", "\u00e9"]
     return [draw.choice(known) for _ in range(draw.randint(0, 7))]

@@ -3,7 +3,7 @@
     tools/fuzz [COUNT [SEED [DIRECTORY]]]
 
 Each of COUNT cases (1,000) makes files of one kind from SEED (1) and its number: an ELF file, an image, a layout, a script, a
-source, delays, a trace, a debugger's commands or arguments. Half of them are changed files of this repository. Every command that
+source, delays, a trace, a log, a debugger's commands or arguments. Half of them are changed files of this repository. Every command that
 reads such a file is called on it. A call must end by itself, within 20 seconds and with less than 200 MiB; its status must be
 one of the table in docs/ERRORS.md, its report have the form that is given there for it, and its output be empty where it was
 refused; a trace that was just recorded must agree. The files of a case in which this does not hold stay in DIRECTORY (`.cache/fuzz`),
