@@ -1,7 +1,6 @@
 """A function for each command of the program, with a typed answer.
 
-A new command is one function here, and one reader of its report in `readers/`. Options for which a function has no parameter are
-passed on as `more`, a list of arguments.
+A new command is one function here, and one reader of its report in `readers/`; a new option is a parameter.
 """
 
 from __future__ import annotations
@@ -65,10 +64,16 @@ def options(**values: object) -> List[str]:
 
 
 def machine(
-    program: Name, *, limit: Optional[int] = None, show: Optional[str] = None, mul: bool = False, given: Input = None
+    program: Name,
+    *,
+    limit: Optional[int] = None,
+    every: Optional[int] = None,
+    show: Optional[str] = None,
+    mul: bool = False,
+    given: Input = None,
 ) -> Answer[RunReport]:
     """Runs a program on the sequential machine."""
-    called = call(["machine", program, *options(limit=limit, show=show), *["--mul"] * mul], given)
+    called = call(["machine", program, *options(limit=limit, every=every, show=show), *["--mul"] * mul], given)
     return answered(called, read_run)
 
 
@@ -79,20 +84,22 @@ def run(
     script: Optional[Name] = None,
     seed: Optional[int] = None,
     limit: Optional[int] = None,
+    every: Optional[int] = None,
     show: Optional[str] = None,
     guess: Optional[str] = None,
     given: Input = None,
-    more: Sequence[str] = (),
 ) -> Answer[RunReport]:
     """Runs a program on a layout: by a script, from a seed, or by the rule; the latter two under a guess rule."""
-    asked = options(script=script, seed=seed, limit=limit, show=show, guess=guess)
-    called = call(["run", layout, program, *asked, *more], given)
+    asked = options(script=script, seed=seed, limit=limit, every=every, show=show, guess=guess)
+    called = call(["run", layout, program, *asked], given)
     return answered(called, read_run)
 
 
-def moves(layout: Name, program: Name, script: Name, *, limit: Optional[int] = None) -> Answer[RunReport]:
+def moves(
+    layout: Name, program: Name, script: Name, *, limit: Optional[int] = None, every: Optional[int] = None
+) -> Answer[RunReport]:
     """Makes the moves of a script, and lists which moves can be made then."""
-    return answered(call(["moves", layout, program, "--script", script, *options(limit=limit)]), read_run)
+    return answered(call(["moves", layout, program, "--script", script, *options(limit=limit, every=every)]), read_run)
 
 
 def after(layout: Name, program: Name, made: Iterable[str]) -> Answer[RunReport]:
@@ -108,12 +115,12 @@ def rounds(
     program: Name,
     *,
     limit: Optional[int] = None,
+    every: Optional[int] = None,
     guess: Optional[str] = None,
     given: Input = None,
-    more: Sequence[str] = (),
 ) -> Answer[RunReport]:
     """Runs a program as a clocked processor would, in rounds."""
-    return answered(call(["rounds", layout, program, *options(limit=limit, guess=guess), *more], given), read_run)
+    return answered(call(["rounds", layout, program, *options(limit=limit, every=every, guess=guess)], given), read_run)
 
 
 def time(
@@ -125,11 +132,11 @@ def time(
     show: Optional[str] = None,
     seed: Optional[int] = None,
     guess: Optional[str] = None,
-    more: Sequence[str] = (),
+    given: Optional[Name] = None,
 ) -> Answer[TimesReport]:
-    """How long a program takes on each of one to eight layouts; the delays of ranges are drawn from the seed."""
-    asked = options(limit=limit, show=show, seed=seed, guess=guess)
-    return answered(call(["time", delays, program, *layouts, *asked, *more]), read_times)
+    """How long a program takes on each of one to eight layouts, where its guest reads a file; the delays of ranges are drawn from the seed."""
+    asked = options(limit=limit, show=show, seed=seed, guess=guess, input=given)
+    return answered(call(["time", delays, program, *layouts, *asked]), read_times)
 
 
 def audit(layout: Name, program: Name, trace: Name, *, given: Input = None) -> Answer[AuditReport]:

@@ -22,6 +22,23 @@ def test_what_a_guest_reads_and_writes(examples, built):
     assert cfpp_tools.run("plain", examples / "reversed.bin", given=given.read_bytes()).output == wanted
 
 
+def test_how_far_a_run_has_come(examples, built):
+    """`seven` retires two instructions."""
+    seven, tiny = examples / "seven.bin", examples / "layouts" / "tiny.toml"
+    for answer in (cfpp_tools.machine(seven, every=1), cfpp_tools.run(tiny, seven, every=1), cfpp_tools.rounds(tiny, seven, every=1)):
+        assert [progress.retired for progress in answer.report.progress] == [1, 2]
+
+
+def test_the_input_of_a_timed_run(examples, built):
+    """More bytes to reverse take more instructions."""
+    delays, reversing = examples / "delays" / "equal.delays", examples / "reversed.bin"
+    retired = [
+        cfpp_tools.time(delays, reversing, ["plain"], given=given).report.runs[0].retired
+        for given in (None, examples / "reversed.input")
+    ]
+    assert retired[0] < retired[1]
+
+
 def test_what_a_run_shows(examples, built):
     """The script of lesson 1: ten moves, of which the fifth is the first meeting."""
     tiny, garnering = examples / "layouts" / "tiny.toml", examples / "scripts" / "garnering.bin"

@@ -133,7 +133,7 @@ def main(given: Sequence[str]) -> None:
     cut = list(given).index("--") if "--" in given else len(given)
     parser = command_line.parser("tools/explore", __doc__)
     parser.add_argument("space", metavar="SPACE", type=pathlib.Path)
-    parser.add_argument("folder", metavar="FOLDER", type=pathlib.Path)
+    parser.add_argument("folder", metavar="DIRECTORY", type=pathlib.Path)
     parser.add_argument("--layouts-only", action="store_true", help="write the layouts of all points, and run none")
     arguments = parser.parse_args(given[:cut])
     task = read_task(arguments.space)

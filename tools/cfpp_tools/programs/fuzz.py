@@ -53,7 +53,7 @@ def main(given: Sequence[str]) -> int:
     parser = command_line.parser("tools/fuzz", __doc__)
     parser.add_argument("count", metavar="COUNT", nargs="?", type=int, default=1000)
     parser.add_argument("seed", metavar="SEED", nargs="?", default="1")
-    parser.add_argument("folder", metavar="FOLDER", nargs="?", type=pathlib.Path, default=TOP / ".cache" / "fuzz")
+    parser.add_argument("folder", metavar="DIRECTORY", nargs="?", type=pathlib.Path, default=TOP / ".cache" / "fuzz")
     arguments = parser.parse_args(given)
     if not EXAMPLES.is_dir():
         raise command_line.Stop("the examples of the repository are needed")
