@@ -17,7 +17,7 @@ Architecture: amd64
 Maintainer: {maintainer}
 Installed-Size: {size}
 Depends: libc6 (>= 2.28)
-Suggests: rlwrap
+Suggests: python3, rlwrap
 Section: electronics
 Priority: optional
 Description: simulator of the Counterflow Pipeline Processor for RISC-V programs

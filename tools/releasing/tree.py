@@ -13,6 +13,13 @@ COMPLETIONS = {
     "share/zsh/vendor-completions/_cfpp": completions.for_zsh,
     "share/fish/vendor_completions.d/cfpp.fish": completions.for_fish,
 }
+# A session of the debugger, which the wrapper starts with Python where that is installed.
+SESSION = (
+    "session",
+    *(f"cfpp_tools/{name}.py" for name in ("__init__", "command_line", "commands", "decorating", "program")),
+    *(f"cfpp_tools/programs/{name}.py" for name in ("__init__", "annotate", "session")),
+    "cfpp_tools/readers/*.py",
+)
 # Where the documents are once the Debian package is installed.
 INSTALLED = "/usr/share/doc/cfpp"
 DOCUMENTS = ("README.md", "LICENSE", "docs", "examples", "web/cfpp.html")
@@ -74,11 +81,15 @@ def proved_file(linked):
 
 
 def put_program(folder, linked):
-    """The program, its wrapper, and what the wrapper reads."""
+    """The program, its wrapper, and what the wrapper reads and starts."""
     copy(folder, "bin/cfpp", WRAPPER, 0o755)
     copy(folder, f"{LIBRARY}/cfpp", linked, 0o755)
-    for name in ("hints.bash", "commands.txt"):
+    for name in ("hints.bash", "commands.txt", "debugger.txt"):
         copy(folder, f"{LIBRARY}/{name}", TERMINAL / name, 0o644)
+    tools = TOP / "tools"
+    for pattern in SESSION:
+        for file in sorted(tools.glob(pattern)):
+            copy(folder, f"{LIBRARY}/{file.relative_to(tools)}", file, 0o644)
 
 
 def put_manual(folder, documents):
