@@ -166,6 +166,10 @@ explained() { # explained ARGUMENT..: hands the report on, with the hints
     tell_text "$@"
 }
 
+edits_lines() { # whether rlwrap is installed, and the terminal can move its cursor and says how wide it is
+    command -v rlwrap >/dev/null && [ "${TERM-dumb}" != dumb ] && [[ $(stty size 2>/dev/null) == *" "[1-9]* ]]
+}
+
 debug_by_hand() { # debug_by_hand PROGRAM COMMANDS debug LAYOUT GUEST: a session at a terminal; returns where nobody types, or no session begins
     local program=$1 words=${2%/*}/debugger.txt session=${2%/*}/session editor=()
     [ -e "$session" ] || session=${2%/*}/../session
@@ -173,10 +177,8 @@ debug_by_hand() { # debug_by_hand PROGRAM COMMANDS debug LAYOUT GUEST: a session
     [ -t 0 ] || return 0
     # What refuses a session without commands refuses each; its report then gets the hints of any other.
     "$program" "$@" </dev/null >/dev/null 2>&1 || return 0
-    # rlwrap edits lines, keeps their history and completes the words of the commands, where it is installed and the terminal can do that.
-    if command -v rlwrap >/dev/null && [ "${TERM-dumb}" != dumb ]; then
-        editor=(rlwrap -C cfpp -f "$words")
-    fi
+    # rlwrap edits lines, keeps their history and completes the words of the commands.
+    ! edits_lines || editor=(rlwrap -C cfpp -f "$words")
     if [ -t 1 ] && [ -t 2 ] && command -v python3 >/dev/null; then
         # Nothing is written beside what a package has installed.
         exec "${editor[@]}" python3 -B "$session" "$program" "$2" "$3"
