@@ -3,6 +3,7 @@
 from __future__ import annotations
 
 import argparse
+import os
 import pathlib
 import signal
 import sys
@@ -28,6 +29,13 @@ def parser(name: str, text: Optional[str]) -> argparse.ArgumentParser:
     )
 
 
+def in_words(refusal: Exception) -> str:
+    """Why something is refused; of a file, which one."""
+    if isinstance(refusal, OSError) and refusal.filename is not None:
+        return f"{os.fsdecode(refusal.filename)}: {refusal.strerror}"
+    return str(refusal)
+
+
 def start(name: str, main: Main) -> NoReturn:
     """Runs a program: what it refuses is one line on standard error. What reads its lines may stop before the last, as `head`
     does; and who runs it may interrupt it."""
@@ -37,4 +45,4 @@ def start(name: str, main: Main) -> NoReturn:
     except KeyboardInterrupt:
         sys.exit(128 + signal.SIGINT)
     except (OSError, Stop, ReadFault, Refused, NoProgram) as refusal:
-        sys.exit(f"{name}: {refusal}")
+        sys.exit(f"{name}: {in_words(refusal)}")

@@ -14,6 +14,7 @@ import pytest
 
 from cfpp_tools.command_line import Stop
 from cfpp_tools.sweeping.runs import COLUMNS, Run, row_text, run_of
+from cfpp_tools.sweeping.schedules import schedules_of
 from cfpp_tools.sweeping.sweep import Manner, join, runs_of, slice_of, sweep
 from cfpp_tools.sweeping.table import Table, rows_of
 
@@ -214,6 +215,21 @@ def test_runs_by_gnu_parallel(tmp_path, examples, whole):
 def test_lists_that_are_not_whole(tmp_path, arguments):
     made = subprocess.run([os.path.join(TOOLS, "sweep"), "new.csv", *arguments], cwd=tmp_path, capture_output=True, text=True)
     assert made.returncode == 2 and "are needed" in made.stderr and list(tmp_path.iterdir()) == []
+
+
+@pytest.mark.parametrize(
+    "argument, value, reason",
+    [("--slice", "5/4", "no slice"), ("--slice", "0/4", "no slice"), ("--seeds", "9-1", "no seed in it"), ("--seeds", "x", "no list of seeds")],
+)
+def test_what_is_no_slice_or_list(tmp_path, argument, value, reason):
+    call = [os.path.join(TOOLS, "sweep"), "new.csv", "--layouts", "plain", "--programs", "p", "--rule", argument, value]
+    made = subprocess.run(call, cwd=tmp_path, capture_output=True, text=True)
+    assert made.returncode == 2 and reason in made.stderr and list(tmp_path.iterdir()) == []
+
+
+def test_a_guess_rule_that_there_is_none_of():
+    with pytest.raises(Stop, match="`forward` is no guess rule"):
+        schedules_of(True, False, [], [], ["backward", "forward"])
 
 
 def test_a_run_of_each_schedule(tmp_path, examples, built):

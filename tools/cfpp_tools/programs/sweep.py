@@ -32,6 +32,7 @@ from __future__ import annotations
 
 import argparse
 import pathlib
+import re
 import sys
 from typing import List, Sequence, Tuple
 
@@ -47,16 +48,21 @@ from ..sweeping.table import rows_of
 
 def seeds_of(text: str) -> List[int]:
     """The seeds of a list such as 1-20,77."""
+    if not re.fullmatch("[0-9]+(-[0-9]+)?(,[0-9]+(-[0-9]+)?)*", text):
+        raise argparse.ArgumentTypeError(f"`{text}` is no list of seeds such as 1-20,77")
     bounds = (part.partition("-") for part in text.split(","))
-    return [seed for first, _, last in bounds for seed in range(int(first), int(last or first) + 1)]
+    seeds = [seed for first, _, last in bounds for seed in range(int(first), int(last or first) + 1)]
+    if not seeds:
+        raise argparse.ArgumentTypeError(f"`{text}` has no seed in it")
+    return seeds
 
 
 def slice_named(text: str) -> Tuple[int, int]:
     """The numbers of a slice such as 2/4."""
-    number, _, count = text.partition("/")
-    if not 1 <= int(number) <= int(count):
-        raise ValueError(text)
-    return int(number), int(count)
+    found = re.fullmatch("([1-9][0-9]*)/([1-9][0-9]*)", text)
+    if not found or int(found[1]) > int(found[2]):
+        raise argparse.ArgumentTypeError(f"`{text}` is no slice such as 2/4, the second of four")
+    return int(found[1]), int(found[2])
 
 
 def parser() -> argparse.ArgumentParser:
@@ -72,8 +78,8 @@ def parser() -> argparse.ArgumentParser:
     found.add_argument("--limit", type=int, default=10_000_000, help="instructions of a run (10,000,000)")
     found.add_argument("--kinds", action="store_true", help="count the moves of each kind")
     found.add_argument("--jobs", type=int, default=Manner.jobs, help="runs at once (one a processor)")
-    found.add_argument("--slice", type=slice_named, default=(1, 1), metavar="K/M")
-    found.add_argument("--join", nargs="+", default=[], metavar="TABLE")
+    found.add_argument("--slice", type=slice_named, default=(1, 1), metavar="K/M", help="the Kth of M slices of the runs")
+    found.add_argument("--join", nargs="+", default=[], metavar="TABLE", help="add the rows of these tables")
     found.add_argument("--means", type=pathlib.Path, metavar="FILE", help="write the means over seeds")
     return found
 

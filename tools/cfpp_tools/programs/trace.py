@@ -58,6 +58,6 @@ def main(given: Sequence[str]) -> None:
         lines = WRITERS[arguments.format](
             trace_of(arguments.layout, arguments.program, arguments.trace, arguments.input)
         )
-    except (OSError, ReadFault, WrongTrace) as fault:
+    except (ReadFault, WrongTrace) as fault:
         raise Stop(f"{arguments.trace}: {fault}") from fault
     sys.stdout.writelines(f"{line}\n" for line in lines)

@@ -9,6 +9,7 @@ from typing import List, NamedTuple, Optional, Sequence
 from ..command_line import Stop
 
 FORM = re.compile(r"(?:rule|(rounds)|seed ([0-9]+)|delays (.+?)(?: seed ([0-9]+))?)(?: guess ([a-z]+))?")
+GUESS_RULES = ("any", "next", "taken", "backward", "wait")
 SEED = re.compile(r"(^| )seed [0-9]+(?=$| guess )")
 
 
@@ -40,6 +41,9 @@ def schedules_of(
     rule: bool, rounds: bool, delays: Sequence[str], seeds: Sequence[int], guesses: Sequence[str]
 ) -> List[str]:
     """The schedules of a sweep. Seeds draw the delays of `time` where there are any, and otherwise the moves of `run`."""
+    unknown = next((guess for guess in guesses if guess not in GUESS_RULES), None)
+    if unknown is not None:
+        raise Stop(f"`{unknown}` is no guess rule: they are {', '.join(GUESS_RULES)}")
     drawn = [f"seed {seed}" for seed in seeds]
     timed = [f"delays {file}{seed and ' '}{seed}" for file in delays for seed in drawn or [""]]
     found = ["rule"] * rule + drawn * (not delays) + ["rounds"] * rounds + timed
