@@ -1,4 +1,5 @@
 pub mod Putting
+pub mod Gathering
 pub mod Lines
 pub mod Passengers
 pub mod Picture

@@ -1,5 +1,5 @@
 -- The lines that say how far a run has come (a format of this project).
-use Rattle.std.specs.Prelude.{ℕ, ◌%◌, List, [], ◌++◌, codes, decimal, nat_eq, Option, Some, None, Bool, false, if◌then◌else◌}
+use Rattle.std.specs.Prelude.{ℕ, ◌%◌, List, ◌++◌, codes, decimal, nat_eq, Option, Some, None, Bool, false}
 use Rattle.texts.specs.Lines.{counted_line}
 
 -- such a line comes after this many retired instructions: they are a multiple of the step, if there is one
