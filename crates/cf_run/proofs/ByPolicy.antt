@@ -16,15 +16,15 @@ use Rattle.cf_run.specs.Asking.{SomeAsks}
 use Rattle.cf_run.specs.Going.{moment_of}
 use Rattle.cf_run.specs.Headline.{RunsSequentially}
 use Rattle.cf_run.specs.Made.{Made, moves_of}
-use Rattle.cf_run.specs.Moving.{RunPlace, MoveDoes, shown_of}
-use Rattle.cf_run.specs.Policies.{Chooser, fresh, choice, offered_to, after_choice, Picks, TakesPick, StopsPolicy, RunsPolicy, ChoiceAsks, most_moves}
+use Rattle.cf_run.specs.Moving.{RunPlace, FailsBefore, MoveDoes, MoveGoes, shown_of}
+use Rattle.cf_run.specs.Policies.{Chooser, fresh, choice, offered_to, after_choice, Picks, TakesPick, StopsPolicy, RunsPolicy, ChoiceAsks, made_or_none, most_moves}
 use Rattle.cf_run.specs.Reaching.{Reaches, GoesOn, IsOver}
 use Rattle.cf_run.proofs.Asked.{one-more}
 use Rattle.cf_run.proofs.Bounds.{reached-bounded}
 use Rattle.cf_run.proofs.Headline.{comes_sequentially}
 use Rattle.cf_run.proofs.Picking.{picks-more}
 use Rattle.cf_run.proofs.Runs.{reached-more, reached-trace}
-use Rattle.cf_run.proofs.Stopping.{ComesTo, comes_over, comes_unread, comes_unwritten, comes_unshown, filled, shown_too}
+use Rattle.cf_run.proofs.Stopping.{ComesTo, comes_over, comes_unread, comes_unwritten, comes_unshown, comes_unpassed, filled, shown_too}
 
 -- the picks that lead here are picks of the policy
 abbrev pub PicksTo : {P : Type 0} → (rule : GuessRule) (picked : P → List Move → ℕ) → (onward : P → List Move → P) → (begin : RunPlace) → P → List Made →
@@ -44,7 +44,7 @@ chooser_after picked onward limit shows at now new t = after_choice onward now.c
 -- a turn whose move stops the run
 pub chosen-stops : {P : Type 0} (picked : P → List Move → ℕ) (onward : P → List Move → P) (limit : ℕ) (shows : Reporting) (at : Chooser P) (now new : RunPlace)
     (later : P) (mv : Move) (answer : Answer) → GoesOn limit now.core.state → choice picked now.core.plan at now.core.state ≡ Some mv →
-    later ≡ onward at.policy (offered_to now.core.plan at now.core.state) → MoveDoes shows mv now new (Err answer)
+    later ≡ onward at.policy (offered_to now.core.plan at now.core.state) → MoveGoes shows mv now new (Err answer)
     → StopsPolicy picked onward limit shows at now new later answer
 unfolding MoveDoes
 chosen-stops picked onward limit shows at now new later mv ran.ReadFault goes chosen on does =
@@ -119,6 +119,16 @@ unasked-turn {P} {T} picked asks limit shows begin now new at h t first between 
 nothing_last : (moves before : List Move) → moves ≡ before ++ [] → before ≡ moves
 nothing_last moves before e = sym (e ∙ append-nil before)
 
+-- a run that its report stops, after its last move or before a further one
+reported-comes : (limit : ℕ) (shows : Reporting) (begin now new : RunPlace) (mv : Move) (moves : List Move) (h : Reaches limit shows begin now) →
+    GoesOn limit now.core.state → (stopped : MoveDoes shows mv now new (Err ran.ReportFault) ⊎ FailsBefore mv now new) →
+    moves ≡ moves_of h.trace ++ made_or_none mv stopped → ComesTo limit shows begin moves new (Ran ran.ReportFault)
+reported-comes limit shows begin now new mv moves h goes (inl after) made =
+    subst (λ (m : List Move). ComesTo limit shows begin m new (Ran ran.ReportFault)) (sym made) (comes_unshown limit shows begin now new mv h goes.below after)
+reported-comes limit shows begin now new mv moves h goes (inr before) made =
+    subst (λ (m : List Move). ComesTo limit shows begin m new (Ran ran.ReportFault)) (nothing_last moves (moves_of h.trace) made)
+    (comes_unpassed limit shows begin now new mv h before)
+
 -- whatever stops it, the run of a policy reached some RunPlace by the moves that it made and stopped there
 pub policy-comes : {P : Type 0} (rule : GuessRule) (picked : P → List Move → ℕ) (onward : P → List Move → P) (limit : ℕ) (shows : Reporting) (begin new : RunPlace)
     (policy later : P)
@@ -140,8 +150,7 @@ policy-comes rule picked onward limit shows begin new policy later moves ran.Wri
     subst (λ (m : List Move). ComesTo limit shows begin m new (Ran ran.WriteFault)) (nothing_last moves (moves_of r.reaches.trace) r.made)
     (comes_unwritten limit shows begin r.now new r.stops.move accepted r.reaches r.stops.does)
 policy-comes rule picked onward limit shows begin new policy later moves ran.ReportFault accepted r =
-    subst (λ (m : List Move). ComesTo limit shows begin m new (Ran ran.ReportFault)) (sym r.made)
-    (comes_unshown limit shows begin r.now new r.stops.move r.reaches r.stops.goes.below r.stops.does)
+    reported-comes limit shows begin r.now new r.stops.move moves r.reaches r.stops.goes r.stops.does r.made
 
 -- so it is a run of the sequential machine
 pub policy-sequential : {P : Type 0} (rule : GuessRule) (picked : P → List Move → ℕ) (onward : P → List Move →
@@ -177,23 +186,27 @@ policy-bounded {P} rule picked onward limit shows begin new policy later moves a
         subst (λ (n : ℕ). place.tally.moves ≤ most_moves begin.core.plan (n - begin.core.state.retired)) (sym retired)
         (subst (λ (n : ℕ). n ≤ most_moves begin.core.plan (r.now.core.state.retired - begin.core.state.retired)) (sym (ap (λ (t : Tally). t.moves) tally)) here)
 
+    -- the last move counts, where the report failed after it
+    reported : (mv : Move) → GoesOn limit r.now.core.state → choice picked r.now.core.plan r.at r.now.core.state ≡ Some mv →
+        MoveDoes shows mv r.now new (Err ran.ReportFault) ⊎ FailsBefore mv r.now new → Within new
+    reported mv goes chosen (inl after) =
+        let full : RunPlace = unfailed shows r.now new mv after.0 in
+        let t : TakesPick picked limit shows r.at r.now full = record {
+          goes = goes;
+          move = mv;
+          choice_is = chosen;
+          event = after.0;
+          does = shown_too shows mv after.0 r.now new after.1.makes;
+        } in
+        reached-bounded rule picked onward limit shows begin full policy (chooser_after picked onward limit shows r.at r.now full t) accepted wide o
+        (turned-more picked limit shows begin r.now full r.at r.reaches t) (turned-picks rule picked onward limit shows begin r.now full policy r.at r.reaches t
+        r.picks)
+    reported mv goes chosen (inr before) = failed new before.tally (ap (λ (p : Processor). p.state.retired) before.core)
+
     go : (answer : Answer) → StopsPolicy picked onward limit shows r.at r.now new later answer → Within new
     go (ran.Exit status) stops = subst Within (sym stops.1) here
     go (ran.Trap cause pc detail) stops = subst Within (sym stops.1) here
     go ran.Limit stops = subst Within (sym stops.1) here
     go ran.ReadFault stops = failed new stops.does.0.tally (ap (λ (p : Processor). p.state.retired) stops.does.1.processor)
     go ran.WriteFault stops = failed new stops.does.0.tally (ap (λ (p : Processor). p.state.retired) stops.does.1.processor)
-    go ran.ReportFault stops =
-        let full : RunPlace = unfailed shows r.now new stops.move stops.does.0 in
-        let t : TakesPick picked limit shows r.at r.now full =
-        record {
-          goes = stops.goes;
-          move = stops.move;
-          choice_is = stops.choice_is;
-          event = stops.does.0;
-          does =
-              shown_too shows stops.move stops.does.0 r.now new stops.does.1.makes;
-        } in
-        reached-bounded rule picked onward limit shows begin full policy (chooser_after picked onward limit shows r.at r.now full t) accepted wide o
-        (turned-more picked limit shows begin r.now full r.at r.reaches t) (turned-picks rule picked onward limit shows begin r.now full policy r.at r.reaches t
-        r.picks)
+    go ran.ReportFault stops = reported stops.move stops.goes stops.choice_is stops.does

@@ -1,5 +1,6 @@
 -- The run of a script reaches some RunPlace by its first moves, as many as were counted, whatever stops it there.
-use Rattle.std.proofs.Common.{◌≡◌, ℕ, List, [], ◌∷◌, ◌++◌, Some, None, sym, ap, subst, ◌∙◌}
+use Rattle.std.proofs.Common.{◌≡◌, ℕ, List, [], ◌∷◌, ◌++◌, Some, None, Err, sym, ap, subst, ◌∙◌, inl, inr}
+use Rattle.std.specs.Prelude.{◌⊎◌}
 use Rattle.run_options.specs.declared.reporting.Reporting.{Reporting}
 use Rattle.cf_layout.specs.Accepted.{IsAccepted}
 use Rattle.cf_bind.specs.declared.moves.Move.{Move}
@@ -8,10 +9,10 @@ use Rattle.run_finishes.specs.declared.finish.Scripted.{Scripted}
 use Rattle.run_finishes.specs.declared.finish.Scripted.TheVariants.{Ran, ScriptEnd, BadScript, BarredAt}
 use Rattle.cf_run.specs.Headline.{StopsAt, Gets}
 use Rattle.cf_run.specs.Made.{moves_of, tally_of}
-use Rattle.cf_run.specs.Moving.{RunPlace, MoveDoes, shown_of}
+use Rattle.cf_run.specs.Moving.{RunPlace, FailsBefore, MoveDoes, shown_of}
 use Rattle.cf_run.specs.Scripts.{ScriptRun, Follows, DoesLine, ScriptTries, ScriptStops, first_moves}
 use Rattle.cf_run.proofs.Runs.{moves-more, followed-more, followed-trace}
-use Rattle.cf_run.proofs.Stopping.{ComesTo, comes_here, comes_over, comes_unread, comes_unwritten, comes_unshown, filled, shown_too}
+use Rattle.cf_run.proofs.Stopping.{ComesTo, comes_here, comes_over, comes_unread, comes_unwritten, comes_unshown, comes_unpassed, filled, shown_too}
 
 -- the moves that lead to a ScriptRun are the first of the script, as many as were counted
 followed_moves : (limit : ℕ) (shows : Reporting) (begin now : ScriptRun) (f : Follows limit shows begin now) →
@@ -35,10 +36,11 @@ stays_there limit shows begin now new answer f same c = by_count limit shows beg
 
 -- the last move, whose report failed, is the next of the script
 unshown_moves : (limit : ℕ) (shows : Reporting) (begin now new : ScriptRun) (f : Follows limit shows begin now)
-    (t : ScriptTries limit shows now new (Some (Ran ran.ReportFault))) → moves_of f.reaches.trace ++ t.move ∷ [] ≡ first_moves begin.script new.place.tally
+    (t : ScriptTries limit shows now new (Some (Ran ran.ReportFault))) → MoveDoes shows t.move now.place new.place (Err ran.ReportFault) →
+    moves_of f.reaches.trace ++ t.move ∷ [] ≡ first_moves begin.script new.place.tally
 unfolding DoesLine MoveDoes
-unshown_moves limit shows begin now new f t =
-    let full : RunPlace = record new.place { report = filled now.place.report (shown_of shows t.move t.does.0 now.place new.place) } in
+unshown_moves limit shows begin now new f t after =
+    let full : RunPlace = record new.place { report = filled now.place.report (shown_of shows t.move after.0 now.place new.place) } in
     let there : ScriptRun = record { place = full; script = new.script } in
     let tries : ScriptTries limit shows now there None = record {
       goes = t.goes;
@@ -47,11 +49,23 @@ unshown_moves limit shows begin now new f t =
       next = t.next;
       script = t.script;
       does =
-          (t.does.0, shown_too shows t.move t.does.0 now.place new.place t.does.1.makes);
+          (after.0, shown_too shows t.move after.0 now.place new.place after.1.makes);
     } in
     let made = followed-trace limit shows begin now there f tries in
     sym (ap moves_of made.2 ∙ moves-more f.reaches.trace made.0 ∙ ap (λ (mv : Move). moves_of f.reaches.trace ++ mv ∷ []) made.1)
     ∙ followed_moves limit shows begin there (followed-more limit shows begin now there f tries)
+
+-- a run of a script that its report stops, after its last move or before a further one
+reported_there : (limit : ℕ) (shows : Reporting) (begin now new : ScriptRun) (f : Follows limit shows begin now)
+    (t : ScriptTries limit shows now new (Some (Ran ran.ReportFault))) →
+    MoveDoes shows t.move now.place new.place (Err ran.ReportFault) ⊎ FailsBefore t.move now.place new.place →
+    ComesTo limit shows begin.place (first_moves begin.script new.place.tally) new.place (Ran ran.ReportFault)
+reported_there limit shows begin now new f t (inl after) =
+    subst (λ (moves : List Move). ComesTo limit shows begin.place moves new.place (Ran ran.ReportFault)) (unshown_moves limit shows begin now new f t after)
+    (comes_unshown limit shows begin.place now.place new.place t.move f.reaches t.goes.below after)
+reported_there limit shows begin now new f t (inr before) =
+    by_count limit shows begin now new (Ran ran.ReportFault) f before.tally
+    (comes_unpassed limit shows begin.place now.place new.place t.move f.reaches before)
 
 -- whatever stops it, a run of a script reached some RunPlace and stopped there
 pub comes-to : (limit : ℕ) (shows : Reporting) (begin now new : ScriptRun) (answer : Scripted) → IsAccepted begin.place.core.plan → Follows limit shows begin now →
@@ -87,5 +101,4 @@ comes-to limit shows begin now new (Ran ran.WriteFault) accepted f stops =
     by_count limit shows begin now new (Ran ran.WriteFault) f stops.does.0.tally (comes_unwritten limit shows begin.place now.place new.place stops.move
     accepted f.reaches stops.does)
 comes-to limit shows begin now new (Ran ran.ReportFault) accepted f stops =
-    subst (λ (moves : List Move). ComesTo limit shows begin.place moves new.place (Ran ran.ReportFault)) (unshown_moves limit shows begin now new f stops)
-    (comes_unshown limit shows begin.place now.place new.place stops.move f.reaches stops.goes.below stops.does)
+    reported_there limit shows begin now new f stops stops.does

@@ -1,8 +1,11 @@
 -- What a move of the processor did, as a move of a run.
-use Rattle.std.proofs.Common.{◌≡◌, ℕ, List, Option, Some, None, Ok, Err, refl, subst}
+use Rattle.std.proofs.Common.{◌≡◌, ℕ, List, Option, Some, None, Result, Ok, Err, refl, subst, inl, inr}
+use Rattle.cf_io.specs.Causes.{HasCause}
+use Rattle.cf_io.specs.Puts.{WritesNothing}
 use Rattle.run_options.specs.declared.reporting.Reporting.{Reporting}
 use Rattle.rv_machine.specs.Streams.{Streams}
 use Rattle.cf_bind.specs.declared.moves.Move.{Move}
+use Rattle.cf_bind.specs.declared.moves.Move.TheVariants.{Serve}
 use Rattle.cf_layout.specs.Layout.{Plan}
 use Rattle.cf_semantics.specs.declared.event.Event.{Event}
 use Rattle.cf_semantics.specs.moves.Bars.{bar}
@@ -11,11 +14,12 @@ use Rattle.cf_core.specs.Stepping.{MakesOrFails}
 use Rattle.cf_core.specs.declared.fault.Fault.TheVariants as fault
 use Rattle.cf_report.specs.declared.tally.Tally.{Tally}
 use Rattle.cf_report.specs.Putting.{PutsText}
+use Rattle.cf_report.proofs.Parts.{front-after, nothing-after, nothing-written, text-after}
 use Rattle.run_finishes.specs.declared.finish.Ran.{Ran as Answer}
 use Rattle.run_finishes.specs.declared.finish.Ran.TheVariants as ran
 use Rattle.run_finishes.specs.declared.finish.Scripted.TheVariants.{Ran}
 use Rattle.cf_run.specs.Made.{counted, shown}
-use Rattle.cf_run.specs.Moving.{RunPlace, place_of, MakesMove, MakesAndShows, MakesUnshown, MoveDoes}
+use Rattle.cf_run.specs.Moving.{RunPlace, place_of, MakesMove, MakesAndShows, MakesUnshown, MoveDoes, MoveGoes, shown_of}
 use Rattle.cf_run.specs.Reaching.{GoesOn}
 use Rattle.cf_run.specs.Scripts.{ScriptRun, DoesLine, ScriptStops, ScriptTries}
 use Rattle.run_scripts.specs.Scripts.{next_of, after_next}
@@ -56,13 +60,61 @@ pub does-read_fault : (show : Reporting) (mv : Move) (old new : Processor) (befo
     bar old.plan old.state mv ≡ None → MakesOrFails old new mv before after (Err fault.Read) →
     MoveDoes show mv (place_of old before report tally) (place_of new after report tally) (Err ran.ReadFault)
 unfolding MakesOrFails MoveDoes
-does-read_fault show mv old new before after report tally free h = (record { allowed = free; serves = h.0; report = refl; tally = refl }, h.1)
+does-read_fault show mv old new before after report tally free h =
+    (record { allowed = free; serves = h.0; report = nothing-written report; tally = refl }, h.1)
 
 pub does-write_fault : (show : Reporting) (mv : Move) (old new : Processor) (before after : Streams) (report : Option (List ℕ)) (tally : Tally) →
     bar old.plan old.state mv ≡ None → MakesOrFails old new mv before after (Err fault.Write) →
     MoveDoes show mv (place_of old before report tally) (place_of new after report tally) (Err ran.WriteFault)
 unfolding MakesOrFails MoveDoes
-does-write_fault show mv old new before after report tally free h = (record { allowed = free; serves = h.0; report = refl; tally = refl }, h.1)
+does-write_fault show mv old new before after report tally free h =
+    (record { allowed = free; serves = h.0; report = nothing-written report; tally = refl }, h.1)
+
+-- the move was made after the report had passed on what it had gathered
+made_after : (mv : Move) (e : Event) (old new : Processor) (before after : Streams) (report mid later : Option (List ℕ)) (tally more : Tally) →
+    MakesMove mv e (place_of old before mid tally) (place_of new after later more) →
+    MakesMove mv e (place_of old before report tally) (place_of new after later more)
+made_after mv e old new before after report mid later tally more d =
+    record { allowed = d.allowed; makes = d.makes; is_event = d.is_event; tally = d.tally }
+
+pub goes-after : (show : Reporting) (mv : Move) (old new : Processor) (before after : Streams) (report mid later : Option (List ℕ)) (tally more : Tally)
+    (result : Result Event Answer) → WritesNothing report mid → MoveDoes show mv (place_of old before mid tally) (place_of new after later more) result →
+    MoveGoes show mv (place_of old before report tally) (place_of new after later more) result
+unfolding MoveDoes
+goes-after show mv old new before after report mid later tally more (Ok e) same d = record {
+  makes = made_after mv e old new before after report mid later tally more d.makes;
+  report = text-after report mid later (shown_of show mv e (place_of old before report tally) (place_of new after later more)) same d.report;
+}
+goes-after show mv old new before after report mid later tally more (Err ran.ReportFault) same d =
+    inl (
+      d.0,
+      record {
+        makes = made_after mv d.0 old new before after report mid later tally more d.1.makes;
+        report = front-after report mid later (shown_of show mv d.0 (place_of old before report tally) (place_of new after later more)) same d.1.report;
+      },
+    )
+goes-after show mv old new before after report mid later tally more (Err ran.ReadFault) same d = (
+  record { allowed = d.0.allowed; serves = d.0.serves; report = nothing-after report mid later same d.0.report; tally = d.0.tally },
+  d.1,
+)
+goes-after show mv old new before after report mid later tally more (Err ran.WriteFault) same d = (
+  record { allowed = d.0.allowed; serves = d.0.serves; report = nothing-after report mid later same d.0.report; tally = d.0.tally },
+  d.1,
+)
+goes-after show mv old new before after report mid later tally more (Err (ran.Exit status)) same d = d
+goes-after show mv old new before after report mid later tally more (Err (ran.Trap cause pc detail)) same d = d
+goes-after show mv old new before after report mid later tally more (Err ran.Limit) same d = d
+
+-- no fault was counted before it
+pub cause-after : {T E : Type 0} (i j k : ℕ) (r : Result T E) → j ≡ i → HasCause j k r → HasCause i k r
+cause-after i j k r same h = subst (λ (n : ℕ). HasCause n k r) same h
+
+-- or the report failed to
+pub goes-unpassed : (show : Reporting) (mv : Move) (core : Processor) (streams : Streams) (report later : Option (List ℕ)) (tally : Tally) →
+    bar core.plan core.state mv ≡ None → mv ≡ Serve → WritesNothing report later →
+    MoveGoes show mv (place_of core streams report tally) (place_of core streams later tally) (Err ran.ReportFault)
+goes-unpassed show mv core streams report later tally free serves same =
+    inr (record { allowed = free; serves = serves; core = refl; streams = refl; report = same; tally = refl })
 
 -- a turn whose move is made
 pub turned-made : (limit : ℕ) (show : Reporting) (now new : ScriptRun) (line : ℕ) (mv : Move) (event : Event) → GoesOn limit now.place.core.state →
@@ -74,7 +126,7 @@ turned-made limit show now new line mv event goes next left does =
 
 -- and a turn whose move stops the run
 pub turned-stopped : (limit : ℕ) (show : Reporting) (now new : ScriptRun) (line : ℕ) (mv : Move) (answer : Answer) → GoesOn limit now.place.core.state →
-    next_of now.script ≡ Ok (Some (line, mv)) → new.script ≡ after_next now.script → MoveDoes show mv now.place new.place (Err answer) →
+    next_of now.script ≡ Ok (Some (line, mv)) → new.script ≡ after_next now.script → MoveGoes show mv now.place new.place (Err answer) →
     ScriptStops limit show now new (Ran answer)
 unfolding ScriptStops DoesLine MoveDoes
 turned-stopped limit show now new line mv ran.ReadFault goes next left does =

@@ -17,13 +17,14 @@ use Rattle.cf_semantics.specs.state.State.{State, Moment}
 use Rattle.theory_refinement.proofs.invariant.Invariant.{HoldsAfter}
 use Rattle.cf_core.specs.Processors.{Processor, in_state}
 use Rattle.cf_core.specs.Stepping.{FailsToRead, FailsToWrite}
+use Rattle.cf_report.proofs.Parts.{text-before, part-front, part-whole}
 use Rattle.run_finishes.specs.declared.finish.Ran.{Ran as Answer}
 use Rattle.run_finishes.specs.declared.finish.Ran.TheVariants as ran
 use Rattle.run_finishes.specs.declared.finish.Scripted.{Scripted}
 use Rattle.run_finishes.specs.declared.finish.Scripted.TheVariants.{Ran}
 use Rattle.cf_run.specs.Headline.{StandsAt, IsUnmoved, FailsInput, FailsOutput, StopsAt, AreTexts, Gets, ReportsLines}
 use Rattle.cf_run.specs.Made.{Made, moves_of, all_shown}
-use Rattle.cf_run.specs.Moving.{RunPlace, MakesMove, MakesAndShows, FailsOutside, MoveDoes, shown_of}
+use Rattle.cf_run.specs.Moving.{RunPlace, MakesMove, MakesAndShows, FailsOutside, FailsBefore, MoveDoes, shown_of}
 use Rattle.cf_run.specs.Reaching.{Reaches, IsOver}
 use Rattle.cf_run.proofs.Arrived.{Arrives}
 use Rattle.cf_run.proofs.Fronts.{front-after}
@@ -128,7 +129,7 @@ broken_lines : (shows : Reporting) (x : Machine) (m : Moment) (n : ℕ) (written
     → ((text : List ℕ) → Writes begin.report new.report text → Gets begin.report new.report answer text) → ReportsLines shows n written begin new answer
 broken_lines shows x m n written begin now new answer mv a outside gets =
     told_lines shows begin new answer a.trace n written a.texts
-    (gets _ (subst (λ (o : Option (List ℕ)). Writes begin.report o (all_shown shows begin.core.plan 1 a.trace)) (sym outside.report) a.report))
+    (gets _ (text-before begin.report now.report new.report (all_shown shows begin.core.plan 1 a.trace) a.report outside.report))
 
 -- it stops at a failed read
 unread_stop : (shows : Reporting) (begin now new : RunPlace) (mv : Move) → FailsOutside mv now new → FailsToRead now.core new.core now.streams new.streams →
@@ -238,7 +239,27 @@ comes_unshown limit shows begin now new mv h below (e, d) =
       stops = λ x m n written a. record {
         stops = record { core = a.core; streams = a.streams };
         report = told_lines shows begin new (Ran ran.ReportFault) a.trace n written a.texts
+            (part-front begin.report new.report (all_shown shows begin.core.plan 1 a.trace)
             (front_whole begin.report now.report new.report (all_shown shows begin.core.plan 1 h.trace) text
-            (all_shown shows begin.core.plan 1 a.trace) h.report d.report a.report);
+            (all_shown shows begin.core.plan 1 a.trace) h.report d.report a.report));
       };
     }
+
+-- or before a move, which was not made
+pub comes_unpassed : (limit : ℕ) (shows : Reporting) (begin now new : RunPlace) (mv : Move) (h : Reaches limit shows begin now) → FailsBefore mv now new →
+    ComesTo limit shows begin (moves_of h.trace) new (Ran ran.ReportFault)
+unfolding StopsAt Gets
+comes_unpassed limit shows begin now new mv h before = record {
+  now = now;
+  reaches = h;
+  moves_are = refl;
+  stops = λ x m n written a. record {
+    stops = record {
+      core = before.core ∙ a.core;
+      streams = subst (λ (s : Streams). Leaves begin.streams s m.rest m.output) (sym before.streams) a.streams;
+    };
+    report = told_lines shows begin new (Ran ran.ReportFault) a.trace n written a.texts
+        (part-whole begin.report new.report (all_shown shows begin.core.plan 1 a.trace)
+        (text-before begin.report now.report new.report (all_shown shows begin.core.plan 1 a.trace) a.report before.report));
+  };
+}

@@ -4,7 +4,7 @@
 use Rattle.std.specs.Prelude.{◌≡◌, ℕ, ◌+◌, ◌≤◌, List, [], ◌∷◌, ◌++◌, length, Option, Some, None}
 use Rattle.run_options.specs.declared.reporting.Reporting.{Reporting}
 use Rattle.run_options.specs.Reportings as show
-use Rattle.cf_io.specs.Puts.{Writes, WritesFront}
+use Rattle.cf_io.specs.Puts.{Writes}
 use Rattle.rv_inst.specs.declared.isa.Isa.{Isa}
 use Rattle.rv_machine.specs.After.{after}
 use Rattle.rv_machine.specs.Hart.{Hart}
@@ -27,6 +27,7 @@ use Rattle.theory_unknown_input.specs.UnknownInput.{finding, GoesTo, LeadsTo}
 use Rattle.cf_core.specs.Processors.{in_state, opened}
 use Rattle.cf_core.specs.Stepping.{FailsToRead, FailsToWrite}
 use Rattle.cf_report.specs.Lines.{retired_line}
+use Rattle.cf_report.specs.Putting.{WritesPart}
 use Rattle.run_finishes.specs.declared.finish.Ran.TheVariants as ran
 use Rattle.run_finishes.specs.declared.finish.Scripted.{Scripted}
 use Rattle.run_finishes.specs.declared.finish.Scripted.TheVariants.{Ran}
@@ -121,9 +122,9 @@ AreTexts n [] text = text ≡ []
 AreTexts n (line ∷ more) text =
     (shown : Retired) × (later : List ℕ) × Shows line shown × (text ≡ retired_line n shown ++ later) × AreTexts (n + 1) more later
 
--- The report got the text, or a prefix of it where it failed.
+-- The report got the text; where it failed, a prefix of it, which may be all where it failed before a further move.
 unfoldable pub Gets : Option (List ℕ) → Option (List ℕ) → Scripted → List ℕ → Type 0
-Gets before after (Ran ran.ReportFault) text = WritesFront before after text
+Gets before after (Ran ran.ReportFault) text = WritesPart before after text
 Gets before after answer text = Writes before after text
 
 -- What the report got about these instructions: what is shown of each of some moves, whose lines of retirement are

@@ -1,7 +1,7 @@
 -- One move of a run: it is made, counted and shown, or the answer says why the run stops there.
-use Rattle.std.specs.Prelude.{◌≡◌, ℕ, List, Option, None, Result, Ok, Err}
+use Rattle.std.specs.Prelude.{◌≡◌, ◌⊎◌, ℕ, List, Option, None, Result, Ok, Err}
 use Rattle.run_options.specs.declared.reporting.Reporting.{Reporting}
-use Rattle.cf_io.specs.Puts.{Writes, WritesFront}
+use Rattle.cf_io.specs.Puts.{Writes, WritesFront, WritesNothing}
 use Rattle.rv_machine.specs.Streams.{Streams, streams_of}
 use Rattle.cf_bind.specs.declared.moves.Move.{Move}
 use Rattle.cf_bind.specs.declared.moves.Move.TheVariants.{Serve}
@@ -59,7 +59,7 @@ pub record MakesUnshown (show : Reporting) (mv : Move) (event : Event) (now new 
 pub record FailsOutside (mv : Move) (now new : RunPlace) : Type 0 where
   pub allowed : first_bar now.core.plan now.core.state mv ≡ None
   pub serves : mv ≡ Serve
-  pub report : new.report ≡ now.report
+  pub report : WritesNothing now.report new.report
   pub tally : new.tally ≡ now.tally
 
 -- what the move does: it is made with this event, or the answer of the run says why it stops
@@ -73,6 +73,22 @@ MoveDoes show mv now new (Err ran.ReportFault) = (event : Event) × MakesUnshown
 MoveDoes show mv now new (Err (ran.Exit status)) = ⊥
 MoveDoes show mv now new (Err (ran.Trap cause pc detail)) = ⊥
 MoveDoes show mv now new (Err ran.Limit) = ⊥
+
+-- the report failed before the move, which was not made, to pass on what it had gathered: nothing barred the move, it was
+-- Serve, and nothing changed
+pub record FailsBefore (mv : Move) (now new : RunPlace) : Type 0 where
+  pub allowed : first_bar now.core.plan now.core.state mv ≡ None
+  pub serves : mv ≡ Serve
+  pub core : new.core ≡ now.core
+  pub streams : new.streams ≡ now.streams
+  pub report : WritesNothing now.report new.report
+  pub tally : new.tally ≡ now.tally
+
+-- what the move does where the report may gather its text: the same, or the report fails before it
+abbrev pub MoveGoes : Reporting → Move → (now new : RunPlace) → Result Event Answer → Type 0
+MoveGoes show mv now new (Ok event) = MoveDoes show mv now new (Ok event)
+MoveGoes show mv now new (Err ran.ReportFault) = MoveDoes show mv now new (Err ran.ReportFault) ⊎ FailsBefore mv now new
+MoveGoes show mv now new (Err answer) = MoveDoes show mv now new (Err answer)
 
 -- an error where the input failed the run
 abbrev pub input_done : Result Event Answer → Result (Unit {0}) (Unit {0})

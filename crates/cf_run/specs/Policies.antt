@@ -1,6 +1,7 @@
 -- What the run of a policy does: the moves that it picks from what it is offered, why it stops after them, and what it
 -- leaves ("Counterflow Pipeline Processor Architecture", 1994: any schedule of local actions is a run).
 use Rattle.std.specs.Prelude.{◌≡◌, ◌≤◌, ◌⊎◌, ℕ, ◌+◌, ◌*◌, List, [], ◌∷◌, ◌++◌, slice_get, drop, Option, Some, None, Ok, Err}
+use Rattle.std.proofs.Common.{inl, inr}
 use Rattle.run_options.specs.Limits.{most_limit}
 use Rattle.run_options.specs.declared.guess_rule.GuessRule.{GuessRule}
 use Rattle.run_options.specs.declared.reporting.Reporting.{Reporting}
@@ -20,7 +21,7 @@ use Rattle.run_finishes.specs.declared.finish.Scripted.TheVariants.{Ran}
 use Rattle.cf_run.specs.Asking.{SomeAsks}
 use Rattle.cf_run.specs.Headline.{RunsSequentially}
 use Rattle.cf_run.specs.Made.{Made, moves_of}
-use Rattle.cf_run.specs.Moving.{RunPlace, MoveDoes}
+use Rattle.cf_run.specs.Moving.{RunPlace, MoveDoes, MoveGoes}
 use Rattle.cf_run.specs.Reaching.{Reaches, GoesOn, IsOver}
 
 -- a run under a policy may begin: its limit is permitted and not passed, and the processor was opened and has made no
@@ -91,7 +92,7 @@ pub record StopsAtPick {P : Type 0} (picked : P → List Move → ℕ) (onward :
   pub move : Move
   pub choice_is : choice picked now.core.plan at now.core.state ≡ Some move
   pub later_is : later ≡ onward at.policy (offered_to now.core.plan at now.core.state)
-  pub does : MoveDoes show move now new (Err answer)
+  pub does : MoveGoes show move now new (Err answer)
 
 -- the run stops here: it is over, and nothing changes; or the next move that the policy picks is the last that it tries
 abbrev pub StopsPolicy : {P : Type 0} → (picked : P → List Move → ℕ) → (onward : P → List Move → P) → ℕ → Reporting → Chooser P → (now new : RunPlace) → P → Answer →
@@ -118,6 +119,11 @@ abbrev pub PolicyTurns : {P : Type 0} → (picked : P → List Move → ℕ) →
 PolicyTurns picked onward limit show now new at later None = Turned picked onward limit show now new at later
 PolicyTurns picked onward limit show now new at later (Some answer) = StopsPolicy picked onward limit show at now new later.policy answer
 
+-- the move, where the report failed after it, or none, where it failed before it
+abbrev pub made_or_none : {A B : Type 0} → Move → A ⊎ B → List Move
+made_or_none mv (inl after) = mv ∷ []
+made_or_none mv (inr before) = []
+
 -- the last move, where the report failed after it
 abbrev pub made_last : {P : Type 0} → (picked : P → List Move → ℕ) → (onward : P → List Move → P) → (limit : ℕ) → (show : Reporting) → (at : Chooser P) →
     (now new : RunPlace) → (later : P) → (answer : Answer) → StopsPolicy picked onward limit show at now new later answer → List Move
@@ -126,7 +132,7 @@ made_last picked onward limit show at now new later (ran.Trap cause pc detail) s
 made_last picked onward limit show at now new later ran.Limit stops = []
 made_last picked onward limit show at now new later ran.ReadFault stops = []
 made_last picked onward limit show at now new later ran.WriteFault stops = []
-made_last picked onward limit show at now new later ran.ReportFault stops = stops.move ∷ []
+made_last picked onward limit show at now new later ran.ReportFault stops = made_or_none stops.move stops.does
 
 -- the run makes these moves, the picks of the policy, and stops after them with this answer
 pub record RunsPolicy {P : Type 0} (rule : GuessRule) (picked : P → List Move → ℕ) (onward : P → List Move → P) (limit : ℕ) (show : Reporting)

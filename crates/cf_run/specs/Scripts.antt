@@ -10,7 +10,7 @@ use Rattle.run_finishes.specs.declared.finish.Ran.TheVariants as ran
 use Rattle.run_finishes.specs.declared.finish.Scripted.{Scripted}
 use Rattle.run_finishes.specs.declared.finish.Scripted.TheVariants.{Ran, ScriptEnd, BadScript, BarredAt}
 use Rattle.cf_run.specs.Made.{moves_of}
-use Rattle.cf_run.specs.Moving.{RunPlace, MoveDoes}
+use Rattle.cf_run.specs.Moving.{RunPlace, MoveDoes, MoveGoes}
 use Rattle.cf_run.specs.Reaching.{Reaches, GoesOn, IsOver}
 
 -- where the run of a script has arrived: its RunPlace, and what is left of the script
@@ -36,7 +36,7 @@ pub record Follows (limit : ℕ) (show : Reporting) (start now : ScriptRun) : Ty
 -- the effect of the move of this line: it is made, or its first bar or another answer says why the run stops
 unfoldable pub DoesLine : Reporting → ℕ → Move → (now new : RunPlace) → Option Scripted → Type 0
 DoesLine show line mv now new None = (event : Event) × MoveDoes show mv now new (Ok event)
-DoesLine show line mv now new (Some (Ran answer)) = MoveDoes show mv now new (Err answer)
+DoesLine show line mv now new (Some (Ran answer)) = MoveGoes show mv now new (Err answer)
 DoesLine show line mv now new (Some (BarredAt at bar)) =
     (at ≡ line) × (first_bar now.core.plan now.core.state mv ≡ Some bar) × (new ≡ now)
 DoesLine show line mv now new (Some ScriptEnd) = ⊥

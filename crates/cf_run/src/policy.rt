@@ -15,12 +15,12 @@ ghost use Rattle.cf_run.specs.Reaching.{no_tally};
 
 use crate::facts::known;
 use crate::finished::over;
-use crate::making::make_and_show;
+use crate::making::make_in_order;
 use cf_bind::Move;
 use cf_core::Core;
 use cf_index::Candidates;
 use cf_io::{Sink, Source};
-use cf_report::Tally;
+use cf_report::{ReportSink, Tally};
 use cf_sched::{Pace, Policy};
 use run_finishes::Ran;
 use run_options::{GuessRule, Reporting};
@@ -40,7 +40,7 @@ fn choose<P: Policy>(core: &Core, candidates: &mut Candidates, policy: &mut P, p
 
 /// Makes the move that the policy picks, or returns why the run stops.
 #[inline(always)]
-pub(crate) fn advance<P: Policy, S: Source, K: Sink, R: Sink>(
+pub(crate) fn advance<P: Policy, S: Source, K: Sink, R: ReportSink>(
     core: &mut Core,
     candidates: &mut Candidates,
     policy: &mut P,
@@ -75,7 +75,7 @@ pub(crate) fn advance<P: Policy, S: Source, K: Sink, R: Sink>(
         return Some(ran);
     }
     let mv = choose(core, candidates, policy, pace);
-    match make_and_show(core, mv, reporting, input, output, report, tally) {
+    match make_in_order(core, mv, reporting, input, output, report, tally) {
         Ok(event) => {
             pace.saw(mv, &event, core.drained());
             None
@@ -91,11 +91,11 @@ pub(crate) fn advance<P: Policy, S: Source, K: Sink, R: Sink>(
 /// no memory and always terminates.
 ///
 /// `ReadFault` and `WriteFault` come only where the input or the output failed a call of the environment; that move is
-/// not counted. `ReportFault` comes only where the report failed, after a move that was made and counted. In each case
-/// that object's count of faults rose.
+/// not counted. `ReportFault` comes only where the report failed: after a move that was made and counted, or as it passed
+/// on what it had gathered, before a Serve, which was not made. In each case that object's count of faults rose.
 ///
 /// Where no move of the run uses the input, what the input exposes is unchanged; the output likewise.
-pub fn run_policy<P: Policy, S: Source, K: Sink, R: Sink>(
+pub fn run_policy<P: Policy, S: Source, K: Sink, R: ReportSink>(
     core: &mut Core,
     candidates: &mut Candidates,
     policy: &mut P,

@@ -20,7 +20,7 @@ use cf_bind::Move;
 use cf_core::Core;
 use cf_index::Candidates;
 use cf_io::{Sink, Source};
-use cf_report::Tally;
+use cf_report::{ReportSink, Tally};
 use cf_sched::{Pace, Round};
 use run_finishes::Ran;
 use run_options::{GuessRule, Reporting, Show};
@@ -108,7 +108,7 @@ fn sweep<S: Source, K: Sink, R: Sink>(
 
 /// Runs the rule on an opened processor. It does what `run_policy` does with it, and makes the moves of a kind over the stages
 /// in a loop of their own.
-pub fn run_rule<S: Source, K: Sink, R: Sink>(
+pub fn run_rule<S: Source, K: Sink, R: ReportSink>(
     core: &mut Core,
     candidates: &mut Candidates,
     round: &mut Round,

@@ -15,17 +15,17 @@ ghost use Rattle.cf_run.specs.Scripts.{stand_of, first_moves, RunsScript, Script
 
 use crate::facts::known;
 use crate::finished::over;
-use crate::making::make_and_show;
+use crate::making::make_in_order;
 use cf_core::Core;
 use cf_io::{Sink, Source};
-use cf_report::Tally;
+use cf_report::{ReportSink, Tally};
 use run_finishes::Scripted;
 use run_options::Reporting;
 use run_scripts::Script;
 
 /// Makes the next move of the script, counts it and shows it; or returns why the run stops.
 #[inline(always)]
-fn advance<S: Source, K: Sink, R: Sink>(
+fn advance<S: Source, K: Sink, R: ReportSink>(
     core: &mut Core,
     script: &mut Script<'_>,
     limit: u64,
@@ -62,7 +62,7 @@ fn advance<S: Source, K: Sink, R: Sink>(
     if let Some(bar) = core.allowed(mv) {
         return Some(Scripted::BarredAt { line, bar });
     }
-    match make_and_show(core, mv, reporting, input, output, report, tally) {
+    match make_in_order(core, mv, reporting, input, output, report, tally) {
         Ok(_) => None,
         Err(ran) => Some(Scripted::Ran(ran)),
     }
@@ -73,8 +73,8 @@ fn advance<S: Source, K: Sink, R: Sink>(
 /// after that point is read. What `reporting` selects is written to the report during the run.
 ///
 /// `ReadFault` and `WriteFault` come only where the input or the output failed a call of the environment; that move is
-/// not counted. `ReportFault` comes only where the report failed, after a move that was made and counted. In each case
-/// that object's count of faults rose.
+/// not counted. `ReportFault` comes only where the report failed: after a move that was made and counted, or as it passed
+/// on what it had gathered, before a Serve, which was not made. In each case that object's count of faults rose.
 ///
 /// Where no move of the run uses the input, what the input exposes is unchanged; the output likewise. Only Serve uses
 /// them, for an ECALL that reads or writes.
@@ -83,7 +83,7 @@ fn advance<S: Source, K: Sink, R: Sink>(
 /// its moves: over the bytes that the input exposes, and where it exposes none, with each call finding some input.
 /// Where it ends with Exit, Trap or Limit, its ending, the retired count, the registers, and what it took and wrote are
 /// those of that machine under the same limit.
-pub fn run_script<S: Source, K: Sink, R: Sink>(
+pub fn run_script<S: Source, K: Sink, R: ReportSink>(
     core: &mut Core,
     script: &mut Script<'_>,
     limit: u64,

@@ -5,8 +5,8 @@ use Rattle.cf_run.proofs.Coming.{seen-count}
 use Rattle.cf_run.proofs.Faults.{over-read, over-reported, over-written, stopped-read, stopped-reported, stopped-written}
 use Rattle.cf_run.proofs.policy.advance.Goals as goal
 
-pub make_and_show-requires-clause-allowed : goal.make_and_show-requires-clause-allowed
-make_and_show-requires-clause-allowed g c = ruled-allowed _ _ _ _ _ _ (sym c.choose-mv.ensures.choice)
+pub make_in_order-requires-clause-allowed : goal.make_in_order-requires-clause-allowed
+make_in_order-requires-clause-allowed g c = ruled-allowed _ _ _ _ _ _ (sym c.choose-mv.ensures.choice)
 
 pub returns-in-Some-clause-turns : goal.returns-in-Some-clause-turns
 returns-in-Some-clause-turns g c = over-stops _ _ _ _ _ _ _ c.in-Some.ensures
@@ -32,12 +32,12 @@ returns-in-Ok-clause-turns g c = record {
 
 pub returns-in-Ok-clause-input_asked : goal.returns-in-Ok-clause-input_asked
 returns-in-Ok-clause-input_asked g c = λ unasked.
-    c.make_and_show.ensures.input_asked
+    c.make_in_order.ensures.input_asked
     (λ asked. unasked (record { goes = c.in_default.ensures; move = _; choice_is = sym c.choose-mv.ensures.choice; asked = asked }))
 
 pub returns-in-Ok-clause-output_asked : goal.returns-in-Ok-clause-output_asked
 returns-in-Ok-clause-output_asked g c = λ unasked.
-    c.make_and_show.ensures.output_asked
+    c.make_in_order.ensures.output_asked
     (λ asked. unasked (record { goes = c.in_default.ensures; move = _; choice_is = sym c.choose-mv.ensures.choice; asked = asked }))
 
 pub returns-in-Err-clause-turns : goal.returns-in-Err-clause-turns
