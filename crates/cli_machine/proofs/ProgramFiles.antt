@@ -13,7 +13,7 @@ use Rattle.cli_files.specs.Causes.{files_answered, input_answered, output_answer
 use Rattle.cli_files.specs.Outside.{Outside, Report, report_of}
 use Rattle.cli_files.specs.Programs.{IsProgramAt}
 use Rattle.cli_files.specs.declared.status.Status.{Status}
-use Rattle.cli_machine.specs.Finish.{Runs, BreaksOff, RunsToFinish}
+use Rattle.cli_machine.specs.Finish.{Runs, ReportFails, RunsToFinish}
 use Rattle.cli_machine.specs.Closing.{ClosesMachine, report_failed}
 use Rattle.cli_machine.specs.Machine.{RunsHart, BreaksHart, RefusesMachine, AnswersMachine, BreaksProgram}
 use Rattle.cli_machine.specs.Options.{Chosen}
@@ -42,7 +42,7 @@ ended c start last before after blank half ran.ReportFault sound runs = absurd (
 -- a run whose report failed
 broken : (c : Chosen) (start last : Hart) (before after : Streams) (blank half : Option (List ℕ)) (finish : Answer) →
     report_failed finish ≡ true → RunsToFinish c start last before after blank half finish →
-    BreaksOff c start last before after blank half
+    ReportFails c start last before after blank half
 broken c start last before after blank half ran.ReportFault cut runs = runs
 broken c start last before after blank half (ran.Exit status) cut runs = absurd (cc)
 broken c start last before after blank half (ran.Trap cause pc detail) cut runs = absurd (cc)

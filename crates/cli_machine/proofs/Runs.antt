@@ -1,8 +1,9 @@
 -- What a step adds to a run: one more instruction, or its end.
 use Rattle.std.proofs.Common.{◌≡◌, ℕ, zero, suc, ◌+◌, ◌<◌, List, [], ◌++◌, Bool, true, false, Option, Some, None, refl, ap, sym, ◌∙◌, subst, add-one, ◌-◌, arith}
 use Rattle.std.specs.Prelude.{unwrap_or}
-use Rattle.cf_io.specs.Puts.{Writes, WritesFront}
+use Rattle.cf_io.specs.Puts.{Writes, WritesFront, WritesNothing}
 use Rattle.cf_io.proofs.Owing.{writes-nothing, writes-again}
+use Rattle.cf_report.proofs.Parts.{text-before}
 use Rattle.rv_inst.specs.declared.isa.Isa.{Isa}
 use Rattle.rv_machine.specs.declared.outcome.Retired.{Retired}
 use Rattle.rv_machine.specs.declared.outcome.Stepped.TheVariants as stepped
@@ -20,7 +21,7 @@ use Rattle.cli_machine.specs.Options.{Chosen, is_shown, shown_text, is_silent}
 use Rattle.run_finishes.specs.declared.finish.Ran.{Ran}
 use Rattle.run_finishes.specs.declared.finish.Ran.TheVariants as ran
 use Rattle.cli_machine.specs.Lines.{retired_texts, outcome_text, LeadsBy, ReachesBy}
-use Rattle.cli_machine.specs.Finish.{opening, Finishes, Closes, Runs, BreaksOff}
+use Rattle.cli_machine.specs.Finish.{opening, Finishes, Closes, Runs, BreaksOff, StopsBefore}
 
 -- what is known of a run so far: the streams before it and now, and the report before it and now
 pub record Told : Type 0 where
@@ -218,6 +219,32 @@ breaks-off c start now new before between after blank half full n count line bel
       shows = subst (λ (k : ℕ). is_shown c.shows c.every k ≡ true) same shows;
       breaks = subst (λ (k : ℕ). WritesFront half full (shown_text c.shows c.every k line)) same front;
     }
+
+-- the report passed on what it had gathered
+pub reached-passed : (c : Chosen) (start now : Hart) (before after : Streams) (blank half full : Option (List ℕ)) (n : ℕ) →
+    Reached c start now (told_of before after blank half) n → WritesNothing half full → Reached c start now (told_of before after blank full) n
+reached-passed c start now before after blank half full n run same = record {
+  last = run.last;
+  lines = run.lines;
+  reaches = run.reaches;
+  hart = run.hart;
+  streams = run.streams;
+  report = text-before blank half full run.lines run.report same;
+}
+
+-- or failed to
+pub stops-before : (c : Chosen) (start now : Hart) (before after : Streams) (blank half full : Option (List ℕ)) (n : ℕ) → n < c.limit →
+    Reached c start now (told_of before after blank half) n → WritesNothing half full → StopsBefore c start now before after blank full
+stops-before c start now before after blank half full n below run same = record {
+  count = n;
+  within = below;
+  last = run.last;
+  text = run.lines;
+  reaches = run.reaches;
+  hart = run.hart;
+  streams = run.streams;
+  put = text-before blank half full run.lines run.report same;
+}
 
 -- a run that has ended, and its lines were written
 abbrev pub Ended : Chosen → Hart → Hart → Told → Ran → Type 0

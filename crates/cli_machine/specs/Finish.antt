@@ -1,5 +1,5 @@
 -- How a run of the sequential machine finishes, what it leaves of the outside, and what it shows.
-use Rattle.std.specs.Prelude.{◌≡◌, ◌<◌, ◌+◌, ℕ, List, [], true, Option, unwrap_or}
+use Rattle.std.specs.Prelude.{◌≡◌, ◌⊎◌, ◌<◌, ◌+◌, ℕ, List, [], true, Option, unwrap_or}
 use Rattle.rv_inst.specs.declared.isa.Isa.{Isa}
 use Rattle.rv_machine.specs.Hart.{Hart}
 use Rattle.rv_machine.specs.Machine.{Machine}
@@ -78,9 +78,27 @@ pub record BreaksOff (chosen : Chosen) (start new : Hart) (before after : Stream
   pub shows : is_shown chosen.shows chosen.every next.hart.retired ≡ true
   pub breaks : WritesFront half full (shown_text chosen.shows chosen.every next.hart.retired line)
 
+-- a run that ended because the report failed before an instruction, to pass on what it had gathered: what is shown of
+-- those before it was written, and it was not executed
+pub record StopsBefore (chosen : Chosen) (start new : Hart) (before after : Streams)
+    (blank full : Option (List ℕ)) : Type 0 where
+  pub count : ℕ
+  pub within : count < chosen.limit
+  pub last : Machine
+  pub text : List ℕ
+  pub reaches : ReachesBy chosen before.input (opening start before.input) count last text
+  pub hart : new ≡ last.hart
+  pub streams : Leaves before after last.rest last.output
+  pub put : Writes blank full text
+
+-- the report failed during the run, at what is shown of an instruction or before one
+abbrev pub ReportFails : Chosen → Hart → Hart → Streams → Streams → Option (List ℕ) → Option (List ℕ) → Type 0
+ReportFails chosen start new before after blank full =
+    BreaksOff chosen start new before after blank full ⊎ StopsBefore chosen start new before after blank full
+
 -- the run finished in this way, and what it shows was written; or the report failed
 abbrev pub RunsToFinish : Chosen → Hart → Hart → Streams → Streams → Option (List ℕ) → Option (List ℕ) → Ran → Type 0
 RunsToFinish chosen start new before after blank full ran.ReportFault =
-    BreaksOff chosen start new before after blank full
+    ReportFails chosen start new before after blank full
 RunsToFinish chosen start new before after blank full finish =
     (text : List ℕ) × Runs chosen start new before after finish text × Writes blank full text

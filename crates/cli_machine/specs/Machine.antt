@@ -5,7 +5,7 @@ use Rattle.rv_machine.specs.Streams.{Streams}
 use Rattle.run_finishes.specs.declared.finish.Ran.{Ran}
 use Rattle.report_closing.specs.Closing.{machine_closing}
 use Rattle.cli_machine.specs.Options.{Chosen}
-use Rattle.cli_machine.specs.Finish.{Runs, BreaksOff}
+use Rattle.cli_machine.specs.Finish.{Runs, ReportFails}
 use Rattle.cli_files.specs.Outside.{Outside}
 use Rattle.cli_files.specs.Programs.{IsProgramAt, LacksProgram}
 use Rattle.cli_files.specs.declared.status.Status.{Status}
@@ -43,9 +43,9 @@ AnswersMachine name chosen before after answer shown closing =
 pub record BreaksHart (chosen : Chosen) (start : Hart) (before after : Streams)
     (blank full : Option (List ℕ)) : Type 0 where
   pub last : Hart
-  pub breaks : BreaksOff chosen start last before after blank full
+  pub breaks : ReportFails chosen start last before after blank full
 
--- the file holds a program, and its run broke off because the report failed at the line of an instruction that retired: nothing more was put to the report
+-- the file holds a program, and its run broke off because the report failed: nothing more was put to the report
 pub record BreaksProgram (name : List ℕ) (chosen : Chosen) (before after : Outside)
     (blank full : Option (List ℕ)) : Type 0 where
   pub start : Hart

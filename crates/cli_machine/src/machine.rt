@@ -9,6 +9,7 @@ ghost use Rattle.cli_reports.specs.OutsideChanges.{streams_change, faults_change
 use crate::closing::close_machine;
 use crate::running::run;
 use cf_io::{Failed, Files, Sink, Source};
+use cf_report::ReportSink;
 use cli_arguments::MachineOptions;
 use cli_files::program_at;
 use cli_reports::{Reported, RunStreams, put_answer};
@@ -19,7 +20,7 @@ use std::alloc::Global;
 // The machine is moved into a local of a function of its own: since nothing but the run points to it, the compiler need not
 // read its parts again after each store to memory.
 #[inline(never)]
-fn run_machine<S: Source, K: Sink, R: Sink>(
+fn run_machine<S: Source, K: Sink, R: ReportSink>(
     machine: Machine,
     options: MachineOptions,
     streams: RunStreams<'_, S, K, R>,
@@ -44,7 +45,7 @@ fn run_machine<S: Source, K: Sink, R: Sink>(
 /// Carries out `machine`: reads the program's file and runs it, and puts the lines that are to be shown, then how the run
 /// finished, how many instructions retired, and the registers. It fails where the report fails during the run; nothing
 /// more is then put to the report.
-pub fn run_program<F: Files, S: Source, K: Sink, R: Sink>(
+pub fn run_program<F: Files, S: Source, K: Sink, R: ReportSink>(
     alloc: Global,
     program: &str,
     options: MachineOptions,

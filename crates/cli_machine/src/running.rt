@@ -1,7 +1,9 @@
 //! Running the sequential machine.
 
-ghost use Rattle.std.specs.Prelude.{◌≡◌, ◌+◌, ◌<◌, ◌^◌, true, Some, OnErr, ◌-◌, ◌≤◌, false};
+ghost use Rattle.std.specs.Prelude.{◌≡◌, ◌+◌, ◌<◌, ◌^◌, [], true, Ok, Some, OnErr, OnOk, ◌-◌, ◌≤◌, false};
 ghost use Rattle.cf_io.specs.Causes.{HasCause};
+ghost use Rattle.cf_io.specs.Puts.{WritesNothing};
+ghost use Rattle.mem_regions.specs.Fetching.{fetch_at};
 ghost use Rattle.cf_report.specs.Lines.{retired_line};
 ghost use Rattle.cf_report.specs.Progress.{is_step as is_step_of, machine_line};
 ghost use Rattle.cf_report.specs.Putting.{PutsText};
@@ -12,7 +14,7 @@ ghost use Rattle.rv_machine.specs.Quick.{RetireAlone};
 ghost use Rattle.rv_machine.specs.Streams.{streams_of};
 
 use cf_io::{Failed, Sink, Source};
-use cf_report::{is_step, put_machine_progress, put_retired};
+use cf_report::{ReportSink, is_step, put_machine_progress, put_retired};
 use cli_arguments::MachineOptions;
 use run_finishes::Ran;
 use rv_inst::Isa;
@@ -93,6 +95,22 @@ fn show_step<R: Sink>(
     show_progress(options.every, count, report)
 }
 
+/// The word of an environment call.
+const CALL: u32 = 0x0000_0073;
+
+/// Passes on what the report has gathered, where the next instruction is an environment call, which may read or write.
+#[inline(always)]
+fn pass_before<R: ReportSink>(machine: &Machine, report: &mut R) -> Result<(), Failed>
+    ensures written { WritesNothing (R.written report.old) (R.written report.new) }
+    ensures passed { OnOk result (fetch_at machine.now.mem machine.now.pc ≡ Ok 0x73 → R.kept report.new ≡ []) }
+    ensures cause { HasCause (R.faults report.old) (R.faults report.new) result }
+{
+    match machine.memory().fetch(machine.pc()) {
+        Ok(word) if word == CALL => report.pass_on(),
+        Ok(_) | Err(_) => Ok(()),
+    }
+}
+
 /// Whether nothing is shown while the machine runs.
 #[inline(always)]
 fn is_silent(options: MachineOptions) -> bool
@@ -119,9 +137,10 @@ fn run_unshown(machine: &mut Machine, options: MachineOptions, end: u64)
 /// Runs the machine until the program ends or traps, one of its streams fails, or as many more
 /// instructions have retired as the options allow. Each retired instruction's line is put to the report as it comes,
 /// and how far the run has come, where the options ask for that; the run ends with `ReportFault` where the report fails; nothing more is then put to it.
+/// Before an environment call the report passes on what it has gathered.
 // The machine makes a step in this place alone, so that the compiler makes the whole step a part of the loop: a second
 // call of it, for the other instruction set, cost half the speed.
-pub fn run<S: Source, K: Sink, R: Sink>(
+pub fn run<S: Source, K: Sink, R: ReportSink>(
     machine: &mut Machine,
     options: MachineOptions,
     input: &mut S,
@@ -141,6 +160,9 @@ pub fn run<S: Source, K: Sink, R: Sink>(
     let end = machine.retired() + options.limit;
     run_unshown(machine, options, end);
     while machine.retired() < end {
+        if let Err(Failed) = pass_before(machine, report) {
+            return Ran::ReportFault;
+        }
         match machine.step_as(isa, input, output) {
             Stepped::Next(line) => {
                 match show_step(options, machine.retired(), line, report) {
