@@ -4,7 +4,7 @@ use Rattle.std.specs.Prelude.{if◌then◌else◌, Bool, true, false}
 use Rattle.run_options.specs.declared.guess_rule.GuessRule.{GuessRule}
 use Rattle.run_options.specs.Limits.{most_limit}
 use Rattle.run_options.specs.Reportings as show
-use Rattle.cf_io.specs.Puts.{WritesFront}
+use Rattle.cf_report.proofs.Parts.{part-whole}
 use Rattle.rv_machine.specs.Machine.{Machine}
 use Rattle.cf_layout.specs.Accepted.{IsAccepted}
 use Rattle.cf_layout.specs.Layout.{Plan}
@@ -308,27 +308,27 @@ fails-there rule limit start now new pace number moves round answer c goes o ser
     }
 
 -- and the run is a run of the sequential machine
-rounds_come : (rule : GuessRule) (limit : ℕ) (start new : RunPlace) (number : ℕ) (answer : Clocked) → IsAccepted start.core.plan → start.report ≡ None →
+rounds_come : (rule : GuessRule) (limit : ℕ) (start new : RunPlace) (number : ℕ) (answer : Clocked) → IsAccepted start.core.plan →
     (r : RunsRounds rule limit start new number answer) →
     ComesTo (limit + 1) show.report start (moves_of r.reaches.trace) new (Ran (ran_of answer))
 unfolding StopsAt Gets
-rounds_come rule limit start new number (Exit status) accepted silent r = comes_over (limit + 1) show.report start r.now new
+rounds_come rule limit start new number (Exit status) accepted r = comes_over (limit + 1) show.report start r.now new
     (ran.Exit status) r.reaches r.stops.0 r.stops.1
-rounds_come rule limit start new number (Trap cause pc detail) accepted silent r = comes_over (limit + 1) show.report start r.now new
+rounds_come rule limit start new number (Trap cause pc detail) accepted r = comes_over (limit + 1) show.report start r.now new
     (ran.Trap cause pc detail) r.reaches r.stops.0 r.stops.1
-rounds_come rule limit start new number Limit accepted silent r = comes_here (limit + 1) show.report start r.now new (Ran ran.Limit) r.reaches r.stops.1 (λ x m h. h)
+rounds_come rule limit start new number Limit accepted r = comes_here (limit + 1) show.report start r.now new (Ran ran.Limit) r.reaches r.stops.1 (λ x m h. h)
     (λ text w. w)
-rounds_come rule limit start new number ReportFault accepted silent r = comes_here (limit + 1) show.report start r.now new (Ran ran.ReportFault) r.reaches r.stops
-    (λ x m h. h) (λ text w. subst (λ (told : Option (List ℕ)). WritesFront told new.report text) (sym silent) tt)
-rounds_come rule limit start new number ReadFault accepted silent r = comes_unread (limit + 1) show.report start r.now new Serve r.reaches r.stops.does
-rounds_come rule limit start new number WriteFault accepted silent r = comes_unwritten (limit + 1) show.report start r.now new Serve accepted r.reaches r.stops.does
+rounds_come rule limit start new number ReportFault accepted r = comes_here (limit + 1) show.report start r.now new (Ran ran.ReportFault) r.reaches r.stops
+    (λ x m h. h) (λ text w. part-whole start.report new.report text w)
+rounds_come rule limit start new number ReadFault accepted r = comes_unread (limit + 1) show.report start r.now new Serve r.reaches r.stops.does
+rounds_come rule limit start new number WriteFault accepted r = comes_unwritten (limit + 1) show.report start r.now new Serve accepted r.reaches r.stops.does
 
 pub rounds-sequential : (rule : GuessRule) (limit : ℕ) (start new : RunPlace) (number : ℕ) (answer : Clocked) → IsAccepted start.core.plan →
-    length start.core.state.regs ≡ 32 → start.report ≡ None →
+    length start.core.state.regs ≡ 32 →
     (r : RunsRounds rule limit start new number answer) → RunsSequentially show.report (moves_of r.reaches.trace) start new (Ran (ran_of answer))
-rounds-sequential rule limit start new number answer accepted wide silent r =
+rounds-sequential rule limit start new number answer accepted wide r =
     comes_sequentially (limit + 1) show.report start new (moves_of r.reaches.trace) (Ran (ran_of answer)) accepted wide
-    (rounds_come rule limit start new number answer accepted silent r)
+    (rounds_come rule limit start new number answer accepted r)
 
 -- what is offered, and its round
 pub offers : (now : RunPlace) (pace : PaceCount) (moves round : List Move) → IsProcessor now.core.plan now.core.state →

@@ -137,15 +137,15 @@ said-more every rule limit start new later number blank half full text s put = (
 
 -- the report failed there
 pub said-broken : (every : Option ℕ) (rule : GuessRule) (limit : ℕ) (start new : RunPlace) (later : PaceCount) (number : ℕ) (blank half full : Option (List ℕ))
-    (text : List ℕ) → IsAccepted start.core.plan → length start.core.state.regs ≡ 32 → start.report ≡ None →
+    (text : List ℕ) → IsAccepted start.core.plan → length start.core.state.regs ≡ 32 →
     SaidOn every rule limit start new later number blank half text → WritesFront half full text →
     RoundsRunRight rule limit every start new blank full number ReportFault
 unfolding comes-runs
-said-broken every rule limit start new later number blank half full text accepted wide silent s front =
+said-broken every rule limit start new later number blank half full text accepted wide s front =
     let runs : RunsRounds rule limit start new number ReportFault = comes-runs rule limit start new new later number ReportFault s.comes refl in
     record {
       runs = runs;
-      sequential = rounds-sequential rule limit start new number ReportFault accepted wide silent runs;
+      sequential = rounds-sequential rule limit start new number ReportFault accepted wide runs;
       says = record {
         earlier = s.earlier;
         made = s.made;
@@ -177,13 +177,13 @@ says-end every rule limit start now new pace later number blank full WriteFault 
 says-end every rule limit start now new pace later number blank full ReportFault c t put = absurd t
 
 pub said-end : (every : Option ℕ) (rule : GuessRule) (limit : ℕ) (start now new : RunPlace) (pace later : PaceCount) (number : ℕ) (blank full : Option (List ℕ))
-    (answer : Clocked) → IsAccepted start.core.plan → length start.core.state.regs ≡ 32 → start.report ≡ None →
+    (answer : Clocked) → IsAccepted start.core.plan → length start.core.state.regs ≡ 32 →
     SaidSo every rule limit start now pace number blank full → RoundTurns limit now new pace later (Some answer) →
     RoundsRunRight rule limit every start new blank full number answer
-said-end every rule limit start now new pace later number blank full answer accepted wide silent (c, put) turns =
+said-end every rule limit start now new pace later number blank full answer accepted wide (c, put) turns =
     let runs = comes-end rule limit start now new pace later number answer c turns in
     record {
       runs = runs;
-      sequential = rounds-sequential rule limit start new number answer accepted wide silent runs;
+      sequential = rounds-sequential rule limit start new number answer accepted wide runs;
       says = says-end every rule limit start now new pace later number blank full answer c turns put;
     }

@@ -7,6 +7,7 @@ use Rattle.cf_io.specs.declared.failed.Failed.{Failed}
 use Rattle.run_options.specs.declared.guess_rule.GuessRule.{GuessRule}
 use Rattle.run_options.specs.Reportings as show
 use Rattle.cf_io.specs.Puts.{Writes, WritesFront}
+use Rattle.cf_report.proofs.Parts.{part-whole}
 use Rattle.cf_io.proofs.Owing.{front-again, writes-again, writes-nothing}
 use Rattle.cf_layout.specs.Accepted.{IsAccepted}
 use Rattle.cf_layout.specs.Layout.{Plan}
@@ -91,22 +92,22 @@ watched-more noted text r rule limit begin now new clock after step first watche
     }
 
 -- a run that its report stops is one of the sequential machine
-breaks_sequentially : (limit : ℕ) (begin new : RunPlace) → IsAccepted begin.core.plan → length begin.core.state.regs ≡ 32 → begin.report ≡ None →
+breaks_sequentially : (limit : ℕ) (begin new : RunPlace) → IsAccepted begin.core.plan → length begin.core.state.regs ≡ 32 →
     (h : Reaches limit show.report begin new) → RunsSequentially show.report (moves_of h.trace) begin new (Ran ran.ReportFault)
 unfolding StopsAt Gets
-breaks_sequentially limit begin new accepted wide silent h =
+breaks_sequentially limit begin new accepted wide h =
     comes_sequentially limit show.report begin new (moves_of h.trace) (Ran ran.ReportFault) accepted wide
     (comes_here limit show.report begin new new (Ran ran.ReportFault) h refl (λ x m s. s)
-    (λ text w. subst (λ (o : Option (List ℕ)). WritesFront o new.report text) (sym silent) tt))
+    (λ text w. part-whole begin.report new.report text w))
 
 -- or the report failed after it
 pub watched-breaks : {W : Type 0} (noted : W → Made → TimedMove → W) (text : W → Made → TimedMove → List ℕ) (r : GuessRule) (rule : DelayRule) (limit : ℕ)
     (begin now new : RunPlace) (clock after : SiteTimes) (step : TimedStep) (first watcher : W) (blank told full : Option (List ℕ)) (held later : ℕ) →
-    IsBegun rule limit begin → begin.report ≡ None → ComesWatched noted text r rule limit begin now clock first watcher blank told held →
+    IsBegun rule limit begin → ComesWatched noted text r rule limit begin now clock first watcher blank told held →
     now.core.state.retired ≤ limit → MakesEarliest limit r now new held later clock after step →
     WritesFront told full (text watcher (made_as step.done.mv step.event new.core.state) step.done) →
     BreaksWatched noted text r rule limit begin first blank full
-watched-breaks noted text r rule limit begin now new clock after step first watcher blank told full held later b silent c within m front =
+watched-breaks noted text r rule limit begin now new clock after step first watcher blank told full held later b c within m front =
     let plan : Plan = begin.core.plan in
     let t : TimedTurn = first_turn begin.core.state in
     let made : Made = made_as step.done.mv step.event new.core.state in
@@ -120,7 +121,7 @@ watched-breaks noted text r rule limit begin now new clock after step first watc
       last = chooser r [] more.turn.count;
       picked = more.picked;
       are_earliest = more.so_far.are_earliest;
-      sequential = breaks_sequentially limit begin new b.accepted b.wide silent more.reached;
+      sequential = breaks_sequentially limit begin new b.accepted b.wide more.reached;
       bounded = reached-bounded r first_pick later_picks limit show.report begin new more.picks (chooser r [] more.turn.count) b.accepted b.wide b.is_opened
           more.reached more.picked;
       front = subst (λ (l : List Made). WritesFront blank full (watched_text noted text plan rule t first l))

@@ -55,7 +55,7 @@ advance-end-requires-clause-dead g c =
     omega (arith, small, within.2)
 
 pub returns-in-Some-clause-run : goal.returns-in-Some-clause-run
-returns-in-Some-clause-run g c = said-end c.args.every c.args.rule _ _ _ _ _ _ _ _ _ _ c.known.ensures.accepted c.known.ensures.registers refl
+returns-in-Some-clause-run g c = said-end c.args.every c.args.rule _ _ _ _ _ _ _ _ _ _ c.known.ensures.accepted c.known.ensures.registers
     c.loop-clocked.invariant.said c.in-Some.ensures.turns
 
 pub returns-in-Some-clause-ends : goal.returns-in-Some-clause-ends
@@ -82,7 +82,7 @@ loop-clocked-preserved g c = record {
 }
 
 pub returns-in-Err-clause-run : goal.returns-in-Err-clause-run
-returns-in-Err-clause-run g c = said-broken c.args.every c.args.rule _ _ _ _ _ _ _ _ _ c.known.ensures.accepted c.known.ensures.registers refl
+returns-in-Err-clause-run g c = said-broken c.args.every c.args.rule _ _ _ _ _ _ _ _ _ c.known.ensures.accepted c.known.ensures.registers
     (said-on c.args.every c.args.rule _ _ _ _ _ _ _ _ _
     c.loop-clocked.invariant.said c.in_default.ensures.turns)
     (rw c.retired-before.ensures at c.in-Err.ensures.front)
