@@ -12,6 +12,7 @@ ghost use Rattle.cli_reports.specs.OutsideChanges.{streams_change, faults_change
 use cf_gen::generate;
 use cf_io::{Failed, MemSink, Sink, Source};
 use cf_layout::plain;
+use cf_report::ReportSink;
 use cli_arguments::{DEFAULT_LIMIT, GuessRule, Reporting, RunOptions, Schedule, Show};
 use cli_asm::file_of;
 use cli_files::{Answer, ReadyRun, ReadySchedule, done, no_memory, open_image, write_fault};
@@ -90,7 +91,7 @@ fn drawn_machine(alloc: Global, number: u32) -> Result<Machine, Answer>
 
 /// Carries out `gen` with `--run`: assembles the text, runs it on the built-in layout by moves that are drawn from the same
 /// number, and puts what `run` puts. It fails where the report fails during the run; nothing more is then put to the report.
-pub fn run_drawn<S: Source, K: Sink, R: Sink>(
+pub fn run_drawn<S: Source, K: Sink, R: ReportSink>(
     alloc: Global,
     number: u32,
     streams: RunStreams<'_, S, K, R>,

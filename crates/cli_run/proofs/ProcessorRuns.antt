@@ -12,6 +12,7 @@ use Rattle.run_finishes.specs.declared.finish.Ran.{Ran as RunAnswer}
 use Rattle.run_finishes.specs.declared.finish.Ran.TheVariants as ran
 use Rattle.run_finishes.specs.declared.finish.Scripted.{Scripted}
 use Rattle.run_finishes.specs.declared.finish.Scripted.TheVariants.{Ran, ScriptEnd, BadScript, BarredAt}
+use Rattle.cf_report.proofs.Parts.{text-before}
 use Rattle.cf_report.specs.declared.tally.Tally.{Tally}
 use Rattle.run_scripts.specs.Scripts.{ScriptLines, script_of}
 use Rattle.cf_run.specs.Ending.{EndsSequentially}
@@ -43,11 +44,6 @@ same-place : (blank : Option (List ℕ)) (now new : RunPlace) (lines : List ℕ)
 same-place blank now new lines put same =
     subst (λ (p : RunPlace). Writes blank p.report lines) (sym same) put
 
-same-report : (blank now new : Option (List ℕ)) (lines : List ℕ) → Writes blank now lines →
-    new ≡ now → Writes blank new lines
-same-report blank now new lines put same =
-    subst (λ (told : Option (List ℕ)). Writes blank told lines) (sym same) put
-
 -- after a run whose report did not fail, the report has what was shown of the moves
 script-shown : (limit : ℕ) (show : Reporting) (start new : ScriptRun) (finish : Scripted)
     (r : RunsScript limit show start new finish) → is_report_fault finish ≡ false →
@@ -58,9 +54,11 @@ script-shown limit show start new (BadScript refusal) r sound = stays _ _ _ _ r.
 script-shown limit show start new (BarredAt line bar) r sound =
     same-place _ _ _ _ r.follows.reaches.report r.stops.does.2
 script-shown limit show start new (Ran ran.ReadFault) r sound =
-    same-report _ _ _ _ r.follows.reaches.report r.stops.does.0.report
+    text-before start.place.report r.now.place.report new.place.report (all_shown show start.place.core.plan 1 r.follows.reaches.trace)
+    r.follows.reaches.report r.stops.does.0.report
 script-shown limit show start new (Ran ran.WriteFault) r sound =
-    same-report _ _ _ _ r.follows.reaches.report r.stops.does.0.report
+    text-before start.place.report r.now.place.report new.place.report (all_shown show start.place.core.plan 1 r.follows.reaches.trace)
+    r.follows.reaches.report r.stops.does.0.report
 script-shown limit show start new (Ran ran.ReportFault) r sound = absurd (cc)
 script-shown limit show start new (Ran (ran.Exit code)) r sound = stays _ _ _ _ r.follows.reaches.report r.stops.1
 script-shown limit show start new (Ran (ran.Trap cause pc detail)) r sound =
@@ -73,9 +71,9 @@ policy-shown : {P : Type 0} (rule : GuessRule) (picked : P → List Move → ℕ
     Writes start.report new.report (all_shown show start.core.plan 1 r.reaches.trace)
 unfolding MoveDoes
 policy-shown rule picked onward limit show start new policy later moves ran.ReadFault r sound =
-    same-report _ _ _ _ r.reaches.report r.stops.does.0.report
+    text-before start.report r.now.report new.report (all_shown show start.core.plan 1 r.reaches.trace) r.reaches.report r.stops.does.0.report
 policy-shown rule picked onward limit show start new policy later moves ran.WriteFault r sound =
-    same-report _ _ _ _ r.reaches.report r.stops.does.0.report
+    text-before start.report r.now.report new.report (all_shown show start.core.plan 1 r.reaches.trace) r.reaches.report r.stops.does.0.report
 policy-shown rule picked onward limit show start new policy later moves ran.ReportFault r sound = absurd (cc)
 policy-shown rule picked onward limit show start new policy later moves (ran.Exit code) r sound =
     same-place _ _ _ _ r.reaches.report r.stops.1

@@ -9,6 +9,7 @@ use crate::closing::close;
 use cf_core::Core;
 use cf_index::Candidates;
 use cf_io::{Failed, Sink, Source};
+use cf_report::ReportSink;
 use cf_run::{Reporting, Scripted, run_policy};
 use cf_sched::Policy;
 use cli_processor::no_moves;
@@ -19,7 +20,7 @@ use run_options::GuessRule;
 /// and the closing lines.
 // A call of its own, with the policy as a local, so that the compiler makes a loop for each policy and keeps its state in registers.
 #[inline(never)]
-pub fn run_by_policy<P: Policy + Drop, S: Source, K: Sink, R: Sink>(
+pub fn run_by_policy<P: Policy + Drop, S: Source, K: Sink, R: ReportSink>(
     core: &mut Core,
     candidates: &mut Candidates,
     policy: P,

@@ -10,6 +10,7 @@ use crate::closing::close;
 use cf_core::Core;
 use cf_index::Candidates;
 use cf_io::{Failed, Sink, Source};
+use cf_report::ReportSink;
 use cf_run::{Reporting, Scripted, run_rule};
 use cf_sched::Round;
 use cli_processor::no_moves;
@@ -20,7 +21,7 @@ use run_options::GuessRule;
 /// and the closing lines.
 // A call of its own, with the rule as a local, so that the compiler keeps its state in registers.
 #[inline(never)]
-pub fn run_by_rule<S: Source, K: Sink, R: Sink>(
+pub fn run_by_rule<S: Source, K: Sink, R: ReportSink>(
     core: &mut Core,
     candidates: &mut Candidates,
     round: Round,

@@ -10,6 +10,7 @@ ghost use Rattle.cli_reports.specs.OutsideChanges.{streams_change, faults_change
 use crate::closing::close;
 use cf_core::Core;
 use cf_io::{Failed, Sink, Source};
+use cf_report::ReportSink;
 use cf_run::{Reporting, run_script};
 use cli_processor::no_moves;
 use cli_reports::{Reported, RunStreams};
@@ -18,7 +19,7 @@ use run_scripts::Script;
 /// Runs the processor by the moves of a text, and puts what is shown and the closing lines.
 // A call of its own, so that the compiler makes this loop apart from those of the policies.
 #[inline(never)]
-pub fn run_by_script<S: Source, K: Sink, R: Sink>(
+pub fn run_by_script<S: Source, K: Sink, R: ReportSink>(
     core: &mut Core,
     text: &[u8],
     limit: u64,

@@ -18,6 +18,7 @@ use crate::tail::{Tail, add_tail};
 use cf_core::Core;
 use cf_index::Candidates;
 use cf_io::{Failed, Files, Sink, Source};
+use cf_report::ReportSink;
 use cf_run::Reporting;
 use cf_sched::{Drawn, Round};
 use cli_arguments::{LayoutWord, RunOptions};
@@ -28,7 +29,7 @@ use std::alloc::Global;
 
 /// Runs the opened processor by what was read.
 #[tactic(auto, using(cf_run::proofs::Opened::opened_cores))]
-fn run_scheduled<S: Source, K: Sink, R: Sink>(
+fn run_scheduled<S: Source, K: Sink, R: ReportSink>(
     core: &mut Core,
     candidates: &mut Candidates,
     schedule: &ReadySchedule,
@@ -59,7 +60,7 @@ fn run_scheduled<S: Source, K: Sink, R: Sink>(
 }
 
 /// Runs the opened processor by what was read, and puts what is to follow its report.
-fn run_opened<S: Source, K: Sink, R: Sink>(
+fn run_opened<S: Source, K: Sink, R: ReportSink>(
     opened: &mut Opened,
     schedule: &ReadySchedule,
     options: RunOptions<'_>,
@@ -95,7 +96,7 @@ fn run_opened<S: Source, K: Sink, R: Sink>(
 }
 
 /// Opens the processor of the layout on the machine, runs it by what was read, and puts what is to follow its report.
-pub fn run_ready<S: Source, K: Sink, R: Sink>(
+pub fn run_ready<S: Source, K: Sink, R: ReportSink>(
     alloc: Global,
     ready: ReadyRun,
     options: RunOptions<'_>,
@@ -122,7 +123,7 @@ pub fn run_ready<S: Source, K: Sink, R: Sink>(
 /// guess rule. It puts what is to be shown, then how the run finished, how many instructions retired, the tally of its
 /// moves, the registers and the picture, and after that the tail. It fails where the report fails during the run; nothing
 /// more is then put to the report.
-pub fn run_processor<F: Files, S: Source, K: Sink, R: Sink>(
+pub fn run_processor<F: Files, S: Source, K: Sink, R: ReportSink>(
     alloc: Global,
     layout: LayoutWord<'_>,
     program: &str,
