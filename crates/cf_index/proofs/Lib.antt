@@ -26,3 +26,4 @@ pub mod Firsts
 pub mod OneIssue
 pub mod Others
 pub mod AnyIssue
+pub mod StartsOver

@@ -16,6 +16,7 @@ mod rank;
 mod sharing;
 mod soon;
 mod stages;
+mod starting;
 mod sweeping;
 mod visiting;
 mod words;
@@ -23,5 +24,7 @@ mod words;
 pub use candidates::Candidates;
 pub use rank::Rank;
 pub use sharing::shares;
-pub use sweeping::{ClimbKind, FallKind, MeetKind, SweptKind};
+pub use sweeping::{
+    ClimbKind, EmitKind, ExecuteKind, FallKind, LaunchKind, MeetKind, SendKind, SweptKind,
+};
 pub use visiting::Visitor;

@@ -13,7 +13,7 @@ use cf_core::Core;
 
 /// Whether fetch runs at an address.
 #[inline(always)]
-fn is_running(fetch: Fetch) -> bool
+pub(crate) fn is_running(fetch: Fetch) -> bool
     ensures { result ≡ runs fetch }
 {
     matches!(fetch, Fetch::Running(_))
@@ -22,7 +22,7 @@ fn is_running(fetch: Fetch) -> bool
 /// Whether the lowest stage has no instruction.
 #[inline(always)]
 #[tactic(auto, using(crate::proofs::AnyIssue::lowest_passenger))]
-fn is_lowest_free(core: &Core) -> bool
+pub(crate) fn is_lowest_free(core: &Core) -> bool
     ensures { result ≡ not (is_some (passenger_at core.now.state.cells 1)) }
 {
     let _stages = stages(core);

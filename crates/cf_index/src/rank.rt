@@ -2,8 +2,8 @@
 
 ghost use Rattle.std.specs.Prelude.{◌≡◌, ℕ, ◌+◌, ◌<◌, ◌&&◌, nat_lt};
 ghost use Rattle.cf_layout.specs.Words.{has_bit};
-ghost use Rattle.cf_index.specs.Order.{below_or};
-ghost use Rattle.cf_index.specs.Ranks.{rank_of};
+ghost use Rattle.cf_index.specs.Order.{below_or, slide_place};
+ghost use Rattle.cf_index.specs.Ranks.{first_rank, rank_of};
 
 use crate::words::past;
 use cf_bind::{Guess, Move};
@@ -11,7 +11,7 @@ use cf_bind::{Guess, Move};
 // The places of the kinds in the order of all moves, by which a search compares them.
 pub(crate) const ISSUE: u32 = 0;
 
-const EMIT: u32 = 1;
+pub(crate) const EMIT: u32 = 1;
 
 pub(crate) const CLIMB: u32 = 2;
 
@@ -45,6 +45,17 @@ pub struct Rank {
 }
 
 impl Rank {
+    /// The first of all ranks. Each move but an Issue comes after it.
+    #[inline(always)]
+    pub fn first() -> Rank
+        ensures { result ≡ first_rank }
+    {
+        Rank {
+            kind: ISSUE,
+            place: 0,
+        }
+    }
+
     /// The rank of a move.
     #[inline(always)]
     pub fn of(mv: Move) -> Rank
@@ -122,12 +133,12 @@ impl Rank {
         }
     }
 
-    /// Whether it is that of Emit, or of a Climb, a Fall or a Meet.
+    /// Whether it is that of Emit or of a move over the stages.
     #[inline(always)]
-    pub fn is_before_execute(self) -> bool
-        ensures { result ≡ (nat_lt 0 self.kind && nat_lt self.kind 5) }
+    pub fn is_before_slide(self) -> bool
+        ensures { result ≡ (nat_lt 0 self.kind && nat_lt self.kind slide_place) }
     {
-        ISSUE < self.kind && self.kind < EXECUTE
+        ISSUE < self.kind && self.kind < SLIDE
     }
 
     /// The stages of the word at which the move of this kind comes after the rank.

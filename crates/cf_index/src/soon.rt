@@ -20,7 +20,7 @@ use run_options::GuessRule;
 
 /// The first move by which nothing enters, after one that is not within the sidings.
 #[inline(always)]
-fn next(core: &Core, last: Rank) -> Option<Move>
+pub(crate) fn next(core: &Core, last: Rank) -> Option<Move>
     ensures { last.kind ≢ slide_place → result ≡ find (is_past last) (filter (is_allowed core.now.plan core.now.state) (all_passing core.now.plan) ++ (filter (is_allowed core.now.plan core.now.state) (slides_from 0 core.now.plan.sidings) ++ filter (is_allowed core.now.plan core.now.state) (all_leaving core.now.plan))) }
 {
     let masks = core.masks();

@@ -1,4 +1,4 @@
-//! The kinds of moves over the stages that a sweep makes, one stage after another.
+//! The kinds of moves that a sweep makes: Emit, and those over the stages, one stage after another.
 
 ghost use Rattle.std.specs.Prelude.{◌≡◌, ℕ, ◌≤◌, Bool, IfSome, List, None, Some, find};
 ghost use Rattle.run_options.specs.declared.guess_rule.GuessRule.{GuessRule};
@@ -8,18 +8,18 @@ ghost use Rattle.cf_layout.specs.Layout.{Plan};
 ghost use Rattle.cf_semantics.specs.state.State.{State};
 ghost use Rattle.cf_index.specs.Order.{kind_place};
 ghost use Rattle.cf_index.specs.Ranks.{is_past, rank_of};
-ghost use Rattle.cf_index.specs.PickedFrom.{IsPickedFrom, from_climb, from_execute, from_fall, from_meet};
+ghost use Rattle.cf_index.specs.PickedFrom.{IsPickedFrom, from_climb, from_emit, from_execute, from_fall, from_launch, from_meet, from_send, outward_on};
 
 use crate::ahead::{climbs_after, falls_after};
 use crate::bits::lowest;
-use crate::rank::{MEET, Rank};
-use crate::stages::meets;
+use crate::rank::{EMIT, EXECUTE, LAUNCH, MEET, Rank, SEND};
+use crate::stages::{executes, launches, meets, sends, stages};
 use cf_bind::Move;
 use cf_core::Core;
 
-/// A kind of move over the stages: Climb, Fall or Meet.
+/// A kind of move that a sweep makes: Emit, Climb, Fall, Meet, Execute, Send or Launch.
 pub trait SweptKind {
-    /// The move of this kind at a stage.
+    /// The move of this kind at a stage. Emit is at the highest alone.
     ghost at_stage: { ℕ → Step };
 
     /// What is allowed of this kind and of those after it.
@@ -31,8 +31,8 @@ pub trait SweptKind {
     /// The move at the stage.
     fn at(i: u32) -> Move
         ensures value { result ≡ at_stage i }
-        ensures after { 2 ≤ kind_place result }
-        ensures before { kind_place result ≤ 4 }
+        ensures after { 1 ≤ kind_place result }
+        ensures before { kind_place result ≤ 7 }
         ensures picked { (rule : GuessRule) (held : Bool) (plan : Plan) (s : State) → plan.stages ≤ 32 → IsPickedFrom rule held plan s (Some result) (rank_of result) (from plan s) };
 
     /// The first stage past the rank at which the move is allowed.
@@ -40,6 +40,9 @@ pub trait SweptKind {
         ensures here { IfSome result (λ i. find (is_past last) (from core.now.plan core.now.state) ≡ Some (at_stage i)) }
         ensures gone { result ≡ None → find (is_past last) (beyond core.now.plan core.now.state) ≡ find (is_past last) (from core.now.plan core.now.state) };
 }
+
+/// Emit.
+pub struct EmitKind;
 
 /// Climb, by stage.
 pub struct ClimbKind;
@@ -49,6 +52,39 @@ pub struct FallKind;
 
 /// Meet, by stage.
 pub struct MeetKind;
+
+/// Execute, by stage.
+pub struct ExecuteKind;
+
+/// Send, by stage.
+pub struct SendKind;
+
+/// Launch, by stage.
+pub struct LaunchKind;
+
+impl SweptKind for EmitKind {
+    ghost at_stage = { λ i. mv.Emit };
+
+    ghost from = { from_emit };
+
+    ghost beyond = { from_climb };
+
+    #[inline(always)]
+    #[tactic(auto, using(crate::proofs::PickedFrom::emitted_on))]
+    fn at(_stage: u32) -> Move {
+        Move::Emit
+    }
+
+    #[inline(always)]
+    #[tactic(auto, using(crate::proofs::PickedFrom::emitting))]
+    fn next(core: &Core, last: Rank) -> Option<u32> {
+        if last.kind < EMIT && core.may_emit() {
+            Some(stages(core))
+        } else {
+            None
+        }
+    }
+}
 
 impl SweptKind for ClimbKind {
     ghost at_stage = { mv.Climb };
@@ -113,6 +149,75 @@ impl SweptKind for MeetKind {
     fn next(core: &Core, last: Rank) -> Option<u32> {
         let masks = core.masks();
         match lowest(last.after(MEET, meets(core, &masks))) {
+            Some(k) => Some(k + 1),
+            None => None,
+        }
+    }
+}
+
+impl SweptKind for ExecuteKind {
+    ghost at_stage = { mv.Execute };
+
+    ghost from = { from_execute };
+
+    ghost beyond = { from_send };
+
+    #[inline(always)]
+    #[tactic(auto, using(crate::proofs::PickedFrom::executed_on))]
+    fn at(i: u32) -> Move {
+        Move::Execute(i)
+    }
+
+    #[inline(always)]
+    fn next(core: &Core, last: Rank) -> Option<u32> {
+        let masks = core.masks();
+        match lowest(last.after(EXECUTE, executes(core, &masks))) {
+            Some(k) => Some(k + 1),
+            None => None,
+        }
+    }
+}
+
+impl SweptKind for SendKind {
+    ghost at_stage = { mv.Send };
+
+    ghost from = { from_send };
+
+    ghost beyond = { from_launch };
+
+    #[inline(always)]
+    #[tactic(auto, using(crate::proofs::PickedFrom::sent_on))]
+    fn at(i: u32) -> Move {
+        Move::Send(i)
+    }
+
+    #[inline(always)]
+    fn next(core: &Core, last: Rank) -> Option<u32> {
+        let masks = core.masks();
+        match lowest(last.after(SEND, sends(core, &masks))) {
+            Some(k) => Some(k + 1),
+            None => None,
+        }
+    }
+}
+
+impl SweptKind for LaunchKind {
+    ghost at_stage = { mv.Launch };
+
+    ghost from = { from_launch };
+
+    ghost beyond = { outward_on };
+
+    #[inline(always)]
+    #[tactic(auto, using(crate::proofs::PickedFrom::launched_on))]
+    fn at(i: u32) -> Move {
+        Move::Launch(i)
+    }
+
+    #[inline(always)]
+    fn next(core: &Core, last: Rank) -> Option<u32> {
+        let masks = core.masks();
+        match lowest(last.after(LAUNCH, launches(core, &masks))) {
             Some(k) => Some(k + 1),
             None => None,
         }

@@ -1,4 +1,4 @@
-use Rattle.std.proofs.Common.{◌∙◌, ◌+◌, ℕ, ap, sym}
+use Rattle.std.proofs.Common.{◌∙◌, ap, sym}
 use Rattle.std.specs.Prelude.{find}
 use Rattle.cf_bind.specs.declared.moves.Move.TheVariants.{Climb}
 use Rattle.cf_index.specs.Allowed.{passing_of}

@@ -1,0 +1,162 @@
+-- Where the search starts over and no Issue is offered, the first allowed move is picked.
+use Rattle.std.proofs.Common.{◌≡◌, ◌≢◌, ◌∙◌, sym, refl, ap, ℕ, zero, suc, ◌≤◌, List, [], ◌∷◌, ◌++◌, Bool, true, false, cond, Option, Some, None, arith}
+use Rattle.std.specs.Prelude.{filter, find, not, slice_get}
+use Rattle.std.proofs.lemmas.Option.{slice_get_within}
+use Rattle.run_options.specs.declared.guess_rule.GuessRule.{GuessRule}
+use Rattle.cf_layout.specs.Layout.{Plan}
+use Rattle.cf_bind.specs.declared.cell.Cell.{Cell}
+use Rattle.cf_bind.specs.declared.moves.Bar.{Bar}
+use Rattle.cf_bind.specs.declared.moves.Bar.TheVariants.{Failed, Halted, NoSuchSite}
+use Rattle.cf_bind.specs.declared.moves.Move.{Move}
+use Rattle.cf_bind.specs.declared.moves.Move.TheVariants.{Issue, Emit}
+use Rattle.cf_bind.specs.declared.packet.Fetch.{Fetch}
+use Rattle.cf_bind.specs.declared.packet.Fetch.TheVariants.{Running, Waiting}
+use Rattle.cf_bind.specs.declared.passenger.Guess.{Guess}
+use Rattle.cf_bind.specs.declared.passenger.Guess.TheVariants.{Next, Taken, Wait}
+use Rattle.cf_semantics.specs.claims.Weight.{is_issue}
+use Rattle.cf_semantics.specs.moves.Bars.{bar, first, issue_bar}
+use Rattle.cf_semantics.specs.moves.Candidates.{candidates, other_moves}
+use Rattle.cf_semantics.specs.state.Options.{on, is_some}
+use Rattle.cf_semantics.specs.state.State.{State, cell_at}
+use Rattle.cf_stages.specs.Changes.{passenger_at}
+use Rattle.cf_index.specs.declared.rank.Rank.{Rank}
+use Rattle.cf_index.specs.Allowed.{all_passing, allowed_others, is_allowed, is_running, kept_issues, unheld_issues, withheld}
+use Rattle.cf_index.specs.GuessRules.{guided}
+use Rattle.cf_index.specs.Order.{first_after, kind_place, slide_place}
+use Rattle.cf_index.specs.PickedFrom.{IsPickedFrom, from_climb, from_emit, outward_on}
+use Rattle.cf_index.specs.Ranks.{first_rank, is_past, rank_of}
+use Rattle.cf_index.proofs.AllowedWords.{climb-on}
+use Rattle.cf_index.proofs.Firsts.{others_are, unissued, wrapped}
+use Rattle.cf_index.proofs.Guided.{allowed-issue}
+use Rattle.cf_index.proofs.Others.{withheld_others}
+use Rattle.cf_index.proofs.Ranks.{all_others, found_rank}
+
+-- No Issue --
+
+-- an instruction in the lowest stage bars each Issue, and so does fetch where it waits
+row_waiting : (plan : Plan) (s : State) (c : Cell) (f : Fetch) → s.fetch ≡ f → is_running f ≡ false → not (is_some (issue_bar plan s Next c)) ≡ false
+row_waiting plan s c (Running pc) is waits = absurd (cc)
+row_waiting plan s c Waiting is waits = rw is refl
+
+row_taken : (plan : Plan) (s : State) (c : Cell) (f : Fetch) → s.fetch ≡ f → not (is_some c.passenger) ≡ false → not (is_some (issue_bar plan s Next c)) ≡ false
+row_taken plan s c Waiting is taken = rw is refl
+row_taken plan s c (Running pc) is taken = rw (is, there (is_some c.passenger) taken) refl
+  where
+    there : (b : Bool) → not b ≡ false → b ≡ true
+    there true e = refl
+    there false e = absurd (cc)
+
+barred_by : (ended failed : Bool) (b : Option Bar) → not (is_some b) ≡ false → not (is_some (first ended Halted (first failed Failed b))) ≡ false
+barred_by true failed b e = refl
+barred_by false true b e = refl
+barred_by false false b e = e
+
+next_barred : (plan : Plan) (s : State) → ((c : Cell) → not (is_some (issue_bar plan s Next c)) ≡ false) → is_allowed plan s (Issue Next) ≡ false
+unfolding bar
+next_barred plan s row = barred_by (is_some s.ending) s.failed _ (of (cell_at s.cells 1))
+  where
+    of : (o : Option Cell) → not (is_some (on o (Some NoSuchSite) (issue_bar plan s Next))) ≡ false
+    of None = refl
+    of (Some c) = row c
+
+waiting_barred : (plan : Plan) (s : State) → is_running s.fetch ≡ false → is_allowed plan s (Issue Next) ≡ false
+waiting_barred plan s waits = next_barred plan s (λ c. row_waiting plan s c s.fetch refl waits)
+
+taken_barred : (plan : Plan) (s : State) → not (is_some (passenger_at s.cells 1)) ≡ false → is_allowed plan s (Issue Next) ≡ false
+unfolding bar
+taken_barred plan s taken = barred_by (is_some s.ending) s.failed _ (of (cell_at s.cells 1) taken)
+  where
+    of : (o : Option Cell) → not (is_some (on o None (λ d. d.passenger))) ≡ false → not (is_some (on o (Some NoSuchSite) (issue_bar plan s Next))) ≡ false
+    of None e = refl
+    of (Some c) e = row_taken plan s c s.fetch refl e
+
+-- then none is allowed by another guess, and none is kept
+barred_guess : (plan : Plan) (s : State) (g : Guess) → is_allowed plan s (Issue Next) ≡ false → is_allowed plan s (Issue g) ≡ false
+barred_guess plan s g barred = allowed-issue plan s g ∙ rw barred refl
+
+none_kept : (rule : GuessRule) (plan : Plan) (s : State) → is_allowed plan s (Issue Next) ≡ false → kept_issues rule plan s ≡ []
+none_kept rule plan s barred = rw (barred, barred_guess plan s Taken barred, barred_guess plan s Wait barred) refl
+
+none_unheld : (rule : GuessRule) (plan : Plan) (s : State) (held : Bool) → is_allowed plan s (Issue Next) ≡ false → unheld_issues held rule plan s ≡ []
+none_unheld rule plan s true barred = refl
+none_unheld rule plan s false barred = none_kept rule plan s barred
+
+pub none_held : (rule : GuessRule) (plan : Plan) (s : State) (held : Bool) → held ≡ true → unheld_issues held rule plan s ≡ []
+none_held rule plan s held is = rw is refl
+
+pub none_waiting : (rule : GuessRule) (plan : Plan) (s : State) (held runs : Bool) → runs ≡ is_running s.fetch → runs ≡ false →
+    unheld_issues held rule plan s ≡ []
+none_waiting rule plan s held runs is off = none_unheld rule plan s held (waiting_barred plan s (sym is ∙ off))
+
+pub none_taken : (rule : GuessRule) (plan : Plan) (s : State) (held free : Bool) → free ≡ not (is_some (passenger_at s.cells 1)) → not free ≡ true →
+    unheld_issues held rule plan s ≡ []
+none_taken rule plan s held free is off = none_unheld rule plan s held (taken_barred plan s (sym is ∙ unset free off))
+  where
+    unset : (b : Bool) → not b ≡ true → b ≡ false
+    unset true e = absurd (cc)
+    unset false e = refl
+
+pub ruleset issuing_none = (none_held, none_waiting, none_taken)
+
+-- The first of the others --
+
+-- what is allowed from Emit on is what is allowed but for each Issue
+from_emit_on : (plan : Plan) (s : State) → plan.stages ≤ 32 → from_emit plan s ≡ allowed_others plan s
+unfolding from_emit from_climb
+from_emit_on plan s few = ap (λ (xs : List Move). filter (is_allowed plan s) (Emit ∷ []) ++ (xs ++ outward_on plan s)) (climb-on plan s few)
+
+-- each of them comes after the first rank
+all_after : (p : Move → Bool) (b : Bool) (xs : List Move) → p Emit ≡ true → find p xs ≡ slice_get xs 0 →
+    find p (cond b (Emit ∷ []) [] ++ xs) ≡ slice_get (cond b (Emit ∷ []) [] ++ xs) 0
+all_after p true xs after rest = rw after refl
+all_after p false xs after rest = rest
+
+first_of_others : (plan : Plan) (s : State) → find (is_past first_rank) (allowed_others plan s) ≡ slice_get (allowed_others plan s) 0
+first_of_others plan s =
+    all_after (is_past first_rank) (is_allowed plan s Emit) _ refl (all_others first_rank (is_allowed plan s) plan (omega arith))
+
+-- none of them is an Issue
+head_step : (b : Bool) (x mv : Move) (ys : List Move) → is_issue x ≡ b → (slice_get ys 0 ≡ Some mv → is_issue mv ≡ false) →
+    slice_get (cond (not b) (x ∷ ys) ys) 0 ≡ Some mv → is_issue mv ≡ false
+head_step true x mv ys e rest at = rest at
+head_step false x mv ys e rest at = let is : x ≡ mv = cc in sym (ap is_issue is) ∙ e
+
+head_other : (xs : List Move) (mv : Move) → slice_get (other_moves xs) 0 ≡ Some mv → is_issue mv ≡ false
+head_other [] mv e = absurd (cc)
+head_other (x ∷ xs) mv e = head_step (is_issue x) x mv (other_moves xs) refl (head_other xs mv) e
+
+other_first : (plan : Plan) (s : State) (mv : Move) → slice_get (allowed_others plan s) 0 ≡ Some mv → is_issue mv ≡ false
+other_first plan s mv e = head_other (candidates plan s) mv (ap (λ (xs : List Move). slice_get xs 0) (others_are plan s) ∙ e)
+
+-- where no Issue is offered, the others are
+offered_others : (rule : GuessRule) (held : Bool) (plan : Plan) (s : State) (mv : Move) → unheld_issues held rule plan s ≡ [] →
+    slice_get (allowed_others plan s) 0 ≡ Some mv → withheld held (guided rule plan s) ≡ allowed_others plan s
+offered_others rule held plan s mv none at =
+    withheld_others rule plan s held (slice_get_within (allowed_others plan s) 0 mv at) ∙ ap (λ (xs : List Move). xs ++ allowed_others plan s) none
+
+-- The pick --
+
+-- the first of the others is picked after an Issue, and after a move that none comes after
+first_picked : (rule : GuessRule) (held : Bool) (plan : Plan) (s : State) (last mv : Move) → Some mv ≡ slice_get (withheld held (guided rule plan s)) 0 →
+    is_issue mv ≡ false → kind_place last ≢ slide_place → (kind_place last ≢ 0 →
+    find (is_past (rank_of last)) (filter (is_allowed plan s) (all_passing plan) ++ outward_on plan s) ≡ None) →
+    Some mv ≡ slice_get (withheld held (guided rule plan s)) (first_after (Some last) (withheld held (guided rule plan s)))
+first_picked rule held plan s last mv is other outside none = of (kind_place last) refl
+  where
+    of : (k : ℕ) → kind_place last ≡ k →
+        Some mv ≡ slice_get (withheld held (guided rule plan s)) (first_after (Some last) (withheld held (guided rule plan s)))
+    of zero e = unissued (withheld held (guided rule plan s)) last (Some mv) e is other
+    of (suc k) e =
+        let gone = sym (none (λ first. absurd (omega (arith, e, first)))) in
+        wrapped rule plan s last held None (Some mv) (omega (arith, e)) (found_rank (rank_of last) last _ None refl (omega (arith, e)) outside gone) refl is
+
+pub started : (rule : GuessRule) (held : Bool) (plan : Plan) (s : State) (last : Move) (r : Rank) → plan.stages ≤ 32 → r ≡ rank_of last →
+    unheld_issues held rule plan s ≡ [] → r.kind ≢ slide_place → (r.kind ≢ 0 →
+    find (is_past r) (filter (is_allowed plan s) (all_passing plan) ++ outward_on plan s) ≡ None) →
+    IsPickedFrom rule held plan s (Some last) first_rank (from_emit plan s)
+unfolding IsPickedFrom
+started rule held plan s last r few stands none outside gone = λ mv found.
+    let there : slice_get (allowed_others plan s) 0 ≡ Some mv =
+    sym (first_of_others plan s) ∙ ap (find (is_past first_rank)) (sym (from_emit_on plan s few)) ∙ found in
+    let first = ap (λ (xs : List Move). slice_get xs 0) (offered_others rule held plan s mv none there) ∙ there in
+    sym (first_picked rule held plan s last mv (sym first) (other_first plan s mv there) (rw stands at outside) (rw stands at gone))

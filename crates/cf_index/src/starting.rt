@@ -1,0 +1,59 @@
+//! Where the search after a move starts over, and no Issue is offered.
+
+ghost use Rattle.std.specs.Prelude.{◌≡◌, ◌≢◌, ◌++◌, [], None, filter, find, true};
+ghost use Rattle.run_options.specs.declared.guess_rule.GuessRule.{GuessRule as Rule};
+ghost use Rattle.cf_bind.specs.declared.moves.Move.{Move as Step};
+ghost use Rattle.cf_index.specs.Allowed.{all_passing, is_allowed, unheld_issues};
+ghost use Rattle.cf_index.specs.Order.{slide_place};
+ghost use Rattle.cf_index.specs.PickedFrom.{IsPickedFrom, from_emit, outward_on};
+ghost use Rattle.cf_index.specs.Ranks.{first_rank, is_past, rank_of};
+
+use crate::candidates::Candidates;
+use crate::plainly::{is_lowest_free, is_running};
+use crate::rank::{ISSUE, LEAVE, Rank};
+use crate::soon::next;
+use crate::stages::stages;
+use cf_core::Core;
+
+/// Whether no Issue is offered because it is held back, because fetch waits, or because the lowest stage has an instruction.
+/// Nothing is decoded, so that another reason is not seen.
+#[inline(always)]
+#[tactic(auto, using(crate::proofs::StartsOver::issuing_none))]
+fn issues_none(core: &Core, held: bool) -> bool
+    ensures { (rule : Rule) → result ≡ true → unheld_issues held rule core.now.plan core.now.state ≡ [] }
+{
+    if held {
+        return true;
+    }
+    if !is_running(core.fetch()) {
+        return true;
+    }
+    !is_lowest_free(core)
+}
+
+/// Whether the move of this rank was an Issue, or is of one of the last kinds and no move but one that enters comes after it.
+// Of an earlier kind the search would be made again where a move comes after it.
+#[inline(always)]
+fn is_at_end(core: &Core, last: Rank) -> bool
+    ensures outside { result ≡ true → last.kind ≢ slide_place }
+    ensures none { result ≡ true → last.kind ≢ 0 →
+        find (is_past last) (filter (is_allowed core.now.plan core.now.state) (all_passing core.now.plan) ++ outward_on core.now.plan core.now.state) ≡ None }
+{
+    if last.kind == ISSUE {
+        return true;
+    }
+    LEAVE <= last.kind && next(core, last).is_none()
+}
+
+impl Candidates {
+    /// Whether it is known that no Issue is offered after the move of this rank, and that the move was an Issue, or none comes after
+    /// it: the search then finds the first of all allowed moves but Issue.
+    #[inline(always)]
+    pub fn starts_over(core: &Core, last: Rank, held: bool) -> bool
+        ensures { (rule : Rule) (mv : Step) → last ≡ rank_of mv → result ≡ true →
+            IsPickedFrom rule held core.now.plan core.now.state (Some mv) first_rank (from_emit core.now.plan core.now.state) }
+    {
+        let _stages = stages(core);
+        issues_none(core, held) && is_at_end(core, last)
+    }
+}
