@@ -1,7 +1,7 @@
--- Turns of the rule: what a Climb, a Fall or a Meet leaves as it is, and where some turns lead.
-use Rattle.std.specs.Prelude.{◌&&◌, find}
+-- Turns of the rule: what a move of a swept kind leaves as it is, and where some turns lead.
+use Rattle.std.specs.Prelude.{◌&&◌, find, slice_set}
 use Rattle.std.proofs.lemmas.Bool.Decides.{nat_tests}
-use Rattle.std.proofs.Common.{◌≡◌, ◌∙◌, sym, refl, ap, subst, ℕ, zero, suc, ◌+◌, ◌-◌, ◌≤◌, ◌<◌, List, [], Bool, true, nat_lt, Option, Some, None, Ok, Err, arith}
+use Rattle.std.proofs.Common.{◌≡◌, ◌∙◌, sym, refl, ap, subst, ℕ, zero, suc, ◌+◌, ◌-◌, ◌≤◌, ◌<◌, List, [], ◌∷◌, Bool, true, nat_lt, Option, Some, None, Ok, Err, arith}
 use Rattle.run_options.specs.Limits.{most_limit}
 use Rattle.run_options.specs.declared.guess_rule.GuessRule.{GuessRule}
 use Rattle.run_options.specs.declared.reporting.Reporting.{Reporting}
@@ -9,23 +9,27 @@ use Rattle.cf_io.specs.Puts.{Writes}
 use Rattle.cf_io.proofs.Owing.{writes-nothing}
 use Rattle.rv_machine.specs.Streams.{Streams}
 use Rattle.cf_layout.specs.Accepted.{IsAccepted}
-use Rattle.cf_layout.specs.Layout.{Plan}
+use Rattle.cf_layout.specs.Layout.{Plan, siding_of}
+use Rattle.cf_bind.specs.declared.cell.Cell.{Cell}
+use Rattle.cf_bind.specs.declared.passenger.End.{End}
+use Rattle.cf_bind.specs.declared.passenger.Passenger.{Passenger}
 use Rattle.cf_bind.specs.declared.moves.Move.{Move}
 use Rattle.cf_bind.specs.declared.moves.Move.TheVariants as mv
 use Rattle.cf_semantics.specs.declared.event.Event.{Event}
 use Rattle.cf_semantics.specs.moves.Bars.{bar}
-use Rattle.cf_semantics.specs.moves.Moves.{moved, next}
+use Rattle.cf_semantics.specs.moves.Moves.{emitted, launch_trap, launched, moved, next, operation, with_passenger}
 use Rattle.cf_semantics.specs.state.Options.{on}
-use Rattle.cf_semantics.specs.state.State.{State, Moment, cell_at}
+use Rattle.cf_semantics.specs.state.Passengers.{kind, trapped}
+use Rattle.cf_semantics.specs.state.State.{State, Moment, cell_at, siding_at, with_cell, with_siding}
 use Rattle.cf_core.specs.Processors.{Processor}
 use Rattle.cf_core.specs.Stepping.{MakesOrFails}
 use Rattle.cf_core.specs.declared.fault.Fault.{Fault}
 use Rattle.cf_core.specs.declared.fault.Fault.TheVariants as fault
 use Rattle.cf_index.specs.Order.{kind_place, slide_place}
-use Rattle.cf_index.specs.PickedFrom.{IsPickedFrom, from_climb}
+use Rattle.cf_index.specs.PickedFrom.{IsPickedFrom, from_climb, from_emit}
 use Rattle.cf_index.specs.Ranks.{is_past, rank_of}
 use Rattle.cf_index.specs.declared.rank.Rank.{Rank}
-use Rattle.cf_index.proofs.PickedFrom.{picked_after}
+use Rattle.cf_index.proofs.PickedFrom.{emit_late, picked_after, picked_on}
 use Rattle.cf_sched.specs.Paces.{offered_by, stopped}
 use Rattle.cf_sched.specs.Policies.{round_on, round_pick}
 use Rattle.cf_semantics.specs.moves.Holding.{is_held, paced}
@@ -53,7 +57,21 @@ on_keeps : {X : Type 0} (o : Option X) (s : State) (f : X → State) → ((x : X
 on_keeps None s f all = record { ending = refl; retired = refl }
 on_keeps (Some x) s f all = all x
 
-moved_keeps : (plan : Plan) (s : State) (m : Move) → 2 ≤ kind_place m → kind_place m ≤ 4 → Keeps s (moved plan s m)
+emitted_keeps : (s : State) (n : ℕ) (lane : List ℕ) (c : Cell) → Keeps s (emitted s n lane c)
+emitted_keeps s n [] c = record { ending = refl; retired = refl }
+emitted_keeps s n (r ∷ lane) c = record { ending = refl; retired = refl }
+
+launched_keeps : (plan : Plan) (s : State) (i : ℕ) (c : Cell) (p : Passenger) → Keeps s (launched plan s i c p)
+launched_keeps plan s i c p = of (launch_trap s p)
+  where
+    of : (trap : Option End) → Keeps s (on trap
+        (on (siding_of plan (kind p)) s (λ k.
+        with_siding (with_cell s i (with_passenger c (record p { launched = true }))) k (slice_set (siding_at s k) 0 (Some (operation p)))))
+        (λ e. with_cell s i (with_passenger c (trapped p e))))
+    of None = on_keeps (siding_of plan (kind p)) s _ (λ k. record { ending = refl; retired = refl })
+    of (Some e) = record { ending = refl; retired = refl }
+
+moved_keeps : (plan : Plan) (s : State) (m : Move) → 1 ≤ kind_place m → kind_place m ≤ 7 → Keeps s (moved plan s m)
 unfolding moved
 moved_keeps plan s (mv.Climb i) after before =
     on_keeps (cell_at s.cells i) s _ (λ c. on_keeps (cell_at s.cells (i + 1)) s _ (λ d. record { ending = refl; retired = refl }))
@@ -62,10 +80,13 @@ moved_keeps plan s (mv.Fall i) after before =
 moved_keeps plan s (mv.Meet i) after before =
     on_keeps (cell_at s.cells i) s _ (λ c. on_keeps c.passenger s _ (λ p. on_keeps c.packet s _ (λ k. record { ending = refl; retired = refl })))
 moved_keeps plan s (mv.Issue g) after before = absurd (omega (arith, after))
-moved_keeps plan s mv.Emit after before = absurd (omega (arith, after))
-moved_keeps plan s (mv.Execute i) after before = absurd (omega (arith, before))
-moved_keeps plan s (mv.Send i) after before = absurd (omega (arith, before))
-moved_keeps plan s (mv.Launch i) after before = absurd (omega (arith, before))
+moved_keeps plan s mv.Emit after before = on_keeps (cell_at s.cells plan.stages) s _ (λ c. emitted_keeps s plan.stages s.lane c)
+moved_keeps plan s (mv.Execute i) after before =
+    on_keeps (cell_at s.cells i) s _ (λ c. on_keeps c.passenger s _ (λ p. record { ending = refl; retired = refl }))
+moved_keeps plan s (mv.Send i) after before =
+    on_keeps (cell_at s.cells i) s _ (λ c. on_keeps c.passenger s _ (λ p. record { ending = refl; retired = refl }))
+moved_keeps plan s (mv.Launch i) after before =
+    on_keeps (cell_at s.cells i) s _ (λ c. on_keeps c.passenger s _ (λ p. launched_keeps plan s i c p))
 moved_keeps plan s (mv.Slide k c) after before = absurd (omega (arith, before))
 moved_keeps plan s mv.Access after before = absurd (omega (arith, before))
 moved_keeps plan s (mv.Recover i) after before = absurd (omega (arith, before))
@@ -73,7 +94,7 @@ moved_keeps plan s mv.Leave after before = absurd (omega (arith, before))
 moved_keeps plan s mv.Exit after before = absurd (omega (arith, before))
 moved_keeps plan s mv.Serve after before = absurd (omega (arith, before))
 
-next_state : (plan : Plan) (m : Moment) (v : Move) → kind_place v ≤ 4 → (next plan m v).state ≡ moved plan m.state v
+next_state : (plan : Plan) (m : Moment) (v : Move) → kind_place v ≤ 7 → (next plan m v).state ≡ moved plan m.state v
 unfolding next
 next_state plan m (mv.Issue g) before = refl
 next_state plan m mv.Emit before = refl
@@ -90,7 +111,7 @@ next_state plan m mv.Leave before = refl
 next_state plan m mv.Exit before = refl
 next_state plan m mv.Serve before = absurd (omega (arith, before))
 
-pub makes_keeps : (old new : Processor) (m : Move) (before after : Streams) (e : Event) → 2 ≤ kind_place m → kind_place m ≤ 4 →
+pub makes_keeps : (old new : Processor) (m : Move) (before after : Streams) (e : Event) → 1 ≤ kind_place m → kind_place m ≤ 7 →
     MakesOrFails old new m before after (Ok e) → Keeps old.state new.state
 unfolding MakesOrFails
 makes_keeps old new m before after e late early makes =
@@ -99,11 +120,11 @@ makes_keeps old new m before after e late early makes =
     subst (Keeps old.state) state (moved_keeps old.plan old.state m late early)
 
 -- no Serve
-no_serve : (m : Move) → kind_place m ≤ 4 → m ≡ mv.Serve → ⊥
+no_serve : (m : Move) → kind_place m ≤ 7 → m ≡ mv.Serve → ⊥
 no_serve m early is = let late = ap kind_place is in absurd (omega (arith, early, late))
 
 -- so neither stream fails it
-pub never_fails : (old new : Processor) (m : Move) (before after : Streams) (f : Fault) → kind_place m ≤ 4 → MakesOrFails old new m before after (Err f) → ⊥
+pub never_fails : (old new : Processor) (m : Move) (before after : Streams) (f : Fault) → kind_place m ≤ 7 → MakesOrFails old new m before after (Err f) → ⊥
 unfolding MakesOrFails
 never_fails old new m before after fault.Read early h = no_serve m early h.0
 never_fails old new m before after fault.Write early h = no_serve m early h.0
@@ -273,19 +294,20 @@ underway_nearer rule limit show now new last later held count plan u t is =
 pub few_stages : (plan old shown : Plan) → plan ≡ old → shown ≡ old → IsAccepted shown → plan.stages ≤ 32
 few_stages plan old shown is same accepted = (subst IsAccepted (same ∙ sym is) accepted).stages.1
 
--- after a move whose rank is before Execute, the rule picks the first past its rank
-before_execute : (r : Rank) → (nat_lt 0 r.kind && nat_lt r.kind 5) ≡ true → (1 ≤ r.kind) × (r.kind < slide_place)
-before_execute r test = (grind (arith, nat_tests, test), grind (arith, nat_tests, test))
+-- after a move whose rank is before Slide, the rule picks the first past its rank
+before_slide : (r : Rank) → (nat_lt 0 r.kind && nat_lt r.kind slide_place) ≡ true → (1 ≤ r.kind) × (r.kind < slide_place)
+before_slide r test = (grind (arith, nat_tests, test), grind (arith, nat_tests, test))
 
 pub picks_past : (rule : GuessRule) (held : Bool) (plan : Plan) (s : State) (last : Move) (r : Rank) → plan.stages ≤ 32 → r ≡ rank_of last →
-    (nat_lt 0 r.kind && nat_lt r.kind 5) ≡ true → IsPickedFrom rule held plan s (Some last) r (from_climb plan s)
+    (nat_lt 0 r.kind && nat_lt r.kind slide_place) ≡ true → IsPickedFrom rule held plan s (Some last) r (from_emit plan s)
 picks_past rule held plan s last r few is test =
-    let within = before_execute r test in
+    let within = before_slide r test in
     let kind : r.kind ≡ kind_place last = ap (λ (q : Rank). q.kind) is in
     let after : 1 ≤ kind_place last = let low = within.0 in omega (arith, kind, low) in
     let inside : kind_place last < slide_place = let high = within.1 in omega (arith, kind, high) in
-    subst (λ (q : Rank). IsPickedFrom rule held plan s (Some last) q (from_climb plan s)) (sym is)
-    (picked_after rule held plan s last few after (λ e. absurd (omega (arith, inside, e))))
+    subst (λ (q : Rank). IsPickedFrom rule held plan s (Some last) q (from_emit plan s)) (sym is)
+    (picked_on rule held plan s (Some last) (rank_of last) (from_climb plan s) (from_emit plan s) (sym (emit_late plan s (rank_of last) after))
+    (picked_after rule held plan s last few after (λ e. absurd (omega (arith, inside, e)))))
 
 -- fewer are left after a sweep and one more turn
 pub fewer_left : (most now between new : ℕ) → now ≤ between → most - new < most - between → most - new < most - now

@@ -1,16 +1,17 @@
 //! The run by the rule.
 
-ghost use Rattle.std.specs.Prelude.{◌≡◌, ◌-◌, ◌≤◌, Some};
+ghost use Rattle.std.specs.Prelude.{◌≡◌, ◌-◌, ◌≤◌, IfSome, Some};
 ghost use Rattle.run_options.specs.Limits.{most_limit};
 ghost use Rattle.cf_io.specs.Causes.{HasCause};
 ghost use Rattle.run_finishes.specs.declared.finish.Scripted.TheVariants as scripted;
+ghost use Rattle.cf_index.specs.PickedFrom.{from_emit};
 ghost use Rattle.cf_sched.specs.Policies.{round_on, round_pick};
 ghost use Rattle.cf_run.specs.Ending.{EndsSequentially};
 ghost use Rattle.cf_run.specs.Moving.{place_by};
 ghost use Rattle.cf_run.specs.Policies.{CanRun, PolicyUnasked, RunsRight, most_moves};
 ghost use Rattle.run_finishes.specs.Stopped.{input_stopped, output_stopped, report_stopped};
 ghost use Rattle.cf_run.specs.Reaching.{no_tally};
-ghost use Rattle.cf_run.specs.Sweeps.{IsUnderway, ShowsNothing, SweepsTo};
+ghost use Rattle.cf_run.specs.Sweeps.{IsUnderway, PicksFrom, ShowsNothing, SweepsTo};
 
 use crate::facts::known;
 use crate::finished::over;
@@ -18,14 +19,34 @@ use crate::policy::advance;
 use crate::sweep::{SweepPlace, sweep_stages};
 use cf_bind::Move;
 use cf_core::Core;
-use cf_index::Candidates;
+use cf_index::{Candidates, Rank};
 use cf_io::{Sink, Source};
 use cf_report::{ReportSink, Tally};
 use cf_sched::{Pace, Round};
 use run_finishes::Ran;
 use run_options::{GuessRule, Reporting, Show};
 
-/// Makes all Climbs, Falls and Meets that the rule picks next, one after another, where nothing is shown of them.
+/// The rank after which a sweep looks for what the rule picks next, if one can: that of the last pick, or the first of all where
+/// the search starts over.
+#[inline(always)]
+fn sweeps_from(core: &Core, last: Move, round: &Round, pace: &Pace) -> Option<Rank>
+    requires last { round.now ≡ Some last }
+    requires stages { pace.now.stages ≡ core.now.plan.stages }
+    ensures { IfSome result (λ rank. PicksFrom pace.now core.now (Some last) rank (from_emit core.now.plan core.now.state)) }
+{
+    let _last = last;
+    let _stages = core.layout().stages();
+    let rank = round.rank();
+    if rank.is_before_slide() {
+        return Some(rank);
+    }
+    if Candidates::starts_over(core, rank, pace.held()) {
+        return Some(Rank::first());
+    }
+    None
+}
+
+/// Makes all moves of the swept kinds that the rule picks next, one after another, where nothing is shown of them.
 #[inline(always)]
 fn sweep_after<S: Source, K: Sink, R: Sink>(
     core: &mut Core,
@@ -56,11 +77,9 @@ fn sweep_after<S: Source, K: Sink, R: Sink>(
     ensures input { input.new ≡ input.old }
     ensures output { output.new ≡ output.old }
 {
-    let _stages = core.layout().stages();
-    let rank = round.rank();
-    if !rank.is_before_execute() {
+    let Some(rank) = sweeps_from(core, last, round, pace) else {
         return;
-    }
+    };
     if over(core, limit).is_none() {
         let from = SweepPlace { last, rank };
         let place = sweep_stages(

@@ -1,10 +1,10 @@
-//! A sweep of the rule over the stages: all Climbs, then all Falls, then all Meets that it picks one after another.
+//! A sweep of the rule: Emit, then all Climbs, all Falls and so on up to all Launches that it picks one after another.
 
 ghost use Rattle.std.specs.Prelude.{◌≡◌, ◌+◌, ◌<◌, ◌≤◌, ◌^◌, IfSome, None, Some};
 ghost use Rattle.run_options.specs.Limits.{most_limit};
 ghost use Rattle.cf_semantics.specs.moves.Bars.{bar};
 ghost use Rattle.cf_index.specs.Order.{kind_place};
-ghost use Rattle.cf_index.specs.PickedFrom.{from_climb};
+ghost use Rattle.cf_index.specs.PickedFrom.{from_emit};
 ghost use Rattle.cf_sched.specs.Policies.{round_on, round_pick};
 ghost use Rattle.cf_run.specs.Made.{CanCount};
 ghost use Rattle.cf_run.specs.Moving.{MoveDoes, place_by};
@@ -15,20 +15,22 @@ ghost use Rattle.cf_run.specs.Sweeps.{IsUnderway, PicksFrom, ShowsNothing, Sweep
 use crate::counting::count;
 use cf_bind::Move;
 use cf_core::{Core, Event};
-use cf_index::{ClimbKind, FallKind, MeetKind, Rank, SweptKind};
+use cf_index::{
+    ClimbKind, EmitKind, ExecuteKind, FallKind, LaunchKind, MeetKind, Rank, SendKind, SweptKind,
+};
 use cf_io::{Sink, Source};
 use cf_report::Tally;
 use cf_sched::Pace;
 use run_options::Reporting;
 
-/// Where a sweep is: the last pick of the rule, and the rank from which it looks for the next one.
+/// Where a sweep is: the last pick of the rule, and the rank after which it looks for the next one.
 #[derive(Clone, Copy)]
 pub(crate) struct SweepPlace {
     pub(crate) last: Move,
     pub(crate) rank: Rank,
 }
 
-/// Makes and counts an allowed Climb, Fall or Meet, where nothing is shown.
+/// Makes and counts an allowed move of a swept kind, where nothing is shown.
 #[inline(always)]
 #[tactic(auto, unfolding(crate::specs::Moving::MoveDoes))]
 fn make_unshown<S: Source, K: Sink, R: Sink>(
@@ -40,8 +42,8 @@ fn make_unshown<S: Source, K: Sink, R: Sink>(
     report: &R,
     tally: &mut Tally,
 ) -> Event
-    requires after { 2 ≤ kind_place mv }
-    requires before { kind_place mv ≤ 4 }
+    requires after { 1 ≤ kind_place mv }
+    requires before { kind_place mv ≤ 7 }
     requires allowed { bar core.old.plan core.old.state mv ≡ None }
     requires retired { core.old.state.retired + 1 < 2 ^ 64 }
     requires counts { CanCount tally.old }
@@ -159,7 +161,7 @@ fn sweep_kind<T: SweptKind, S: Source, K: Sink, R: Sink>(
     }
 }
 
-/// Makes the Climbs, then the Falls, then the Meets that the rule picks one after another, until it picks another move.
+/// Makes the moves of each swept kind that the rule picks one after another, until it picks another move.
 // A call of its own: with it the loop of a run stays small.
 #[inline(never)]
 pub(crate) fn sweep_stages<S: Source, K: Sink, R: Sink>(
@@ -173,7 +175,7 @@ pub(crate) fn sweep_stages<S: Source, K: Sink, R: Sink>(
     report: &R,
     tally: &mut Tally,
 ) -> SweepPlace
-    requires picked { PicksFrom pace.old core.old (Some from.last) from.rank (from_climb core.old.plan core.old.state) }
+    requires picked { PicksFrom pace.old core.old (Some from.last) from.rank (from_emit core.old.plan core.old.state) }
     requires goes { GoesOn limit core.old.state }
     requires limit { limit ≤ most_limit }
     requires stages { pace.old.stages ≡ core.old.plan.stages }
@@ -190,13 +192,25 @@ pub(crate) fn sweep_stages<S: Source, K: Sink, R: Sink>(
     ensures input { input.new ≡ input.old }
     ensures output { output.new ≡ output.old }
 {
-    let climbed = sweep_kind::<ClimbKind, S, K, R>(
+    let emitted = sweep_kind::<EmitKind, S, K, R>(
         core, from, pace, limit, reporting, input, output, report, tally,
+    );
+    let climbed = sweep_kind::<ClimbKind, S, K, R>(
+        core, emitted, pace, limit, reporting, input, output, report, tally,
     );
     let fallen = sweep_kind::<FallKind, S, K, R>(
         core, climbed, pace, limit, reporting, input, output, report, tally,
     );
-    sweep_kind::<MeetKind, S, K, R>(
+    let met = sweep_kind::<MeetKind, S, K, R>(
         core, fallen, pace, limit, reporting, input, output, report, tally,
+    );
+    let executed = sweep_kind::<ExecuteKind, S, K, R>(
+        core, met, pace, limit, reporting, input, output, report, tally,
+    );
+    let sent = sweep_kind::<SendKind, S, K, R>(
+        core, executed, pace, limit, reporting, input, output, report, tally,
+    );
+    sweep_kind::<LaunchKind, S, K, R>(
+        core, sent, pace, limit, reporting, input, output, report, tally,
     )
 }
