@@ -5,7 +5,7 @@ ghost use Rattle.std.specs.Prelude.{◌≡◌, ◌≤◌, All, OnOk, OnErr, filt
 ghost use Rattle.cf_io.specs.Causes.{HasCause};
 ghost use Rattle.cf_io.specs.Puts.{Writes, WritesFront};
 ghost use Rattle.elf_view.specs.Symbols.{shown_lazy};
-ghost use Rattle.asm_listing.specs.Labels.{Ascend, has_value};
+ghost use Rattle.asm_listing.specs.Labels.{AreOfValue, Ascend, has_value};
 ghost use Rattle.asm_listing.specs.Lines.{is_label_at, symbol_line, label_lines};
 
 use crate::putting::put_two;
@@ -53,9 +53,11 @@ fn symbols_of_value<'a, 'b>(symbols: &'a [LazySymbol<'b>], value: u32) -> &'a [L
     same
 }
 
-/// Writes the lines of symbols that are labels at an address.
+/// Writes the lines of symbols that are labels at an address. They are the symbols of that value and no others: among a
+/// million symbols a walk past all of them for each word would take too long.
 #[tactic(auto, using(cf_io::proofs::Owing::owes))]
 fn put_each<K: Sink>(symbols: &[LazySymbol], pc: u32, out: &mut K) -> Result<(), Failed>
+    requires { AreOfValue pc symbols.now }
     ensures ok { OnOk result (Writes (K.written out.old) (K.written out.new) (label_lines (map shown_lazy symbols.now) pc)) }
     ensures err { OnErr result (WritesFront (K.written out.old) (K.written out.new) (label_lines (map shown_lazy symbols.now) pc)) }
     ensures cause { HasCause (K.faults out.old) (K.faults out.new) result }
