@@ -140,7 +140,7 @@ comes-more text start now new mv small tells h next a =
     )
 
 pub comes-on : (text : List ℕ) (start : RunPlace) (now new : AuditRun) → length text ≤ most_trace → new.place.report ≡ Some (told_by new.seen) →
-    Comes text start now → Tests text now new None → Comes text start new × (now.seen.agreed < new.seen.agreed)
+    Comes text start now → Tests now new None → Comes text start new × (now.seen.agreed < new.seen.agreed)
 unfolding Tests AuditTries
 comes-on text start now new small tells h (mv, next, a) = comes-more text start now new mv small tells h next a
 

@@ -8,11 +8,11 @@ use Rattle.cf_bind.specs.declared.moves.Move.{Move}
 use Rattle.cf_semantics.specs.declared.event.Event.{Event}
 use Rattle.run_finishes.specs.declared.finish.Ran.TheVariants as ran
 use Rattle.cf_run.specs.Moving.{MakesAndShows, MakesUnshown, MoveDoes, shown_of}
-use Rattle.cf_audit.specs.declared.answer.Audit.{Audit}
-use Rattle.cf_audit.specs.declared.answer.Audit.TheVariants.{Agrees, Wrong, ReadFault}
+use Rattle.cf_audit.specs.declared.stop.AuditStop.{AuditStop}
+use Rattle.cf_audit.specs.declared.stop.AuditStop.TheVariants.{Agrees, Wrong, ReadFault}
 use Rattle.run_scripts.specs.declared.trace_refusal.TraceKind.TheVariants.{NotAMove, Barred, Differs, Cut}
 use Rattle.cf_audit.specs.Compared.{Comparison, HasOther}
-use Rattle.cf_audit.specs.Turns.{AuditRun, ComparisonAnswers, ShownDiffers, PutsSome, AuditTries, input_tested}
+use Rattle.cf_audit.specs.Turns.{AuditRun, ComparisonAnswers, ShownDiffers, PutsSome, AuditTries, input_stopped}
 
 -- all of a text was written
 puts_all : (a b : Option (List ℕ)) (text : List ℕ) → Writes a b text → PutsSome a b text
@@ -43,35 +43,35 @@ parts_unshown mv now new e d other =
     }
 
 -- the move was made and shown
-pub tried-shown : (text : List ℕ) (mv : Move) (now new : AuditRun) (e : Event) (answer : Option Audit) → MoveDoes show.moves mv now.place new.place (Ok e) →
-    ComparisonAnswers text new.seen answer → AuditTries text mv now new answer
+pub tried-shown : (mv : Move) (now new : AuditRun) (e : Event) (answer : Option AuditStop) → MoveDoes show.moves mv now.place new.place (Ok e) →
+    ComparisonAnswers new.seen answer → AuditTries mv now new answer
 unfolding MoveDoes ComparisonAnswers AuditTries
-tried-shown text mv now new e None d h = record { event = e; makes = d; same = h }
-tried-shown text mv now new e (Some (Agrees n)) d h = absurd h
-tried-shown text mv now new e (Some (Wrong line NotAMove)) d h = absurd h
-tried-shown text mv now new e (Some (Wrong line (Barred b))) d h = absurd h
-tried-shown text mv now new e (Some (Wrong line Differs)) d h = (parts_shown mv now new e d h.0, h.1, h.2)
-tried-shown text mv now new e (Some (Wrong line Cut)) d h = (parts_shown mv now new e d h.0, h.1, h.2)
-tried-shown text mv now new e (Some ReadFault) d h = absurd h
+tried-shown mv now new e None d h = record { event = e; makes = d; same = h }
+tried-shown mv now new e (Some (Agrees n)) d h = absurd h
+tried-shown mv now new e (Some (Wrong place NotAMove)) d h = absurd h
+tried-shown mv now new e (Some (Wrong place (Barred b))) d h = absurd h
+tried-shown mv now new e (Some (Wrong place Differs)) d h = (parts_shown mv now new e d h.0, h.1, h.2)
+tried-shown mv now new e (Some (Wrong place Cut)) d h = (parts_shown mv now new e d h.0, h.1, h.2)
+tried-shown mv now new e (Some ReadFault) d h = absurd h
 
 -- the move was made, and the comparison failed
-pub tried-unshown : (text : List ℕ) (mv : Move) (now new : AuditRun) (before : ℕ) (answer : Option Audit) →
-    MoveDoes show.moves mv now.place new.place (Err ran.ReportFault) → Rose before new.seen.faults → ComparisonAnswers text new.seen answer →
-    AuditTries text mv now new answer
+pub tried-unshown : (mv : Move) (now new : AuditRun) (before : ℕ) (answer : Option AuditStop) →
+    MoveDoes show.moves mv now.place new.place (Err ran.ReportFault) → Rose before new.seen.faults → ComparisonAnswers new.seen answer →
+    AuditTries mv now new answer
 unfolding MoveDoes ComparisonAnswers AuditTries
-tried-unshown text mv now new before None d rose h = absurd (omega (arith, rose, h.works))
-tried-unshown text mv now new before (Some (Agrees n)) d rose h = absurd h
-tried-unshown text mv now new before (Some (Wrong line NotAMove)) d rose h = absurd h
-tried-unshown text mv now new before (Some (Wrong line (Barred b))) d rose h = absurd h
-tried-unshown text mv now new before (Some (Wrong line Differs)) d rose h = (parts_unshown mv now new d.0 d.1 h.0, h.1, h.2)
-tried-unshown text mv now new before (Some (Wrong line Cut)) d rose h = (parts_unshown mv now new d.0 d.1 h.0, h.1, h.2)
-tried-unshown text mv now new before (Some ReadFault) d rose h = absurd h
+tried-unshown mv now new before None d rose h = absurd (omega (arith, rose, h.works))
+tried-unshown mv now new before (Some (Agrees n)) d rose h = absurd h
+tried-unshown mv now new before (Some (Wrong place NotAMove)) d rose h = absurd h
+tried-unshown mv now new before (Some (Wrong place (Barred b))) d rose h = absurd h
+tried-unshown mv now new before (Some (Wrong place Differs)) d rose h = (parts_unshown mv now new d.0 d.1 h.0, h.1, h.2)
+tried-unshown mv now new before (Some (Wrong place Cut)) d rose h = (parts_unshown mv now new d.0 d.1 h.0, h.1, h.2)
+tried-unshown mv now new before (Some ReadFault) d rose h = absurd h
 
 -- the input did not fail then
-pub tried-still : (text : List ℕ) (seen : Comparison) (before now : ℕ) (answer : Option Audit) → ComparisonAnswers text seen answer → now ≡ before →
-    HasCause before now (input_tested answer)
+pub tried-still : (seen : Comparison) (before now : ℕ) (answer : Option AuditStop) → ComparisonAnswers seen answer → now ≡ before →
+    HasCause before now (input_stopped answer)
 unfolding ComparisonAnswers
-tried-still text seen before now None h still = record { never_falls = omega (arith, still); rose = tt; still = still }
-tried-still text seen before now (Some (Agrees n)) h still = absurd h
-tried-still text seen before now (Some (Wrong line kind)) h still = record { never_falls = omega (arith, still); rose = tt; still = still }
-tried-still text seen before now (Some ReadFault) h still = absurd h
+tried-still seen before now None h still = record { never_falls = omega (arith, still); rose = tt; still = still }
+tried-still seen before now (Some (Agrees n)) h still = absurd h
+tried-still seen before now (Some (Wrong place kind)) h still = record { never_falls = omega (arith, still); rose = tt; still = still }
+tried-still seen before now (Some ReadFault) h still = absurd h

@@ -22,13 +22,15 @@ use Rattle.cf_run.specs.Reaching.{Reaches}
 use Rattle.cf_run.proofs.Runs.{reached-more, reached-trace, reached-rest}
 use Rattle.cf_run.proofs.Stopping.{filled, shown_too}
 use Rattle.cf_audit.specs.declared.answer.Audit.{Audit}
-use Rattle.cf_audit.specs.declared.answer.Audit.TheVariants.{Agrees, Wrong, ReadFault}
+use Rattle.cf_audit.specs.declared.answer.Audit.TheVariants.{Agrees, Wrong}
+use Rattle.cf_audit.specs.declared.stop.AuditStop.{AuditStop}
+use Rattle.cf_audit.specs.declared.stop.AuditStop.TheVariants as stopped
 use Rattle.run_scripts.specs.declared.trace_refusal.TraceKind.{TraceKind}
 use Rattle.run_scripts.specs.declared.trace_refusal.TraceKind.TheVariants.{NotAMove, Barred, Differs, Cut}
 use Rattle.cf_audit.specs.Audits.{Audits}
-use Rattle.cf_audit.specs.Compared.{alone, told_by}
+use Rattle.cf_audit.specs.Compared.{Comparison, alone, fresh, told_by}
 use Rattle.cf_audit.specs.Traces.{most_retired, line_of, has_line, BeginsWithMove, IsTrace, ReachesMoment, PartsAt, TraceFails, GoesWrong}
-use Rattle.cf_audit.specs.Turns.{AuditRun, left_of, NextIs, ShownDiffers, PutsSome, AuditTries, Tests}
+use Rattle.cf_audit.specs.Turns.{AuditRun, left_of, NextIs, ShownDiffers, PutsSome, AuditTries, Tests, input_stopped, input_tested, outcome_of}
 use Rattle.cf_audit.specs.Limits.{most_trace}
 use Rattle.cf_audit.proofs.Coming.{Comes, so-far, put-after, retires-below, trace-so-far, agrees-so-far, agreed-length, stands-here}
 use Rattle.cf_audit.proofs.Parting.{parted, byte_after}
@@ -208,34 +210,35 @@ fails_there text start now new h quiet fails =
     (subst (λ (s : Streams). FailsToRead (in_state start.core h.reached.last.state) new.place.core s new.place.streams) quiet.0 there)
 
 -- what the move of the next line leads to, where the audit ends with it
-tried : (text : List ℕ) (start : RunPlace) (now new : AuditRun) (mv : Move) (answer : Audit) → length text ≤ most_trace →
-    new.place.report ≡ Some (told_by new.seen) → IsQuiet now new → Comes text start now → NextIs now mv → AuditTries text mv now new (Some answer)
-    → Audits start.core new.place.core start.streams.input new.place.streams.input text answer
+tried : (text : List ℕ) (start : RunPlace) (now new : AuditRun) (mv : Move) (stop : AuditStop) → length text ≤ most_trace →
+    new.place.report ≡ Some (told_by new.seen) → IsQuiet now new → Comes text start now → NextIs now mv → AuditTries mv now new (Some stop)
+    → Audits start.core new.place.core start.streams.input new.place.streams.input text (outcome_of text stop)
 unfolding Audits AuditTries TraceFails MoveDoes
-tried text start now new mv (Agrees n) small tells quiet h next t = absurd t
-tried text start now new mv (Wrong line NotAMove) small tells quiet h next t = absurd t
-tried text start now new mv (Wrong line (Barred b)) small tells quiet h next t =
+tried text start now new mv (stopped.Agrees n) small tells quiet h next t = absurd t
+tried text start now new mv (stopped.Wrong place NotAMove) small tells quiet h next t = absurd t
+tried text start now new mv (stopped.Wrong place (Barred b)) small tells quiet h next t =
     let barred : bar start.core.plan h.reached.last.state mv ≡ Some b = subst (λ (c : Processor). bar c.plan c.state mv ≡ Some b) h.reached.core t.0 in
-    wrong_first text start now new h line (Barred b) (begins_some (left_of now.seen) (now.place.tally.moves + 1) mv next) (mv, next, barred, refl, refl) t.1 t.2
-tried text start now new mv (Wrong line Differs) small tells quiet h next t =
+    wrong_first text start now new h (line_of text place) (Barred b) (begins_some (left_of now.seen) (now.place.tally.moves + 1) mv next)
+    (mv, next, barred, refl, refl) (ap (line_of text) t.1) t.2
+tried text start now new mv (stopped.Wrong place Differs) small tells quiet h next t =
     let p = parts_there text start now new mv small tells h next t.0 in
     let size : length new.seen.text ≡ length text = ap length p.text_is in (
       p.stop,
-      wrong_at text start now h p.last p.stop line (new.seen.agreed - now.seen.agreed) Differs p.leads
+      wrong_at text start now h p.last p.stop (line_of text place) (new.seen.agreed - now.seen.agreed) Differs p.leads
           (begins_some (left_of now.seen) (now.place.tally.moves + 1) mv next)
-          (p.parts, omega (arith, size, t.1, p.low, left_length text start now h)) (parted_place text start now new h line p t.2),
+          (p.parts, omega (arith, size, t.1, p.low, left_length text start now h)) (parted_place text start now new h (line_of text place) p (ap (line_of text) t.2)),
       p.stands,
     )
-tried text start now new mv (Wrong line Cut) small tells quiet h next t =
+tried text start now new mv (stopped.Wrong place Cut) small tells quiet h next t =
     let p = parts_there text start now new mv small tells h next t.0 in
     let size : length new.seen.text ≡ length text = ap length p.text_is in (
       p.stop,
-      wrong_at text start now h p.last p.stop line (new.seen.agreed - now.seen.agreed) Cut p.leads
+      wrong_at text start now h p.last p.stop (line_of text place) (new.seen.agreed - now.seen.agreed) Cut p.leads
           (begins_some (left_of now.seen) (now.place.tally.moves + 1) mv next)
-          (inr (p.parts, omega (arith, size, t.1, p.low, left_length text start now h))) (parted_place text start now new h line p t.2),
+          (inr (p.parts, omega (arith, size, t.1, p.low, left_length text start now h))) (parted_place text start now new h (line_of text place) p (ap (line_of text) t.2)),
       p.stands,
     )
-tried text start now new mv ReadFault small tells quiet h next t =
+tried text start now new mv stopped.ReadFault small tells quiet h next t =
     let serves : mv ≡ Serve = t.0.serves in
     record {
       front = take now.seen.agreed text;
@@ -252,45 +255,60 @@ tried text start now new mv ReadFault small tells quiet h next t =
     }
 
 -- the first line of what is left names no move
-pub tests-none : (text left : List ℕ) (now new : AuditRun) (place : ℕ) (answer : Audit) → answer ≡ Wrong (line_of text place) NotAMove →
-    place ≡ now.seen.agreed → left ≡ left_of now.seen → has_line left ≡ true → ((mv : Move) → BeginsWithMove left (now.place.tally.moves + 1) mv → ⊥)
-    → new ≡ now → Tests text now new (Some answer)
+pub tests-none : (left : List ℕ) (now new : AuditRun) (stop : AuditStop) → stop ≡ stopped.Wrong now.seen.agreed NotAMove →
+    left ≡ left_of now.seen → has_line left ≡ true → ((mv : Move) → BeginsWithMove left (now.place.tally.moves + 1) mv → ⊥)
+    → new ≡ now → Tests now new (Some stop)
 unfolding Tests
-tests-none text left now new place answer is at after has none same =
+tests-none left now new stop is after has none same =
     rw is (
       ap has_line (sym after) ∙ has,
       λ mv begins. none mv (subst (λ (t : List ℕ). BeginsWithMove t (now.place.tally.moves + 1) mv) (sym after) begins),
-      ap (line_of text) at,
+      refl,
       same,
     )
 
 -- it names a move, which is tried
-pub tests-tried : (text left : List ℕ) (now new : AuditRun) (mv : Move) (answer : Option Audit) → left ≡ left_of now.seen →
-    BeginsWithMove left (now.place.tally.moves + 1) mv → AuditTries text mv now new answer → Tests text now new answer
+pub tests-tried : (left : List ℕ) (now new : AuditRun) (mv : Move) (stop : Option AuditStop) → left ≡ left_of now.seen →
+    BeginsWithMove left (now.place.tally.moves + 1) mv → AuditTries mv now new stop → Tests now new stop
 unfolding Tests AuditTries
-tests-tried text left now new mv answer after begins tries = of answer (subst (λ (t : List ℕ). BeginsWithMove t (now.place.tally.moves + 1) mv) after begins)
-    tries
+tests-tried left now new mv stop after begins tries = of stop (subst (λ (t : List ℕ). BeginsWithMove t (now.place.tally.moves + 1) mv) after begins) tries
   where
-    of : (answer : Option Audit) → NextIs now mv → AuditTries text mv now new answer → Tests text now new answer
+    of : (stop : Option AuditStop) → NextIs now mv → AuditTries mv now new stop → Tests now new stop
     of None next t = (mv, next, t)
-    of (Some (Agrees n)) next t = absurd t
-    of (Some (Wrong line NotAMove)) next t = absurd t
-    of (Some (Wrong line (Barred b))) next t = (mv, next, t)
-    of (Some (Wrong line Differs)) next t = (mv, next, t)
-    of (Some (Wrong line Cut)) next t = inr (mv, next, t)
-    of (Some ReadFault) next t = (mv, next, t)
+    of (Some (stopped.Agrees n)) next t = absurd t
+    of (Some (stopped.Wrong place NotAMove)) next t = absurd t
+    of (Some (stopped.Wrong place (Barred b))) next t = (mv, next, t)
+    of (Some (stopped.Wrong place Differs)) next t = (mv, next, t)
+    of (Some (stopped.Wrong place Cut)) next t = inr (mv, next, t)
+    of (Some stopped.ReadFault) next t = (mv, next, t)
 
 -- how the audit ends with a turn
-pub audited : (text : List ℕ) (start : RunPlace) (now new : AuditRun) (answer : Audit) → length text ≤ most_trace → new.place.report ≡ Some (told_by new.seen) →
-    IsQuiet now new → Comes text start now → Tests text now new (Some answer)
-    → Audits start.core new.place.core start.streams.input new.place.streams.input text answer
+pub audited : (text : List ℕ) (start : RunPlace) (now new : AuditRun) (stop : AuditStop) → length text ≤ most_trace →
+    new.place.report ≡ Some (told_by new.seen) → IsQuiet now new → Comes text start now → Tests now new (Some stop)
+    → Audits start.core new.place.core start.streams.input new.place.streams.input text (outcome_of text stop)
 unfolding Tests Audits TraceFails
-audited text start now new (Agrees n) small tells quiet h t = agrees_all text start now new n h t.0 t.1 t.2
-audited text start now new (Wrong line NotAMove) small tells quiet h t =
-    wrong_first text start now new h line NotAMove (line_some (left_of now.seen) t.0) (t.0, t.1, refl, refl) t.2 t.3
-audited text start now new (Wrong line (Barred b)) small tells quiet h (mv, next, t) = tried text start now new mv
-    (Wrong line (Barred b)) small tells quiet h next t
-audited text start now new (Wrong line Differs) small tells quiet h (mv, next, t) = tried text start now new mv (Wrong line Differs) small tells quiet h next t
-audited text start now new (Wrong line Cut) small tells quiet h (inl t) = wrong_first text start now new h line Cut t.0 (inl (t.1, refl, refl)) t.2 t.3
-audited text start now new (Wrong line Cut) small tells quiet h (inr (mv, next, t)) = tried text start now new mv (Wrong line Cut) small tells quiet h next t
-audited text start now new ReadFault small tells quiet h (mv, next, t) = tried text start now new mv ReadFault small tells quiet h next t
+audited text start now new (stopped.Agrees n) small tells quiet h t = agrees_all text start now new n h t.0 t.1 t.2
+audited text start now new (stopped.Wrong place NotAMove) small tells quiet h t =
+    wrong_first text start now new h (line_of text place) NotAMove (line_some (left_of now.seen) t.0) (t.0, t.1, refl, refl) (ap (line_of text) t.2) t.3
+audited text start now new (stopped.Wrong place (Barred b)) small tells quiet h (mv, next, t) =
+    tried text start now new mv (stopped.Wrong place (Barred b)) small tells quiet h next t
+audited text start now new (stopped.Wrong place Differs) small tells quiet h (mv, next, t) =
+    tried text start now new mv (stopped.Wrong place Differs) small tells quiet h next t
+audited text start now new (stopped.Wrong place Cut) small tells quiet h (inl t) =
+    wrong_first text start now new h (line_of text place) Cut t.0 (inl (t.1, refl, refl)) (ap (line_of text) t.2) t.3
+audited text start now new (stopped.Wrong place Cut) small tells quiet h (inr (mv, next, t)) =
+    tried text start now new mv (stopped.Wrong place Cut) small tells quiet h next t
+audited text start now new stopped.ReadFault small tells quiet h (mv, next, t) =
+    tried text start now new mv stopped.ReadFault small tells quiet h next t
+
+-- it is the outcome of an audit of the text with which the comparison began
+pub audited-text : (core new : Processor) (told now : Option (List ℕ)) (seen : Comparison) (text : List ℕ) (stop : AuditStop) (answer : Audit) →
+    seen ≡ fresh text → Audits core new told now seen.text (outcome_of seen.text stop) → answer ≡ outcome_of text stop → Audits core new told now text answer
+audited-text core new told now seen text stop answer begins audits is =
+    subst (Audits core new told now text) (sym is) (subst (λ (c : Comparison). Audits core new told now c.text (outcome_of c.text stop)) begins audits)
+
+-- and the input failed it where it stopped so
+pub stopped-tested : (text : List ℕ) (stop : AuditStop) → input_tested (Some (outcome_of text stop)) ≡ input_stopped (Some stop)
+stopped-tested text (stopped.Agrees n) = refl
+stopped-tested text (stopped.Wrong place kind) = refl
+stopped-tested text stopped.ReadFault = refl

@@ -11,7 +11,9 @@ use Rattle.cf_report.specs.declared.tally.Tally.{Tally}
 use Rattle.run_finishes.specs.declared.finish.Ran.TheVariants as ran
 use Rattle.cf_run.specs.Moving.{RunPlace, place_of, MakesMove, MakesAndShows, MoveDoes, shown_of}
 use Rattle.cf_audit.specs.declared.answer.Audit.{Audit}
-use Rattle.cf_audit.specs.declared.answer.Audit.TheVariants.{Agrees, Wrong, ReadFault}
+use Rattle.cf_audit.specs.declared.answer.Audit.TheVariants as outcome
+use Rattle.cf_audit.specs.declared.stop.AuditStop.{AuditStop}
+use Rattle.cf_audit.specs.declared.stop.AuditStop.TheVariants.{Agrees, Wrong, ReadFault}
 use Rattle.run_scripts.specs.declared.trace_refusal.TraceKind.TheVariants.{NotAMove, Barred, Differs, Cut}
 use Rattle.cf_audit.specs.Compared.{Comparison, told_by, HasOther, AllAgrees}
 use Rattle.cf_audit.specs.Traces.{BeginsWithMove, has_line, line_of}
@@ -37,14 +39,14 @@ left_of seen = drop seen.agreed seen.text
 abbrev pub NextIs : AuditRun → Move → Type 0
 NextIs now mv = BeginsWithMove (left_of now.seen) (now.place.tally.moves + 1) mv
 
--- the answer that a comparison gives, if a byte does not agree
-unfoldable pub ComparisonAnswers : List ℕ → Comparison → Option Audit → Type 0
-ComparisonAnswers text seen None = AllAgrees seen
-ComparisonAnswers text seen (Some (Wrong line Differs)) =
-    HasOther seen × (seen.agreed < length seen.text) × (line ≡ line_of text seen.agreed)
-ComparisonAnswers text seen (Some (Wrong line Cut)) =
-    HasOther seen × (seen.agreed ≡ length seen.text) × (line ≡ line_of text seen.agreed)
-ComparisonAnswers text seen (Some answer) = ⊥
+-- how a comparison stops the audit, if a byte does not agree
+unfoldable pub ComparisonAnswers : Comparison → Option AuditStop → Type 0
+ComparisonAnswers seen None = AllAgrees seen
+ComparisonAnswers seen (Some (Wrong place Differs)) =
+    HasOther seen × (seen.agreed < length seen.text) × (place ≡ seen.agreed)
+ComparisonAnswers seen (Some (Wrong place Cut)) =
+    HasOther seen × (seen.agreed ≡ length seen.text) × (place ≡ seen.agreed)
+ComparisonAnswers seen (Some stop) = ⊥
 
 -- the move was made, and all that is shown for it comes next in the text
 pub record Advances (mv : Move) (now new : AuditRun) : Type 0 where
@@ -64,34 +66,47 @@ pub record ShownDiffers (mv : Move) (now new : AuditRun) : Type 0 where
   pub differs : HasOther new.seen
 
 -- what the move of the next line leads to
-unfoldable pub AuditTries : List ℕ → Move → (now new : AuditRun) → Option Audit → Type 0
-AuditTries text mv now new None = Advances mv now new
-AuditTries text mv now new (Some (Agrees n)) = ⊥
-AuditTries text mv now new (Some (Wrong line NotAMove)) = ⊥
-AuditTries text mv now new (Some (Wrong line (Barred b))) =
-    (first_bar now.place.core.plan now.place.core.state mv ≡ Some b) × (line ≡ line_of text now.seen.agreed) × (new ≡ now)
-AuditTries text mv now new (Some (Wrong line Differs)) =
-    ShownDiffers mv now new × (new.seen.agreed < length new.seen.text) × (line ≡ line_of text new.seen.agreed)
-AuditTries text mv now new (Some (Wrong line Cut)) =
-    ShownDiffers mv now new × (new.seen.agreed ≡ length new.seen.text) × (line ≡ line_of text new.seen.agreed)
-AuditTries text mv now new (Some ReadFault) = MoveDoes show.moves mv now.place new.place (Err ran.ReadFault)
+unfoldable pub AuditTries : Move → (now new : AuditRun) → Option AuditStop → Type 0
+AuditTries mv now new None = Advances mv now new
+AuditTries mv now new (Some (Agrees n)) = ⊥
+AuditTries mv now new (Some (Wrong place NotAMove)) = ⊥
+AuditTries mv now new (Some (Wrong place (Barred b))) =
+    (first_bar now.place.core.plan now.place.core.state mv ≡ Some b) × (place ≡ now.seen.agreed) × (new ≡ now)
+AuditTries mv now new (Some (Wrong place Differs)) =
+    ShownDiffers mv now new × (new.seen.agreed < length new.seen.text) × (place ≡ new.seen.agreed)
+AuditTries mv now new (Some (Wrong place Cut)) =
+    ShownDiffers mv now new × (new.seen.agreed ≡ length new.seen.text) × (place ≡ new.seen.agreed)
+AuditTries mv now new (Some ReadFault) = MoveDoes show.moves mv now.place new.place (Err ran.ReadFault)
 
 -- the next group is tested: its first line names a move, which is tried, or names none
-unfoldable pub Tests : List ℕ → (now new : AuditRun) → Option Audit → Type 0
-Tests text now new (Some (Agrees n)) =
+unfoldable pub Tests : (now new : AuditRun) → Option AuditStop → Type 0
+Tests now new (Some (Agrees n)) =
     (length (left_of now.seen) ≡ 0) × (n ≡ now.place.tally.moves) × (new ≡ now)
-Tests text now new (Some (Wrong line NotAMove)) =
-    (has_line (left_of now.seen) ≡ true) × ((mv : Move) → NextIs now mv → ⊥) × (line ≡ line_of text now.seen.agreed)
+Tests now new (Some (Wrong place NotAMove)) =
+    (has_line (left_of now.seen) ≡ true) × ((mv : Move) → NextIs now mv → ⊥) × (place ≡ now.seen.agreed)
     × (new ≡ now)
-Tests text now new (Some (Wrong line Cut)) =
-    ((0 < length (left_of now.seen)) × (has_line (left_of now.seen) ≡ false) × (line ≡ line_of text now.seen.agreed)
+Tests now new (Some (Wrong place Cut)) =
+    ((0 < length (left_of now.seen)) × (has_line (left_of now.seen) ≡ false) × (place ≡ now.seen.agreed)
     × (new ≡ now))
-    ⊎ ((mv : Move) × NextIs now mv × AuditTries text mv now new (Some (Wrong line Cut)))
-Tests text now new answer = (mv : Move) × NextIs now mv × AuditTries text mv now new answer
+    ⊎ ((mv : Move) × NextIs now mv × AuditTries mv now new (Some (Wrong place Cut)))
+Tests now new stop = (mv : Move) × NextIs now mv × AuditTries mv now new stop
+
+-- the outcome of an audit of the text that stops so: the line is that of the byte at the index
+abbrev pub outcome_of : List ℕ → AuditStop → Audit
+outcome_of text (Agrees n) = outcome.Agrees n
+outcome_of text (Wrong place kind) = outcome.Wrong (line_of text place) kind
+outcome_of text ReadFault = outcome.ReadFault
 
 -- an error where the input failed the audit
+abbrev pub input_stopped : Option AuditStop → Result (Unit {0}) (Unit {0})
+input_stopped (Some ReadFault) = Err tt
+input_stopped (Some (Agrees n)) = Ok tt
+input_stopped (Some (Wrong place kind)) = Ok tt
+input_stopped None = Ok tt
+
+-- the same, by the outcome
 abbrev pub input_tested : Option Audit → Result (Unit {0}) (Unit {0})
-input_tested (Some ReadFault) = Err tt
-input_tested (Some (Agrees n)) = Ok tt
-input_tested (Some (Wrong line kind)) = Ok tt
+input_tested (Some outcome.ReadFault) = Err tt
+input_tested (Some (outcome.Agrees n)) = Ok tt
+input_tested (Some (outcome.Wrong line kind)) = Ok tt
 input_tested None = Ok tt

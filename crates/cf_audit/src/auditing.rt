@@ -1,19 +1,20 @@
 //! Auditing a recorded trace.
 #![tactic(auto, unfolding(crate::specs::Turns::AuditTries, crate::specs::Turns::Tests))]
 
-ghost use Rattle.std.specs.Prelude.{◌≡◌, ◌+◌, ◌<◌, ◌≤◌, ◌^◌, None, Some, count_by, length};
-ghost use Rattle.rv_text.specs.Lines.{is_line_feed};
+ghost use Rattle.std.specs.Prelude.{◌≡◌, ◌+◌, ◌<◌, ◌≤◌, ◌^◌, None, Some, length};
 ghost use Rattle.cf_io.specs.Causes.{HasCause};
 ghost use Rattle.cf_run.specs.Made.{CanCount};
 ghost use Rattle.cf_core.specs.Processors.{IsOpened};
+ghost use Rattle.cf_audit.specs.Compared.{fresh};
 ghost use Rattle.cf_audit.specs.Limits.{most_trace};
-ghost use Rattle.cf_audit.specs.Traces.{has_line, line_of};
-ghost use Rattle.cf_audit.specs.Turns.{stand_by, ComparisonAnswers, Tests, input_tested};
+ghost use Rattle.cf_audit.specs.Traces.{has_line};
+ghost use Rattle.cf_audit.specs.Turns.{stand_by, ComparisonAnswers, Tests, input_stopped, input_tested, outcome_of};
 ghost use Rattle.cf_audit.specs.Audits.{Audits, AgreesSequentially, AgreesWithAll};
 
 use crate::answer::Audit;
 use crate::compared::Compared;
 use crate::first_line::recorded_move;
+use crate::stop::{AuditStop, outcome_of};
 use cf_core::Core;
 use cf_io::{Nowhere, Source};
 use cf_report::Tally;
@@ -29,84 +30,56 @@ fn has_line(text: &[u8]) -> bool
     text.iter().any(|byte| *byte == b'\n')
 }
 
-/// The number of line feeds in a text.
-fn count_lines(text: &[u8]) -> usize
-    ensures count { result ≡ count_by is_line_feed text.now }
-    ensures within { result ≤ length text.now }
+/// The trace is wrong at the first byte that does not agree.
+fn wrong(report: &Compared<'_>, kind: TraceKind) -> AuditStop
+    ensures { result ≡ AuditStop.Wrong report.now.agreed kind }
 {
-    let mut count = 0;
-    for byte in text {
-        if *byte == b'\n' {
-            count += 1;
-        }
-    }
-    count
-}
-
-/// The line of the byte at an index, counted from 1.
-#[tactic(auto, using(crate::proofs::Parting::fronts), unfolding(crate::specs::Traces::line_of))]
-fn line_of(text: &[u8], place: usize) -> u32
-    requires { length text.now ≤ most_trace }
-    ensures { result ≡ line_of text.now place }
-{
-    let end = place.min(text.len());
-    count_lines(&text[..end]) as u32 + 1
-}
-
-/// The answer for a trace that is wrong at this index.
-fn wrong(trace: &[u8], place: usize, kind: TraceKind) -> Audit
-    requires { length trace.now ≤ most_trace }
-    ensures { result ≡ Audit.Wrong (line_of trace.now place) kind }
-{
-    Audit::Wrong {
-        line: line_of(trace, place),
+    AuditStop::Wrong {
+        place: report.agreed(),
         kind,
     }
 }
 
-/// The answer where a byte that was written does not agree with the trace.
+/// How the audit stops where a byte that was written does not agree with the trace.
 #[tactic(auto, unfolding(crate::specs::Turns::ComparisonAnswers))]
-fn compared(trace: &[u8], report: &Compared<'_>) -> Option<Audit>
-    requires { length trace.now ≤ most_trace }
-    ensures { ComparisonAnswers trace.now report.now result }
+fn compared(report: &Compared<'_>) -> Option<AuditStop>
+    ensures { ComparisonAnswers report.now result }
 {
     if !report.differs() {
         None
     } else if report.is_whole() {
-        Some(wrong(trace, report.agreed(), TraceKind::Cut))
+        Some(wrong(report, TraceKind::Cut))
     } else {
-        Some(wrong(trace, report.agreed(), TraceKind::Differs))
+        Some(wrong(report, TraceKind::Differs))
     }
 }
 
 /// Tests the next group of the trace, makes its move, if nothing bars it, and compares all that is shown for it with
-/// the trace; or returns how the audit ends.
+/// the trace; or returns how the audit stops.
 fn advance<S: Source>(
     core: &mut Core,
-    trace: &[u8],
     input: &mut S,
     report: &mut Compared<'_>,
     tally: &mut Tally,
-) -> Option<Audit>
-    requires size { length trace.now ≤ most_trace }
+) -> Option<AuditStop>
     requires retired { core.old.state.retired + 1 < 2 ^ 64 }
     requires counts { CanCount tally.old }
-    ensures tests { Tests trace.now (stand_by S.left core.old input.old report.old tally.old)
+    ensures tests { Tests (stand_by S.left core.old input.old report.old tally.old)
         (stand_by S.left core.new input.new report.new tally.new) result }
-    ensures input { HasCause (S.faults input.old) (S.faults input.new) (input_tested result) }
+    ensures input { HasCause (S.faults input.old) (S.faults input.new) (input_stopped result) }
 {
     let left = report.rest();
     if left.is_empty() {
-        return Some(Audit::Agrees(tally.moves));
+        return Some(AuditStop::Agrees(tally.moves));
     }
     if !has_line(left) {
-        return Some(wrong(trace, report.agreed(), TraceKind::Cut));
+        return Some(wrong(report, TraceKind::Cut));
     }
     let Some(mv) = recorded_move(left, tally.moves + 1) else {
-        return Some(wrong(trace, report.agreed(), TraceKind::NotAMove));
+        return Some(wrong(report, TraceKind::NotAMove));
     };
     if let Some(bar) = core.allowed(mv) {
-        return Some(wrong(trace, report.agreed(), TraceKind::Barred(bar)));
+        return Some(wrong(report, TraceKind::Barred(bar)));
     }
     match make_and_show(
         core,
@@ -120,13 +93,36 @@ fn advance<S: Source>(
         report,
         tally,
     ) {
-        Ok(_) => compared(trace, report),
-        Err(Ran::ReportFault) => compared(trace, report),
-        Err(Ran::ReadFault) => Some(Audit::ReadFault),
+        Ok(_) => compared(report),
+        Err(Ran::ReportFault) => compared(report),
+        Err(Ran::ReadFault) => Some(AuditStop::ReadFault),
         Err(Ran::WriteFault) => unreachable!(),
         Err(Ran::Exit(_)) => unreachable!(),
         Err(Ran::Trap { .. }) => unreachable!(),
         Err(Ran::Limit) => unreachable!(),
+    }
+}
+
+/// Audits the trace group by group, until it stops. Of the trace it has what the comparison gives: only what is left.
+fn audit_groups<S: Source>(core: &mut Core, input: &mut S, report: &mut Compared<'_>) -> AuditStop
+    requires opened { IsOpened core.old }
+    requires retired { core.old.state.retired ≡ 0 }
+    requires fresh { report.old ≡ fresh report.old.text }
+    requires size { length report.old.text ≤ most_trace }
+    ensures audits { Audits core.old core.new (S.left input.old) (S.left input.new) report.old.text
+        (outcome_of report.old.text result) }
+    ensures input { HasCause (S.faults input.old) (S.faults input.new) (input_stopped (Some result)) }
+{
+    let mut tally = Tally {
+        moves: 0,
+        meets: 0,
+        kills: 0,
+        dead: 0,
+    };
+    loop {
+        if let Some(stop) = advance(core, input, report, &mut tally) {
+            return stop;
+        }
     }
 }
 
@@ -158,15 +154,6 @@ pub fn audit<S: Source>(core: &mut Core, trace: &[u8], input: &mut S) -> Audit
 {
     known(core);
     let mut report = Compared::with(trace);
-    let mut tally = Tally {
-        moves: 0,
-        meets: 0,
-        kills: 0,
-        dead: 0,
-    };
-    loop {
-        if let Some(answer) = advance(core, trace, input, &mut report, &mut tally) {
-            return answer;
-        }
-    }
+    let stop = audit_groups(core, input, &mut report);
+    outcome_of(trace, stop)
 }

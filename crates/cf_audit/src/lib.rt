@@ -7,6 +7,7 @@ mod common;
 mod compared;
 mod first_line;
 pub mod laws;
+mod stop;
 
 pub use answer::Audit;
 pub use auditing::{MOST_TRACE, audit};
