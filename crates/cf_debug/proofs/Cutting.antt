@@ -168,30 +168,46 @@ full_before n line byte full = take-append-le n line (byte ∷ []) (omega (arith
 
 -- a byte that was taken before
 pub feeds-used : (told : Option (List ℕ)) (now new : Feeding) (byte : ℕ) → now.rest ≡ byte ∷ new.rest → new.left ≡ now.left → length now.rest ≤ most_taken →
-    Feeds told told now new (Byte byte)
+    new.ended ≡ now.ended → now.ended ≡ false → Feeds told told now new (Byte byte)
 unfolding Feeds
-feeds-used told now new byte is left few = ([], gives-none told, append-nil now.rest ∙ is, omega (arith, left), omega (arith, few, ap length is))
+feeds-used told now new byte is left few same going =
+    ([], gives-none told, append-nil now.rest ∙ is, omega (arith, left), omega (arith, few, ap length is), same ∙ going)
+
+-- a take that gave some bytes is not the end
+not_ended : (n : ℕ) (ended : Bool) → (n ≡ 0 → ⊥) → ended ≡ (n == 0) → ended ≡ false
+not_ended n ended some is = grind (arith, nat_tests, some, is)
+
+-- and one that gave none is
+is_ended : (n : ℕ) (ended : Bool) → n ≡ 0 → ended ≡ (n == 0) → ended ≡ true
+is_ended n ended none is = grind (arith, nat_tests, none, is)
 
 -- the first byte of those that were taken just now
 pub feeds-taken : (before after : Option (List ℕ)) (now filled new : Feeding) (byte : ℕ) → now.rest ≡ [] → GivesInput before after filled.rest →
     filled.left + length filled.rest ≡ now.left → length filled.rest ≤ most_taken → filled.rest ≡ byte ∷ new.rest → new.left ≡ filled.left →
-    Feeds before after now new (Byte byte)
+    (n : ℕ) → (n ≡ 0 → ⊥) → filled.ended ≡ (n == 0) → new.ended ≡ filled.ended → Feeds before after now new (Byte byte)
 unfolding Feeds
-feeds-taken before after now filled new byte none gives left few is still =
-    (filled.rest, gives, ap (λ (r : List ℕ). r ++ filled.rest) none ∙ is, omega (arith, left, still), omega (arith, few, ap length is))
+feeds-taken before after now filled new byte none gives left few is still n some ended same = (
+  filled.rest,
+  gives,
+  ap (λ (r : List ℕ). r ++ filled.rest) none ∙ is,
+  omega (arith, left, still),
+  omega (arith, few, ap length is),
+  same ∙ not_ended n filled.ended some ended,
+)
 
 -- nothing was taken, for the commands are at their end
 pub feeds-end : (before after : Option (List ℕ)) (now filled : Feeding) → now.rest ≡ [] → IsAtEnd before → GivesInput before after filled.rest →
-    length filled.rest ≡ 0 → filled.left + length filled.rest ≡ now.left → Feeds before after now filled AtEnd
+    length filled.rest ≡ 0 → filled.left + length filled.rest ≡ now.left → (n : ℕ) → n ≡ 0 → filled.ended ≡ (n == 0) → Feeds before after now filled AtEnd
 unfolding Feeds
-feeds-end before after now filled none end gives empty_rest left =
+feeds-end before after now filled none end gives empty_rest left n none_taken ended =
     let nothing : filled.rest ≡ [] = empty filled.rest empty_rest in
     let still : filled.left ≡ now.left = omega (arith, left, empty_rest) in (
       none,
       end,
       subst (GivesInput before after) nothing gives,
-      ap (λ (r : List ℕ). record { rest = r; left = filled.left }) (nothing ∙ sym none)
-          ∙ ap (λ (n : ℕ). record { rest = now.rest; left = n }) still,
+      ap (λ (r : List ℕ). record { rest = r; left = filled.left; ended = filled.ended }) (nothing ∙ sym none)
+          ∙ ap (λ (k : ℕ). record { rest = now.rest; left = k; ended = filled.ended }) still
+          ∙ ap (λ (b : Bool). record { rest = now.rest; left = now.left; ended = b }) (is_ended n filled.ended none_taken ended),
     )
 
 -- or the take failed
@@ -221,11 +237,12 @@ one-more before after into new n feed one one_new takes some none spent =
         front (Some left) after byte rest (within, same, left_is) =
             (drop 1 left, sym (take-append-drop 1 left) ∙ ap (λ (t : List ℕ). t ++ drop 1 left) (sym same), left_is)
 
-pub one-none : {E : Type 0} (before after : Option (List ℕ)) (into new : List ℕ) (n : ℕ) (feed : Feeding) → length into ≡ 1 →
-    Takes {E = E} before after into new (Ok n) → n ≡ 0 → feed.rest ≡ [] → Feeds before after feed feed AtEnd
+pub one-none : {E : Type 0} (before after : Option (List ℕ)) (into new : List ℕ) (n : ℕ) (feed filled : Feeding) → length into ≡ 1 →
+    Takes {E = E} before after into new (Ok n) → n ≡ 0 → feed.rest ≡ [] → filled ≡ record feed { ended = true } →
+    Feeds before after feed filled AtEnd
 unfolding Feeds
-one-none before after into new n feed one takes zero_taken none =
-    (none, takes.end zero_taken (omega (arith, one)), nothing before after new (subst (λ (k : ℕ). GivesFront before after new k) zero_taken takes.told), refl)
+one-none before after into new n feed filled one takes zero_taken none same =
+    (none, takes.end zero_taken (omega (arith, one)), nothing before after new (subst (λ (k : ℕ). GivesFront before after new k) zero_taken takes.told), same)
   where
     nothing : (before after : Option (List ℕ)) (new : List ℕ) → GivesFront before after new 0 → GivesInput before after []
     nothing None after new gives = tt

@@ -81,10 +81,10 @@ made-serve e core new ring later out after free h empty = record {
 
 -- the output failed Serve
 pub failed-serve : (core new : Processor) (ring later : List Kept) (out after : Option (List ℕ)) → bar core.plan core.state Serve ≡ None
-    → StepsOrFails core new Serve (streams_of (Some []) out) (streams_of (Some []) after) (Err fault.Write) →
+    → StepsOrFails core new Serve (streams_of (Some []) out) (streams_of (Some []) after) (Err fault.Write) → later ≡ ring →
     FailsOne Serve (processor_state core ring out) (processor_state new later after)
 unfolding StepsOrFails
-failed-serve core new ring later out after free h = record { allowed = free; serves = refl; fails = h.1 }
+failed-serve core new ring later out after free h kept = record { allowed = free; serves = refl; fails = h.1; ring = kept }
 
 -- nothing fails a move other than Serve
 pub never-fails : (mv : Move) (core new : Processor) (before after : Streams) → mv ≢ Serve → StepsOrFails core new mv before after (Err fault.Write) → ⊥

@@ -1,6 +1,6 @@
 -- The progress of a session: one more byte, and how it ends.
 use Rattle.std.proofs.Common.{◌≡◌, ◌≢◌, ℕ, ◌+◌, ◌<◌, ◌≤◌, List, [], ◌∷◌, ◌++◌, length, Option, Some, None, Ok, Err, refl, sym, ap, subst, ◌∙◌, append-nil, append_assoc, inl, inr, arith}
-use Rattle.std.specs.Prelude.{◌⊎◌, Result}
+use Rattle.std.specs.Prelude.{◌⊎◌, Result, false}
 use Rattle.std.proofs.lemmas.List.{length-append}
 use Rattle.cf_io.specs.Causes.{HasCause}
 use Rattle.cf_io.specs.Puts.{Writes}
@@ -35,7 +35,7 @@ pub record Comes (before : Session) (begin now : DebuggerState) (commands report
   pub answers : AnswersLines lines begin now before.report report
 
 -- before the first byte
-pub comes-first : (before : Session) (begin : DebuggerState) (line : List ℕ) (feed : Feeding) → line ≡ [] → feed ≡ record { rest = []; left = 16777216 } →
+pub comes-first : (before : Session) (begin : DebuggerState) (line : List ℕ) (feed : Feeding) → line ≡ [] → feed ≡ record { rest = []; left = 16777216; ended = false } →
     Comes before begin begin before.commands before.report line feed
 unfolding AnswersAll
 comes-first before begin line feed empty new =
@@ -62,7 +62,7 @@ record Fed (before : Session) (after : Option (List ℕ)) (used : List ℕ) (byt
 fed : (before : Session) (begin now : DebuggerState) (commands after report : Option (List ℕ)) (line : List ℕ) (feed next : Feeding) (byte : ℕ) →
     (c : Comes before begin now commands report line feed) → Feeds commands after feed next (Byte byte) → Fed before after c.used byte next
 unfolding Feeds
-fed before begin now commands after report line feed next byte c (taken, gives, is, left, few) =
+fed before begin now commands after report line feed next byte c (taken, gives, is, left, few, going) =
     let all : (c.used ++ feed.rest) ++ taken ≡ (c.used ++ byte ∷ []) ++ next.rest =
     append_assoc c.used feed.rest taken ∙ ap (λ (r : List ℕ). c.used ++ r) is ∙ sym (append_assoc c.used (byte ∷ []) next.rest) in
     record {
@@ -118,7 +118,15 @@ comes-more before begin now new commands fed_commands report after line later fe
 pub comes-nearer : (commands after : Option (List ℕ)) (feed next : Feeding) (byte : ℕ) → Feeds commands after feed next (Byte byte) →
     next.left + length next.rest < feed.left + length feed.rest
 unfolding Feeds
-comes-nearer commands after feed next byte (taken, gives, is, left, few) = omega (arith, left, ap length is, length-append feed.rest taken)
+comes-nearer commands after feed next byte (taken, gives, is, left, few, going) = omega (arith, left, ap length is, length-append feed.rest taken)
+
+-- a feed is made before the end, and a byte of it is not the end
+pub goes-first : (feed : Feeding) → feed ≡ record { rest = []; left = 16777216; ended = false } → feed.ended ≡ false
+goes-first feed new = ap (λ (f : Feeding). f.ended) new
+
+pub goes-more : (commands after : Option (List ℕ)) (feed next : Feeding) (byte : ℕ) → Feeds commands after feed next (Byte byte) → next.ended ≡ false
+unfolding Feeds
+goes-more commands after feed next byte (taken, gives, is, left, few, going) = going
 
 -- one more byte, with which the session ends
 pub ends-byte : (before : Session) (begin now new : DebuggerState) (commands fed_commands report after : Option (List ℕ)) (line later : List ℕ)

@@ -1,5 +1,5 @@
 -- How the bytes of the commands are cut into lines (POSIX, "Line"), as they are taken.
-use Rattle.std.specs.Prelude.{◌≡◌, ◌≢◌, ℕ, ◌+◌, ◌<◌, ◌≤◌, List, [], ◌∷◌, ◌++◌, All, length, map, take, Option, Some, None, Result, Ok, Err}
+use Rattle.std.specs.Prelude.{◌≡◌, ◌≢◌, Bool, true, false, ℕ, ◌+◌, ◌<◌, ◌≤◌, List, [], ◌∷◌, ◌++◌, All, length, map, take, Option, Some, None, Result, Ok, Err}
 use Rattle.cf_io.specs.Takes.{IsAtEnd}
 use Rattle.rv_machine.specs.Streams.{GivesInput}
 use Rattle.rv_text.specs.Lines.{without_return}
@@ -34,18 +34,21 @@ last_line (byte ∷ line) = (byte ∷ line) ∷ []
 abbrev pub held : List ℕ → List ℕ
 held line = take (longest_line + 2) line
 
--- the bytes that were taken and not used yet, and how many may still be taken
+-- the bytes that were taken and not used yet, how many may still be taken, and whether a take gave none, after which there
+-- is no other
 pub record Feeding : Type 0 where
   pub rest : List ℕ
   pub left : ℕ
+  pub ended : Bool
 
 -- the next byte of the commands: where no byte that was taken is left, some are taken; or the commands are at their
 -- end, or longer than the limit, or a take failed
 unfoldable pub Feeds : (before after : Option (List ℕ)) → (now new : Feeding) → Next → Type 0
 Feeds before after now new (Byte byte) =
     (taken : List ℕ) × GivesInput before after taken × (now.rest ++ taken ≡ byte ∷ new.rest)
-    × (new.left + length taken ≡ now.left) × (length new.rest < most_taken)
-Feeds before after now new AtEnd = (now.rest ≡ []) × IsAtEnd before × GivesInput before after [] × (new ≡ now)
+    × (new.left + length taken ≡ now.left) × (length new.rest < most_taken) × (new.ended ≡ false)
+Feeds before after now new AtEnd =
+    (now.rest ≡ []) × IsAtEnd before × GivesInput before after [] × (new ≡ record now { ended = true })
 Feeds before after now new TooMany = (now.rest ≡ []) × (now.left ≡ 0) × ((byte : ℕ) × GivesInput before after (byte ∷ [])) × (new ≡ now)
 Feeds before after now new Fault = (now.rest ≡ []) × GivesInput before after [] × (new ≡ now)
 

@@ -34,11 +34,12 @@ pub record MakesAndKeeps (mv : Move) (event : Event) (now new : ProcessorState) 
   pub is_event : IsEvent now.core.plan now.core.state mv event
   pub ring : new.ring ≡ ring_after now.core.plan now.core.state mv now.ring
 
--- nothing bars the move, which is Serve, and the output failed its call
+-- nothing bars the move, which is Serve, and the output failed its call; nothing is lost that can be taken back
 pub record FailsOne (mv : Move) (now new : ProcessorState) : Type 0 where
   pub allowed : bar now.core.plan now.core.state mv ≡ None
   pub serves : mv ≡ Serve
   pub fails : FailsToWrite now.core new.core (streams_at now) (streams_at new)
+  pub ring : new.ring ≡ now.ring
 
 -- what the move does
 unfoldable pub MakesKeptOrFails : Move → (now new : ProcessorState) → Result Event Failed → Type 0

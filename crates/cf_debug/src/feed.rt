@@ -1,12 +1,13 @@
 //! The bytes of the commands, one after another.
 
-ghost use Rattle.std.specs.Prelude.{◌≡◌, ◌<◌, ◌≤◌, ◌+◌, [], ◌∷◌, length, min, false, true, IfOk, OnErr, OnOk};
+ghost use Rattle.std.specs.Prelude.{◌≡◌, ◌==◌, ◌<◌, ◌≤◌, ◌+◌, [], ◌∷◌, length, min, false, true, IfOk, OnErr, OnOk};
 ghost use Rattle.cf_io.specs.Causes.{HasCause};
 ghost use Rattle.cf_io.specs.Takes.{IsAtEnd};
 ghost use Rattle.rv_machine.specs.Streams.{GivesInput};
-ghost use Rattle.cf_debug.specs.Cutting.{Feeding, Feeds, commands_fed};
+ghost use Rattle.cf_debug.specs.Cutting.{Feeds, commands_fed};
 ghost use Rattle.cf_debug.specs.Limits.{most_bytes, most_taken};
 
+use crate::allowance::Allowance;
 use cf_io::{Failed, Source};
 use std::marker::Model;
 
@@ -29,13 +30,13 @@ pub(crate) enum Next {
     Fault,
 }
 
-/// The bytes of the commands that were taken and not used yet, and how many of 16,777,216 may still be taken.
+/// The bytes of the commands that were taken and not used yet, and what may still be taken of 16,777,216.
 #[derive(Drop)]
 pub(crate) struct Feed {
     piece: [u8; 4096],
     at: usize,
     end: usize,
-    left: usize,
+    allowance: Allowance,
 }
 
 impl Model for Feed {
@@ -44,35 +45,28 @@ impl Model for Feed {
 
     ghost Value = { Seen };
 
-    ghost view = { λ feed. record { rest = drop feed.at (take feed.end feed.piece); left = feed.left } };
+    ghost view = { λ feed. record {
+      rest = drop feed.at (take feed.end feed.piece);
+      left = feed.allowance.left;
+      ended = feed.allowance.ended;
+    } };
 
     ghost invariant = { λ feed. (feed.at ≤ feed.end) × (feed.end ≤ 4096) };
-}
-
-/// Takes one byte beyond the limit, to see whether there is one.
-#[tactic(auto, unfolding(crate::specs::Cutting::Feeds))]
-fn one_more<S: Source>(commands: &mut S) -> Next
-    ensures feeds { (feed : Feeding) → feed.rest ≡ [] → feed.left ≡ 0 → Feeds (S.left commands.old) (S.left commands.new) feed feed result }
-    ensures cause { HasCause (S.faults commands.old) (S.faults commands.new) (commands_fed result) }
-{
-    let mut byte = [0];
-    match commands.take(&mut byte) {
-        Ok(0) => Next::AtEnd,
-        Ok(_) => Next::TooMany,
-        Err(_) => Next::Fault,
-    }
 }
 
 impl Feed {
     /// A feed that has taken nothing.
     pub(crate) fn new() -> Feed
-        ensures { result ≡ record { rest = []; left = most_bytes } }
+        ensures { result ≡ record { rest = []; left = most_bytes; ended = false } }
     {
         Feed {
             piece: [0; 4096],
             at: 0,
             end: 0,
-            left: MOST_BYTES,
+            allowance: Allowance {
+                left: MOST_BYTES,
+                ended: false,
+            },
         }
     }
 
@@ -80,30 +74,53 @@ impl Feed {
     fn room(&self) -> usize
         ensures { result ≡ min self.now.left most_taken }
     {
-        self.left.min(4096)
+        self.allowance.left.min(4096)
     }
 
     /// Takes some bytes, where none is left in the buffer, and returns how many.
     fn fill<S: Source>(&mut self, commands: &mut S) -> Result<usize, Failed>
         requires none { self.old.rest ≡ [] }
         requires some { 0 < self.old.left }
+        requires going { self.old.ended ≡ false }
         ensures taken { OnOk result (GivesInput (S.left commands.old) (S.left commands.new) self.new.rest) }
         ensures count { IfOk result (λ count. count ≡ length self.new.rest) }
         ensures left { OnOk result (self.new.left + length self.new.rest ≡ self.old.left) }
         ensures few { OnOk result (length self.new.rest ≤ most_taken) }
         ensures end { IfOk result (λ count. count ≡ 0 → IsAtEnd (S.left commands.old)) }
+        ensures ended { IfOk result (λ count. self.new.ended ≡ (count == 0)) }
         ensures failed { OnErr result ((self.new ≡ self.old) × GivesInput (S.left commands.old) (S.left commands.new) []) }
         ensures cause { HasCause (S.faults commands.old) (S.faults commands.new) result }
     {
         let room = self.room();
-        match commands.take(&mut self.piece[..room]) {
+        let mut allowance = self.allowance;
+        match allowance.take(commands, &mut self.piece[..room]) {
             Ok(count) => {
+                self.allowance = allowance;
                 self.at = 0;
                 self.end = count;
-                self.left -= count;
                 Ok(count)
             }
             Err(failed) => Err(failed),
+        }
+    }
+
+    /// Takes one byte beyond the limit, to see whether there is one.
+    #[tactic(auto, unfolding(crate::specs::Cutting::Feeds))]
+    fn one_more<S: Source>(&mut self, commands: &mut S) -> Next
+        requires none { self.old.rest ≡ [] }
+        requires spent { self.old.left ≡ 0 }
+        requires going { self.old.ended ≡ false }
+        ensures feeds { Feeds (S.left commands.old) (S.left commands.new) self.old self.new result }
+        ensures cause { HasCause (S.faults commands.old) (S.faults commands.new) (commands_fed result) }
+    {
+        let mut byte = [0];
+        match commands.take(&mut byte) {
+            Ok(0) => {
+                self.allowance.ended = true;
+                Next::AtEnd
+            }
+            Ok(_) => Next::TooMany,
+            Err(_) => Next::Fault,
         }
     }
 
@@ -112,6 +129,7 @@ impl Feed {
         requires { 0 < length self.old.rest }
         ensures byte { self.old.rest ≡ result ∷ self.new.rest }
         ensures left { self.new.left ≡ self.old.left }
+        ensures ended { self.new.ended ≡ self.old.ended }
     {
         let byte = self.piece[self.at];
         self.at += 1;
@@ -128,16 +146,17 @@ impl Feed {
     }
 
     /// The next byte of the commands, or why none comes. Bytes are taken only where none is left in the buffer: a take
-    /// asks for 4,096 of them, or for as many as may still be taken.
+    /// asks for 4,096 of them, or for as many as may still be taken. The end is asked for once.
     pub(crate) fn next<S: Source>(&mut self, commands: &mut S) -> Next
+        requires going { self.old.ended ≡ false }
         ensures feeds { Feeds (S.left commands.old) (S.left commands.new) self.old self.new result }
         ensures cause { HasCause (S.faults commands.old) (S.faults commands.new) (commands_fed result) }
     {
         if !self.is_used() {
             return Next::Byte(self.use_byte());
         }
-        if self.left == 0 {
-            return one_more(commands);
+        if self.allowance.left == 0 {
+            return self.one_more(commands);
         }
         match self.fill(commands) {
             Ok(0) => Next::AtEnd,

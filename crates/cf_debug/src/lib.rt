@@ -1,6 +1,7 @@
 //! The debugger: commands, one a line, that make moves of the processor, show it, and take moves back.
 #![tactic(auto)]
 
+mod allowance;
 mod answer;
 mod carrying;
 mod command;

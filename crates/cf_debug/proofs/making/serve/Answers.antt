@@ -1,3 +1,4 @@
+use Rattle.std.proofs.Common.{refl}
 use Rattle.cf_debug.specs.Making.{MakesKeptOrFails}
 use Rattle.cf_debug.proofs.KeptMoves.{failed-serve, made-serve}
 use Rattle.cf_debug.proofs.making.serve.Goals as goal
@@ -8,4 +9,4 @@ returns-in-Ok-clause-makes g c = made-serve _ _ _ _ _ _ _ c.requires.allowed c.i
 
 pub returns-in-Err-Write-clause-makes : goal.returns-in-Err-Write-clause-makes
 unfolding MakesKeptOrFails
-returns-in-Err-Write-clause-makes g c = failed-serve _ _ _ _ _ _ c.requires.allowed (rw c.in-Err-Write.field-0-is at c.in-Err-Write.ensures.makes)
+returns-in-Err-Write-clause-makes g c = failed-serve _ _ _ _ _ _ c.requires.allowed (rw c.in-Err-Write.field-0-is at c.in-Err-Write.ensures.makes) refl

@@ -1,4 +1,4 @@
-use Rattle.std.proofs.Common.{◌≡◌, ◌+◌, None, length}
+use Rattle.std.proofs.Common.{◌≡◌, ◌+◌, None, false, length}
 use Rattle.cf_layout.specs.Accepted.{IsAccepted}
 use Rattle.cf_debug.specs.Making.{processor_state}
 use Rattle.cf_debug.specs.Replies.{DebuggerState, debugger_state}
@@ -18,6 +18,7 @@ invariant-loop-byte g l =
     let before : Session = session_of begin.processor (left l.initial.commands) (reported l.initial.report) in
     record {
       comes : Comes before begin now (left l.commands) (reported l.report) l.line l.feed;
+      going : l.feed.ended ≡ false;
       stands : StandsNow l.initial.core (written l.initial.output) now.processor;
       accepted : IsAccepted l.initial.core.plan;
       commands : g.S.Source.faults l.commands ≡ g.S.Source.faults l.initial.commands;
