@@ -18,18 +18,24 @@ use Rattle.cli_audit.specs.Reports.{trace_of}
 
 -- the run of a trace that agrees is one of the machine on whose hart the processor was opened
 traced : (plan : Plan) (hart : Hart) (new : Processor) (before after : Option (List ℕ)) (text : List ℕ) (n : ℕ) →
-    AgreesSequentially (opened plan hart) new before after text (found.Agrees n) → IsTraceOf plan hart text before after n
+    AgreesSequentially (opened plan hart) new before after text (found.Agrees n) → IsTraceOf plan hart new text before after n
 unfolding AgreesSequentially opened
-traced plan hart new before after text n e = record { last = e.last; is = e.is; input = e.reaches.input; machine = e.machine hart refl }
+traced plan hart new before after text n e = record {
+  last = e.last;
+  is = e.is;
+  reached = e.reaches.processor;
+  input = e.reaches.input;
+  machine = e.machine hart refl;
+}
 
 answers : (plan : Plan) (hart : Hart) (new : Processor) (text : List ℕ) (before after : Option (List ℕ)) (a : Audit) →
     Audits (opened plan hart) new before after text a → AgreesSequentially (opened plan hart) new before after text a →
-    AnswersText plan hart text before after (audit_status a) (audit_report a)
+    AnswersText plan hart new text before after (audit_status a) (audit_report a)
 unfolding Audits
 answers plan hart new text before after (found.Agrees n) is machine = (n, traced plan hart new before after text n machine, refl)
 answers plan hart new text before after (found.Wrong number kind) (stop, wrong, stands) machine =
-    (record { stop = stop; wrong = wrong; input = stands.input }, refl)
-answers plan hart new text before after found.ReadFault stops machine = ((new, stops), refl)
+    (record { stop = stop; wrong = wrong; reached = stands.processor; input = stands.input }, refl)
+answers plan hart new text before after found.ReadFault stops machine = (stops, refl)
 
 accepted : (n : ℕ) (a : Audit) → IsAgreement n a → AcceptsTrace n (audit_status a) (audit_report a)
 accepted n (found.Agrees m) same = ap trace_of same
@@ -38,13 +44,13 @@ accepted n found.ReadFault h = tt
 
 -- what the moves of an audit found, by its status
 found_by : (plan : Plan) (hart : Hart) (new : Processor) (text : List ℕ) (finds : Findings) (a : Audit) → AreFound finds (opened plan hart) new text a →
-    IsWhatWasFound finds plan hart text (audit_status a) (audit_report a)
-found_by plan hart new text finds (found.Agrees n) (last, is, reaches) = (n, last, is, refl)
-found_by plan hart new text finds (found.Wrong number kind) (stop, wrong, reaches) = (stop, wrong)
+    IsWhatWasFound finds plan hart new text (audit_status a) (audit_report a)
+found_by plan hart new text finds (found.Agrees n) (last, is, reaches) = (n, last, is, reaches, refl)
+found_by plan hart new text finds (found.Wrong number kind) (stop, wrong, reaches) = (stop, wrong, reaches)
 found_by plan hart new text finds found.ReadFault h = tt
 
 accepts : (plan : Plan) (hart : Hart) (new : Processor) (text : List ℕ) (told : Option (List ℕ)) (a : Audit) →
-    AgreesWithAll (opened plan hart) new told text a → AcceptsRuns plan hart text told (audit_status a) (audit_report a)
+    AgreesWithAll (opened plan hart) new told text a → AcceptsRuns plan hart new text told (audit_status a) (audit_report a)
 accepts plan hart new text None a (finds, are, h) = (finds, found_by plan hart new text finds a are, λ n last is. accepted n a (h n last is))
 accepts plan hart new text (Some rest) a h = λ n last is. accepted n a (h n last is)
 
@@ -57,20 +63,21 @@ comes core new plan hart text before after a answer report is audits agrees mach
     let all : AgreesWithAll (opened plan hart) new before text a = rw is at agrees in
     let traces : AgreesSequentially (opened plan hart) new before after text a = rw is at machine in
     rw (said, told) (record {
+      new = new;
       answers = answers plan hart new text before after a audited traces;
       accepts = accepts plan hart new text before a all;
     })
 
 -- where memory for the processor is refused nothing was found
-none_found : (plan : Plan) (hart : Hart) (text : List ℕ) (told : Option (List ℕ)) →
-    AcceptsRuns plan hart text told status.NoMemory (line (codes "no memory"))
-none_found plan hart text None = (λ k. [], tt, λ n last is. tt)
-none_found plan hart text (Some rest) = λ n last is. tt
+none_found : (plan : Plan) (hart : Hart) (new : Processor) (text : List ℕ) (told : Option (List ℕ)) →
+    AcceptsRuns plan hart new text told status.NoMemory (line (codes "no memory"))
+none_found plan hart new text None = (λ k. [], tt, λ n last is. tt)
+none_found plan hart new text (Some rest) = λ n last is. tt
 
 pub comes-no-memory : (plan : Plan) (hart : Hart) (text : List ℕ) (told : Option (List ℕ)) (answer : Status) (report : List ℕ) → answer ≡ status.NoMemory →
     report ≡ line (codes "no memory") → ComesOfTrace plan hart text told told answer report
 comes-no-memory plan hart text told answer report is says =
-    rw (is, says) (record { answers = (refl, refl); accepts = none_found plan hart text told })
+    rw (is, says) (record { new = opened plan hart; answers = (refl, refl); accepts = none_found plan hart (opened plan hart) text told })
 
 -- what was found says of no file that it failed, nor of the output, and of the input exactly where the call did
 pub files-left : (a : Audit) → files_answered (audit_status a) ≡ Ok tt

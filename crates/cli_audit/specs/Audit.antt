@@ -5,7 +5,7 @@ use Rattle.rv_machine.specs.Hart.{Hart}
 use Rattle.rv_machine.specs.Streams.{Becomes}
 use Rattle.cf_layout.specs.Layout.{Plan}
 use Rattle.cf_semantics.specs.state.State.{Moment}
-use Rattle.cf_core.specs.Processors.{Processor, opened}
+use Rattle.cf_core.specs.Processors.{Processor, in_state, opened}
 use Rattle.cf_audit.specs.declared.answer.Audit.{Audit}
 use Rattle.cf_audit.specs.declared.answer.Audit.TheVariants as found
 use Rattle.run_scripts.specs.declared.trace_refusal.TraceKind.{TraceKind}
@@ -56,40 +56,42 @@ audit_report (found.Agrees n) = trace_of n
 audit_report (found.Wrong number kind) = bad_trace (fault.Line number kind)
 audit_report found.ReadFault = line (codes "read fault input")
 
--- the text is the trace of a run of n moves of the layout's processor, opened on the hart; the run leaves this of the
--- input; it is one of the sequential machine that starts on the hart, at each of its moments, and the lines of retirement
--- in the trace are the machine's: a line for each of its first instructions, in their order
-pub record IsTraceOf (plan : Plan) (hart : Hart) (text : List ℕ) (before after : Option (List ℕ)) (n : ℕ) :
+-- the processor of the layout, opened on the hart, has come to this moment
+abbrev pub HasComeTo : Plan → Hart → (new : Processor) → Moment → Type 0
+HasComeTo plan hart new m = new ≡ in_state (opened plan hart) m.state
+
+-- the text is the trace of a run of n moves of the layout's processor, opened on the hart, which it leaves as it is now; the
+-- run leaves this of the input; it is one of the sequential machine that starts on the hart, at each of its moments, and the
+-- lines of retirement in the trace are the machine's: a line for each of its first instructions, in their order
+pub record IsTraceOf (plan : Plan) (hart : Hart) (new : Processor) (text : List ℕ) (before after : Option (List ℕ)) (n : ℕ) :
     Type 0 where
   pub last : Moment
   pub is : IsTrace (opened plan hart) before text n last
+  pub reached : HasComeTo plan hart new last
   pub input : Becomes before after last.rest
   pub machine : TracesMachine (opened plan hart) hart before text n last is
 
--- the text is the trace of no run, which is seen in this line, for this reason; the moves that were made leave this of the input
-pub record IsNoTraceOf (plan : Plan) (hart : Hart) (text : List ℕ) (before after : Option (List ℕ)) (number : ℕ)
+-- the text is the trace of no run, which is seen in this line, for this reason; the moves that were made leave the processor
+-- as it is now, and this of the input
+pub record IsNoTraceOf (plan : Plan) (hart : Hart) (new : Processor) (text : List ℕ) (before after : Option (List ℕ)) (number : ℕ)
     (kind : TraceKind) : Type 0 where
   pub stop : Moment
   pub wrong : GoesWrong (opened plan hart) before text number kind stop
+  pub reached : HasComeTo plan hart new stop
   pub input : Becomes before after stop.rest
 
--- the input failed the call that the text names after the trace of a run, and this is left of it
-abbrev pub FailsAtCall : Plan → Hart → List ℕ → (before after : Option (List ℕ)) → Type 0
-FailsAtCall plan hart text before after =
-    (last : Processor) × StopsAtCall (opened plan hart) last before after text
-
 -- what is answered of a text, by the status: it is the trace of a run; or it is not, which is seen in this line; or the
--- input failed the call that it names; or memory for the processor was refused
-abbrev pub AnswersText : Plan → Hart → List ℕ → (before after : Option (List ℕ)) → Status → List ℕ → Type 0
-AnswersText plan hart text before after status.Done report =
-    (n : ℕ) × IsTraceOf plan hart text before after n × (report ≡ trace_of n)
-AnswersText plan hart text before after (status.BadTrace (fault.Line number kind)) report =
-    IsNoTraceOf plan hart text before after number kind × (report ≡ bad_trace (fault.Line number kind))
-AnswersText plan hart text before after (status.ReadFault which.Input) report =
-    FailsAtCall plan hart text before after × (report ≡ line (codes "read fault input"))
-AnswersText plan hart text before after status.NoMemory report =
+-- input failed the call that it names after the trace of a run; or memory for the processor was refused
+abbrev pub AnswersText : Plan → Hart → (new : Processor) → List ℕ → (before after : Option (List ℕ)) → Status → List ℕ → Type 0
+AnswersText plan hart new text before after status.Done report =
+    (n : ℕ) × IsTraceOf plan hart new text before after n × (report ≡ trace_of n)
+AnswersText plan hart new text before after (status.BadTrace (fault.Line number kind)) report =
+    IsNoTraceOf plan hart new text before after number kind × (report ≡ bad_trace (fault.Line number kind))
+AnswersText plan hart new text before after (status.ReadFault which.Input) report =
+    StopsAtCall (opened plan hart) new before after text × (report ≡ line (codes "read fault input"))
+AnswersText plan hart new text before after status.NoMemory report =
     (after ≡ before) × (report ≡ line (codes "no memory"))
-AnswersText plan hart text before after _ report = ⊥
+AnswersText plan hart new text before after _ report = ⊥
 
 -- the answer for the trace of a run of n moves, unless the input fails or memory is refused
 abbrev pub AcceptsTrace : ℕ → Status → List ℕ → Type 0
@@ -97,28 +99,31 @@ AcceptsTrace n status.Done report = report ≡ trace_of n
 AcceptsTrace n (status.BadTrace why) report = ⊥
 AcceptsTrace n _ report = Unit {0}
 
--- this is what the moves of the audit found of an input that tells nothing of what it has left, where one took place
-abbrev pub IsWhatWasFound : Findings → Plan → Hart → List ℕ → Status → List ℕ → Type 0
-IsWhatWasFound found plan hart text status.Done report =
-    (n : ℕ) × (last : Moment) × IsTraceFinding found (opened plan hart) text n last × (report ≡ trace_of n)
-IsWhatWasFound found plan hart text (status.BadTrace (fault.Line number kind)) report =
-    (stop : Moment) × GoesWrongFinding found (opened plan hart) text number kind stop
-IsWhatWasFound found plan hart text _ report = Unit {0}
+-- this is what the moves of the audit found of an input that tells nothing of what it has left, where one took place: with
+-- it they lead to the processor as it is now
+abbrev pub IsWhatWasFound : Findings → Plan → Hart → (new : Processor) → List ℕ → Status → List ℕ → Type 0
+IsWhatWasFound found plan hart new text status.Done report =
+    (n : ℕ) × (last : Moment) × IsTraceFinding found (opened plan hart) text n last × HasComeTo plan hart new last × (report ≡ trace_of n)
+IsWhatWasFound found plan hart new text (status.BadTrace (fault.Line number kind)) report =
+    (stop : Moment) × GoesWrongFinding found (opened plan hart) text number kind stop × HasComeTo plan hart new stop
+IsWhatWasFound found plan hart new text _ report = Unit {0}
 
 -- over an input that tells what it has left, each trace of a run is answered in this way; over another one each trace of a
 -- run whose moves find the same of it as those of the audit
-abbrev pub AcceptsRuns : Plan → Hart → List ℕ → Option (List ℕ) → Status → List ℕ → Type 0
-AcceptsRuns plan hart text None answer report =
-    (found : Findings) × IsWhatWasFound found plan hart text answer report
+abbrev pub AcceptsRuns : Plan → Hart → (new : Processor) → List ℕ → Option (List ℕ) → Status → List ℕ → Type 0
+AcceptsRuns plan hart new text None answer report =
+    (found : Findings) × IsWhatWasFound found plan hart new text answer report
     × ((n : ℕ) (last : Moment) → IsTraceFinding found (opened plan hart) text n last → AcceptsTrace n answer report)
-AcceptsRuns plan hart text (Some rest) answer report =
+AcceptsRuns plan hart new text (Some rest) answer report =
     (n : ℕ) (last : Moment) → IsTrace (opened plan hart) (Some rest) text n last → AcceptsTrace n answer report
 
--- what comes of a layout, a hart and a text
+-- what comes of a layout, a hart and a text: the answer and what was found of the input are of one audit, which leaves this
+-- processor
 pub record ComesOfTrace (plan : Plan) (hart : Hart) (text : List ℕ) (before after : Option (List ℕ))
     (answer : Status) (report : List ℕ) : Type 0 where
-  pub answers : AnswersText plan hart text before after answer report
-  pub accepts : AcceptsRuns plan hart text before answer report
+  pub new : Processor
+  pub answers : AnswersText plan hart new text before after answer report
+  pub accepts : AcceptsRuns plan hart new text before answer report
 
 -- layout, program and trace were read, in this order
 pub record ReadsTrace (asked : AuditAsked) (before after : Option FilesSeen) (plan : Plan) (hart : Hart)
