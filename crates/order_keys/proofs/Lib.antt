@@ -8,3 +8,4 @@ pub mod ListSteps
 pub mod PlaceSteps
 pub mod PlacesBack
 pub mod KeysBack
+pub mod PlacesRead

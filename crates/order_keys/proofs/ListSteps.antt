@@ -1,9 +1,9 @@
 -- Lists one item at a time.
-use Rattle.std.proofs.Common.{◌≡◌, ℕ, suc, ◌+◌, ◌-◌, ◌<◌, ◌≤◌, List, [], ◌∷◌, ◌++◌, length, get_or, drop, refl, sym, ◌∙◌, append_assoc, add-one, arith, drop-cons}
+use Rattle.std.proofs.Common.{◌≡◌, ℕ, zero, suc, ◌+◌, ◌-◌, ◌<◌, ◌≤◌, List, [], ◌∷◌, ◌++◌, length, get_or, drop, refl, sym, ap, subst, ◌∙◌, append_assoc, add-one, arith, drop-cons}
 use Rattle.std.proofs.Math.ListN.{drop_of_length-le}
 use Rattle.std.proofs.lemmas.List.{append-nil}
 use Rattle.order_keys.specs.Unpacked.{Unpacked, got}
-use Rattle.order_keys.specs.Numbers.{unpacked_long}
+use Rattle.order_keys.specs.Numbers.{unpacked_long, unpacked_byte}
 use Rattle.order_keys.specs.Lists.{packed_items, unpacked_items, unpacked_list}
 
 -- an item is appended
@@ -57,3 +57,15 @@ read_all unpacked count i bs list whole h so_far =
     let none : count - i ≡ 0 = omega arith in
     let before = rw (none, append-nil list) at so_far in
     before
+
+-- as many items are read as there are said to be
+items_count : {A : Type 0} (unpacked : List ℕ → Unpacked A) (n : ℕ) (bs : List ℕ) → length (unpacked_items unpacked n bs).value ≡ n
+unfolding unpacked_items
+items_count unpacked zero bs = refl
+items_count unpacked (suc n) bs = ap suc (items_count unpacked n (unpacked bs).left)
+
+-- so a list of more than 64 is read from a number above 64
+pub long_list : (bs : List ℕ) (count : ℕ) → count ≡ (unpacked_long bs).value → 64 < count → 64 < length (unpacked_list unpacked_byte bs).value
+unfolding unpacked_list
+long_list bs count e many =
+    subst (λ n. 64 < n) (e ∙ sym (items_count unpacked_byte (unpacked_long bs).value (unpacked_long bs).left)) many

@@ -1,7 +1,9 @@
 -- Nodes as bytes: the state, the changes of its memory, and the number of Issue moves.
-use Rattle.std.specs.Prelude.{◌≡◌, ℕ, List}
+use Rattle.std.specs.Prelude.{◌≡◌, ℕ, List, [], None, false, replicate}
+use Rattle.cf_bind.specs.declared.packet.Fetch.TheVariants.{Waiting}
 use Rattle.cf_semantics.specs.state.State.{State}
 use Rattle.mem_changes.specs.MemoryChanges.{MemoryChanges}
+use Rattle.order_model.specs.Situations.{no_memory}
 use Rattle.order_keys.specs.declared.node.Node.{Node}
 use Rattle.order_keys.specs.Unpacked.{Unpacked, as_read}
 use Rattle.order_keys.specs.Numbers.{packed_byte, unpacked_byte}
@@ -22,6 +24,25 @@ unpacked_node bs = as_read node_in (unpacked_triple unpacked_situation unpacked_
 -- the node with this key
 unfoldable pub node_of : List ℕ → Node
 node_of key = (unpacked_node key).value
+
+-- a node of no stage, before one is read in its place
+abbrev pub blank_node : Node
+blank_node = record {
+  situation = record {
+    cells = [];
+    sidings = [];
+    lane = [];
+    fetch = Waiting;
+    cache = replicate 32 None;
+    regs = replicate 32 0;
+    mem = no_memory;
+    retired = 0;
+    ending = None;
+    failed = false;
+  };
+  changes = record { bytes = []; code = []; program_break = 0 };
+  issues = 0;
+}
 
 -- the node, whose state is without a memory
 abbrev pub bare_node : Node → Node

@@ -51,11 +51,12 @@ packed_word n =
     if nat_lt n 65536 then (253 ∷ []) ++ packed_two n else
     (254 ∷ []) ++ packed_four n
 
+-- one of the forms that are longer than a byte, from what stands behind its first byte
+abbrev pub unpacked_wide : ℕ → List ℕ → Unpacked ℕ
+unpacked_wide first bs = if first == 253 then unpacked_two bs else unpacked_four bs
+
 unfoldable pub unpacked_word : List ℕ → Unpacked ℕ
-unpacked_word bs =
-    if nat_lt (front bs) 253 then got (front bs) (behind bs) else
-    if front bs == 253 then unpacked_two (behind bs) else
-    unpacked_four (behind bs)
+unpacked_word bs = if nat_lt (front bs) 253 then got (front bs) (behind bs) else unpacked_wide (front bs) (behind bs)
 
 -- a number below 2 ^ 64, its lower half first
 unfoldable pub packed_eight : ℕ → List ℕ

@@ -42,6 +42,10 @@ packed_fetching x = packed_triple packed_fetch packed_places packed_registers x
 unfoldable pub unpacked_fetching : List ℕ → Unpacked (Fetch × List (Option ℕ) × List ℕ)
 unpacked_fetching bs = unpacked_triple unpacked_fetch unpacked_places unpacked_registers bs
 
+-- there are as many places in the cache and in the register file as there are registers
+abbrev pub HasRegisters : Fetch × List (Option ℕ) × List ℕ → Type 0
+HasRegisters x = (length x.1 ≡ 32) × (length x.2 ≡ 32)
+
 -- how many instructions have retired, and how the program ended
 abbrev pub past_of : State → ℕ × Option End
 past_of s = (s.retired, s.ending)

@@ -7,7 +7,7 @@ use crate::lists::{pack_list, unpack_list};
 use crate::pack::Pack;
 use crate::unread::Unread;
 use mem_changes::{Change, Changes};
-use std::alloc::{AllocError, Global};
+use std::alloc::AllocError;
 
 impl Pack for Change {
     ghost use Rattle.order_keys.specs.Memories.{packed_change, unpacked_change};
@@ -38,17 +38,13 @@ pub(crate) fn pack_changes(changes: &Changes, key: &mut Vec<u8>) -> Result<(), A
     changes.program_break.pack(key)
 }
 
-/// Takes changes from the front of what is left of a key.
+/// Makes changes those at the front of what is left of a key, which it takes from there.
 #[tactic(auto, unfolding(crate::specs::Memories::unpacked_changes, crate::specs::Compounds::unpacked_triple))]
-pub(crate) fn unpack_changes(alloc: Global, key: &mut Unread<'_>) -> Result<Changes, AllocError>
-    ensures { IfOk result (λ changes. record { value = changes; left = key.new } ≡ unpacked_changes key.old) }
+pub(crate) fn unpack_changes(changes: &mut Changes, key: &mut Unread<'_>) -> Result<(), AllocError>
+    ensures { IfOk result (λ _. record { value = changes.new; left = key.new } ≡ unpacked_changes key.old) }
 {
-    let bytes = unpack_list(alloc, key)?;
-    let code = unpack_list(alloc, key)?;
-    let program_break = u32::unpack(key);
-    Ok(Changes {
-        bytes,
-        code,
-        program_break,
-    })
+    unpack_list(&mut changes.bytes, key)?;
+    unpack_list(&mut changes.code, key)?;
+    changes.program_break = u32::unpack(key);
+    Ok(())
 }

@@ -5,7 +5,7 @@ ghost use Rattle.order_keys.specs.Lists.{packed_list, unpacked_list};
 
 use crate::pack::Pack;
 use crate::unread::Unread;
-use std::alloc::{AllocError, Global};
+use std::alloc::AllocError;
 
 /// Appends the list to a key.
 #[tactic(auto, unfolding(crate::specs::Lists::packed_list))]
@@ -19,18 +19,18 @@ pub(crate) fn pack_list<T: Pack>(items: &[T], key: &mut Vec<u8>) -> Result<(), A
     Ok(())
 }
 
-/// Takes a list from the front of what is left of a key.
+/// Makes a list the one at the front of what is left of a key, which it takes from there.
 #[tactic(auto, unfolding(crate::specs::Lists::unpacked_list))]
-pub(crate) fn unpack_list<T: Pack>(
-    alloc: Global,
+pub(crate) fn unpack_list<T: Pack + Drop>(
+    list: &mut Vec<T>,
     key: &mut Unread<'_>,
-) -> Result<Vec<T>, AllocError>
-    ensures { IfOk result (λ list. record { value = list.items; left = key.new } ≡ unpacked_list T.unpacked key.old) }
+) -> Result<(), AllocError>
+    ensures { IfOk result (λ _. record { value = list.new.items; left = key.new } ≡ unpacked_list T.unpacked key.old) }
 {
     let count = u64::unpack(key);
-    let mut list = Vec::with_capacity(alloc, count.min(64) as usize)?;
+    list.clear();
     for _ in 0..count {
         list.push(T::unpack(key))?;
     }
-    Ok(list)
+    Ok(())
 }

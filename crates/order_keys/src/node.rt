@@ -1,14 +1,16 @@
 //! The nodes of a search, and their keys.
 
-ghost use Rattle.std.specs.Prelude.{◌≡◌, IfOk, MatchOption, length};
+ghost use Rattle.std.specs.Prelude.{◌≡◌, IfOk, MatchBool, MatchOption, length};
 ghost use Rattle.order_keys.specs.Situations.{bare, IsWhole};
-ghost use Rattle.order_keys.specs.Keys.{bare_node, key_of, node_of};
+ghost use Rattle.order_keys.specs.Keys.{bare_node, blank_node, key_of, node_of};
 
 use crate::changes::{pack_changes, unpack_changes};
 use crate::pack::Pack;
 use crate::situation_parts::unpack_situation;
 use crate::situations::pack_situation;
 use crate::unread::Unread;
+use arrayvec::ArrayVec;
+use cf_bind::Fetch;
 use mem_changes::Changes;
 use order_model::Situation;
 use std::alloc::{AllocError, Global};
@@ -58,21 +60,57 @@ pub fn write_key(alloc: Global, node: &Node) -> Result<Vec<u8>, AllocError>
     Ok(key)
 }
 
+impl Node {
+    /// A node of no stage and with no changes, which has taken no memory yet: one is read in its place.
+    pub fn blank(alloc: Global) -> Node
+        ensures { result ≡ blank_node }
+    {
+        Node {
+            situation: Situation {
+                cells: Vec::new(alloc),
+                sidings: Vec::new(alloc),
+                lane: ArrayVec::new(),
+                fetch: Fetch::Waiting,
+                cache: [None; 32],
+                regs: [0; 32],
+                retired: 0,
+                ending: None,
+            },
+            changes: Changes {
+                bytes: Vec::new(alloc),
+                code: Vec::new(alloc),
+                program_break: 0,
+            },
+            issues: 0,
+        }
+    }
+
+    /// Makes this node the one with a key, in the memory that it has, where this is enough; or answers `false` where there is
+    /// none: the key's lane is longer than 64, or its cache or its registers are not 32, as in no key of a node. After `false`
+    /// or an error nothing is known of this node.
+    #[tactic(auto, unfolding(crate::specs::Keys::node_of, crate::specs::Keys::unpacked_node, crate::specs::Compounds::unpacked_triple))]
+    pub fn read(&mut self, alloc: Global, key: &[u8]) -> Result<bool, AllocError>
+        ensures { IfOk result (λ found. MatchBool found (self.new ≡ node_of key.now) (IsWhole (node_of key.now).situation → ⊥)) }
+    {
+        let mut key = Unread::new(key);
+        if !unpack_situation(alloc, &mut self.situation, &mut key)? {
+            return Ok(false);
+        }
+        unpack_changes(&mut self.changes, &mut key)?;
+        self.issues = u8::unpack(&mut key);
+        Ok(true)
+    }
+}
+
 /// The node with this key; or an error where there is no memory for it. There is none where the key's lane is longer
 /// than 64, or its cache or its registers are not 32, which no key of a [`Node`] has.
-#[tactic(auto, unfolding(crate::specs::Keys::node_of, crate::specs::Keys::unpacked_node, crate::specs::Compounds::unpacked_triple))]
 pub fn read_key(alloc: Global, key: &[u8]) -> Result<Option<Node>, AllocError>
     ensures { IfOk result (λ found. let node = node_of key.now in MatchOption found (IsWhole node.situation → ⊥) (λ n. n ≡ node)) }
 {
-    let mut key = Unread::new(key);
-    let Some(situation) = unpack_situation(alloc, &mut key)? else {
-        return Ok(None);
-    };
-    let changes = unpack_changes(alloc, &mut key)?;
-    let issues = u8::unpack(&mut key);
-    Ok(Some(Node {
-        situation,
-        changes,
-        issues,
-    }))
+    let mut node = Node::blank(alloc);
+    if node.read(alloc, key)? {
+        Ok(Some(node))
+    } else {
+        Ok(None)
+    }
 }

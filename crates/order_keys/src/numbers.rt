@@ -1,7 +1,7 @@
 //! Numbers in keys.
 
-ghost use Rattle.std.specs.Prelude.{◌≡◌, ◌+◌, ◌*◌, ◌<◌, ◌++◌, IfOk};
-ghost use Rattle.order_keys.specs.Numbers.{packed_two, packed_four, packed_eight, unpacked_two, unpacked_four, unpacked_eight, folded as folded_of, unfolded as unfolded_of};
+ghost use Rattle.std.specs.Prelude.{◌≡◌, ◌+◌, ◌*◌, ◌<◌, ◌≤◌, ◌^◌, ◌++◌, IfOk, vec_capacity, vec_len};
+ghost use Rattle.order_keys.specs.Numbers.{packed_two, packed_four, packed_word, packed_long, unpacked_two, unpacked_four, unpacked_wide, unpacked_eight, folded as folded_of, unfolded as unfolded_of};
 
 use crate::pack::Pack;
 use crate::unread::Unread;
@@ -16,34 +16,63 @@ const FOUR: u8 = 254;
 /// Stands in front of a number of eight bytes.
 const EIGHT: u8 = 255;
 
-/// Appends a number below 2^16, its lower byte first.
+/// Appends a number below 2^16, its lower byte first, to a key that has room for it.
 #[inline(always)]
 #[tactic(auto, unfolding(crate::specs::Numbers::packed_two))]
-fn pack_two(number: u32, key: &mut Vec<u8>) -> Result<(), AllocError>
-    requires { number < 65536 }
-    ensures { IfOk result (λ _. key.new.items ≡ key.old.items ++ packed_two number) }
+fn put_two(number: u32, key: &mut Vec<u8>)
+    requires small { number < 65536 }
+    requires room { vec_len key.old + 2 ≤ vec_capacity key.old }
+    ensures items { key.new.items ≡ key.old.items ++ packed_two number }
+    ensures len { vec_len key.new ≡ vec_len key.old + 2 }
+    ensures capacity { vec_capacity key.new ≡ vec_capacity key.old }
 {
-    key.push((number % 256) as u8)?;
-    key.push((number / 256) as u8)?;
-    Ok(())
+    key.push_reserved((number % 256) as u8);
+    key.push_reserved((number / 256) as u8);
 }
 
-/// Appends a number, its lower half first.
+/// Appends a number, its lower half first, to a key that has room for it.
+#[inline(always)]
 #[tactic(auto, unfolding(crate::specs::Numbers::packed_four))]
-fn pack_four(number: u32, key: &mut Vec<u8>) -> Result<(), AllocError>
-    ensures { IfOk result (λ _. key.new.items ≡ key.old.items ++ packed_four number) }
+fn put_four(number: u32, key: &mut Vec<u8>)
+    requires room { vec_len key.old + 4 ≤ vec_capacity key.old }
+    ensures items { key.new.items ≡ key.old.items ++ packed_four number }
+    ensures len { vec_len key.new ≡ vec_len key.old + 4 }
+    ensures capacity { vec_capacity key.new ≡ vec_capacity key.old }
 {
-    pack_two(number % 65536, key)?;
-    pack_two(number / 65536, key)
+    put_two(number % 65536, key);
+    put_two(number / 65536, key);
 }
 
-/// Appends a number, its lower half first.
-#[tactic(auto, unfolding(crate::specs::Numbers::packed_eight))]
-fn pack_eight(number: u64, key: &mut Vec<u8>) -> Result<(), AllocError>
-    ensures { IfOk result (λ _. key.new.items ≡ key.old.items ++ packed_eight number) }
+/// Appends a number that one byte alone does not hold, in as few bytes as it needs of the longer forms.
+#[tactic(auto, unfolding(crate::specs::Numbers::packed_word))]
+fn pack_wide(number: u32, key: &mut Vec<u8>) -> Result<(), AllocError>
+    requires { 253 ≤ number }
+    ensures { IfOk result (λ _. key.new.items ≡ key.old.items ++ packed_word number) }
 {
-    pack_four((number % 0x1_0000_0000) as u32, key)?;
-    pack_four((number / 0x1_0000_0000) as u32, key)
+    if number < 65536 {
+        key.reserve(3)?;
+        key.push_reserved(TWO);
+        put_two(number, key);
+        Ok(())
+    } else {
+        key.reserve(5)?;
+        key.push_reserved(FOUR);
+        put_four(number, key);
+        Ok(())
+    }
+}
+
+/// Appends a number that four bytes do not hold, its lower half first.
+#[tactic(auto, unfolding(crate::specs::Numbers::packed_long, crate::specs::Numbers::packed_eight))]
+fn pack_widest(number: u64, key: &mut Vec<u8>) -> Result<(), AllocError>
+    requires { 2 ^ 32 ≤ number }
+    ensures { IfOk result (λ _. key.new.items ≡ key.old.items ++ packed_long number) }
+{
+    key.reserve(9)?;
+    key.push_reserved(EIGHT);
+    put_four((number % 0x1_0000_0000) as u32, key);
+    put_four((number / 0x1_0000_0000) as u32, key);
+    Ok(())
 }
 
 /// Takes a number of two bytes.
@@ -67,6 +96,19 @@ fn unpack_four(key: &mut Unread<'_>) -> u32
     let low = unpack_two(key);
     let high = unpack_two(key);
     low + 65536 * high
+}
+
+/// Takes a number of a longer form than one byte, whose first byte was taken.
+#[tactic(auto, unfolding(crate::specs::Numbers::unpacked_wide))]
+fn unpack_wide(first: u8, key: &mut Unread<'_>) -> u32
+    ensures value { result ≡ (unpacked_wide first key.old).value }
+    ensures left { key.new ≡ (unpacked_wide first key.old).left }
+{
+    if first == TWO {
+        unpack_two(key)
+    } else {
+        unpack_four(key)
+    }
 }
 
 /// Takes a number of eight bytes.
@@ -158,12 +200,8 @@ impl Pack for u32 {
         if number < u32::from(TWO) {
             key.push(number as u8)?;
             Ok(())
-        } else if number < 65536 {
-            key.push(TWO)?;
-            pack_two(number, key)
         } else {
-            key.push(FOUR)?;
-            pack_four(number, key)
+            pack_wide(number, key)
         }
     }
 
@@ -173,10 +211,8 @@ impl Pack for u32 {
         let first = key.byte();
         if first < TWO {
             u32::from(first)
-        } else if first == TWO {
-            unpack_two(key)
         } else {
-            unpack_four(key)
+            unpack_wide(first, key)
         }
     }
 }
@@ -195,8 +231,7 @@ impl Pack for u64 {
         if number < 0x1_0000_0000 {
             (number as u32).pack(key)
         } else {
-            key.push(EIGHT)?;
-            pack_eight(number, key)
+            pack_widest(number, key)
         }
     }
 

@@ -1,11 +1,11 @@
 //! Values by register in keys: between two values stands how many registers without one there are.
 
-ghost use Rattle.std.specs.Prelude.{◌≡◌, ℕ, ◌+◌, ◌<◌, ◌≤◌, ◌^◌, ◌∷◌, ◌++◌, List, Option, IfOk, map};
+ghost use Rattle.std.specs.Prelude.{◌≡◌, ◌≢◌, ℕ, ◌+◌, ◌<◌, ◌≤◌, ◌^◌, ◌∷◌, ◌++◌, List, Option, IfOk, MatchBool, length, map};
 ghost use Rattle.order_keys.specs.Places.{packed_runs, packed_places, next_place, unpacked_places, held as held_of, held_in, packed_registers, unpacked_registers};
 
 use crate::pack::Pack;
 use crate::unread::Unread;
-use std::alloc::{AllocError, Global};
+use std::alloc::AllocError;
 
 /// Appends what stands at a place behind this many empty ones, and returns how many empty ones are then not noted yet.
 #[inline(always)]
@@ -78,35 +78,57 @@ fn unpack_place(empty: &mut u64, key: &mut Unread<'_>) -> Option<u32>
     }
 }
 
-/// Takes places from the front of what is left of a key.
-#[tactic(auto, unfolding(crate::specs::Places::unpacked_places))]
-pub(crate) fn unpack_places(
-    alloc: Global,
-    key: &mut Unread<'_>,
-) -> Result<Vec<Option<u32>>, AllocError>
-    ensures { IfOk result (λ places. record { value = places.items; left = key.new } ≡ unpacked_places key.old) }
+/// Makes 32 places those at the front of what is left of a key, which it takes from there; or answers `false` where the key
+/// does not hold 32.
+#[tactic(auto, using(crate::proofs::PlacesRead::places_read), unfolding(crate::specs::Places::unpacked_places))]
+pub(crate) fn unpack_places(places: &mut [Option<u32>; 32], key: &mut Unread<'_>) -> bool
+    ensures read { MatchBool result (record { value = places.new; left = key.new } ≡ unpacked_places key.old)
+        (length (unpacked_places key.old).value ≢ 32) }
+    ensures size { length places.new ≡ 32 }
 {
     let count = u64::unpack(key);
-    let mut empty = u64::unpack(key);
-    let mut places = Vec::with_capacity(alloc, 32)?;
-    for _ in 0..count {
-        places.push(unpack_place(&mut empty, key))?;
+    if count != 32 {
+        return false;
     }
-    Ok(places)
+    let mut empty = u64::unpack(key);
+    for i in 0..32 {
+        places[i] = unpack_place(&mut empty, key);
+    }
+    true
 }
 
-/// The values of registers that were places.
-fn values_of(alloc: Global, places: &[Option<u32>]) -> Result<Vec<u32>, AllocError>
-    ensures { IfOk result (λ values. values.items ≡ map held_in places.now) }
+/// The value of a register that was a place.
+#[inline(always)]
+fn value_of(place: Option<u32>) -> u32
+    ensures { result ≡ held_in place }
 {
-    places.iter().map(|place| place.unwrap_or(0)).collect(alloc)
+    match place {
+        Some(value) => value,
+        None => 0,
+    }
 }
 
-/// Takes a register file from the front of what is left of a key.
-#[tactic(auto, unfolding(crate::specs::Places::unpacked_registers))]
-pub(crate) fn unpack_registers(alloc: Global, key: &mut Unread<'_>) -> Result<Vec<u32>, AllocError>
-    ensures { IfOk result (λ regs. record { value = regs.items; left = key.new } ≡ unpacked_registers key.old) }
+/// Makes registers those that were places.
+#[tactic(auto, using(crate::proofs::PlacesRead::values_read))]
+fn set_values(regs: &mut [u32; 32], places: &[Option<u32>; 32])
+    ensures { regs.new ≡ map held_in places.now }
 {
-    let places = unpack_places(alloc, key)?;
-    values_of(alloc, &places)
+    for i in 0..32 {
+        regs[i] = value_of(places[i]);
+    }
+}
+
+/// Makes a register file the one at the front of what is left of a key, which it takes from there; or answers `false` where the
+/// key does not hold 32 registers.
+#[tactic(auto, using(crate::proofs::PlacesRead::registers_read), unfolding(crate::specs::Places::unpacked_registers))]
+pub(crate) fn unpack_registers(regs: &mut [u32; 32], key: &mut Unread<'_>) -> bool
+    ensures { MatchBool result (record { value = regs.new; left = key.new } ≡ unpacked_registers key.old)
+        (length (unpacked_registers key.old).value ≢ 32) }
+{
+    let mut places = [None; 32];
+    if !unpack_places(&mut places, key) {
+        return false;
+    }
+    set_values(regs, &places);
+    true
 }

@@ -4,8 +4,8 @@ use Rattle.order_keys.proofs.lists.unpack_list.Goals as goal
 
 pub loop-init : goal.loop-init
 loop-init g c =
-    read_first g.T.Pack.unpacked c.args.key.now c.unpack-count.result c.unpack-count.new.key c.in_ok-list.list.items
-    c.unpack-count.ensures.value c.unpack-count.ensures.left c.in_ok-list.ensures.items
+    read_first g.T.Pack.unpacked c.args.key.now c.unpack-count.result c.unpack-count.new.key c.clear.new.self.items
+    c.unpack-count.ensures.value c.unpack-count.ensures.left c.clear.ensures.items
 
 pub loop-preserved : goal.loop-preserved
 loop-preserved g c =

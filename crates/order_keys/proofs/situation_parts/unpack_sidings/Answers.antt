@@ -12,15 +12,15 @@ use Rattle.order_keys.proofs.situation_parts.unpack_sidings.Goals as goal
 pub loop-init : goal.loop-init
 unfolding unpacked_sidings
 loop-init c =
-    read_first (unpacked_list (unpacked_option unpacked_op)) c.args.key.now c.unpack-count.result c.unpack-count.new.key c.new-sidings.result.items
-    c.unpack-count.ensures.value c.unpack-count.ensures.left c.new-sidings.ensures.items
+    read_first (unpacked_list (unpacked_option unpacked_op)) c.args.key.now c.unpack-count.result c.unpack-count.new.key c.clear.new.self.items
+    c.unpack-count.ensures.value c.unpack-count.ensures.left c.clear.ensures.items
 
 pub loop-preserved : goal.loop-preserved
 loop-preserved c =
     read_more (unpacked_list (unpacked_option unpacked_op)) c.unpack-count.result c.loop.counter c.loop.key c.unpack_list.new.key c.of.result
     c.loop.sidings.items c.push.new.self.items _
-    c.loop-test.true (c.of.ensures ∙ ap (λ (x : Unpacked (List (Option Op))). x.value) c.in_ok-cells.ensures)
-    (ap (λ (x : Unpacked (List (Option Op))). x.left) c.in_ok-cells.ensures)
+    c.loop-test.true (c.of.ensures ∙ ap (λ (x : Unpacked (List (Option Op))). x.value) c.in_ok-unpack_list.ensures)
+    (ap (λ (x : Unpacked (List (Option Op))). x.left) c.in_ok-unpack_list.ensures)
     c.in_ok-push.ensures.items c.loop.invariant
 
 pub returns : goal.returns
