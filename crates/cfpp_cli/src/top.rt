@@ -136,13 +136,7 @@ fn decide<F: Files, S: Source, K: Sink, R: Sink>(
             Ok(put_answer(answer, streams.report))
         }
         Ok(Command::Debug { layout, program }) => {
-            let RunStreams {
-                input,
-                output,
-                report,
-            } = streams;
-            let decided = debug_program(alloc, layout, program, files, input, output, report);
-            put_decided(decided, report)
+            debug_program(alloc, layout, program, files, streams)
         }
         Ok(
             Command::Time {

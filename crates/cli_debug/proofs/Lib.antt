@@ -1,3 +1,4 @@
 pub mod Telling
 pub mod Debugging
+pub mod Faults
 pub mod Reading

@@ -1,5 +1,5 @@
 -- What a session put to its report, as a report that was empty before would tell it.
-use Rattle.std.proofs.Common.{◌≡◌, ◌≢◌, ℕ, List, [], ◌++◌, Option, Some, None, refl, sym, subst, inl, inr}
+use Rattle.std.proofs.Common.{◌≢◌, ℕ, List, [], ◌++◌, Option, Some, refl, sym, subst, inl, inr}
 use Rattle.cf_io.specs.Puts.{Writes}
 use Rattle.cf_io.proofs.Owing.{writes-again}
 use Rattle.cf_debug.specs.declared.answer.Debugged.{Debugged}

@@ -1,69 +1,49 @@
 -- What the command `debug` answers, and what it leaves of the outside.
-use Rattle.std.specs.Prelude.{◌≡◌, ◌≢◌, ◌⊎◌, ℕ, List, [], ◌++◌, codes, Option, Some, None}
+use Rattle.std.specs.Prelude.{◌≡◌, ◌≢◌, ◌⊎◌, ℕ, List, [], ◌++◌, Option, Some}
 use Rattle.rv_machine.specs.Hart.{Hart}
 use Rattle.rv_machine.specs.Streams.{Streams}
 use Rattle.cf_layout.specs.Layout.{Plan}
 use Rattle.cf_semantics.specs.moves.Kept.{Kept}
 use Rattle.cf_core.specs.Processors.{Processor, opened}
 use Rattle.cf_debug.specs.declared.answer.Debugged.{Debugged}
-use Rattle.cf_debug.specs.declared.answer.Debugged.TheVariants.{Done, Limit, ReadFault, WriteFault, ReportFault}
+use Rattle.cf_debug.specs.declared.answer.Debugged.TheVariants.{ReportFault}
 use Rattle.cf_debug.specs.Making.{processor_state}
 use Rattle.cf_debug.specs.Sessions.{Debugs, session_of}
 use Rattle.cf_debug.specs.Standing.{IsOnRun}
-use Rattle.texts.specs.Lines.{line}
 use Rattle.cli_arguments.specs.Words.{NamedLayout}
 use Rattle.cli_files.specs.Loading.{IsLoaded, LacksLoaded}
 use Rattle.cli_files.specs.Memory.{LacksProcessor}
 use Rattle.cli_files.specs.Outside.{Outside}
 use Rattle.cli_files.specs.declared.status.Status.{Status}
-use Rattle.cli_files.specs.declared.status.Status.TheVariants as status
-use Rattle.cli_files.specs.declared.status.Which.TheVariants as which
+use Rattle.cli_debug.specs.Closing.{closing_of_session, session_status}
 
--- the status of a session that ended in this way
-abbrev pub session_status : Debugged → Status
-session_status Done = status.Done
-session_status Limit = status.Limit None
-session_status ReadFault = status.ReadFault which.Input
-session_status WriteFault = status.WriteFault
-session_status ReportFault = status.WriteFault
-
--- the line that closes its report, where it did not end as the commands wanted
-abbrev pub closing_of_session : Debugged → List ℕ
-closing_of_session Done = []
-closing_of_session Limit = line (codes "limit")
-closing_of_session ReadFault = line (codes "read fault input")
-closing_of_session WriteFault = line (codes "write fault output")
-closing_of_session ReportFault = []
-
--- a session on the processor of the layout, as it is opened on the hart, with nothing kept; the input has its commands. It is
--- left at a moment of a run of the program's machine, with the output that the run's moves write; or the output failed the
--- call that was to be served there
-pub record HasSession (plan : Plan) (hart : Hart) (before after : Streams) (blank full : Option (List ℕ))
-    (ended : Debugged) : Type 0 where
+-- a session on a processor as it was opened, with nothing kept; the input has its commands. It is left at a moment of a run of
+-- the machine on which the processor was opened, with the output that the run's moves write; or the output failed the call that
+-- was to be served there
+pub record HasSession (core : Processor) (before after : Streams) (blank full : Option (List ℕ)) (ended : Debugged) : Type 0 where
   pub last : Processor
   pub kept : List Kept
-  pub session : Debugs (session_of (processor_state (opened plan hart) [] before.output) before.input blank)
+  pub session : Debugs (session_of (processor_state core [] before.output) before.input blank)
       (session_of (processor_state last kept after.output) after.input full) ended
-  pub on_run : IsOnRun (opened plan hart) last before.output after.output ended
+  pub on_run : IsOnRun core last before.output after.output ended
 
 -- a session took place; this is the whole report: the answers to its commands, and after them how it ended
-pub record AnswersSession (plan : Plan) (hart : Hart) (before after : Streams) (answer : Status)
-    (report : List ℕ) : Type 0 where
+pub record AnswersSession (core : Processor) (before after : Streams) (answer : Status) (report : List ℕ) : Type 0 where
   pub ended : Debugged
   pub told : ended ≢ ReportFault
   pub answers : List ℕ
-  pub session : HasSession plan hart before after (Some []) (Some answers) ended
+  pub session : HasSession core before after (Some []) (Some answers) ended
   pub status_is : answer ≡ session_status ended
   pub reports : report ≡ answers ++ closing_of_session ended
 
--- what comes of a layout and a hart
+-- what comes of a layout and a hart: a session on the processor of that layout, opened on the hart
 abbrev pub ComesOfCommands : Plan → Hart → (before after : Streams) → Status → List ℕ → Type 0
 ComesOfCommands plan hart before after answer report =
-    AnswersSession plan hart before after answer report ⊎ LacksProcessor before after answer report
+    AnswersSession (opened plan hart) before after answer report ⊎ LacksProcessor before after answer report
 
 -- the report failed during the session
-abbrev pub BreaksSession : Plan → Hart → (before after : Streams) → (blank full : Option (List ℕ)) → Type 0
-BreaksSession plan hart before after blank full = HasSession plan hart before after blank full ReportFault
+abbrev pub BreaksSession : Processor → (before after : Streams) → (blank full : Option (List ℕ)) → Type 0
+BreaksSession core before after blank full = HasSession core before after blank full ReportFault
 
 -- the layout and the program are there, and this came of them
 pub record DebugsProgram (layout : NamedLayout) (program : List ℕ) (before after : Outside) (answer : Status)
@@ -90,4 +70,4 @@ pub record BreaksDebug (layout : NamedLayout) (program : List ℕ) (before after
   pub plan : Plan
   pub hart : Hart
   pub loaded : IsLoaded layout program before.files after.files plan hart
-  pub breaks : BreaksSession plan hart before.streams after.streams blank full
+  pub breaks : BreaksSession (opened plan hart) before.streams after.streams blank full

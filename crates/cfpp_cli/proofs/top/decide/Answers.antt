@@ -4,13 +4,12 @@ use Rattle.rv_machine.specs.Streams.{streams_of}
 use Rattle.cli_arguments.specs.Words.{layout_in, machine, run, moves, rounds, orders, conform, debug, time, audit, check, asm, listing, gen, help, version, help_on}
 use Rattle.cli_arguments.specs.Views.{layout_of, schedule_view, times_view}
 use Rattle.cli_gen.specs.Drawn.{AnswersDrawn, BreaksDrawn}
-use Rattle.cli_debug.specs.Debug.{AnswersDebug, BreaksDebug}
-use Rattle.cli_files.specs.Causes.{input_answered, output_answered}
-use Rattle.cli_files.specs.Outside.{outside_of, report_of}
+use Rattle.cli_files.specs.Causes.{output_answered}
+use Rattle.cli_files.specs.Outside.{report_of}
 use Rattle.cli_files.proofs.NoStreams.{no-cause}
 use Rattle.cli_time.specs.Asked.{time_asked}
 use Rattle.cli_time.specs.Times.{AnswersTime, BreaksTime}
-use Rattle.cli_reports.proofs.PutReports.{shows-none, decided-comes, decided-tells, decided-files}
+use Rattle.cli_reports.proofs.PutReports.{shows-none, decided-comes, decided-tells}
 use Rattle.cfpp_cli.proofs.Beside.{comes-beside, decided-reading, untouched}
 use Rattle.cfpp_cli.proofs.top.decide.Goals as goal
 
@@ -241,36 +240,16 @@ returns-in-Ok-Conform-clause-output g c = c.conform_log.ensures.faults.output
 
 pub returns-in-Ok-Debug-clause-decided : goal.returns-in-Ok-Debug-clause-decided
 returns-in-Ok-Debug-clause-decided g c =
-    let decided = c.debug_program-decided in
-    let layout = layout_of c.in-Ok-Debug.layout in
-    let program = c.in-Ok-Debug.program.now in
-    let reported = g.R.Sink.written in
-    let faults = g.R.Sink.faults in
-    let before = outside_of (g.F.Files.told c.args.files.now) (g.F.Files.faults c.args.files.now)
-    (g.S.Source.left c.args.streams.input.now) (g.S.Source.faults c.args.streams.input.now)
-    (g.K.Sink.written c.args.streams.output.now) (g.K.Sink.faults c.args.streams.output.now) in
-    let after = outside_of (g.F.Files.told decided.new.files) (g.F.Files.faults decided.new.files)
-    (g.S.Source.left decided.new.input) (g.S.Source.faults decided.new.input)
-    (g.K.Sink.written decided.new.output) (g.K.Sink.faults decided.new.output) in
     record {
-      reading = Ok (debug layout program);
+      reading = Ok (debug (layout_of c.in-Ok-Debug.layout) c.in-Ok-Debug.program.now);
       reads = rw c.in-Ok-Debug.field-0-is at c.in-Ok-Debug.ensures.answers;
-      comes = decided-comes (λ answer report. AnswersDebug layout program before after answer report)
-          (λ told. BreaksDebug layout program before after (reported c.args.streams.report.now) told)
-          (report_of (reported c.args.streams.report.now) (faults c.args.streams.report.now))
-          (report_of (reported decided.new.report) (faults decided.new.report))
-          (report_of (reported c.put_decided.new.report) (faults c.put_decided.new.report))
-          decided.result c.put_decided.result decided.ensures.answers decided.ensures.report c.put_decided.ensures;
-      files = rw (decided-files _ _ c.debug_program-decided.result c.put_decided.result c.put_decided.ensures)
-          c.debug_program-decided.ensures.files;
-      input = decided-tells input_answered _ _ _ _ c.debug_program-decided.result c.put_decided.result
-          c.debug_program-decided.ensures.input c.put_decided.ensures;
+      comes = c.debug_program.ensures.comes;
+      files = c.debug_program.ensures.faults.files;
+      input = c.debug_program.ensures.faults.input;
     }
 
 pub returns-in-Ok-Debug-clause-output : goal.returns-in-Ok-Debug-clause-output
-returns-in-Ok-Debug-clause-output g c =
-    decided-tells output_answered _ _ _ _ c.debug_program-decided.result c.put_decided.result
-    c.debug_program-decided.ensures.output c.put_decided.ensures
+returns-in-Ok-Debug-clause-output g c = c.debug_program.ensures.faults.output
 
 pub returns-in-Ok-Orders-clause-decided : goal.returns-in-Ok-Orders-clause-decided
 returns-in-Ok-Orders-clause-decided g c =
@@ -290,7 +269,7 @@ pub returns-in-Ok-Time-clause-decided : goal.returns-in-Ok-Time-clause-decided
 returns-in-Ok-Time-clause-decided g c =
     let o = c.in-Ok-Time.options in
     let decided = c.compare_layouts-decided in
-    let put = c.put_decided-in-Ok-Time in
+    let put = c.put_decided in
     let layouts = map layout_in (map string_bytes c.in-Ok-Time.layouts.now) in
     let asked = time_asked c.in-Ok-Time.delays.now c.in-Ok-Time.program.now layouts (times_view o) in
     let reported = g.R.Sink.written in
@@ -315,5 +294,5 @@ returns-in-Ok-Time-clause-decided g c =
 
 pub returns-in-Ok-Time-clause-output : goal.returns-in-Ok-Time-clause-output
 returns-in-Ok-Time-clause-output g c =
-    decided-tells output_answered _ _ _ _ c.compare_layouts-decided.result c.put_decided-in-Ok-Time.result
-    (untouched output_answered _ _ c.compare_layouts-decided.ensures.output) c.put_decided-in-Ok-Time.ensures
+    decided-tells output_answered _ _ _ _ c.compare_layouts-decided.result c.put_decided.result
+    (untouched output_answered _ _ c.compare_layouts-decided.ensures.output) c.put_decided.ensures

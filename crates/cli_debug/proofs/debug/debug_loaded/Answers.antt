@@ -1,35 +1,44 @@
-use Rattle.std.proofs.Common.{inr, refl, []}
-use Rattle.cf_io.proofs.Owing.{writes-nothing}
+use Rattle.std.proofs.Common.{refl}
+use Rattle.cli_files.proofs.NoStreams.{no-cause}
 use Rattle.cf_run.proofs.Opened.{newly-opened}
-use Rattle.cli_debug.proofs.Debugging.{decides-session}
+use Rattle.cli_debug.proofs.Debugging.{session-comes, session-lacking}
 use Rattle.cli_debug.proofs.debug.debug_loaded.Goals as goal
 
-pub debug-requires-clause-opened : goal.debug-requires-clause-opened
-debug-requires-clause-opened g c = newly-opened _ _ _ c.in-Ok-new-2.ensures
+pub debug_opened-requires-clause-opened : goal.debug_opened-requires-clause-opened
+debug_opened-requires-clause-opened g c = newly-opened _ _ _ c.in-Ok-open.ensures
 
-pub returns-in-Ok-new-2-clause-comes : goal.returns-in-Ok-new-2-clause-comes
-returns-in-Ok-new-2-clause-comes g c =
-    decides-session _ _ c.in-Ok-new-2.core c.debug.new.core c.in-Ok-new.ring c.debug.new.ring _ _ _ _ c.debug.result _ c.in-Ok-new-2.ensures c.in-Ok-new.ensures
-    c.debug.ensures.session c.debug.ensures.on_run c.answer_of.ensures.told c.answer_of.ensures.status c.answer_of.ensures.closing c.answer_of.ensures.fails
+pub returns-in-Ok-open : goal.returns-in-Ok-open
+returns-in-Ok-open g c = record {
+  comes = session-comes _ _ _ _ _ _ _ c.debug_opened.result c.in-Ok-open.ensures c.debug_opened.ensures.comes;
+  faults = c.debug_opened.ensures.faults;
+}
 
-pub returns-in_default-new-clause-comes : goal.returns-in_default-new-clause-comes
-returns-in_default-new-clause-comes g c = (
-  [],
-  writes-nothing _,
-  inr (record {
-    status_is = c.no_memory-in_default-new.ensures.status;
-    reports = c.no_memory-in_default-new.ensures.closing;
-    streams = refl;
-  }),
-)
+pub returns-in_default : goal.returns-in_default
+returns-in_default g c = record {
+  comes = session-lacking _ _ _ _ _ _ _ _ c.put_answer.result c.put_answer.ensures.status
+      (record {
+        status_is = c.no_memory.ensures.status;
+        reports = c.no_memory.ensures.closing;
+        streams = refl;
+      }) c.put_answer.ensures.puts;
+  faults = record {
+    files = rw (c.put_answer.ensures.status, c.no_memory.ensures.status) refl;
+    input = rw (c.put_answer.ensures.status, c.no_memory.ensures.status) (no-cause _ _ refl);
+    output = rw (c.put_answer.ensures.status, c.no_memory.ensures.status) (no-cause _ _ refl);
+  };
+}
 
-pub returns-clause-comes : goal.returns-clause-comes
-returns-clause-comes g c = (
-  [],
-  writes-nothing _,
-  inr (record {
-    status_is = c.no_memory-in-Err.ensures.status;
-    reports = c.no_memory-in-Err.ensures.closing;
-    streams = refl;
-  }),
-)
+pub returns : goal.returns
+returns g c = record {
+  comes = session-lacking _ _ _ _ _ _ _ _ c.put_answer-in-Err.result c.put_answer-in-Err.ensures.status
+      (record {
+        status_is = c.no_memory-in-Err.ensures.status;
+        reports = c.no_memory-in-Err.ensures.closing;
+        streams = refl;
+      }) c.put_answer-in-Err.ensures.puts;
+  faults = record {
+    files = rw (c.put_answer-in-Err.ensures.status, c.no_memory-in-Err.ensures.status) refl;
+    input = rw (c.put_answer-in-Err.ensures.status, c.no_memory-in-Err.ensures.status) (no-cause _ _ refl);
+    output = rw (c.put_answer-in-Err.ensures.status, c.no_memory-in-Err.ensures.status) (no-cause _ _ refl);
+  };
+}

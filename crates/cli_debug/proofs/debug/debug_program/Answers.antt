@@ -1,22 +1,20 @@
-use Rattle.std.proofs.Common.{inr, refl, []}
-use Rattle.cf_io.proofs.Owing.{writes-nothing}
-use Rattle.cli_files.proofs.NoStreams.{no-cause, lacks-loaded-says}
-use Rattle.cli_debug.proofs.Debugging.{decides-loaded}
+use Rattle.std.proofs.Common.{refl}
+use Rattle.cli_files.proofs.NoStreams.{lacks-loaded-says}
+use Rattle.cli_reports.proofs.PutReports.{faults-ran, faults-refused}
+use Rattle.cli_debug.proofs.Debugging.{debug-refused, loaded-session}
 use Rattle.cli_debug.proofs.debug.debug_program.Goals as goal
 
-pub returns-in-Ok-clause-answers : goal.returns-in-Ok-clause-answers
-returns-in-Ok-clause-answers g c =
-    decides-loaded _ _ _ _ c.in-Ok.loaded.layout c.in-Ok.loaded.machine _ _ _
-    c.in-Ok.ensures.loaded c.debug_loaded.ensures.comes
+pub returns-in-Ok : goal.returns-in-Ok
+returns-in-Ok g c = record {
+  comes = loaded-session _ _ _ _ c.in-Ok.loaded.layout c.in-Ok.loaded.machine _ _ c.debug_loaded.result
+      c.in-Ok.ensures.loaded c.debug_loaded.ensures.comes;
+  faults = faults-ran _ _ c.debug_loaded.result c.in-Ok.ensures.faults.still c.debug_loaded.ensures.faults;
+}
 
-pub returns-in-Err-clause-answers : goal.returns-in-Err-clause-answers
-returns-in-Err-clause-answers g c =
-    ([], writes-nothing _, inr (record { lacks = c.in-Err.ensures.lacks; streams = refl }))
-
-pub returns-in-Err-clause-input : goal.returns-in-Err-clause-input
-returns-in-Err-clause-input g c =
-    no-cause _ _ (lacks-loaded-says _ _ _ _ _ _ c.in-Err.ensures.lacks).input
-
-pub returns-in-Err-clause-output : goal.returns-in-Err-clause-output
-returns-in-Err-clause-output g c =
-    no-cause _ _ (lacks-loaded-says _ _ _ _ _ _ c.in-Err.ensures.lacks).output
+pub returns-in-Err : goal.returns-in-Err
+returns-in-Err g c = record {
+  comes = debug-refused _ _ _ _ _ _ _ _ c.put_answer.result c.put_answer.ensures.status
+      (record { lacks = c.in-Err.ensures.lacks; streams = refl }) c.put_answer.ensures.puts;
+  faults = faults-refused _ _ c.in-Err.answer.status c.put_answer.result c.put_answer.ensures.status c.in-Err.ensures.faults
+      (lacks-loaded-says _ _ _ _ _ _ c.in-Err.ensures.lacks) refl refl;
+}

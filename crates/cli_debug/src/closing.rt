@@ -1,0 +1,45 @@
+//! How a session finishes: its status, and the line that closes its report.
+
+ghost use Rattle.std.specs.Prelude.{◌≡◌};
+ghost use Rattle.cli_files.specs.Outside.{report_of};
+ghost use Rattle.cli_debug.specs.Closing.{ClosesSession, closing_of_session, session_broken, session_status};
+
+use cf_debug::Debugged;
+use cf_io::{Failed, Sink};
+use cli_files::{Answer, Status, Which, done, line, unread, write_fault};
+use cli_reports::{Reported, put_answer};
+
+/// Whether the report failed during the session.
+fn is_cut(ended: Debugged) -> bool
+    ensures { result ≡ session_broken ended }
+{
+    matches!(ended, Debugged::ReportFault)
+}
+
+/// The answer of a session that ended in this way.
+fn answer_of(ended: Debugged) -> Answer
+    ensures status { result.status ≡ session_status ended }
+    ensures closing { result.closing ≡ closing_of_session ended }
+{
+    match ended {
+        Debugged::Done => done(),
+        Debugged::Limit => Answer {
+            status: Status::Limit(None),
+            closing: line(b"limit"),
+        },
+        Debugged::ReadFault => unread(Which::Input),
+        Debugged::WriteFault | Debugged::ReportFault => write_fault(),
+    }
+}
+
+/// Puts the line that closes the report of a session, where the commands did not end it. It fails where the report
+/// failed during the session; nothing more is then put to the report.
+pub fn close_session<R: Sink>(ended: Debugged, report: &mut R) -> Result<Reported, Failed>
+    ensures { ClosesSession ended (report_of (R.written report.old) (R.faults report.old))
+        (report_of (R.written report.new) (R.faults report.new)) result }
+{
+    if is_cut(ended) {
+        return Err(Failed);
+    }
+    Ok(put_answer(answer_of(ended), report))
+}
