@@ -1,7 +1,8 @@
 -- The answer of a command says which files it read.
 use Rattle.std.proofs.Common.{ℕ, List, [], ◌++◌, true, false, Option, Result, Ok, Err}
 use Rattle.cli_arguments.specs.Words.{Asked, machine, run, moves, rounds, orders, conform, debug, time, audit, check, asm, listing, gen, help, version, help_on}
-use Rattle.cli_audit.specs.Audit.{audit_asked, audit_side}
+use Rattle.cli_audit.specs.Audit.{audit_asked}
+use Rattle.cli_audit.specs.Effects.{input_side_of}
 use Rattle.cli_audit.proofs.Reading.{audited-read}
 use Rattle.cli_conform.proofs.Reading.{conform-read}
 use Rattle.cli_debug.proofs.Reading.{debugged-read, broken-read}
@@ -41,7 +42,7 @@ answers-read (Ok (time delays program layouts chosen)) before after blank answer
 answers-read (Ok (orders layout program chosen)) before after blank answer shown closing h =
     orders-read _ before after answer (shown ++ closing) h
 answers-read (Ok (audit layout program trace)) before after blank answer shown closing h =
-    audited-read (audit_asked layout program trace) (audit_side before) (audit_side after) answer (shown ++ closing) h.0
+    audited-read (audit_asked layout program trace) (input_side_of before) (input_side_of after) answer (shown ++ closing) h.0
 answers-read (Ok (check layout)) before after blank answer shown closing h =
     check-read layout (side_of before) (side_of after) answer (shown ++ closing) h.0
 answers-read (Ok (asm source)) before after blank answer shown closing h =

@@ -8,7 +8,7 @@ use Rattle.cf_gen.specs.Program.{program_text}
 use Rattle.texts.specs.Lines.{counted_line}
 use Rattle.cli_arguments.specs.Words.{Asks, IsBadAt, Asked, machine, run, moves, rounds, orders, conform, debug, time, audit, check, asm, listing, gen, help, version, help_on}
 use Rattle.cli_machine.specs.Options.{chosen_of}
-use Rattle.cli_audit.specs.Audit.{AnswersAudit, audit_asked, audit_side}
+use Rattle.cli_audit.specs.Audit.{AnswersAudit, audit_asked}
 use Rattle.cli_conform.specs.Conform.{AnswersConform, conform_asked}
 use Rattle.cli_debug.specs.Debug.{AnswersDebug, BreaksDebug}
 use Rattle.cli_time.specs.Asked.{time_asked}
@@ -21,6 +21,7 @@ use Rattle.cli_check.specs.Check.{AnswersCheck}
 use Rattle.cli_gen.specs.Drawn.{AnswersDrawn, BreaksDrawn}
 use Rattle.cli_help.specs.Table.{help_text}
 use Rattle.cli_reports.specs.FileCommands.{PutsOrFails, side_of}
+use Rattle.cli_audit.specs.Effects.{input_side_of}
 use Rattle.cli_list.specs.Listings.{AnswersList}
 use Rattle.cli_orders.specs.Orders.{AnswersOrders, orders_asked}
 use Rattle.cfpp_cli.specs.NamedFiles.{files_named}
@@ -77,7 +78,7 @@ Answers (Ok (time delays program layouts chosen)) before after blank answer show
 Answers (Ok (orders layout program chosen)) before after blank answer shown closing =
     AnswersOrders (orders_asked layout program chosen) before after answer (shown ++ closing)
 Answers (Ok (audit layout program trace)) before after blank answer shown closing =
-    AnswersAudit (audit_asked layout program trace) (audit_side before) (audit_side after) answer (shown ++ closing)
+    AnswersAudit (audit_asked layout program trace) (input_side_of before) (input_side_of after) answer (shown ++ closing)
     × (after.streams.output ≡ before.streams.output)
 Answers (Ok (check layout)) before after blank answer shown closing =
     AnswersCheck layout (side_of before) (side_of after) answer (shown ++ closing)

@@ -7,7 +7,8 @@ use Rattle.cli_files.specs.Loading.{LacksLoaded}
 use Rattle.cli_files.specs.Reads.{layout_files, WereRead}
 use Rattle.cli_files.specs.declared.status.Status.{Status}
 use Rattle.cli_files.proofs.Reading.{AllRead, one-read, more-read, were-all, were-before, were-after, were-lacking, loaded-read, loaded-lacking}
-use Rattle.cli_audit.specs.Audit.{AuditAsked, AuditSide, ReadsTrace, StopsAtTrace, AnswersAudit}
+use Rattle.cli_audit.specs.Effects.{InputSide}
+use Rattle.cli_audit.specs.Audit.{AuditAsked, ReadsTrace, StopsAtTrace, AnswersAudit}
 use Rattle.cf_audit.specs.Limits.{most_trace}
 use Rattle.cli_audit.specs.Traces.{LacksTrace}
 
@@ -33,7 +34,7 @@ trace-stops asked a b answer report s =
     (loaded-read asked.layout asked.program a s.between s.plan s.hart s.loaded)
     (trace-lacking asked.trace s.between b answer report s.lacks)
 
-pub audited-read : (asked : AuditAsked) (before after : AuditSide) (answer : Status) (report : List ℕ) →
+pub audited-read : (asked : AuditAsked) (before after : InputSide) (answer : Status) (report : List ℕ) →
     AnswersAudit asked before after answer report → WereRead (audit_files asked) before.files after.files
 audited-read asked before after answer report (inl h) =
     were-all (audit_files asked) before.files after.files (trace-read asked before.files after.files h.plan h.hart h.text h.reads)

@@ -15,12 +15,12 @@ use Rattle.cf_audit.specs.Traces.{IsTrace, GoesWrong, StopsAtCall}
 use Rattle.texts.specs.Lines.{line}
 use Rattle.cli_arguments.specs.Words.{NamedLayout}
 use Rattle.cli_files.specs.Loading.{IsLoaded, LacksLoaded}
-use Rattle.cli_files.specs.Outside.{Outside}
 use Rattle.cli_files.specs.declared.status.Status.{Status}
 use Rattle.cli_files.specs.declared.status.Status.TheVariants as status
 use Rattle.report_refusals.specs.declared.faults.TraceFault.TheVariants as fault
 use Rattle.cli_files.specs.declared.status.Which.TheVariants as which
 use Rattle.report_refusals.specs.Traces.{bad_trace}
+use Rattle.cli_audit.specs.Effects.{InputSide}
 use Rattle.cli_audit.specs.Reports.{trace_of}
 use Rattle.cli_audit.specs.Traces.{IsTraceAt, LacksTrace}
 
@@ -32,17 +32,6 @@ pub record AuditAsked : Type 0 where
 
 abbrev pub audit_asked : NamedLayout → List ℕ → List ℕ → AuditAsked
 audit_asked layout program trace = record { layout = layout; program = program; trace = trace }
-
--- what `audit` deals with at one moment: the files, and what is left of the program's input
-pub record AuditSide : Type 0 where
-  pub files : Option FilesSeen
-  pub input : Option (List ℕ)
-
-abbrev pub side : Option FilesSeen → Option (List ℕ) → AuditSide
-side files input = record { files = files; input = input }
-
-abbrev pub audit_side : Outside → AuditSide
-audit_side outside = side outside.files outside.streams.input
 
 -- the status that says what an audit found
 abbrev pub audit_status : Audit → Status
@@ -133,7 +122,7 @@ pub record ReadsTrace (asked : AuditAsked) (before after : Option FilesSeen) (pl
   pub traced : IsTraceAt asked.trace between after text
 
 -- and this came of them
-pub record AuditsTrace (asked : AuditAsked) (before after : AuditSide) (answer : Status) (report : List ℕ) :
+pub record AuditsTrace (asked : AuditAsked) (before after : InputSide) (answer : Status) (report : List ℕ) :
     Type 0 where
   pub plan : Plan
   pub hart : Hart
@@ -151,13 +140,13 @@ pub record StopsAtTrace (asked : AuditAsked) (before after : Option FilesSeen) (
   pub lacks : LacksTrace asked.trace between after answer report
 
 -- one of them is missing, and the input was left alone
-pub record RefusesAudit (asked : AuditAsked) (before after : AuditSide) (answer : Status) (report : List ℕ) :
+pub record RefusesAudit (asked : AuditAsked) (before after : InputSide) (answer : Status) (report : List ℕ) :
     Type 0 where
   pub lacks : LacksLoaded asked.layout asked.program before.files after.files answer report
       ⊎ StopsAtTrace asked before.files after.files answer report
   pub input : after.input ≡ before.input
 
 -- the answer of `audit` and its report
-abbrev pub AnswersAudit : AuditAsked → AuditSide → AuditSide → Status → List ℕ → Type 0
+abbrev pub AnswersAudit : AuditAsked → InputSide → InputSide → Status → List ℕ → Type 0
 AnswersAudit asked before after answer report =
     AuditsTrace asked before after answer report ⊎ RefusesAudit asked before after answer report

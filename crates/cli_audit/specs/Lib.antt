@@ -1,3 +1,4 @@
 pub mod Audit
+pub mod Effects
 pub mod Reports
 pub mod Traces

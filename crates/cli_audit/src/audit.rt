@@ -1,12 +1,11 @@
 //! The command `audit`.
 #![tactic(auto, using(cf_run::proofs::Opened::opened_cores))]
 
-ghost use Rattle.std.specs.Prelude.{◌≡◌, ◌≤◌, length, Ok};
-ghost use Rattle.cf_io.specs.Causes.{HasCause};
+ghost use Rattle.std.specs.Prelude.{◌≡◌, ◌≤◌, length};
 ghost use Rattle.cli_arguments.specs.Views.{layout_of};
-ghost use Rattle.cli_files.specs.Causes.{files_answered, input_answered, output_answered};
 ghost use Rattle.cf_audit.specs.Limits.{most_trace};
-ghost use Rattle.cli_audit.specs.Audit.{audit_asked, side, AnswersAudit, ComesOfTrace, audit_status, audit_report};
+ghost use Rattle.cli_audit.specs.Audit.{audit_asked, AnswersAudit, ComesOfTrace, audit_status, audit_report};
+ghost use Rattle.cli_audit.specs.Effects.{AnswersByFileAndInput, AnswersByInput, input_side, input_side_faults};
 
 use crate::reports::trace_of;
 use crate::traces::trace_at;
@@ -43,11 +42,8 @@ fn answer_of(found: Audit) -> Answer
 fn audit_loaded<S: Source>(alloc: Global, loaded: Loaded, text: &[u8], input: &mut S) -> Answer
     requires count { loaded.machine.retired ≡ 0 }
     requires size { length text.now ≤ most_trace }
-    ensures comes { ComesOfTrace loaded.layout loaded.machine text.now (S.left input.old) (S.left input.new)
-        result.status result.closing }
-    ensures files { files_answered result.status ≡ Ok tt }
-    ensures input { HasCause (S.faults input.old) (S.faults input.new) (input_answered result.status) }
-    ensures output { output_answered result.status ≡ Ok tt }
+    ensures { AnswersByInput (ComesOfTrace loaded.layout loaded.machine text.now) (S.left input.old) (S.left input.new)
+        (S.faults input.old) (S.faults input.new) result }
 {
     match Core::new(alloc, loaded.layout, loaded.machine) {
         Ok(mut core) => answer_of(audit(&mut core, text, input)),
@@ -68,12 +64,9 @@ pub fn audit_trace<F: Files, S: Source>(
     files: &mut F,
     input: &mut S,
 ) -> Answer
-    ensures answers { AnswersAudit (audit_asked (layout_of layout.entry) program.now trace.now)
-        (side (F.told files.old) (S.left input.old)) (side (F.told files.new) (S.left input.new))
-        result.status result.closing }
-    ensures files { HasCause (F.faults files.old) (F.faults files.new) (files_answered result.status) }
-    ensures input { HasCause (S.faults input.old) (S.faults input.new) (input_answered result.status) }
-    ensures output { output_answered result.status ≡ Ok tt }
+    ensures { AnswersByFileAndInput (AnswersAudit (audit_asked (layout_of layout.entry) program.now trace.now))
+        (input_side (F.told files.old) (S.left input.old)) (input_side (F.told files.new) (S.left input.new))
+        (input_side_faults (F.faults files.old) (S.faults input.old)) (input_side_faults (F.faults files.new) (S.faults input.new)) result }
 {
     let loaded = match load(alloc, layout, program, files) {
         Ok(loaded) => loaded,
