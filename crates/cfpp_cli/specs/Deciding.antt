@@ -1,20 +1,16 @@
 -- What is decided from the arguments.
-use Rattle.std.specs.Prelude.{◌≡◌, ℕ, List, Bool, true, false, if◌then◌else◌, Result, Ok, Err}
+use Rattle.std.specs.Prelude.{◌≡◌, ℕ, List, Bool, true, false, if◌then◌else◌, Result}
 use Rattle.cf_io.specs.Causes.{HasCause}
 use Rattle.cf_io.specs.declared.failed.Failed.{Failed}
 use Rattle.cli_arguments.specs.Words.{Asked}
-use Rattle.cli_files.specs.Causes.{input_answered, reading_answered}
+use Rattle.cli_files.specs.Causes.{input_answered}
 use Rattle.cli_reports.specs.Reporting.{CarriesOut, FaultsReported, files_reported}
 use Rattle.cfpp_cli.specs.Top.{ReadsArguments, Answers, Breaks, input_is_file}
 use Rattle.cli_reports.specs.OutsideChanges.{OutsideChange}
 use Rattle.cli_reports.specs.declared.reporting.Reported.{Reported}
+use Rattle.cli_time.specs.Effects.{reading_reported}
 
--- an error where it was answered that a file, or the program's input, could not be read; where the report failed before, neither failed
-abbrev pub reading_reported : Result Reported Failed → Result (Unit {0}) (Unit {0})
-reading_reported (Ok reported) = reading_answered reported.status
-reading_reported (Err failed) = Ok tt
-
--- the same of files alone, unless the program's input is in a file too
+-- an error where it was answered that a file could not be read; a program's input that is in a file counts as one
 abbrev pub files_told : (is_file : Bool) → Result Reported Failed → Result (Unit {0}) (Unit {0})
 files_told is_file result = if is_file then reading_reported result else files_reported result
 

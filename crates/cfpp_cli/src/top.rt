@@ -22,7 +22,7 @@ use cli_help::help_on;
 use cli_list::list_program;
 use cli_machine::run_program;
 use cli_orders::search_program;
-use cli_reports::{Reported, RunStreams, put_answer, put_decided, put_text};
+use cli_reports::{Reported, RunStreams, put_answer, put_text};
 use cli_rounds::{RoundsOptions, run_in_rounds};
 use cli_run::{Tail, run_processor};
 use cli_time::compare_layouts;
@@ -145,18 +145,15 @@ fn decide<F: Files, S: Source, K: Sink, R: Sink>(
                 layouts,
                 options,
             },
-        ) => {
-            let decided = compare_layouts(
-                alloc,
-                delays,
-                program,
-                layouts,
-                options,
-                files,
-                streams.report,
-            );
-            put_decided(decided, streams.report)
-        }
+        ) => compare_layouts(
+            alloc,
+            delays,
+            program,
+            layouts,
+            options,
+            files,
+            streams.report,
+        ),
         Ok(
             Command::Orders {
                 layout,

@@ -1,6 +1,7 @@
 pub mod ClassNames
 pub mod Comparisons
 pub mod Counts
+pub mod Decided
 pub mod DelaysFound
 pub mod Listed
 pub mod Lists

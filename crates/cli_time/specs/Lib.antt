@@ -1,5 +1,6 @@
 pub mod Asked
 pub mod DelayFiles
+pub mod Effects
 pub mod InputFiles
 pub mod LayoutFiles
 pub mod Leasts

@@ -1,6 +1,6 @@
 //! The command `time`.
 
-ghost use Rattle.std.specs.Prelude.{◌≡◌, ◌≤◌, IfOk, MatchResult, Ok, length, map, string_bytes, vec_items};
+ghost use Rattle.std.specs.Prelude.{◌≡◌, ◌≤◌, ◌++◌, IfOk, MatchResult, Ok, length, map, string_bytes, vec_items};
 ghost use Rattle.run_options.specs.Limits.{most_timed_limit};
 ghost use Rattle.cf_io.specs.Causes.{HasCause};
 ghost use Rattle.cli_arguments.specs.Views.{times_view};
@@ -10,6 +10,7 @@ ghost use Rattle.cli_files.specs.Causes.{output_answered};
 ghost use Rattle.cli_files.specs.Deciding.{Decides, reading_decided};
 ghost use Rattle.cli_files.specs.Image.{IsProgramFile, opened};
 ghost use Rattle.cli_time.specs.Asked.{time_asked};
+ghost use Rattle.cli_time.specs.Effects.{CarriesOutOverFiles, files_and_report};
 ghost use Rattle.cli_time.specs.Runs.{PutsAll, TimingStops, report_stopped};
 ghost use Rattle.cli_time.specs.Times.{AnswersTime, BreaksTime, BreaksTimes, TimesOf};
 
@@ -25,6 +26,7 @@ use arrayvec::ArrayVec;
 use cf_io::{Failed, Files, Sink};
 use cli_arguments::TimeOptions;
 use cli_files::{Answer, done, no_memory};
+use cli_reports::{Reported, put_decided};
 use std::alloc::Global;
 
 /// Runs the program on each layout, and puts the lines of each as they come. The times are given, in the order of the layouts.
@@ -105,14 +107,8 @@ fn compare_ready<R: Sink>(
     Ok(done())
 }
 
-/// Carries out `time`: reads the delays, the one to eight layouts in their order, the program and, where the options name a file
-/// for it, the program's input, and runs the program on each layout, loaded anew and over the whole input, by the moves that are
-/// done first. The line of each is put to the report as it comes, with how the run
-/// ended, its time in ticks, and how many moves were made and instructions retired. Where the options say so, the lines of its
-/// moves stand before it, or what its time is made of after it. The last line names the first layout with the least time. An
-/// input that no file is named for is empty, and the program's output goes nowhere. Memory may be refused before the first move of each run, and then the
-/// lines of the earlier ones stand there. It fails where the report fails; nothing more is then put to it.
-pub fn compare_layouts<F: Files, R: Sink>(
+/// Reads the files that the arguments name, in their order, and compares.
+fn compare_files<F: Files, R: Sink>(
     alloc: Global,
     delays: &str,
     program: &str,
@@ -149,4 +145,35 @@ pub fn compare_layouts<F: Files, R: Sink>(
         ),
         Err(answer) => Ok(answer),
     }
+}
+
+/// Carries out `time`: reads the delays, the one to eight layouts in their order, the program and, where the options name a file
+/// for it, the program's input, and runs the program on each layout, loaded anew and over the whole input, by the moves that are
+/// done first. The line of each is put to the report as it comes, with how the run
+/// ended, its time in ticks, and how many moves were made and instructions retired. Where the options say so, the lines of its
+/// moves stand before it, or what its time is made of after it. The last line names the first layout with the least time. An
+/// input that no file is named for is empty, and the program's output goes nowhere. Memory may be refused before the first move of each run, and then the
+/// lines of the earlier ones stand there. It fails where the report fails; nothing more is then put to it.
+pub fn compare_layouts<F: Files, R: Sink>(
+    alloc: Global,
+    delays: &str,
+    program: &str,
+    layouts: &[String],
+    options: TimeOptions<'_>,
+    files: &mut F,
+    report: &mut R,
+) -> Result<Reported, Failed>
+    requires limit { options.limit ≤ most_timed_limit }
+    requires some { 1 ≤ length layouts.now }
+    requires few { length layouts.now ≤ 8 }
+    ensures { CarriesOutOverFiles
+        (λ before after answer shown closing. AnswersTime
+        (time_asked delays.now program.now (map layout_in (map string_bytes layouts.now)) (times_view options.entry))
+        before after answer (shown ++ closing))
+        (BreaksTime (time_asked delays.now program.now (map layout_in (map string_bytes layouts.now)) (times_view options.entry)))
+        (files_and_report (F.told files.old) (F.faults files.old) (R.written report.old) (R.faults report.old))
+        (files_and_report (F.told files.new) (F.faults files.new) (R.written report.new) (R.faults report.new)) result }
+{
+    let decided = compare_files(alloc, delays, program, layouts, options, files, report);
+    put_decided(decided, report)
 }

@@ -5,12 +5,11 @@ use Rattle.cli_arguments.specs.Words.{layout_in, machine, run, moves, rounds, or
 use Rattle.cli_arguments.specs.Views.{layout_of, schedule_view, times_view}
 use Rattle.cli_gen.specs.Drawn.{AnswersDrawn, BreaksDrawn}
 use Rattle.cli_files.specs.Causes.{output_answered}
-use Rattle.cli_files.specs.Outside.{report_of}
 use Rattle.cli_files.proofs.NoStreams.{no-cause}
 use Rattle.cli_time.specs.Asked.{time_asked}
 use Rattle.cli_time.specs.Times.{AnswersTime, BreaksTime}
-use Rattle.cli_reports.proofs.PutReports.{shows-none, decided-comes, decided-tells}
-use Rattle.cfpp_cli.proofs.Beside.{comes-beside, decided-reading, untouched}
+use Rattle.cli_reports.proofs.PutReports.{shows-none}
+use Rattle.cfpp_cli.proofs.Beside.{comes-beside, untouched}
 use Rattle.cfpp_cli.proofs.top.decide.Goals as goal
 
 pub returns-in-Ok-Machine-clause-decided : goal.returns-in-Ok-Machine-clause-decided
@@ -268,31 +267,22 @@ returns-in-Ok-Orders-clause-output g c = c.search_program.ensures.faults.output
 pub returns-in-Ok-Time-clause-decided : goal.returns-in-Ok-Time-clause-decided
 returns-in-Ok-Time-clause-decided g c =
     let o = c.in-Ok-Time.options in
-    let decided = c.compare_layouts-decided in
-    let put = c.put_decided in
+    let compared = c.compare_layouts in
     let layouts = map layout_in (map string_bytes c.in-Ok-Time.layouts.now) in
     let asked = time_asked c.in-Ok-Time.delays.now c.in-Ok-Time.program.now layouts (times_view o) in
     let reported = g.R.Sink.written in
-    let faults = g.R.Sink.faults in
     let before = g.F.Files.told c.args.files.now in
-    let after = g.F.Files.told decided.new.files in
+    let after = g.F.Files.told compared.new.files in
     let streams = streams_of (g.S.Source.left c.args.streams.input.now) (g.K.Sink.written c.args.streams.output.now) in
-    let blank = report_of (reported c.args.streams.report.now) (faults c.args.streams.report.now) in
-    let half = report_of (reported decided.new.report) (faults decided.new.report) in
-    let full = report_of (reported put.new.report) (faults put.new.report) in
     record {
       reading = Ok (time c.in-Ok-Time.delays.now c.in-Ok-Time.program.now layouts (times_view o));
       reads = rw c.in-Ok-Time.field-0-is at c.in-Ok-Time.ensures.answers;
       comes = comes-beside (λ answer shown closing. AnswersTime asked before after answer (shown ++ closing))
-          (BreaksTime asked before after blank.written full.written) (streams ≡ streams) blank full put.result refl
-          (decided-comes (λ answer report. AnswersTime asked before after answer report)
-          (λ told. BreaksTime asked before after blank.written told) blank half full decided.result put.result
-          decided.ensures.answers decided.ensures.report put.ensures);
-      files = rw (decided-reading _ _ decided.result put.result put.ensures) decided.ensures.files;
+          (BreaksTime asked before after (reported c.args.streams.report.now) (reported compared.new.report)) (streams ≡ streams) _ _
+          compared.result refl compared.ensures.comes;
+      files = compared.ensures.files;
       input = refl;
     }
 
 pub returns-in-Ok-Time-clause-output : goal.returns-in-Ok-Time-clause-output
-returns-in-Ok-Time-clause-output g c =
-    decided-tells output_answered _ _ _ _ c.compare_layouts-decided.result c.put_decided.result
-    (untouched output_answered _ _ c.compare_layouts-decided.ensures.output) c.put_decided.ensures
+returns-in-Ok-Time-clause-output g c = untouched output_answered _ c.compare_layouts.result c.compare_layouts.ensures.output

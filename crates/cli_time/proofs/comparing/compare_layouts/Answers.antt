@@ -1,37 +1,30 @@
-use Rattle.std.proofs.Common.{inl, inr, []}
-use Rattle.cf_io.proofs.Owing.{writes-nothing}
-use Rattle.cli_files.specs.Image.{opened}
-use Rattle.cli_time.proofs.Comparisons.{limit-chosen}
-use Rattle.cli_time.proofs.LayoutLists.{words-length}
-use Rattle.cli_time.proofs.NoStreams.{counts-file, lacks-file-says}
+use Rattle.std.proofs.Common.{map}
+use Rattle.std.specs.Prelude.{string_bytes}
+use Rattle.cli_arguments.specs.Views.{times_view}
+use Rattle.cli_arguments.specs.Words.{layout_in}
+use Rattle.cli_files.specs.Causes.{output_answered}
+use Rattle.cli_files.specs.Outside.{report_of}
+use Rattle.cli_reports.proofs.PutReports.{decided-comes}
+use Rattle.cli_time.specs.Asked.{time_asked}
+use Rattle.cli_time.specs.Times.{AnswersTime, BreaksTime}
+use Rattle.cli_time.proofs.Decided.{decided-reading, decided-works}
 use Rattle.cli_time.proofs.comparing.compare_layouts.Goals as goal
 
-pub compare_ready-requires-clause-limit : goal.compare_ready-requires-clause-limit
-compare_ready-requires-clause-limit g c = limit-chosen _ _ c.choices_by.ensures c.requires.limit
-
-pub compare_ready-requires-clause-words : goal.compare_ready-requires-clause-words
-compare_ready-requires-clause-words g c =
-    words-length c.args.layouts.now c.in-Ok.ready.layouts.items _ _ c.in-Ok.ensures.ready.laid.layouts
-
-pub returns-in-Err-clause-answers : goal.returns-in-Err-clause-answers
-returns-in-Err-clause-answers g c = ([], writes-nothing _, inr (inl c.in-Err.ensures.lacks))
-
-pub returns-in-Err-clause-files : goal.returns-in-Err-clause-files
-returns-in-Err-clause-files g c = counts-file _ _ _ _ _ c.in-Err.answer c.in-Err.ensures.lacks c.in-Err.ensures.faults
-
-pub returns-in-Err-clause-output : goal.returns-in-Err-clause-output
-returns-in-Err-clause-output g c = (lacks-file-says _ _ _ _ _ c.in-Err.ensures.lacks).output
-
-pub returns-clause-answers : goal.returns-clause-answers
-returns-clause-answers g c = (
-  [],
-  writes-nothing _,
-  inr (inr (record {
-    delays = c.in-Ok.ready.delays;
-    plans = c.in-Ok.ready.layouts.items;
-    hart = opened c.in-Ok.ready.image.items;
-    between = _;
-    read = c.in-Ok.ensures.ready;
-    lacks = c.in-Err-input_at.ensures.refused;
-  })),
-)
+pub returns : goal.returns
+returns g c =
+    let asked = time_asked c.args.delays.now c.args.program.now (map layout_in (map string_bytes c.args.layouts.now)) (times_view c.args.options) in
+    let decided = c.compare_files-decided in
+    let before = g.F.Files.told c.args.files.now in
+    let after = g.F.Files.told decided.new.files in
+    let written = g.R.Sink.written in
+    let faults = g.R.Sink.faults in
+    let blank = report_of (written c.args.report.now) (faults c.args.report.now) in
+    let half = report_of (written decided.new.report) (faults decided.new.report) in
+    let full = report_of (written c.put_decided.new.report) (faults c.put_decided.new.report) in
+    record {
+      comes = decided-comes (λ answer report. AnswersTime asked before after answer report)
+          (λ told. BreaksTime asked before after blank.written told) blank half full decided.result c.put_decided.result
+          decided.ensures.answers decided.ensures.report c.put_decided.ensures;
+      files = rw (decided-reading half full decided.result c.put_decided.result c.put_decided.ensures) decided.ensures.files;
+      output = decided-works output_answered half full decided.result c.put_decided.result decided.ensures.output c.put_decided.ensures;
+    }
