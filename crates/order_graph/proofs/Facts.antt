@@ -1,7 +1,7 @@
 -- What is known of a node that moves lead to.
-use Rattle.std.proofs.Common.{◌≡◌, ℕ, ◌+◌, ◌<◌, ◌≤◌, ◌^◌, List, Option, Some, None, refl, sym, ap, subst, ◌∙◌, arith}
+use Rattle.std.proofs.Common.{◌≡◌, ℕ, ◌+◌, ◌<◌, ◌≤◌, ◌^◌, List, None, Bool, true, false, refl, sym, ap, subst, ◌∙◌, arith}
 use Rattle.std.specs.List.{Contains}
-use Rattle.std.specs.Prelude.{MatchOption}
+use Rattle.std.specs.Prelude.{MatchBool}
 use Rattle.mem_regions.specs.Memory.{Memory}
 use Rattle.cf_bind.specs.declared.moves.Move.{Move}
 use Rattle.cf_semantics.specs.claims.Weight.{issues}
@@ -108,12 +108,12 @@ key_node t key is h =
     ap node_of h.is ∙ its_key t f.m f.issued h.node f.stands
 
 -- and it is read back
-pub key_missing : (t : OrderTrial) (key : List ℕ) (found : Option Node) → IsSoundTrial t → IsOrderKey t key →
-    MatchOption found (IsWhole (node_of key).situation → ⊥) (λ (n : Node). n ≡ node_of key) → found ≡ None → ⊥
-key_missing t key None is h m e = m (subst (λ (n : Node). IsWhole n.situation) (sym (key_node t key is h)) h.whole)
-key_missing t key (Some n) is h m e = absurd (cc)
+pub key_missing : (t : OrderTrial) (key : List ℕ) (found : Bool) (n : Node) → IsSoundTrial t → IsOrderKey t key →
+    MatchBool found (n ≡ node_of key) (IsWhole (node_of key).situation → ⊥) → found ≡ false → ⊥
+key_missing t key false n is h m e = m (subst (λ (k : Node). IsWhole k.situation) (sym (key_node t key is h)) h.whole)
+key_missing t key true n is h m e = absurd (cc)
 
-pub key_right : (t : OrderTrial) (key : List ℕ) (found : Option Node) (n : Node) → IsSoundTrial t → IsOrderKey t key →
-    MatchOption found (IsWhole (node_of key).situation → ⊥) (λ (k : Node). k ≡ node_of key) → found ≡ Some n → IsRightNode t n
-key_right t key None n is h m e = absurd (cc)
-key_right t key (Some k) n is h m e = let same : k ≡ n = cc in subst (IsRightNode t) (sym (key_node t key is h) ∙ sym m ∙ same) h.right
+pub key_right : (t : OrderTrial) (key : List ℕ) (found : Bool) (n : Node) → IsSoundTrial t → IsOrderKey t key →
+    MatchBool found (n ≡ node_of key) (IsWhole (node_of key).situation → ⊥) → found ≡ true → IsRightNode t n
+key_right t key false n is h m e = absurd (cc)
+key_right t key true n is h m e = subst (IsRightNode t) (sym (key_node t key is h) ∙ sym m) h.right

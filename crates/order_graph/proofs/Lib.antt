@@ -10,6 +10,7 @@ pub mod Places
 pub mod Facts
 pub mod Judgings
 pub mod Firsts
+pub mod Unready
 pub mod Trials
 pub mod EdgeFacts
 pub mod Wrongs

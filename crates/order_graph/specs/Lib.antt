@@ -9,3 +9,4 @@ pub mod Kinds
 pub mod TrialParts
 pub mod KeyGraph
 pub mod OrderAnswers
+pub mod ReadyStages

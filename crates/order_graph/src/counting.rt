@@ -10,7 +10,8 @@ use cf_bind::{Cell, Move};
 use order_keys::Node;
 
 /// Whether a result is in the stage.
-fn has_packet(cell: Option<Cell>) -> bool
+#[inline(always)]
+pub(crate) fn has_packet(cell: Option<Cell>) -> bool
     ensures { result ≡ is_result_in cell }
 {
     match cell {

@@ -1,20 +1,23 @@
 //! The moves that lead on from a node, made and judged.
 
 ghost use Rattle.std.specs.Option.{option_to_list};
-ghost use Rattle.std.specs.Prelude.{◌≡◌, ◌≤◌, map, take, IfNone, IfOk, OnOk};
+ghost use Rattle.std.specs.Prelude.{◌≡◌, ◌≤◌, map, not, take, IfNone, IfOk, OnOk};
 ghost use Rattle.std.specs.List.{All, Contains};
 ghost use Rattle.cf_semantics.specs.claims.Weight.{is_issue as issues};
+ghost use Rattle.cf_semantics.specs.state.Options.{is_some};
 ghost use Rattle.mem_changes.specs.Applied.{memory_after};
 ghost use Rattle.mem_changes.specs.Differing.{AreChangesOf};
 ghost use Rattle.order_claims.specs.MoveLists.{issued_with};
 ghost use Rattle.order_graph.specs.Kinds.{kind_by, kind_told};
-ghost use Rattle.order_graph.specs.KeyGraph.{IsOrderKey, IsOrderNode, IsRightNode, IsWrongAlong, IsWrongEdge, IsWrongFrom, IsWrongNode, IsWrongThere, edge_of, leads_from, memory_loaded, moves_from, node_next};
+ghost use Rattle.order_graph.specs.KeyGraph.{IsOrderKey, IsOrderNode, IsRightNode, IsWrongAlong, IsWrongEdge, IsWrongFrom, IsWrongNode, IsWrongThere, edge_of, leads_from, memory_loaded, moves_from, node_next, state_of};
 ghost use Rattle.order_keys.specs.Keys.{key_of};
 ghost use Rattle.order_keys.specs.Situations.{bare};
+ghost use Rattle.order_model.specs.RuleBars.{bar_without};
 ghost use Rattle.order_search.specs.Paths.{HasEdgeFault};
 ghost use Rattle.order_search.specs.Views.{IsJudged, TellsFault, seen};
 
 use crate::copying::{copy, copy_into};
+use crate::ready::is_ready;
 use crate::trial::{Trial, note_trial};
 use cf_bind::Move;
 use mem_regions::Regions;
@@ -156,16 +159,26 @@ fn is_issue(m: Move) -> bool
     matches!(m, Move::Issue(_))
 }
 
-/// Whether the move leads on from a node, in whose memory this is.
+/// Whether no row of the table bars the move in a node, in whose memory this is.
+fn is_allowed(trial: &Trial, mem: &Regions, node: &Node, m: Move) -> bool
+    requires { mem.now ≡ memory_after node.now.changes (memory_loaded trial.now) }
+    ensures { result ≡ not (is_some (bar_without trial.now.away trial.now.plan (state_of trial.now node.now) m)) }
+{
+    node.situation
+        .bar(trial.away, &trial.layout, mem, m)
+        .is_none()
+}
+
+/// Whether the move leads on from a node, in whose memory this is. What their stages hold rules out most moves.
+#[inline(always)]
+#[tactic(auto, using(crate::proofs::Unready::barred_unready))]
 fn leads_on(trial: &Trial, mem: &Regions, node: &Node, m: Move) -> bool
     requires { mem.now ≡ memory_after node.now.changes (memory_loaded trial.now) }
     ensures { result ≡ leads_from trial.now node.now m }
 {
-    (node.issues < trial.issues || !is_issue(m))
-        && node
-            .situation
-            .bar(trial.away, &trial.layout, mem, m)
-            .is_none()
+    is_ready(&node.situation, m)
+        && (node.issues < trial.issues || !is_issue(m))
+        && is_allowed(trial, mem, node, m)
 }
 
 /// The first of the moves that lead on from a node, in whose memory this is.
@@ -271,6 +284,7 @@ fn edge(
 }
 
 /// The moves that lead on from a node, in whose memory this is.
+#[tactic(auto, using(crate::proofs::Unready::moves_kept))]
 fn moves_on(
     alloc: Global,
     trial: &Trial,
@@ -281,22 +295,22 @@ fn moves_on(
     ensures { IfOk result (λ moves. moves.items ≡ moves_from trial.now node.now) }
 {
     note_trial(trial);
-    node.situation.candidates(
-        alloc,
-        trial.away,
-        &trial.layout,
-        mem,
-        &trial.moves,
-        node.issues < trial.issues,
-    )
+    let mut moves = Vec::new(alloc);
+    for m in &trial.moves {
+        if leads_on(trial, mem, node, *m) {
+            moves.push(*m)?;
+        }
+    }
+    Ok(moves)
 }
 
-/// The edges of a node, whose memory this is, and which is left as it is.
+/// The edges of a node, whose memory this is, and which is left as it is; each move is made in the next node.
 pub(crate) fn edges_of(
     alloc: Global,
     trial: &Trial,
     mem: &mut Regions,
     node: &Node,
+    next: &mut Node,
 ) -> Result<Vec<Edge<Move, WrongKind>>, AllocError>
     requires node { IsRightNode trial.now node.now }
     requires memory { mem.old ≡ memory_after node.now.changes (memory_loaded trial.now) }
@@ -306,10 +320,9 @@ pub(crate) fn edges_of(
     ensures keys { IfOk result (λ edges. All (λ edge. IfNone edge.fault (IsOrderKey trial.now edge.node.items)) edges.items) }
 {
     let moves = moves_on(alloc, trial, mem, node)?;
-    let mut next = copy(alloc, node)?;
     let mut edges = Vec::with_capacity(alloc, moves.len())?;
     for m in &moves {
-        let judged = edge(alloc, trial, mem, node, *m, &mut next)?;
+        let judged = edge(alloc, trial, mem, node, *m, next)?;
         edges.push(judged)?;
     }
     Ok(edges)

@@ -2,38 +2,88 @@
 
 ghost use Rattle.std.specs.Prelude.{◌≡◌, ◌<◌, ◌^◌, map, length, IfNone, IfOk, OnOk};
 ghost use Rattle.std.specs.List.{All};
-ghost use Rattle.mem_changes.specs.Differing.{AreChangesOf};
-ghost use Rattle.order_graph.specs.KeyGraph.{IsOrderKey, IsRightNode, memory_loaded};
-ghost use Rattle.order_keys.specs.Keys.{node_of as node_with};
+ghost use Rattle.order_graph.specs.KeyGraph.{IsOrderKey, IsRightNode, IsWrongEdge, IsWrongNode, edges_from, memory_loaded};
+ghost use Rattle.order_keys.specs.Keys.{node_of};
+ghost use Rattle.order_search.specs.Paths.{HasEdgeFault};
+ghost use Rattle.order_search.specs.Views.{IsJudged, seen};
 
 use crate::edges::edges_of;
 use crate::trial::{Trial, note_trial};
 use cf_bind::Move;
 use mem_regions::Regions;
 use order_claims::WrongKind;
-use order_keys::{Node, read_key};
+use order_keys::Node;
 use order_search::{Edge, Graph};
 use std::alloc::{AllocError, Global};
+use std::marker::Model;
+
+/// Two nodes whose memory serves again: the one whose edges are asked for, and the one to which each of its moves leads in
+/// turn. What they hold between two calls is seen by no contract.
+#[derive(Drop)]
+pub(crate) struct Scratch {
+    node: Node,
+    next: Node,
+}
+
+impl Model for Scratch {
+    ghost Value = { Unit {0} };
+
+    ghost view = { λ scratch. tt };
+}
+
+impl Scratch {
+    /// Two nodes of no stage.
+    pub(crate) fn new(alloc: Global) -> Scratch {
+        Scratch {
+            node: Node::blank(alloc),
+            next: Node::blank(alloc),
+        }
+    }
+}
 
 /// A trial, and the memory in which its moves are made, which is as it was loaded between two calls.
 #[derive(Drop)]
 pub struct OrderGraph {
     pub(crate) trial: Trial,
     pub(crate) mem: Regions,
+    pub(crate) scratch: Scratch,
 }
 
-/// The node with the key.
-fn node_of(alloc: Global, trial: &Trial, key: &[u8]) -> Result<Node, AllocError>
+/// Makes a node the one with the key.
+fn read_node(alloc: Global, trial: &Trial, key: &[u8], node: &mut Node) -> Result<(), AllocError>
     requires { IsOrderKey trial.now key.now }
-    ensures node { IfOk result (λ node. node ≡ node_with key.now) }
-    ensures right { IfOk result (IsRightNode trial.now) }
+    ensures node { OnOk result (node.new ≡ node_of key.now) }
+    ensures right { OnOk result (IsRightNode trial.now node.new) }
 {
     note_trial(trial);
-    let found = read_key(alloc, key)?;
-    match found {
-        Some(node) => Ok(node),
-        None => unreachable!(),
-    }
+    let is_read = node.read(alloc, key)?;
+    if is_read { Ok(()) } else { unreachable!() }
+}
+
+/// The edges of the node with the key, in a memory that is as it was loaded, and is left so; the node is read into one of the two
+/// nodes, and its moves are made in the other.
+fn edges_at(
+    alloc: Global,
+    trial: &Trial,
+    mem: &mut Regions,
+    key: &[u8],
+    node: &mut Node,
+    next: &mut Node,
+) -> Result<Vec<Edge<Move, WrongKind>>, AllocError>
+    requires key { IsOrderKey trial.now key.now }
+    requires memory { mem.old ≡ memory_loaded trial.now }
+    ensures kept { OnOk result (mem.new ≡ mem.old) }
+    ensures edges { IfOk result (λ edges. map seen edges.items ≡ edges_from trial.now key.now) }
+    ensures few { IfOk result (λ edges. length edges.items < 2 ^ 32) }
+    ensures faults { IfOk result (λ edges. All (IsJudged (HasEdgeFault (IsWrongEdge trial.now) (IsWrongNode trial.now) key.now)) edges.items) }
+    ensures keys { IfOk result (λ edges. All (λ edge. IfNone edge.fault (IsOrderKey trial.now edge.node.items)) edges.items) }
+{
+    note_trial(trial);
+    read_node(alloc, trial, key, node)?;
+    node.changes.apply(&trial.image, mem);
+    let edges = edges_of(alloc, trial, mem, &*node, next)?;
+    node.changes.take_back(&trial.image, mem);
+    Ok(edges)
 }
 
 impl Graph for OrderGraph {
@@ -56,11 +106,13 @@ impl Graph for OrderGraph {
         alloc: Global,
         key: &[u8],
     ) -> Result<Vec<Edge<Move, WrongKind>>, AllocError> {
-        note_trial(&self.trial);
-        let node = node_of(alloc, &self.trial, key)?;
-        node.changes.apply(&self.trial.image, &mut self.mem);
-        let edges = edges_of(alloc, &self.trial, &mut self.mem, &node)?;
-        node.changes.take_back(&self.trial.image, &mut self.mem);
-        Ok(edges)
+        edges_at(
+            alloc,
+            &self.trial,
+            &mut self.mem,
+            key,
+            &mut self.scratch.node,
+            &mut self.scratch.next,
+        )
     }
 }

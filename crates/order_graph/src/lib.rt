@@ -8,6 +8,7 @@ mod edges;
 mod found;
 mod graph;
 mod reached;
+mod ready;
 mod replaying;
 mod searching;
 mod trial;

@@ -83,7 +83,12 @@ pub(crate) fn wrong_order(
     ensures kind { IfOk result (λ w. w.kind ≡ kind) }
     ensures shows { IfOk result (λ w. ShowsWrong graph.trial moves.items w.reached w.counts w.seen w.wanted) }
 {
-    let OrderGraph { trial, mut mem } = graph;
+    let OrderGraph {
+        trial,
+        mut mem,
+        scratch,
+    } = graph;
+    drop(scratch);
     note_trial(&trial);
     let count = moves.len() - 1;
     let last = moves[count];

@@ -10,7 +10,7 @@ ghost use Rattle.order_search.specs.SearchAnswers.{AnswersOf};
 
 use crate::edges::note_bare;
 use crate::found::OrdersFound;
-use crate::graph::OrderGraph;
+use crate::graph::{OrderGraph, Scratch};
 use crate::reached::OrdersReached;
 use crate::replaying::wrong_order;
 use crate::trial::{Trial, note_trial};
@@ -139,7 +139,11 @@ pub fn search_loosely(
 {
     let start = first_of(alloc, layout, &image, &machine)?;
     let trial = Trial::new(alloc, layout, image, machine, away, issues)?;
-    let mut graph = OrderGraph { trial, mem };
+    let mut graph = OrderGraph {
+        trial,
+        mem,
+        scratch: Scratch::new(alloc),
+    };
     let first = write_key(alloc, &start)?;
     let answer = search(alloc, &mut graph, first, most)?;
     answered(alloc, graph, start, most, answer)
