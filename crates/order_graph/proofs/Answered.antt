@@ -80,7 +80,7 @@ known_keys t mem nodes all k d within = (all k d within).1
 
 pub found_counted : (t : OrderTrial) (mem : Memory) (bound : ℕ) (n : Node) (r : ReachedGraph) → IsSoundTrial t → mem ≡ memory_loaded t → n ≡ first_node t →
     IsReachedGraph (IsNodeIn t mem) (edges_from t) (IsWrongEdge t) (IsWrongNode t) (key_of n) bound r →
-    IsCountOf t bound (record { graph = record { trial = t; mem = mem }; reached = r })
+    IsCountOf t bound (record { graph = record { trial = t; mem = mem; scratch = tt }; reached = r })
 found_counted t mem bound n r is loaded e x =
     let y = subst (λ (k : Node). IsReachedGraph (IsNodeIn t mem) (edges_from t) (IsWrongEdge t) (IsWrongNode t) (key_of k) bound r) e x in
     record {

@@ -124,22 +124,23 @@ one_more : {A : Type 0} (passes : A → Bool) (xs : List A) (i : ℕ) (d : A) �
     filter passes (take (suc i) xs) ≡ filter passes (take i xs) ++ get_or xs i d ∷ []
 one_more passes [] i d within e = absurd (omega (arith, within))
 one_more passes (x ∷ xs) zero d within e = rw e refl
-one_more passes (x ∷ xs) (suc i) d within e = by (passes x) refl
+one_more passes (x ∷ xs) (suc i) d within e = by (one_more passes xs i d (omega (arith, within)) e) (passes x) refl
   where
-    by : (first : Bool) → passes x ≡ first →
+    by : filter passes (take (suc i) xs) ≡ filter passes (take i xs) ++ get_or xs i d ∷ [] → (first : Bool) → passes x ≡ first →
         filter passes (x ∷ take (suc i) xs) ≡ filter passes (x ∷ take i xs) ++ get_or xs i d ∷ []
-    by true q = rw q (ap (λ l. x ∷ l) (one_more passes xs i d (omega (arith, within)) e))
-    by false q = rw q (one_more passes xs i d (omega (arith, within)) e)
+    by rest true q = rw q (ap (λ l. x ∷ l) rest)
+    by rest false q = rw q rest
 
 no_more : {A : Type 0} (passes : A → Bool) (xs : List A) (i : ℕ) (d : A) → i < length xs → passes (get_or xs i d) ≡ false →
     filter passes (take (suc i) xs) ≡ filter passes (take i xs)
 no_more passes [] i d within e = absurd (omega (arith, within))
 no_more passes (x ∷ xs) zero d within e = rw e refl
-no_more passes (x ∷ xs) (suc i) d within e = by (passes x) refl
+no_more passes (x ∷ xs) (suc i) d within e = by (no_more passes xs i d (omega (arith, within)) e) (passes x) refl
   where
-    by : (first : Bool) → passes x ≡ first → filter passes (x ∷ take (suc i) xs) ≡ filter passes (x ∷ take i xs)
-    by true q = rw q (ap (λ l. x ∷ l) (no_more passes xs i d (omega (arith, within)) e))
-    by false q = rw q (no_more passes xs i d (omega (arith, within)) e)
+    by : filter passes (take (suc i) xs) ≡ filter passes (take i xs) → (first : Bool) → passes x ≡ first →
+        filter passes (x ∷ take (suc i) xs) ≡ filter passes (x ∷ take i xs)
+    by rest true q = rw q (ap (λ l. x ∷ l) rest)
+    by rest false q = rw q rest
 
 taken_all : {A : Type 0} (xs : List A) (i : ℕ) → length xs ≤ i → take i xs ≡ xs
 taken_all [] zero h = refl
