@@ -1,5 +1,5 @@
 -- What comes of the lines of all layouts, and of the line after them.
-use Rattle.std.proofs.Common.{◌≡◌, ◌∙◌, ◌≤◌, sym, ap, subst, ℕ, List, [], ◌++◌, append-nil, Option, Some, Result, Ok, Err, inl, inr}
+use Rattle.std.proofs.Common.{◌≡◌, ◌∙◌, ◌≤◌, sym, ap, subst, ℕ, List, [], ◌++◌, append-nil, Option, Some, Result, Ok, Err, inl, inr, arith}
 use Rattle.cf_timed.specs.declared.span.Span.{Span}
 use Rattle.std.specs.Prelude.{codes, slice_get}
 use Rattle.std.specs.Result.{IsErr}
@@ -101,17 +101,17 @@ times-named {T = T} {E = E} words options delays plans start blank told full i j
 
 -- memory was refused before that
 pub times-fewer : (words : List NamedLayout) (options : RunChoices) (delays : List Span) (plans : List Plan) (start : Machine) (blank full : Option (List ℕ))
-    (answer : Answer) → PutsFewer words options delays plans start blank full →
+    (place : ℕ) (answer : Answer) → PutsFewer words options delays plans start blank full place →
     answer.status ≡ status.NoMemory → answer.closing ≡ line (codes "no memory") →
     Decides (TimesOf words options delays plans start) (BreaksTimes words options delays plans start blank full) blank full (Ok answer)
-times-fewer words options delays plans start blank full answer h is closed =
+times-fewer words options delays plans start blank full place answer h is closed =
     let text : List ℕ = time_lines options.limit words h.measured in (
       text,
       h.put,
       inr (record {
         measured = h.measured;
         each = h.each;
-        fewer = h.fewer;
+        fewer = omega (arith, h.count, h.there);
         status_is = is;
         reports = ap (λ (rest : List ℕ). text ++ rest) closed;
       }),

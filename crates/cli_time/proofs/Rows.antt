@@ -121,11 +121,12 @@ rows-all words options delays plans start blank told before now place times h en
 pub rows-fewer : (words : List NamedLayout) (options : RunChoices) (delays : List Span) (plans : List Plan) (start : Machine)
     (blank told : Option (List ℕ)) (before now : ℕ) (place : ℕ) (times : List ℕ) →
     RowsPut words options delays plans start blank told before now place times → place < length plans →
-    PutsFewer words options delays plans start blank told
+    PutsFewer words options delays plans start blank told place
 rows-fewer words options delays plans start blank told before now place times h below = record {
   measured = h.measured;
   each = h.each;
-  fewer = let k = h.count in omega (arith, k, below);
+  there = below;
+  count = h.count;
   put = h.put;
 }
 
@@ -173,10 +174,10 @@ rows-cut words options delays plans start blank told full before now place times
 pub rows-stop : (words : List NamedLayout) (options : RunChoices) (delays : List Span) (plans : List Plan) (start : Machine)
     (blank told full : Option (List ℕ)) (before now : ℕ) (place : ℕ) (times : List ℕ) (plan : Plan) (stops : Stop) →
     RowsPut words options delays plans start blank told before now place times → place < length plans → slice_get plans place ≡ Some plan →
-    MeasuringStops delays options plan start told full stops → TimingStops words options delays plans start blank full stops
-rows-stop words options delays plans start blank told full before now place times plan stop.NoMemory h below at_plan same =
-    rows-fewer words options delays plans start blank full before now place times
-    (rw same (record { measured = h.measured; each = h.each; count = h.count; times_are = h.times_are; put = h.put; still = h.still })) below
+    MeasuringStops place delays options plan start told full stops → TimingStops words options delays plans start blank full stops
+rows-stop words options delays plans start blank told full before now place times plan (stop.NoMemory at) h below at_plan (here, same) =
+    subst (PutsFewer words options delays plans start blank full) (sym here) (rows-fewer words options delays plans start blank full before now place times
+    (rw same (record { measured = h.measured; each = h.each; count = h.count; times_are = h.times_are; put = h.put; still = h.still })) below)
 rows-stop words options delays plans start blank told full before now place times plan stop.Failed h below at_plan cut =
     rows-cut words options delays plans start blank told full before now place times plan h at_plan cut
 

@@ -24,23 +24,24 @@ pub record PutsAll (words : List NamedLayout) (options : RunChoices) (delays : L
   pub times_are : times ≡ map (λ m. m.measured.time) measured
   pub put : Writes blank full (time_lines options.limit words measured)
 
--- memory was refused before the first move of a run
+-- memory was refused before the first move of the run on the layout with this index; each layout before it has its line
 pub record PutsFewer (words : List NamedLayout) (options : RunChoices) (delays : List Span) (plans : List Plan) (start : Machine)
-    (blank full : Option (List ℕ)) : Type 0 where
+    (blank full : Option (List ℕ)) (place : ℕ) : Type 0 where
   pub measured : List TakenRun
   pub each : MeasuresFirst delays options start plans measured
-  pub fewer : length measured < length plans
+  pub there : place < length plans
+  pub count : length measured ≡ place
   pub put : Writes blank full (time_lines options.limit words measured)
 
 -- why there is not a line for each
 abbrev pub TimingStops : List NamedLayout → RunChoices → List Span → List Plan → Machine → Option (List ℕ) → Option (List ℕ) → Stop → Type 0
-TimingStops words options delays plans start blank full stop.NoMemory = PutsFewer words options delays plans start blank full
+TimingStops words options delays plans start blank full (stop.NoMemory place) = PutsFewer words options delays plans start blank full place
 TimingStops words options delays plans start blank full stop.Failed = BreaksAtLayout words options delays plans start blank full
 
 -- an error where the report failed
 abbrev pub report_stopped : {T : Type 0} → Result T Stop → Result (Unit {0}) (Unit {0})
 report_stopped (Ok times) = Ok tt
-report_stopped (Err stop.NoMemory) = Ok tt
+report_stopped (Err (stop.NoMemory place)) = Ok tt
 report_stopped (Err stop.Failed) = Err tt
 
 -- a run of an opened processor was measured, and the report got the lines of its moves where these are shown
@@ -55,7 +56,7 @@ pub record PutsMoves (delays : List Span) (options : RunChoices) (plan : Plan) (
   pub measures : Measures delays options plan start (record { measured = measured; shown = shown })
   pub put : Writes blank full shown
 
--- why it was not measured: memory was refused, or the report failed
-abbrev pub MeasuringStops : List Span → RunChoices → Plan → Machine → (blank full : Option (List ℕ)) → Stop → Type 0
-MeasuringStops delays options plan start blank full stop.NoMemory = full ≡ blank
-MeasuringStops delays options plan start blank full stop.Failed = BreaksTaking (rule_by delays options) options (opened plan start.hart) start.rest blank full
+-- why the layout with this index was not measured: memory was refused for its run, or the report failed
+abbrev pub MeasuringStops : (place : ℕ) → List Span → RunChoices → Plan → Machine → (blank full : Option (List ℕ)) → Stop → Type 0
+MeasuringStops place delays options plan start blank full (stop.NoMemory at) = (at ≡ place) × (full ≡ blank)
+MeasuringStops place delays options plan start blank full stop.Failed = BreaksTaking (rule_by delays options) options (opened plan start.hart) start.rest blank full

@@ -29,7 +29,8 @@ use cli_files::{Answer, done, no_memory};
 use cli_reports::{Reported, put_decided};
 use std::alloc::Global;
 
-/// Runs the program on each layout, and puts the lines of each as they come. The times are given, in the order of the layouts.
+/// Runs the program on each layout, and puts the lines of each before the next run begins. The times are given, in the order of
+/// the layouts.
 fn time_each<R: Sink>(
     alloc: Global,
     ready: &ReadyTimes,
@@ -53,15 +54,7 @@ fn time_each<R: Sink>(
     let layouts = ready.layouts.as_slice();
     let mut times = ArrayVec::new();
     for place in 0..layouts.len() {
-        let measured = match measure(
-            alloc,
-            ready.image.as_slice(),
-            &layouts[place],
-            ready.delays,
-            options,
-            input,
-            report,
-        ) {
+        let measured = match measure(alloc, ready, place, &layouts[place], options, input, report) {
             Ok(measured) => measured,
             Err(stop) => return Err(stop),
         };
@@ -99,7 +92,7 @@ fn compare_ready<R: Sink>(
 {
     let times = match time_each(alloc, ready, input, words, options, report) {
         Ok(times) => times,
-        Err(Stop::NoMemory) => return Ok(no_memory()),
+        Err(Stop::NoMemory(_)) => return Ok(no_memory()),
         Err(Stop::Failed) => return Err(Failed),
     };
     let least = first_least(times.as_slice());

@@ -1,6 +1,6 @@
 //! What is measured of a run.
 
-ghost use Rattle.std.specs.Prelude.{◌≡◌, ◌≤◌, [], IfOk, MatchResult, Some};
+ghost use Rattle.std.specs.Prelude.{◌≡◌, ◌≤◌, [], IfOk, MatchResult, Some, vec_items};
 ghost use Rattle.run_options.specs.Limits.{most_timed_limit};
 ghost use Rattle.cf_io.specs.Causes.{HasCause};
 ghost use Rattle.cf_run.specs.Headline.{machine_on};
@@ -14,12 +14,13 @@ ghost use Rattle.run_options.specs.declared.time_show.TimeShow.TheVariants as sh
 
 use crate::choices::RunChoices;
 use crate::guest_input::GuestInput;
+use crate::reading::ReadyTimes;
 use crate::stop::Stop;
 use cf_core::Core;
 use cf_index::Candidates;
 use cf_io::{Failed, Nowhere, Sink};
 use cf_layout::Layout;
-use cf_timed::{Clock, Delays, Timed, run_shown, run_timed};
+use cf_timed::{Clock, Timed, run_shown, run_timed};
 use cli_files::open_again;
 use run_ledger::{Breakdown, RunLedger, run_noted};
 use run_options::TimeShow;
@@ -193,30 +194,32 @@ fn load(alloc: Global, image: &[u8], layout: &Layout) -> Result<LoadedCore, Allo
     Ok(LoadedCore { core, candidates })
 }
 
-/// Loads the program anew, and runs it on the processor of a layout by the moves that are done first, over the whole of this
-/// input and with its output nowhere. A ledger is kept where it is shown what the time is made of; where the moves are shown,
+/// Loads the program anew, and runs it on the processor of the layout with this index by the moves that are done first, over
+/// the whole of this input and with its output nowhere. A ledger is kept where it is shown what the time is made of; where the moves are shown,
 /// the report gets their lines. Memory may be refused, before the first move; nothing is put to the report then.
 pub(crate) fn measure<R: Sink>(
     alloc: Global,
-    image: &[u8],
+    ready: &ReadyTimes,
+    place: usize,
     layout: &Layout,
-    delays: Delays,
     options: RunChoices,
     input: &[u8],
     report: &mut R,
 ) -> Result<Measured, Stop>
     requires limit { options.limit ≤ most_timed_limit }
-    requires program { IsProgramFile image.now }
+    requires program { IsProgramFile (vec_items ready.now.image) }
     ensures measured { MatchResult result
-        (PutsMoves delays options layout.now (machine_on (opened image.now) input.now) (R.written report.old) (R.written report.new))
-        (MeasuringStops delays options layout.now (machine_on (opened image.now) input.now) (R.written report.old) (R.written report.new)) }
+        (PutsMoves ready.now.delays options layout.now (machine_on (opened (vec_items ready.now.image)) input.now)
+        (R.written report.old) (R.written report.new))
+        (MeasuringStops place ready.now.delays options layout.now (machine_on (opened (vec_items ready.now.image)) input.now)
+        (R.written report.old) (R.written report.new)) }
     ensures cause { HasCause (R.faults report.old) (R.faults report.new) (report_stopped result) }
 {
-    let Ok(loaded) = load(alloc, image, layout) else {
-        return Err(Stop::NoMemory);
+    let Ok(loaded) = load(alloc, ready.image.as_slice(), layout) else {
+        return Err(Stop::NoMemory(place));
     };
     let mut loaded = loaded;
-    let clock = Clock::new(layout, delays, options.seed);
+    let clock = Clock::new(layout, ready.delays, options.seed);
     match take_run(
         &mut loaded.core,
         &mut loaded.candidates,

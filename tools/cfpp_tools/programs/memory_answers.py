@@ -19,12 +19,12 @@ from ..program import TOP
 MADE = re.compile(r"\bNoMemory\b|\bAllocError\b|\bno_memory\(\)|\brefuse_memory\(\)")
 # Where none is made: declarations, patterns on the left of an arrow, the text of a report, the number of a status.
 OTHER = re.compile(
-    r"^\s*(//|use |ghost |ensures|requires|impl |fn |pub |NoMemory,|\})"
+    r"^\s*(//|use |ghost |ensures|requires|impl |fn |pub |NoMemory(\(usize\))?,|\})"
     r"|NoMemory => (page\.push|push_variant|\d)|-> |^\s*\w+: Result<|matches!"
 )
 # A call that asks for memory failed, or answered that there is none.
 REFUSED = re.compile(
-    r"Err\((_|AllocError|error)\) =>|NoMemory\) =>|is_err\(\)|else \{|From<AllocError>|From<NoMemory>|is_memory\(\)"
+    r"Err\((_|AllocError|error)\) =>|NoMemory(\(_\))?\) =>|is_err\(\)|else \{|From<AllocError>|From<NoMemory>|is_memory\(\)"
     r"|OutOfMemory|fn no_memory|fn refuse_memory|lacks_memory\(|fn from\(|TryReserve"
 )
 

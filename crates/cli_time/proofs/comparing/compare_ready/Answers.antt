@@ -5,7 +5,7 @@ use Rattle.cli_time.proofs.comparing.compare_ready.Goals as goal
 
 pub returns-in-Err-NoMemory-clause-comes : goal.returns-in-Err-NoMemory-clause-comes
 returns-in-Err-NoMemory-clause-comes g c =
-    times-fewer _ _ _ _ _ _ _ c.no_memory.result (rw c.in-Err-NoMemory.field-0-is at c.in-Err-NoMemory.ensures.put)
+    times-fewer _ _ _ _ _ _ _ _ c.no_memory.result (rw c.in-Err-NoMemory.field-0-is at c.in-Err-NoMemory.ensures.put)
     c.no_memory.ensures.status c.no_memory.ensures.closing
 
 pub returns-in-Err-Failed-clause-comes : goal.returns-in-Err-Failed-clause-comes

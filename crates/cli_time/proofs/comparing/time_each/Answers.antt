@@ -13,7 +13,7 @@ loop-place-preserved g c =
     c.put_layout.result c.is_err.result c.loop-place.invariant c.word_at.ensures
     (plan-at c.args.words.now c.args.ready.now.layouts.items _ c.loop-place.place _ _ c.word_at.ensures c.requires.words
     c.as_slice-layouts.ensures.value c.index-layouts-place.is)
-    (rw c.as_slice.ensures.value at c.in-Ok.ensures.measured) c.in-Ok.ensures.cause.still c.put_layout.ensures c.is_err.ensures.value c.if-is_err.false
+    c.in-Ok.ensures.measured c.in-Ok.ensures.cause.still c.put_layout.ensures c.is_err.ensures.value c.if-is_err.false
     c.push.ensures.items
 
 pub returns-in-Err-clause-put : goal.returns-in-Err-clause-put
@@ -23,7 +23,7 @@ returns-in-Err-clause-put g c =
     (omega (arith, c.loop-place-test.true, size))
     (plan-there c.args.ready.now.layouts.items _ c.loop-place.place _ (omega (arith, c.loop-place-test.true, size))
     c.as_slice-layouts.ensures.value c.index-layouts-place.is)
-    (rw c.as_slice.ensures.value at c.in-Err.ensures.measured)
+    c.in-Err.ensures.measured
 
 pub returns-in-Err-clause-cause : goal.returns-in-Err-clause-cause
 returns-in-Err-clause-cause g c = rows-stopped _ _ _ c.in-Err.stop c.loop-place.invariant.still c.in-Err.ensures.cause
@@ -34,7 +34,7 @@ returns-then-is_err-clause-put g c =
     c.put_layout.result c.is_err.result c.loop-place.invariant c.word_at.ensures
     (plan-at c.args.words.now c.args.ready.now.layouts.items _ c.loop-place.place _ _ c.word_at.ensures c.requires.words
     c.as_slice-layouts.ensures.value c.index-layouts-place.is)
-    (rw c.as_slice.ensures.value at c.in-Ok.ensures.measured) c.put_layout.ensures c.is_err.ensures.value c.if-is_err.true
+    c.in-Ok.ensures.measured c.put_layout.ensures c.is_err.ensures.value c.if-is_err.true
 
 pub returns-then-is_err-clause-cause : goal.returns-then-is_err-clause-cause
 returns-then-is_err-clause-cause g c =
