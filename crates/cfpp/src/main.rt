@@ -2,6 +2,7 @@
 #![tactic(auto)]
 
 use cf_io::{DirFiles, StdSink, StdSource};
+use cf_report::Gathered;
 use cfpp_cli::cfpp;
 use std::io::{self, ErrorKind};
 use std::process::ExitCode;
@@ -29,7 +30,7 @@ fn main(rt: HostRuntime) -> ExitCode {
     let mut files = DirFiles::new(&rt);
     let mut input = StdSource::new(rt.stdin());
     let mut output = StdSink::new(rt.stdout());
-    let mut report = StdSink::new(rt.stderr());
+    let mut report = Gathered::new(StdSink::new(rt.stderr()));
     let status = cfpp(
         rt.alloc(),
         words.as_slice(),

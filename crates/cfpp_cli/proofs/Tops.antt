@@ -1,12 +1,14 @@
 -- What was decided from the arguments is what the top call does.
-use Rattle.std.proofs.Common.{◌≡◌, ◌⊎◌, ℕ, List, Bool, true, false, Result, Ok, Err, refl, inl, inr, arith}
+use Rattle.std.proofs.Common.{◌≡◌, ◌∙◌, ◌⊎◌, ℕ, List, Bool, true, false, Option, Result, Ok, Err, refl, subst, inl, inr, arith}
 use Rattle.cf_io.specs.Causes.{HasCause, Rose}
-use Rattle.cf_io.specs.Puts.{Writes, WritesFront}
+use Rattle.cf_io.specs.Puts.{Writes, WritesNothing}
+use Rattle.cf_report.specs.Putting.{WritesPart}
+use Rattle.cf_report.proofs.Parts.{part-front, part-whole, text-before}
 use Rattle.cf_io.specs.declared.failed.Failed.{Failed}
 use Rattle.cli_arguments.specs.Words.{Asked}
 use Rattle.cli_files.specs.Causes.{files_answered, input_answered, output_answered, reading_answered}
 use Rattle.cfpp_cli.specs.Deciding.{Decided, InputTold, files_told}
-use Rattle.cli_files.specs.Outside.{Outside, Report}
+use Rattle.cli_files.specs.Outside.{Outside, Report, report_of}
 use Rattle.cli_reports.specs.Reporting.{PutsReport}
 use Rattle.cli_reports.specs.OutsideChanges.{OutsideChange}
 use Rattle.cfpp_cli.specs.Top.{Completes, IsTop, NoneRose, Reports, files_failed, input_failed, input_is_file, says_fault}
@@ -25,7 +27,7 @@ pub record HasCauses (is_file : Bool) (before after : Outside) (answer : Status)
 abbrev pub Ends : (answer said : Status) → (half full : Report) → (closing : List ℕ) → Type 0
 Ends answer said half full closing =
     ((said ≡ answer) × Writes half.written full.written closing × (full.faults ≡ half.faults))
-    ⊎ ((said ≡ status.WriteFault) × WritesFront half.written full.written closing × Rose half.faults full.faults)
+    ⊎ ((said ≡ status.WriteFault) × WritesPart half.written full.written closing × Rose half.faults full.faults)
 
 -- the count of the faults of the input
 input-counts : (is_file : Bool) (before now : ℕ) (reported : Reported) → InputTold is_file before now (Ok reported) →
@@ -42,14 +44,14 @@ files-stay : (is_file : Bool) (before now : ℕ) (failed : Failed) → HasCause 
 files-stay true before now failed h = h.still
 files-stay false before now failed h = h.still
 
--- the command was carried out, and its report ends in this way
-carried-out : (words : List (List ℕ)) (s : OutsideChange) (reported : Reported) (said : Status) →
+-- the command was carried out, and its report ends in this way; it began with what the report had before the command was read
+carried-out : (words : List (List ℕ)) (s : OutsideChange) (reported : Reported) (said : Status) (blank full : Report) → s.blank ≡ blank →
     (d : Decided words s (Ok reported)) → HasCause s.before.output_faults s.after.output_faults (output_answered reported.status) →
-    Ends reported.status said (record s.blank { written = d.comes.3.told }) s.full d.comes.1 →
-    IsTop words s.before s.after s.blank s.full said
-carried-out words s reported said d output ends =
+    Ends reported.status said (record s.blank { written = d.comes.3.told }) full d.comes.1 → IsTop words s.before s.after blank full said
+carried-out words s reported said blank full same d output ends =
     let carried = d.comes in
-    record {
+    subst (λ (r : Report). IsTop words s.before s.after r full said) same
+    (record {
       reading = d.reading;
       reads = d.reads;
       read = answers-read d.reading s.before s.after s.blank.written reported.status carried.0 carried.1 carried.2;
@@ -63,40 +65,60 @@ carried-out words s reported said d output ends =
         output = output;
         reports = record { told = carried.3.told; shows = carried.3.shows; closes = ends };
       });
-    }
+    })
 
--- its report was put
-pub top-put : (words : List (List ℕ)) (s : OutsideChange) (reported : Reported) → Decided words s (Ok reported) →
+-- its report was put, and all of it was passed on
+pub top-put : (words : List (List ℕ)) (s : OutsideChange) (reported : Reported) (blank full : Report) → s.blank ≡ blank → Decided words s (Ok reported) →
     HasCause s.before.output_faults s.after.output_faults (output_answered reported.status) → reported.put ≡ Ok tt →
-    IsTop words s.before s.after s.blank s.full reported.status
-top-put words s reported d output put =
+    WritesNothing s.full.written full.written → full.faults ≡ s.full.faults → IsTop words s.before s.after blank full reported.status
+top-put words s reported blank full same d output put passed still =
     let closes : PutsReport (record s.blank { written = d.comes.3.told }) s.full d.comes.1 (Ok tt) = rw put at d.comes.3.closes in
-    carried-out words s reported reported.status d output (inl (refl, closes.all, closes.cause.still))
+    carried-out words s reported reported.status blank full same d output
+    (inl (refl, text-before d.comes.3.told s.full.written full.written d.comes.1 closes.all passed, still ∙ closes.cause.still))
+
+-- it was put, and the report failed as it passed it on
+pub top-unpassed : (words : List (List ℕ)) (s : OutsideChange) (reported : Reported) (blank full : Report) → s.blank ≡ blank → Decided words s (Ok reported) →
+    HasCause s.before.output_faults s.after.output_faults (output_answered reported.status) → reported.put ≡ Ok tt →
+    WritesNothing s.full.written full.written → Rose s.full.faults full.faults → IsTop words s.before s.after blank full status.WriteFault
+top-unpassed words s reported blank full same d output put passed rose =
+    let closes : PutsReport (record s.blank { written = d.comes.3.told }) s.full d.comes.1 (Ok tt) = rw put at d.comes.3.closes in
+    carried-out words s reported status.WriteFault blank full same d output
+    (inr (
+      refl,
+      part-whole d.comes.3.told full.written d.comes.1 (text-before d.comes.3.told s.full.written full.written d.comes.1 closes.all passed),
+      subst (λ (n : ℕ). Rose n full.faults) closes.cause.still rose,
+    ))
 
 -- the report failed at the lines that close it
-pub top-failed : {failed : Failed} (words : List (List ℕ)) (s : OutsideChange) (reported : Reported) → Decided words s (Ok reported) →
-    HasCause s.before.output_faults s.after.output_faults (output_answered reported.status) → reported.put ≡ Err failed →
-    IsTop words s.before s.after s.blank s.full status.WriteFault
-top-failed {failed = failed} words s reported d output put =
+pub top-failed : {failed : Failed} (words : List (List ℕ)) (s : OutsideChange) (reported : Reported) (blank : Report) → s.blank ≡ blank →
+    Decided words s (Ok reported) → HasCause s.before.output_faults s.after.output_faults (output_answered reported.status) → reported.put ≡ Err failed →
+    IsTop words s.before s.after blank s.full status.WriteFault
+top-failed {failed = failed} words s reported blank same d output put =
     let closes : PutsReport (record s.blank { written = d.comes.3.told }) s.full d.comes.1 (Err failed) = rw put at d.comes.3.closes in
-    carried-out words s reported status.WriteFault d output (inr (refl, closes.front, closes.cause.rose))
+    carried-out words s reported status.WriteFault blank s.full same d output
+    (inr (refl, part-front d.comes.3.told s.full.written d.comes.1 closes.front, closes.cause.rose))
 
 -- the report failed before these lines
-pub top-cut : {failed : Failed} (words : List (List ℕ)) (s : OutsideChange) → Decided words s (Err failed) →
-    s.after.output_faults ≡ s.before.output_faults → IsTop words s.before s.after s.blank s.full status.WriteFault
-top-cut {failed = failed} words s d output = record {
-  reading = d.reading;
-  reads = d.reads;
-  read = breaks-read d.reading s.before s.after s.blank.written s.full.written d.comes.0;
-  ends = inr (record {
-    status_is = refl;
-    breaks = d.comes.0;
-    rose = d.comes.1;
-    files = files-stay (input_is_file d.reading) _ _ failed d.files;
-    input = input-stays (input_is_file d.reading) _ _ failed d.input;
-    output = output;
-  });
-}
+pub top-cut : {failed : Failed} (words : List (List ℕ)) (s : OutsideChange) (blank : Report) → s.blank ≡ blank → Decided words s (Err failed) →
+    s.after.output_faults ≡ s.before.output_faults → IsTop words s.before s.after blank s.full status.WriteFault
+top-cut {failed = failed} words s blank same d output = subst (λ (r : Report). IsTop words s.before s.after r s.full status.WriteFault) same
+    (record {
+      reading = d.reading;
+      reads = d.reads;
+      read = breaks-read d.reading s.before s.after s.blank.written s.full.written d.comes.0;
+      ends = inr (record {
+        status_is = refl;
+        breaks = d.comes.0;
+        rose = d.comes.1;
+        files = files-stay (input_is_file d.reading) _ _ failed d.files;
+        input = input-stays (input_is_file d.reading) _ _ failed d.input;
+        output = output;
+      });
+    })
+
+-- a report with the same text and the same count is the same
+pub same-report : (a b : Option (List ℕ)) (i j : ℕ) → a ≡ b → i ≡ j → report_of a i ≡ report_of b j
+same-report a b i j text count = rw (text, count) refl
 
 -- a status that says of nothing that it failed says so of neither the files nor the streams
 record SaysNone (answer : Status) : Type 0 where

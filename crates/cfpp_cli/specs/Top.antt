@@ -3,7 +3,8 @@ use Rattle.std.specs.Prelude.{◌≡◌, ◌⊎◌, ℕ, List, ◌++◌, codes, 
 use Rattle.run_options.specs.declared.reporting.Reporting.{Reporting}
 use Rattle.run_options.specs.declared.show.Show.TheVariants as shows
 use Rattle.cf_io.specs.Causes.{Rose, HasCause}
-use Rattle.cf_io.specs.Puts.{Writes, WritesFront}
+use Rattle.cf_io.specs.Puts.{Writes}
+use Rattle.cf_report.specs.Putting.{WritesPart}
 use Rattle.cf_gen.specs.Program.{program_text}
 use Rattle.texts.specs.Lines.{counted_line}
 use Rattle.cli_arguments.specs.Words.{Asks, IsBadAt, Asked, machine, run, moves, rounds, orders, conform, debug, time, audit, check, asm, listing, gen, help, version, help_on}
@@ -117,13 +118,13 @@ Breaks (Ok (time delays program layouts chosen)) before after blank full =
 Breaks (Ok asked) before after blank full = ⊥
 Breaks (Err index) before after blank full = ⊥
 
--- what was shown was put, and after it the closing lines, and the status is the answer; or the report failed after a
--- prefix of these, its count of faults rose, and the status is WriteFault
+-- what was shown was put, and after it the closing lines, and the status is the answer; or the report failed at these, of
+-- which it has a prefix, or as it passed on what it had gathered, its count of faults rose, and the status is WriteFault
 pub record Reports (before after : Report) (shown closing : List ℕ) (answer result : Status) : Type 0 where
   pub told : Option (List ℕ)
   pub shows : Writes before.written told shown
   pub closes : ((result ≡ answer) × Writes told after.written closing × (after.faults ≡ before.faults))
-      ⊎ ((result ≡ status.WriteFault) × WritesFront told after.written closing × Rose before.faults after.faults)
+      ⊎ ((result ≡ status.WriteFault) × WritesPart told after.written closing × Rose before.faults after.faults)
 
 -- the program's input is in a file that the arguments name
 abbrev pub input_is_file : Result Asked ℕ → Bool

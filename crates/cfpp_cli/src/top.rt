@@ -1,8 +1,9 @@
 //! The top call.
 
-ghost use Rattle.std.specs.Prelude.{◌≡◌, false, map, string_bytes};
+ghost use Rattle.std.specs.Prelude.{◌≡◌, ◌≢◌, [], false, map, string_bytes};
 ghost use Rattle.cli_files.specs.Causes.{output_answered};
 ghost use Rattle.cli_files.specs.Outside.{outside_of, report_of};
+ghost use Rattle.cli_files.specs.declared.status.Status.TheVariants as statuses;
 ghost use Rattle.cfpp_cli.specs.Deciding.{Decided};
 ghost use Rattle.cli_reports.specs.Reporting.{FaultsReported};
 ghost use Rattle.cfpp_cli.specs.Top.{IsTop, NoneRose, says_fault};
@@ -10,7 +11,8 @@ ghost use Rattle.cli_reports.specs.OutsideChanges.{outside_change, output_left};
 
 use crate::help::{overview, version};
 use cf_io::{Failed, Files, Sink, Source};
-use cli_arguments::{Command, Reporting, RunOptions, Show, read_words};
+use cf_report::ReportSink;
+use cli_arguments::{Command, Reporting, RunOptions, Show, TimeShow, read_words};
 use cli_asm::assemble_program;
 use cli_audit::audit_trace;
 use cli_check::check_layout;
@@ -29,7 +31,7 @@ use cli_time::compare_layouts;
 use std::alloc::Global;
 
 /// Carries out what the arguments ask for, and puts its report. It fails where the report fails before the lines that close it.
-fn decide<F: Files, S: Source, K: Sink, R: Sink>(
+fn decide<F: Files, S: Source, K: Sink, R: ReportSink>(
     alloc: Global,
     words: &[String],
     files: &mut F,
@@ -171,6 +173,23 @@ fn decide<F: Files, S: Source, K: Sink, R: Sink>(
     }
 }
 
+/// Lets the report gather, where each instruction or each move of a run has its lines. Lines that come now and then, such
+/// as those of `--every`, are to be seen as they come.
+fn let_gather<R: ReportSink>(words: &[String], report: &mut R)
+    ensures written { R.written report.new ≡ R.written report.old }
+    ensures faults { R.faults report.new ≡ R.faults report.old }
+{
+    let has_many_lines = match read_words(words) {
+        Ok(Command::Machine { options, .. }) => options.show_retired,
+        Ok(Command::Run { options, .. }) => !matches!(options.reporting.show, Show::Report),
+        Ok(Command::Time { options, .. }) => matches!(options.show, TimeShow::Moves),
+        _ => false,
+    };
+    if has_many_lines {
+        report.gather();
+    }
+}
+
 /// Does what the arguments say: `machine PROGRAM` runs a program's file on the sequential machine, `run LAYOUT PROGRAM` on
 /// the processor of a layout, by the moves of a script with `--script FILE`, by moves drawn from a seed with `--seed
 /// N`, and by a fixed rule without either; `moves LAYOUT PROGRAM --script FILE` does the same and then says which
@@ -201,7 +220,10 @@ fn decide<F: Files, S: Source, K: Sink, R: Sink>(
 /// it has the lines of each layout and names the first with the least time, after `debug` it has the answers to the
 /// commands, and after any other command that was carried out it is empty. After a report that failed nothing more is
 /// put to it, and the status is `WriteFault`.
-pub fn cfpp<F: Files, S: Source, K: Sink, R: Sink>(
+///
+/// A report that can gather its text passes it on before each call of the program that may read or write, and at the end:
+/// unless the status is `WriteFault`, nothing is kept.
+pub fn cfpp<F: Files, S: Source, K: Sink, R: ReportSink>(
     alloc: Global,
     words: &[String],
     files: &mut F,
@@ -223,15 +245,20 @@ pub fn cfpp<F: Files, S: Source, K: Sink, R: Sink>(
         (K.written output.new) (K.faults output.new))
         (report_of (R.written report.old) (R.faults report.old))
         (report_of (R.written report.new) (R.faults report.new)) }
+    ensures passed { result ≢ statuses.WriteFault → R.kept report.new ≡ [] }
 {
+    let_gather(words, report);
     let streams = RunStreams {
         input,
         output,
-        report,
+        report: &mut *report,
     };
     match decide(alloc, words, files, streams) {
         Ok(reported) => match reported.put {
-            Ok(()) => reported.status,
+            Ok(()) => match report.pass_on() {
+                Ok(()) => reported.status,
+                Err(_) => Status::WriteFault,
+            },
             Err(_) => Status::WriteFault,
         },
         Err(_) => Status::WriteFault,

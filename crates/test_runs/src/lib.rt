@@ -11,6 +11,8 @@ mod drains;
 #[cfg(test)]
 mod first_lines;
 #[cfg(test)]
+mod gathered;
+#[cfg(test)]
 mod logs;
 #[cfg(test)]
 mod processors;
