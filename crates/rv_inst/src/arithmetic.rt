@@ -26,8 +26,9 @@ fn operate(op: RegOp, a: u32, b: u32) -> u32
     }
 }
 
+/// Whether a branch on the condition is taken, where its first source has the value `a` and its second has `b`.
 #[inline(always)]
-fn holds(cond: Cond, a: u32, b: u32) -> bool
+pub fn is_taken(cond: Cond, a: u32, b: u32) -> bool
     ensures { result ≡ is_taken cond a b }
 {
     match cond {
@@ -66,7 +67,7 @@ pub fn next_of(i: Instr, pc: u32, a: u32, b: u32) -> u32
     match i {
         Instr::Jal { imm, .. } => pc.wrapping_add(imm.cast_unsigned()),
         Instr::Jalr { imm, .. } => a.wrapping_add(imm.cast_unsigned()) & !1,
-        Instr::Branch { cond, imm, .. } if holds(cond, a, b) => {
+        Instr::Branch { cond, imm, .. } if is_taken(cond, a, b) => {
             pc.wrapping_add(imm.cast_unsigned())
         }
         _ => pc.wrapping_add(4),

@@ -17,7 +17,7 @@ mod packing;
 mod ranges;
 
 pub use accesses::{Access, access_of, extend};
-pub use arithmetic::{alu, next_of};
+pub use arithmetic::{alu, is_taken, next_of};
 pub use classes::{Class, class_of};
 pub use decoding::{decode, decode_m};
 pub use encoding::encode;
