@@ -10,3 +10,4 @@ pub mod RegionLemmas
 pub mod Words
 pub mod WriteBack
 pub mod Writes
+pub mod Windows

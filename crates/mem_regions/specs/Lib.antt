@@ -9,3 +9,4 @@ pub mod Memory
 pub mod Ranges
 pub mod Refusal
 pub mod Writing
+pub mod Window

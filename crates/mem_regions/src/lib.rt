@@ -13,8 +13,10 @@ mod refusal;
 mod region;
 mod regions;
 mod undoing;
+mod window;
 
 pub use access::MemErr;
 pub use part::Part;
 pub use refusal::LoadErr;
 pub use regions::Regions;
+pub use window::Window;
