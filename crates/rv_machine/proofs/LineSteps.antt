@@ -1,5 +1,5 @@
 -- An operation of a line that passes is one more step of a run.
-use Rattle.std.proofs.Common.{◌≡◌, ◌≢◌, ℕ, ◌+◌, ◌-◌, ◌*◌, ◌%◌, ◌<◌, ◌≤◌, List, sym, ap, subst, refl, arith}
+use Rattle.std.proofs.Common.{◌≡◌, ◌≢◌, ℕ, ◌+◌, ◌-◌, ◌*◌, ◌%◌, ◌<◌, ◌≤◌, List, sym, ap, subst, arith}
 use Rattle.mem_regions.specs.Memory.{Memory}
 use Rattle.rv_inst.specs.Words.{word_sum}
 use Rattle.rv_machine.specs.declared.flat.Flat.{Flat}

@@ -13,7 +13,6 @@ use Rattle.rv_inst.specs.declared.instruction.Instr.{Instr}
 use Rattle.rv_machine.specs.declared.flat.Flat.{Flat}
 use Rattle.rv_machine.specs.declared.flat.FlatOp.TheVariants.{Slow}
 use Rattle.rv_machine.specs.declared.flat_lines.FlatLine.{FlatLine}
-use Rattle.rv_machine.specs.declared.decode_cache.Found.TheVariants as found
 use Rattle.rv_machine.specs.Flat.{instr_of, IsAt, StandsFor}
 use Rattle.rv_machine.specs.Lines.{no_operation, op_at, index_in, covers, IsLineOf, AreLinesOf, IsBlank, no_line, line_at, cover}
 use Rattle.rv_inst.specs.Words.{word_sum, word_difference}

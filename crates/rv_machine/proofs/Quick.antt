@@ -1,14 +1,14 @@
 -- Instructions that need no stream: where they go on, and that they leave the code as it is.
-use Rattle.std.proofs.Common.{◌≡◌, ℕ, ◌*◌, ◌/◌, ◌%◌, ◌^◌, ◌<◌, ◌==◌, List, Ok, true, false, IsTrue, refl, ap, subst, arith}
+use Rattle.std.proofs.Common.{◌≡◌, ℕ, ◌*◌, ◌/◌, ◌%◌, ◌^◌, ◌<◌, ◌==◌, List, Ok, true, false, ℤ, IsTrue, refl, ap, subst, arith}
 use Rattle.mem_regions.specs.Ranges.{load_at}
 use Rattle.mem_regions.specs.Memory.{Memory}
-use Rattle.mem_regions.specs.Fetching.{fetch_at}
 use Rattle.mem_regions.specs.Writing.{stored}
 use Rattle.mem_regions.proofs.Kept.{fetch_at-stored}
 use Rattle.rv_inst.specs.declared.instruction.Instr.{Instr}
 use Rattle.rv_inst.specs.declared.instruction.Instr.TheVariants.{Lui, Auipc, Jal, Jalr, Branch, Load, Store, OpImm, Op, Fence, Ecall, Ebreak, FenceI, Mul}
-use Rattle.rv_inst.specs.Words.{word_sum, word_difference}
-use Rattle.rv_inst.specs.Arithmetic.{next_pc}
+use Rattle.rv_inst.specs.Words.{word_sum, word_difference, word_of}
+use Rattle.rv_inst.specs.declared.instruction.Cond.{Cond}
+use Rattle.rv_inst.specs.Arithmetic.{next_pc, is_taken}
 use Rattle.rv_inst.specs.declared.accesses.Access.{Access}
 use Rattle.rv_inst.specs.Accesses.{access_made, is_load, extended}
 use Rattle.rv_inst.specs.Operands.{dest_of, sources_of}
@@ -58,6 +58,29 @@ compute-nothing i pc regs mem h none aligned =
     subst P none (compute-straight i pc regs mem h aligned)
 
 pub ruleset straight = (compute-straight, compute-nothing)
+
+-- a branch that is not taken goes on at the next word
+pub branch-on : (c : Cond) (rs1 rs2 : ℕ) (imm : ℤ) (pc : ℕ) (regs : List ℕ) (mem : Memory) →
+    is_taken c (register_value regs rs1) (register_value regs rs2) ≡ false → pc % 4 ≡ 0 →
+    LeadsOnTo (compute (hart_of pc regs mem) 0 (Branch c rs1 rs2 imm)) (word_sum pc 4) regs mem
+unfolding LeadsOnTo compute retire next_pc
+branch-on c rs1 rs2 imm pc regs mem taken aligned =
+    let test : (word_sum pc 4 % 4 == 0) ≡ true = ap (λ (n : ℕ). n == 0) (straight-aligned pc aligned) in
+    rw (taken, test) refl
+
+-- one that is taken goes on at its target
+pub target-aligned : (pc distance : ℕ) → pc % 4 ≡ 0 → distance % 4 ≡ 0 → word_sum pc distance % 4 ≡ 0
+target-aligned pc distance a d = omega (arith, a, d)
+
+pub branch-to : (c : Cond) (rs1 rs2 : ℕ) (imm : ℤ) (pc : ℕ) (regs : List ℕ) (mem : Memory) →
+    is_taken c (register_value regs rs1) (register_value regs rs2) ≡ true → pc % 4 ≡ 0 → word_of imm % 4 ≡ 0 →
+    LeadsOnTo (compute (hart_of pc regs mem) 0 (Branch c rs1 rs2 imm)) (word_sum pc (word_of imm)) regs mem
+unfolding LeadsOnTo compute retire next_pc
+branch-to c rs1 rs2 imm pc regs mem taken aligned distance =
+    let test : (word_sum pc (word_of imm) % 4 == 0) ≡ true = ap (λ (n : ℕ). n == 0) (target-aligned pc (word_of imm) aligned distance) in
+    rw (taken, test) refl
+
+pub ruleset branching = (branch-on, branch-to, target-aligned)
 
 -- a load writes no memory
 pub load-reads : (i : Instr) (a b : ℕ) → IsTrue (is_load i) → (access_made i a b).write ≡ false
@@ -126,4 +149,8 @@ address-wraps base at = omega arith
 pub index-is : (base pc : ℕ) → base < 2 ^ 32 → pc < 2 ^ 32 → base % 4 ≡ 0 → pc % 4 ≡ 0 → word_sum base (word_difference pc base / 4 * 4) ≡ pc
 index-is base pc small below aligned word = omega (arith, small, below, aligned, word)
 
-pub ruleset distances = (address-wraps, index-is)
+-- an index counts only by its last 30 bits
+pub address-by : (base at : ℕ) → word_sum base (at % 1073741824 * 4) ≡ word_sum base (at * 4)
+address-by base at = omega arith
+
+pub ruleset distances = (address-by, address-wraps, index-is)

@@ -1,38 +1,29 @@
 -- A flat operation is a step of the machine that needs no stream, and several of them are as many steps.
-use Rattle.std.proofs.Common.{◌≡◌, ◌≢◌, ◌∙◌, ℕ, zero, suc, ◌+◌, ◌*◌, ◌-◌, ◌≤◌, ◌%◌, ◌==◌, List, [], Bool, true, false, Option, Some, None, Result, Ok, Err, IsTrue, if◌then◌else◌, refl, ap, sym, subst, arith, add-one}
+use Rattle.std.proofs.Common.{◌≡◌, ◌≢◌, ◌∙◌, ℕ, zero, suc, ◌+◌, ◌*◌, ◌-◌, ◌≤◌, ◌%◌, ◌==◌, List, [], Bool, true, false, Option, Some, None, Result, Ok, Err, IsTrue, if◌then◌else◌, refl, ap, sym, subst, arith}
 use Rattle.std.specs.Prelude.{IfSome, ℤ}
-use Rattle.std.proofs.lemmas.Bool.Decides.{nat_tests}
 use Rattle.mem_regions.specs.Memory.{Memory}
 use Rattle.mem_regions.specs.Fetching.{fetch_at}
-use Rattle.mem_regions.specs.Access.{permits_at, bounds_of}
-use Rattle.mem_regions.specs.Ranges.{load_at}
 use Rattle.mem_regions.specs.Writing.{stored}
 use Rattle.mem_regions.specs.declared.MemErr.{MemErr}
 use Rattle.mem_regions.specs.declared.MemErr.TheVariants.{Misaligned, NoAccess}
 use Rattle.rv_inst.specs.declared.isa.Isa.{Isa}
-use Rattle.rv_inst.specs.declared.isa.Isa.TheVariants.{Rv32i, Rv32im}
-use Rattle.rv_inst.specs.declared.classes.Class.TheVariants as class
 use Rattle.rv_inst.specs.declared.instruction.Instr.{Instr}
 use Rattle.rv_inst.specs.declared.instruction.Instr.TheVariants.{Lui, Auipc, Jal, Jalr, Branch, Load, Store, OpImm, Op, Fence, Ecall, Ebreak, FenceI, Mul}
 use Rattle.rv_inst.specs.Words.{word_sum}
 use Rattle.rv_inst.specs.Ranges.{Fits}
-use Rattle.rv_inst.specs.Decoding.{decoded_as, decoded_m}
-use Rattle.rv_inst.specs.Operands.{class_of, dest_of, op_class, register_op}
+use Rattle.rv_inst.specs.Decoding.{decoded_as}
+use Rattle.rv_inst.specs.Operands.{class_of, register_op}
 use Rattle.rv_inst.specs.Arithmetic.{next_pc}
-use Rattle.rv_inst.specs.Accesses.{access_made, extended}
+use Rattle.rv_inst.specs.Accesses.{access_made}
 use Rattle.rv_inst.specs.declared.accesses.Access.{Access}
-use Rattle.rv_mul.specs.Values.{value_of}
-use Rattle.rv_machine.specs.declared.outcome.Retired.{Retired}
 use Rattle.rv_machine.specs.declared.flat.FlatOp.{FlatOp}
 use Rattle.rv_machine.specs.declared.flat.FlatOp.TheVariants as op
 use Rattle.rv_machine.specs.declared.flat.Flat.{Flat}
-use Rattle.rv_machine.specs.declared.decode_cache.Found.TheVariants as found
 use Rattle.rv_machine.specs.declared.flat_acting.Spot.{Spot}
 use Rattle.rv_machine.specs.declared.flat_acting.Continuation.{Continuation}
 use Rattle.rv_machine.specs.declared.flat_acting.Continuation.TheVariants.{On, To, Stop}
 use Rattle.rv_machine.specs.Hart.{Hart}
-use Rattle.rv_machine.specs.Machine.{Machine}
-use Rattle.rv_machine.specs.Outcome.{Outcome, Next, Trap, Exit}
+use Rattle.rv_machine.specs.Outcome.{Next}
 use Rattle.rv_machine.specs.Step.{with_register, first_value, second_value, retire, compute, loads, stores, access_memory, beside, execute, step_on}
 use Rattle.rv_machine.specs.Decoded.{found_at, in_set}
 use Rattle.rv_machine.specs.Flat.{instr_with, instr_of, IsAt}

@@ -1,5 +1,5 @@
 -- Flat operations: what each stands for (RISC-V Unprivileged ISA Manual, RV32I and the M extension).
-use Rattle.std.specs.Prelude.{◌≡◌, ℕ, ◌+◌, ◌*◌, ◌<◌, List, ℤ, Bool, true, false, Option, Some, None, IfSome, IsTrue}
+use Rattle.std.specs.Prelude.{◌≡◌, ℕ, ◌<◌, ℤ, Bool, true, false, Option, Some, None, IfSome, IsTrue}
 use Rattle.mem_regions.specs.Memory.{Memory}
 use Rattle.rv_inst.specs.declared.instruction.Cond.{Cond}
 use Rattle.rv_inst.specs.declared.instruction.Cond.TheVariants as cond

@@ -1,7 +1,8 @@
 //! What a flat operation does: its operation is known where it is compiled, so that no field is looked at twice.
 
 ghost use Rattle.std.specs.Prelude.{◌≡◌, ◌%◌, ◌<◌, ◌*◌, slice_index, IfSome, IsTrue};
-ghost use Rattle.mem_regions.specs.Access.{IsWidth};
+ghost use Rattle.mem_regions.specs.Access.{IsWidth, bounds_of};
+ghost use Rattle.mem_regions.specs.Window.{IsWindowOf};
 ghost use Rattle.rv_inst.specs.Ranges.{Fits};
 ghost use Rattle.rv_inst.specs.Accesses.{is_load};
 ghost use Rattle.rv_inst.specs.Operands.{class_of, dest_of, sources_of};
@@ -14,9 +15,10 @@ ghost use Rattle.rv_machine.specs.Step.{register_value, with_register, compute a
 
 use crate::executing::write_register;
 use crate::flat::{Flat, FlatOp};
-use mem_regions::Regions;
+use mem_regions::{Regions, Window};
 use rv_inst::{
-    Cond, ImmOp, Instr, LoadKind, RegOp, StoreKind, access_of, dest, extend, next_of, sources,
+    Cond, ImmOp, Instr, LoadKind, RegOp, StoreKind, access_of, dest, extend, is_taken, next_of,
+    sources,
 };
 use rv_mul::value;
 
@@ -24,8 +26,11 @@ use rv_mul::value;
 #[derive(Clone, Copy)]
 pub(crate) struct Spot {
     pub(crate) base: u32,
-    pub(crate) at: u32,
+    pub(crate) at: usize,
 }
+
+/// How many words there are addresses for.
+const WORDS: usize = 1 << 30;
 
 /// Where the program goes on after an operation.
 #[derive(Clone, Copy)]
@@ -47,7 +52,7 @@ impl Spot {
     pub(crate) fn pc(self) -> u32
         ensures { result ≡ address_of self }
     {
-        self.base.wrapping_add(self.at.wrapping_mul(4))
+        self.base.wrapping_add((self.at % WORDS) as u32 * 4)
     }
 
     /// The index of an address.
@@ -118,7 +123,7 @@ fn passed(i: Instr, spot: Spot, regs: &[u32; 32], mem: &Regions) -> Continuation
     Continuation::On
 }
 
-/// A jump or a branch; there is no answer where it traps.
+/// A jump; there is no answer where it traps.
 #[inline(always)]
 #[tactic(auto, unfolding(crate::specs::Step::retire, crate::specs::Step::compute, crate::specs::Quick::LeadsOnTo))]
 fn jumped(i: Instr, spot: Spot, regs: &mut [u32; 32], mem: &Regions) -> Continuation
@@ -139,10 +144,35 @@ fn jumped(i: Instr, spot: Spot, regs: &mut [u32; 32], mem: &Regions) -> Continua
     Continuation::To(spot.index(next))
 }
 
+/// A branch; there is no answer where it traps.
+// Where it goes is read only once it is taken.
+#[inline(always)]
+#[tactic(auto, using(crate::proofs::Quick::branching))]
+fn branched(f: &Flat, cond: Cond, spot: Spot, regs: &[u32; 32], mem: &Regions) -> Continuation
+    requires base { spot.base % 4 ≡ 0 }
+    requires fits { Fits (Instr.Branch cond f.now.rs1 f.now.rs2 f.now.imm) }
+    requires aligned { address_of spot % 4 ≡ 0 }
+    requires zero { slice_index regs.now 0 ≡ 0 }
+    ensures goes { GoesOnward result
+        (computation (hart_of (address_of spot) regs.now mem.now) 0 (Instr.Branch cond f.now.rs1 f.now.rs2 f.now.imm)) spot regs.now mem.now }
+{
+    let a = regs[f.rs1 as usize];
+    let b = regs[f.rs2 as usize];
+    if !is_taken(cond, a, b) {
+        return Continuation::On;
+    }
+    let distance = f.imm.cast_unsigned();
+    if distance % 4 != 0 {
+        return Continuation::Stop;
+    }
+    Continuation::To(spot.index(spot.pc().wrapping_add(distance)))
+}
+
 /// A load; there is no answer where it traps.
 #[inline(always)]
 #[tactic(auto, using(crate::proofs::Quick::loading))]
-fn loaded(i: Instr, spot: Spot, regs: &mut [u32; 32], mem: &Regions) -> Continuation
+fn loaded(i: Instr, spot: Spot, regs: &mut [u32; 32], mem: &Regions, window: Window) -> Continuation
+    requires window { IsWindowOf (bounds_of mem.now) window }
     requires fits { Fits i }
     requires load { IsTrue (is_load i) }
     requires written { 0 < dest_of i }
@@ -155,7 +185,7 @@ fn loaded(i: Instr, spot: Spot, regs: &mut [u32; 32], mem: &Regions) -> Continua
 {
     let (a, b) = source_values(regs, i);
     let access = access_of(i, a, b);
-    match mem.load_number(access.addr, access.width) {
+    match mem.load_number_by(window, access.addr, access.width) {
         Ok(raw) => {
             set_register(regs, dest(i), extend(i, raw));
             Continuation::On
@@ -167,7 +197,8 @@ fn loaded(i: Instr, spot: Spot, regs: &mut [u32; 32], mem: &Regions) -> Continua
 /// A store; there is no answer where it traps.
 #[inline(always)]
 #[tactic(auto, using(crate::proofs::Quick::storing), unfolding(crate::specs::Step::retire, crate::specs::Step::access_memory, crate::specs::Quick::LeadsOnTo))]
-fn stored(i: Instr, spot: Spot, regs: &[u32; 32], mem: &mut Regions) -> Continuation
+fn stored(i: Instr, spot: Spot, regs: &[u32; 32], mem: &mut Regions, window: Window) -> Continuation
+    requires window { IsWindowOf (bounds_of mem.old) window }
     requires fits { Fits i }
     requires store { IsTrue (is_store i) }
     requires aligned { address_of spot % 4 ≡ 0 }
@@ -176,28 +207,17 @@ fn stored(i: Instr, spot: Spot, regs: &[u32; 32], mem: &mut Regions) -> Continua
     ensures goes { GoesOnward result (memory_access (hart_of (address_of spot) regs.now mem.old) 0 i) spot regs.now mem.new }
     ensures stop { result ≡ Continuation.Stop → mem.new ≡ mem.old }
     ensures code { HasSameCode mem.old mem.new }
+    ensures window { IsWindowOf (bounds_of mem.new) window }
 {
     let (a, b) = source_values(regs, i);
     let access = access_of(i, a, b);
-    match mem.store(access.addr, access.width, access.value) {
+    match mem.store_by(window, access.addr, access.width, access.value) {
         Ok(()) => Continuation::On,
         Err(_) => Continuation::Stop,
     }
 }
 
 impl Flat {
-    #[inline(always)]
-    fn branch(&self, cond: Cond) -> Instr
-        ensures { result ≡ Instr.Branch cond self.now.rs1 self.now.rs2 self.now.imm }
-    {
-        Instr::Branch {
-            cond,
-            rs1: self.rs1,
-            rs2: self.rs2,
-            imm: self.imm,
-        }
-    }
-
     #[inline(always)]
     fn load(&self, kind: LoadKind) -> Instr
         ensures { result ≡ Instr.Load kind self.now.rd self.now.rs1 self.now.imm }
@@ -251,18 +271,26 @@ impl Flat {
 /// memory are then unchanged.
 #[inline(always)]
 #[tactic(auto, using(crate::proofs::Classes::computing, crate::proofs::Quick::storing))]
-pub(crate) fn act(f: &Flat, spot: Spot, regs: &mut [u32; 32], mem: &mut Regions) -> Continuation
+pub(crate) fn act(
+    f: &Flat,
+    spot: Spot,
+    regs: &mut [u32; 32],
+    mem: &mut Regions,
+    window: Window,
+) -> Continuation
     requires base { spot.base % 4 ≡ 0 }
     requires fits { IfSome (instr_of f.now) Fits }
     requires written { IsTrue (writes f.now.op) → 0 < f.now.rd }
     requires aligned { address_of spot % 4 ≡ 0 }
     requires zero { slice_index regs.old 0 ≡ 0 }
+    requires window { IsWindowOf (bounds_of mem.old) window }
     ensures goes { IsCarriedOut result (instr_of f.now) (hart_of (address_of spot) regs.old mem.old) spot regs.new mem.new }
     ensures slow { f.now.op ≡ FlatOp.Slow → result ≡ Continuation.Stop }
     ensures stop { result ≡ Continuation.Stop → regs.new ≡ regs.old }
     ensures unchanged { result ≡ Continuation.Stop → mem.new ≡ mem.old }
     ensures zero { slice_index regs.new 0 ≡ 0 }
     ensures code { HasSameCode mem.old mem.new }
+    ensures window { IsWindowOf (bounds_of mem.new) window }
 {
     match f.op {
         FlatOp::Slow => Continuation::Stop,
@@ -314,20 +342,20 @@ pub(crate) fn act(f: &Flat, spot: Spot, regs: &mut [u32; 32], mem: &mut Regions)
             regs,
             mem,
         ),
-        FlatOp::Beq => jumped(f.branch(Cond::Eq), spot, regs, mem),
-        FlatOp::Bne => jumped(f.branch(Cond::Ne), spot, regs, mem),
-        FlatOp::Blt => jumped(f.branch(Cond::Lt), spot, regs, mem),
-        FlatOp::Bge => jumped(f.branch(Cond::Ge), spot, regs, mem),
-        FlatOp::Bltu => jumped(f.branch(Cond::Ltu), spot, regs, mem),
-        FlatOp::Bgeu => jumped(f.branch(Cond::Geu), spot, regs, mem),
-        FlatOp::Lb => loaded(f.load(LoadKind::Byte), spot, regs, mem),
-        FlatOp::Lh => loaded(f.load(LoadKind::Half), spot, regs, mem),
-        FlatOp::Lw => loaded(f.load(LoadKind::Word), spot, regs, mem),
-        FlatOp::Lbu => loaded(f.load(LoadKind::ByteU), spot, regs, mem),
-        FlatOp::Lhu => loaded(f.load(LoadKind::HalfU), spot, regs, mem),
-        FlatOp::Sb => stored(f.store(StoreKind::Byte), spot, regs, mem),
-        FlatOp::Sh => stored(f.store(StoreKind::Half), spot, regs, mem),
-        FlatOp::Sw => stored(f.store(StoreKind::Word), spot, regs, mem),
+        FlatOp::Beq => branched(f, Cond::Eq, spot, regs, mem),
+        FlatOp::Bne => branched(f, Cond::Ne, spot, regs, mem),
+        FlatOp::Blt => branched(f, Cond::Lt, spot, regs, mem),
+        FlatOp::Bge => branched(f, Cond::Ge, spot, regs, mem),
+        FlatOp::Bltu => branched(f, Cond::Ltu, spot, regs, mem),
+        FlatOp::Bgeu => branched(f, Cond::Geu, spot, regs, mem),
+        FlatOp::Lb => loaded(f.load(LoadKind::Byte), spot, regs, mem, window),
+        FlatOp::Lh => loaded(f.load(LoadKind::Half), spot, regs, mem, window),
+        FlatOp::Lw => loaded(f.load(LoadKind::Word), spot, regs, mem, window),
+        FlatOp::Lbu => loaded(f.load(LoadKind::ByteU), spot, regs, mem, window),
+        FlatOp::Lhu => loaded(f.load(LoadKind::HalfU), spot, regs, mem, window),
+        FlatOp::Sb => stored(f.store(StoreKind::Byte), spot, regs, mem, window),
+        FlatOp::Sh => stored(f.store(StoreKind::Half), spot, regs, mem, window),
+        FlatOp::Sw => stored(f.store(StoreKind::Word), spot, regs, mem, window),
         FlatOp::Addi => computed(f.imm_op(ImmOp::Add), spot, regs, mem),
         FlatOp::Slti => computed(f.imm_op(ImmOp::Slt), spot, regs, mem),
         FlatOp::Sltiu => computed(f.imm_op(ImmOp::Sltu), spot, regs, mem),

@@ -68,17 +68,17 @@ impl FlatLine {
     {
         Spot {
             base: self.base,
-            at: pc.wrapping_sub(self.base) / 4,
+            at: (pc.wrapping_sub(self.base) / 4) as usize,
         }
     }
 
     /// The operation at an index.
     #[inline(always)]
-    pub(crate) fn op(&self, at: u32) -> &Flat
+    pub(crate) fn op(&self, at: usize) -> &Flat
         requires { at < 257 }
         ensures { result.now ≡ op_at self.now at }
     {
-        &self.ops[at as usize]
+        &self.ops[at]
     }
 }
 

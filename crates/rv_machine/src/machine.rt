@@ -11,8 +11,9 @@ use std::marker::Model;
 /// A machine between two instructions. Contracts see it as its hart.
 #[derive(Drop)]
 pub struct Machine {
-    pub(crate) pc: u32,
+    // At the beginning, where an instruction of the host needs no offset for them.
     pub(crate) regs: [u32; 32],
+    pub(crate) pc: u32,
     pub(crate) mem: Regions,
     pub(crate) retired: u64,
     pub(crate) cache: DecodeCache,
@@ -58,8 +59,8 @@ impl Machine {
         let mut regs = [0; 32];
         regs[2] = 0x7f0f_fff0;
         Machine {
-            pc: entry,
             regs,
+            pc: entry,
             mem,
             retired: 0,
             cache: DecodeCache::new(),

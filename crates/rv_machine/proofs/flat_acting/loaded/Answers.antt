@@ -1,4 +1,4 @@
-use Rattle.std.proofs.Common.{◌∙◌, ap, sym}
+use Rattle.std.proofs.Common.{sym}
 use Rattle.rv_machine.specs.Quick.{address_of}
 use Rattle.rv_machine.proofs.Quick.{load-goes}
 use Rattle.rv_machine.proofs.flat_acting.loaded.Goals as goal

@@ -1,4 +1,4 @@
-use Rattle.rv_machine.proofs.Quick.{store-same, same-code}
+use Rattle.rv_machine.proofs.Quick.{store-same}
 use Rattle.rv_machine.proofs.flat_acting.stored.Goals as goal
 
 pub returns-in-Ok-clause-code : goal.returns-in-Ok-clause-code

@@ -7,6 +7,7 @@ loop-self-init c = record {
   goes = retire-none c.args.self.now c.args.self.now.retired;
   onward = omega arith;
   within = c.requires.within;
+  window = rw (← c.self.view_is) c.window-window.ensures;
 }
 
 pub returns-then-not-run_block-clause-goes : goal.returns-then-not-run_block-clause-goes
@@ -20,4 +21,5 @@ loop-self-preserved c =
       goes = retire-again c.args.self.now c.loop-self.self c.run_block.new.self _ _ _ i.onward c.run_block.ensures.onward i.goes c.run_block.ensures.goes;
       onward = omega (arith, i.onward, c.run_block.ensures.onward);
       within = c.run_block.ensures.within;
+      window = c.run_block.ensures.window;
     }
