@@ -3,6 +3,7 @@
 ghost use Rattle.std.specs.Prelude.{◌≡◌, ◌+◌, ◌<◌, ◌≤◌, ◌^◌, IfOk, IfSome, None, Some, length, slice_get, slice_index};
 ghost use Rattle.cf_io.specs.Causes.{HasCause};
 ghost use Rattle.rv_machine.specs.Streams.{streams_of};
+ghost use Rattle.cf_bind.specs.declared.moves.Move.TheVariants as mv;
 ghost use Rattle.cf_semantics.specs.moves.Bars.{bar as first_bar};
 ghost use Rattle.mem_regions.specs.Access.{bounds_of};
 ghost use Rattle.cf_layout.specs.Layout.{cells_of};
@@ -227,7 +228,7 @@ impl Core {
         output: &mut K,
     ) -> Result<Event, Fault>
         requires allowed { first_bar self.old.plan self.old.state m ≡ None }
-        requires count { self.old.state.retired + 1 < 2 ^ 64 }
+        requires count { m ≡ mv.Leave → self.old.state.retired + 1 < 2 ^ 64 }
         ensures makes { MakesOrFails self.old self.new m
             (streams_of (S.left input.old) (K.written output.old))
             (streams_of (S.left input.new) (K.written output.new)) result }

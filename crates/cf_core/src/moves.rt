@@ -81,7 +81,7 @@ impl Processor {
     fn make_inside(&mut self, m: Move) -> Event
         requires facts { IsProcessor self.old.plan self.old.state }
         requires allowed { bar_of_row self.old.plan self.old.state m ≡ None }
-        requires count { self.old.state.retired + 1 < 2 ^ 64 }
+        requires count { m ≡ mv.Leave → self.old.state.retired + 1 < 2 ^ 64 }
         requires other { m ≢ mv.Serve }
         ensures processor { self.new ≡ after_move self.old m }
         ensures event { IsEvent self.old.plan self.old.state m result }
@@ -116,7 +116,7 @@ impl Processor {
     ) -> Result<Event, Fault>
         requires facts { IsProcessor self.old.plan self.old.state }
         requires allowed { first_bar self.old.plan self.old.state m ≡ None }
-        requires count { self.old.state.retired + 1 < 2 ^ 64 }
+        requires count { m ≡ mv.Leave → self.old.state.retired + 1 < 2 ^ 64 }
         ensures makes { MakesOrFails self.old self.new m
             (streams_of (S.left input.old) (K.written output.old))
             (streams_of (S.left input.new) (K.written output.new)) result }

@@ -1,5 +1,5 @@
 -- The moves of a round, one after the other.
-use Rattle.std.proofs.Common.{◌≡◌, ℕ, zero, suc, ◌+◌, ◌≤◌, Bool, true, false, List, [], ◌∷◌, ◌++◌, length, take, drop, Some, None, Ok, Err, inl, inr, refl, sym, ap, subst, ◌∙◌, append_assoc, arith}
+use Rattle.std.proofs.Common.{◌≡◌, ℕ, zero, suc, ◌+◌, ◌<◌, ◌≤◌, Bool, true, false, List, [], ◌∷◌, ◌++◌, length, take, drop, Some, None, Ok, Err, inl, inr, refl, sym, ap, subst, ◌∙◌, append_assoc, arith}
 use Rattle.std.specs.Prelude.{◌⊎◌, slice_get, if◌then◌else◌}
 use Rattle.std.specs.List.{AllByRecursion}
 use Rattle.std.proofs.lemmas.Bool.Decides.{nat_tests}
@@ -304,6 +304,15 @@ pub fired-allowed : (plan : Plan) (round : List Move) (start now : RunPlace) (pa
     FiredSoFar plan round start now pace current fired place → Some mv ≡ slice_get round place → bar now.core.plan now.core.state mv ≡ None
 fired-allowed plan round start now pace current fired place mv h there = ap (λ (l : Plan). bar l now.core.state mv) h.plan_is
     ∙ left_allowed plan now.core.state round place mv h.left there
+
+-- and where it is Leave, as many instructions may retire as at the start
+pub fired-room : (plan : Plan) (round : List Move) (start now : RunPlace) (pace current : PaceCount) (fired : Fired) (place : ℕ) (mv : Move) (most : ℕ) →
+    FiredSoFar plan round start now pace current fired place → Some mv ≡ slice_get round place → start.core.state.retired + 1 < most → mv ≡ Leave →
+    now.core.state.retired + 1 < most
+fired-room plan round start now pace current fired place mv most h there room leave =
+    let left : leaves (drop place round) ≡ suc (leaves (drop (place + 1) round)) =
+    ap leaves (drop_at round place mv there ∙ ap (λ (m : Move). m ∷ drop (place + 1) round) leave) in
+    omega (arith, left, h.retired, room)
 
 -- all moves of a round were made
 take_all : (round : List Move) (place : ℕ) → place ≡ length round → take place round ≡ round

@@ -42,7 +42,7 @@ pub fn fire<S: Source, K: Sink>(
     tally: &mut Tally,
 ) -> Fired
     requires round { IsRound core.old.plan core.old.state set.now }
-    requires retired { core.old.state.retired + 2 < 2 ^ 64 }
+    requires retired { core.old.state.retired + 1 < 2 ^ 64 }
     requires moves { tally.old.moves < 2 ^ 63 }
     requires meets { tally.old.meets < 2 ^ 63 }
     requires kills { tally.old.kills < 2 ^ 63 }

@@ -1,7 +1,7 @@
 //! A run in rounds.
 #![tactic(auto, unfolding(crate::specs::Turns::RoundTurns, crate::specs::Firing::Fires))]
 
-ghost use Rattle.std.specs.Prelude.{◌≡◌, ℕ, ◌+◌, ◌<◌, ◌≤◌, ◌^◌, MatchOption, None, Some, length};
+ghost use Rattle.std.specs.Prelude.{◌≡◌, ℕ, ◌<◌, ◌≤◌, ◌^◌, MatchOption, None, Some, length};
 ghost use Rattle.run_options.specs.declared.guess_rule.GuessRule.{GuessRule as Rule};
 ghost use Rattle.run_options.specs.Limits.{most_limit};
 ghost use Rattle.cf_io.specs.Causes.{HasCause};
@@ -70,7 +70,6 @@ fn advance<S: Source, K: Sink>(
     output: &mut K,
     tally: &mut Tally,
 ) -> Option<Clocked>
-    requires limit { limit + 2 < 2 ^ 64 }
     requires retired { core.old.state.retired ≤ limit }
     requires counted { (rule : Rule) × (count : ℕ) × HasCounted rule core.old.plan.stages count pace.old }
     requires some { core.old.state.ending ≡ None →

@@ -31,7 +31,7 @@ pub fn make_and_show<S: Source, K: Sink, R: Sink>(
     tally: &mut Tally,
 ) -> Result<Event, Ran>
     requires allowed { bar core.old.plan core.old.state mv ≡ None }
-    requires retired { core.old.state.retired + 1 < 2 ^ 64 }
+    requires retired { mv ≡ moves.Leave → core.old.state.retired + 1 < 2 ^ 64 }
     requires counts { CanCount tally.old }
     ensures does { MoveDoes reporting mv
         (place_by S.left K.written R.written core.old input.old output.old report.old tally.old)
@@ -85,7 +85,7 @@ pub(crate) fn make_in_order<S: Source, K: Sink, R: ReportSink>(
     tally: &mut Tally,
 ) -> Result<Event, Ran>
     requires allowed { bar core.old.plan core.old.state mv ≡ None }
-    requires retired { core.old.state.retired + 1 < 2 ^ 64 }
+    requires retired { mv ≡ moves.Leave → core.old.state.retired + 1 < 2 ^ 64 }
     requires counts { CanCount tally.old }
     ensures does { MoveGoes reporting mv
         (place_by S.left K.written R.written core.old input.old output.old report.old tally.old)

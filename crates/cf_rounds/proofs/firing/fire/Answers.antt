@@ -1,7 +1,7 @@
 use Rattle.std.proofs.Common.{refl, ◌∙◌}
 use Rattle.cf_run.specs.Moving.{MoveDoes}
 use Rattle.cf_index.proofs.There.{has_sidings}
-use Rattle.cf_rounds.proofs.Making.{fired-allowed, fired-more, fired-none, fired-unread, fired-unwritten}
+use Rattle.cf_rounds.proofs.Making.{fired-allowed, fired-more, fired-none, fired-room, fired-unread, fired-unwritten}
 use Rattle.cf_rounds.proofs.firing.fire.Goals as goal
 
 pub loop-place-init : goal.loop-place-init
@@ -13,6 +13,9 @@ loop-place-init g c = record {
 
 pub make_and_show-requires-clause-allowed : goal.make_and_show-requires-clause-allowed
 make_and_show-requires-clause-allowed g c = fired-allowed _ _ _ _ _ _ _ _ _ c.loop-place.invariant.fired c.get-mv.ensures
+
+pub make_and_show-requires-clause-retired : goal.make_and_show-requires-clause-retired
+make_and_show-requires-clause-retired g c = fired-room _ _ _ _ _ _ _ _ _ _ c.loop-place.invariant.fired c.get-mv.ensures c.requires.retired
 
 pub returns-in-Err-ReadFault-clause-fires : goal.returns-in-Err-ReadFault-clause-fires
 returns-in-Err-ReadFault-clause-fires g c =
