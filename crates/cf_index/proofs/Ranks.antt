@@ -128,14 +128,17 @@ all_stages r q plan early =
     all_parts p q _ _ (all_map p q Execute stages (λ k. later r (Execute k) (omega arith))) (
     all_parts p q _ _ (all_map p q Send stages (λ k. later r (Send k) (omega arith))) (all_map p q Launch stages (λ k. later r (Launch k) (omega arith)))))))
 
+pub all_leaving_past : (p q : Move → Bool) (plan : Plan) → ((mv : Move) → slide_place < kind_place mv → p mv ≡ true) →
+    find p (filter q (all_leaving plan)) ≡ slice_get (filter q (all_leaving plan)) 0
+all_leaving_past p q plan after =
+    all_step p (q Access) Access _ (after Access (omega arith)) (
+    all_parts p q _ (Leave ∷ Exit ∷ Serve ∷ []) (all_map p q Recover (counted_from 1 plan.stages) (λ k. after (Recover k) (omega arith))) (
+    all_step p (q Leave) Leave _ (after Leave (omega arith)) (
+    all_step p (q Exit) Exit _ (after Exit (omega arith)) (all_step p (q Serve) Serve [] (after Serve (omega arith)) refl))))
+
 all_outward : (r : Rank) (q : Move → Bool) (plan : Plan) → r.kind < 2 → find (is_past r) (filter q (all_leaving plan))
     ≡ slice_get (filter q (all_leaving plan)) 0
-all_outward r q plan early =
-    let p = is_past r in
-    all_step p (q Access) Access _ (later r Access (omega arith)) (
-    all_parts p q _ (Leave ∷ Exit ∷ Serve ∷ []) (all_map p q Recover (counted_from 1 plan.stages) (λ k. later r (Recover k) (omega arith))) (
-    all_step p (q Leave) Leave _ (later r Leave (omega arith)) (
-    all_step p (q Exit) Exit _ (later r Exit (omega arith)) (all_step p (q Serve) Serve [] (later r Serve (omega arith)) refl))))
+all_outward r q plan early = all_leaving_past (is_past r) q plan (λ mv after. later r mv (omega (arith, early, after)))
 
 pub all_others : (r : Rank) (q : Move → Bool) (plan : Plan) → r.kind < 2 → find (is_past r) (filter q (all_passing plan)
     ++ (filter q (slides_from 0 plan.sidings) ++ filter q (all_leaving plan))) ≡ slice_get (filter q (all_passing plan)
@@ -197,6 +200,14 @@ late_step p false x xs e = refl
 pub flag_late : (r : Rank) (q : Move → Bool) (mv : Move) (xs : List Move) → is_past r mv ≡ false →
     find (is_past r) (filter q xs) ≡ find (is_past r) (filter q (mv ∷ xs))
 flag_late r q mv xs late = late_step (is_past r) (q mv) mv (filter q xs) late
+
+-- none of the stages, where no move of the kind is past
+pub none_mapped : (p q : Move → Bool) (kind : ℕ → Move) (ks : List ℕ) → ((k : ℕ) → p (kind k) ≡ false) → find p (filter q (map kind ks)) ≡ None
+none_mapped p q kind [] before = refl
+none_mapped p q kind (k ∷ ks) before = none_step p q (q (kind k)) (kind k) (map kind ks) (before k) (none_mapped p q kind ks before)
+
+pub none_parts : (p q : Move → Bool) (xs ys : List Move) → find p (filter q xs) ≡ None → find p (filter q ys) ≡ None → find p (filter q (xs ++ ys)) ≡ None
+none_parts p q xs ys e f = rw (filter-append q xs ys) (found_second p (filter q xs) (filter q ys) e ∙ f)
 
 -- The rank of a move --
 

@@ -20,15 +20,16 @@ use Rattle.cf_semantics.specs.state.Options.{on, is_some}
 use Rattle.cf_semantics.specs.state.State.{State, cell_at}
 use Rattle.cf_stages.specs.Changes.{passenger_at}
 use Rattle.cf_index.specs.declared.rank.Rank.{Rank}
-use Rattle.cf_index.specs.Allowed.{all_passing, allowed_others, is_allowed, is_running, kept_issues, unheld_issues, withheld}
-use Rattle.cf_index.specs.GuessRules.{guided}
+use Rattle.cf_index.specs.Allowed.{all_passing, allowed_issues, allowed_others, is_allowed, is_running, kept_issues, unheld_issues, withheld}
+use Rattle.cf_index.specs.GuessRules.{guided, keeps}
 use Rattle.cf_index.specs.Order.{first_after, kind_place, slide_place}
-use Rattle.cf_index.specs.PickedFrom.{IsPickedFrom, from_climb, from_emit, outward_on}
+use Rattle.cf_index.specs.PickedFrom.{IsLast, IsPicked, IsPickedFrom, from_climb, from_emit, outward_on}
 use Rattle.cf_index.specs.Ranks.{first_rank, is_past, rank_of}
 use Rattle.cf_index.proofs.AllowedWords.{climb-on}
-use Rattle.cf_index.proofs.Firsts.{others_are, unissued, wrapped}
+use Rattle.cf_index.proofs.Firsts.{first_issue, others_are, unissued, wrapped}
 use Rattle.cf_index.proofs.Guided.{allowed-issue}
 use Rattle.cf_index.proofs.Others.{withheld_others}
+use Rattle.cf_index.proofs.PickedFrom.{last_is}
 use Rattle.cf_index.proofs.Ranks.{all_others, found_rank}
 
 -- No Issue --
@@ -150,13 +151,92 @@ first_picked rule held plan s last mv is other outside none = of (kind_place las
         let gone = sym (none (λ first. absurd (omega (arith, e, first)))) in
         wrapped rule plan s last held None (Some mv) (omega (arith, e)) (found_rank (rank_of last) last _ None refl (omega (arith, e)) outside gone) refl is
 
+-- where the first of all is none, there is none
+none_of : {X : Type 0} (xs : List X) → slice_get xs 0 ≡ None → xs ≡ []
+none_of [] e = refl
+none_of (x ∷ xs) e = absurd (cc)
+
+first_there : (plan : Plan) (s : State) (o : Option Move) → plan.stages ≤ 32 → find (is_past first_rank) (from_emit plan s) ≡ o →
+    slice_get (allowed_others plan s) 0 ≡ o
+first_there plan s o few found = sym (first_of_others plan s) ∙ ap (find (is_past first_rank)) (sym (from_emit_on plan s few)) ∙ found
+
+none_others : (plan : Plan) (s : State) (last : Option Move) → plan.stages ≤ 32 → find (is_past first_rank) (from_emit plan s) ≡ None → IsLast plan s last
+unfolding IsLast
+none_others plan s last few found = rw (none_of (allowed_others plan s) (first_there plan s None few found)) refl
+
 pub started : (rule : GuessRule) (held : Bool) (plan : Plan) (s : State) (last : Move) (r : Rank) → plan.stages ≤ 32 → r ≡ rank_of last →
     unheld_issues held rule plan s ≡ [] → r.kind ≢ slide_place → (r.kind ≢ 0 →
     find (is_past r) (filter (is_allowed plan s) (all_passing plan) ++ outward_on plan s) ≡ None) →
     IsPickedFrom rule held plan s (Some last) first_rank (from_emit plan s)
 unfolding IsPickedFrom
-started rule held plan s last r few stands none outside gone = λ mv found.
-    let there : slice_get (allowed_others plan s) 0 ≡ Some mv =
-    sym (first_of_others plan s) ∙ ap (find (is_past first_rank)) (sym (from_emit_on plan s few)) ∙ found in
-    let first = ap (λ (xs : List Move). slice_get xs 0) (offered_others rule held plan s mv none there) ∙ there in
-    sym (first_picked rule held plan s last mv (sym first) (other_first plan s mv there) (rw stands at outside) (rw stands at gone))
+started rule held plan s last r few stands none outside gone = record {
+  outside = λ e. absurd (omega (arith, e));
+  here = λ mv found.
+      let there : slice_get (allowed_others plan s) 0 ≡ Some mv = first_there plan s (Some mv) few found in
+      let first = ap (λ (xs : List Move). slice_get xs 0) (offered_others rule held plan s mv none there) ∙ there in
+      sym (first_picked rule held plan s last mv (sym first) (other_first plan s mv there) (rw stands at outside) (rw stands at gone));
+  gone = λ found. none_others plan s (Some last) few found;
+}
+
+-- so it is after any move but an Issue that no other comes after
+pub restarted : (rule : GuessRule) (held : Bool) (plan : Plan) (s : State) (last : Move) → plan.stages ≤ 32 →
+    unheld_issues held rule plan s ≡ [] → 1 ≤ kind_place last → IsLast plan s (Some last) →
+    IsPickedFrom rule held plan s (Some last) first_rank (from_emit plan s)
+unfolding IsPickedFrom
+restarted rule held plan s last few none some over = record {
+  outside = λ e. absurd (omega (arith, e));
+  here = λ mv found.
+      let there : slice_get (allowed_others plan s) 0 ≡ Some mv = first_there plan s (Some mv) few found in
+      let first = ap (λ (xs : List Move). slice_get xs 0) (offered_others rule held plan s mv none there) ∙ there in
+      sym (wrapped rule plan s last held None (Some mv) some (sym (last_is plan s last some over)) refl (sym first));
+  gone = λ found. over;
+}
+
+-- and an Issue is picked there, where one is offered
+pub issue_picked : (rule : GuessRule) (held : Bool) (plan : Plan) (s : State) (last mv : Move) (o : Option Move) → held ≡ false →
+    o ≡ slice_get (kept_issues rule plan s) 0 → o ≡ Some mv → 1 ≤ kind_place last → IsLast plan s (Some last) → IsPicked rule held plan s (Some last) mv
+issue_picked rule held plan s last mv o free first is some over =
+    sym (wrapped rule plan s last held None (Some mv) some (sym (last_is plan s last some over)) refl (first_issue rule plan s held mv o free first is))
+
+-- each of those that issue is an Issue
+AreIssues : List Move → Type 0
+AreIssues [] = Unit {0}
+AreIssues (x ∷ xs) = (kind_place x ≡ 0) × AreIssues xs
+
+issues_step : (b : Bool) (x : Move) (xs : List Move) → kind_place x ≡ 0 → AreIssues xs → AreIssues (cond b (x ∷ xs) xs)
+unfolding AreIssues
+issues_step true x xs e rest = (e, rest)
+issues_step false x xs e rest = rest
+
+issues_kept : (q : Move → Bool) (xs : List Move) → AreIssues xs → AreIssues (filter q xs)
+unfolding AreIssues
+issues_kept q [] all = tt
+issues_kept q (x ∷ xs) all = issues_step (q x) x (filter q xs) all.0 (issues_kept q xs all.1)
+
+issues_first : (xs : List Move) (mv : Move) → AreIssues xs → slice_get xs 0 ≡ Some mv → kind_place mv ≡ 0
+unfolding AreIssues
+issues_first [] mv all at = absurd (cc)
+issues_first (x ∷ xs) mv all at = let is : x ≡ mv = cc in sym (ap kind_place is) ∙ all.0
+
+pub issue_kind : (rule : GuessRule) (plan : Plan) (s : State) (o : Option Move) (mv : Move) → o ≡ slice_get (kept_issues rule plan s) 0 → o ≡ Some mv →
+    kind_place mv ≡ 0
+unfolding AreIssues
+issue_kind rule plan s o mv first is =
+    issues_first (kept_issues rule plan s) mv
+    (issues_kept (keeps rule plan s) (allowed_issues plan s) (issues_kept (is_allowed plan s) (Issue Next ∷ Issue Taken ∷ Issue Wait ∷ []) (refl, (refl, (refl, tt)))))
+    (sym first ∙ is)
+
+-- where none is offered, the search starts over without one
+none_offered : (rule : GuessRule) (plan : Plan) (s : State) (held : Bool) (o : Option Move) → held ≡ false → o ≡ slice_get (kept_issues rule plan s) 0 →
+    o ≡ None → unheld_issues held rule plan s ≡ []
+none_offered rule plan s held o free first is = rw free (none_of (kept_issues rule plan s) (sym first ∙ is))
+
+pub issue_none : (rule : GuessRule) (held : Bool) (plan : Plan) (s : State) (last : Move) (o : Option Move) → plan.stages ≤ 32 → held ≡ false →
+    o ≡ slice_get (kept_issues rule plan s) 0 → o ≡ None → 1 ≤ kind_place last → IsLast plan s (Some last) →
+    IsPickedFrom rule held plan s (Some last) first_rank (from_emit plan s)
+issue_none rule held plan s last o few free first is some over =
+    restarted rule held plan s last few (none_offered rule plan s held o free first is) some over
+
+pub issue_held : (rule : GuessRule) (held : Bool) (plan : Plan) (s : State) (last : Move) → plan.stages ≤ 32 → held ≡ true → 1 ≤ kind_place last →
+    IsLast plan s (Some last) → IsPickedFrom rule held plan s (Some last) first_rank (from_emit plan s)
+issue_held rule held plan s last few is some over = restarted rule held plan s last few (none_held rule plan s held is) some over

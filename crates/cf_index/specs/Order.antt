@@ -11,6 +11,10 @@ use Rattle.cf_semantics.specs.state.Options.{on}
 abbrev pub slide_place : ℕ
 slide_place = 8
 
+-- and that of Leave
+abbrev pub leave_place : ℕ
+leave_place = 11
+
 -- the place of its kind among the kinds
 abbrev pub kind_place : Move → ℕ
 kind_place (Issue g) = 0
@@ -24,7 +28,7 @@ kind_place (Launch i) = 7
 kind_place (Slide k c) = slide_place
 kind_place Access = 9
 kind_place (Recover i) = 10
-kind_place Leave = 11
+kind_place Leave = leave_place
 kind_place Exit = 12
 kind_place Serve = 13
 

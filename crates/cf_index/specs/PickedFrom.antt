@@ -1,16 +1,16 @@
 -- A sweep: what is allowed from one kind of move on, and that its first move is the next pick of a rule that goes round in the
--- order of all moves.
-use Rattle.std.specs.Prelude.{◌≡◌, List, [], ◌∷◌, ◌++◌, Bool, Option, Some, filter, find, slice_get}
+-- order of all moves; where it has none, no move but an Issue comes after the last pick.
+use Rattle.std.specs.Prelude.{◌≡◌, ◌≢◌, List, [], ◌∷◌, ◌++◌, Bool, Option, Some, None, filter, find, slice_get}
 use Rattle.run_options.specs.declared.guess_rule.GuessRule.{GuessRule}
 use Rattle.cf_layout.specs.Layout.{Plan}
 use Rattle.cf_bind.specs.declared.moves.Move.{Move}
-use Rattle.cf_bind.specs.declared.moves.Move.TheVariants.{Emit}
-use Rattle.cf_semantics.specs.moves.Candidates.{slides_from}
+use Rattle.cf_bind.specs.declared.moves.Move.TheVariants.{Emit, Exit, Leave, Recover, Serve}
+use Rattle.cf_semantics.specs.moves.Candidates.{at_stages, slides_from}
 use Rattle.cf_semantics.specs.state.State.{State}
 use Rattle.cf_index.specs.declared.rank.Rank.{Rank}
-use Rattle.cf_index.specs.Allowed.{all_leaving, climb_on, execute_on, fall_on, is_allowed, launch_on, meet_on, send_on, withheld}
+use Rattle.cf_index.specs.Allowed.{all_leaving, allowed_others, climb_on, execute_on, fall_on, is_allowed, launch_on, meet_on, send_on, withheld}
 use Rattle.cf_index.specs.GuessRules.{guided}
-use Rattle.cf_index.specs.Order.{first_after}
+use Rattle.cf_index.specs.Order.{first_after, is_after, slide_place}
 use Rattle.cf_index.specs.Ranks.{is_past}
 
 -- what is allowed of the kinds after those over the stages
@@ -40,7 +40,36 @@ from_launch plan s = launch_on plan s ++ outward_on plan s
 unfoldable pub from_emit : Plan → State → List Move
 from_emit plan s = filter (is_allowed plan s) (Emit ∷ []) ++ from_climb plan s
 
--- the first of these moves past the rank, if there is one, is the first that is offered after the last pick
+-- what is allowed of the kinds after Slide, and of those after each of these
+unfoldable pub from_access : Plan → State → List Move
+from_access plan s = filter (is_allowed plan s) (all_leaving plan)
+
+unfoldable pub from_recover : Plan → State → List Move
+from_recover plan s = filter (is_allowed plan s) (at_stages plan Recover ++ Leave ∷ Exit ∷ Serve ∷ [])
+
+unfoldable pub from_leave : Plan → State → List Move
+from_leave plan s = filter (is_allowed plan s) (Leave ∷ Exit ∷ Serve ∷ [])
+
+unfoldable pub from_exit : Plan → State → List Move
+from_exit plan s = filter (is_allowed plan s) (Exit ∷ Serve ∷ [])
+
+unfoldable pub from_serve : Plan → State → List Move
+from_serve plan s = filter (is_allowed plan s) (Serve ∷ [])
+
+-- no allowed move but an Issue comes after the last pick
+unfoldable pub IsLast : Plan → State → (last : Option Move) → Type 0
+IsLast plan s last = find (is_after last) (allowed_others plan s) ≡ None
+
+-- the move is the first that is offered after the last pick
+abbrev pub IsPicked : GuessRule → (held : Bool) → Plan → State → (last : Option Move) → Move → Type 0
+IsPicked rule held plan s last mv = slice_get (withheld held (guided rule plan s)) (first_after last (withheld held (guided rule plan s))) ≡ Some mv
+
+-- the first of these moves past the rank, which is not that of a Slide, is picked after the last pick; where there is none, no move
+-- but an Issue comes after it
+pub record FindsPick (rule : GuessRule) (held : Bool) (plan : Plan) (s : State) (last : Option Move) (r : Rank) (moves : List Move) : Type 0 where
+  pub outside : r.kind ≢ slide_place
+  pub here : (mv : Move) → find (is_past r) moves ≡ Some mv → IsPicked rule held plan s last mv
+  pub gone : find (is_past r) moves ≡ None → IsLast plan s last
+
 unfoldable pub IsPickedFrom : GuessRule → (held : Bool) → Plan → State → (last : Option Move) → Rank → List Move → Type 0
-IsPickedFrom rule held plan s last r moves = (mv : Move) → find (is_past r) moves ≡ Some mv →
-    slice_get (withheld held (guided rule plan s)) (first_after last (withheld held (guided rule plan s))) ≡ Some mv
+IsPickedFrom rule held plan s last r moves = FindsPick rule held plan s last r moves

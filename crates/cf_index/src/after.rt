@@ -12,7 +12,7 @@ use cf_bind::Move;
 /// The place, among the moves within the sidings, of the first that comes after the one from cell c of siding k.
 #[inline(always)]
 #[tactic(auto, using(crate::proofs::PassedEnds::passed_slides))]
-fn passed_slides(slides: u64, k: u32, c: u32) -> usize
+pub(crate) fn passed_slides(slides: u64, k: u32, c: u32) -> usize
     ensures count { result ≡ passed (Move.Slide k c) (slides_of slides) }
     ensures most { result ≤ most_of_kind }
 {

@@ -5,6 +5,7 @@ mod after;
 mod ahead;
 mod bits;
 mod candidates;
+mod ending_kinds;
 mod entering;
 mod fill;
 mod guiding;
@@ -22,6 +23,7 @@ mod visiting;
 mod words;
 
 pub use candidates::Candidates;
+pub use ending_kinds::{AccessKind, ExitKind, LeaveKind, RecoverKind};
 pub use rank::Rank;
 pub use sharing::shares;
 pub use sweeping::{

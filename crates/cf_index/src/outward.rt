@@ -1,13 +1,13 @@
 //! The first move within the sidings, or of those by which something leaves, that comes after another. A move is tested only
 //! when no move before it was found.
 
-ghost use Rattle.std.specs.Prelude.{◌≡◌, ◌≢◌, ◌∷◌, ◌++◌, [], filter, find, slice_get};
+ghost use Rattle.std.specs.Prelude.{◌≡◌, ◌≢◌, ◌∷◌, ◌++◌, [], IfSome, filter, find, slice_get};
 ghost use Rattle.cf_bind.specs.declared.moves.Move.TheVariants as mv;
 ghost use Rattle.cf_semantics.specs.moves.Candidates.{at_stages, slides_from};
 ghost use Rattle.cf_core.specs.Masks.{masks_of};
 ghost use Rattle.cf_index.specs.Allowed.{all_leaving, is_allowed};
 ghost use Rattle.cf_index.specs.Listed.{slides_of};
-ghost use Rattle.cf_index.specs.Order.{slide_place};
+ghost use Rattle.cf_index.specs.Order.{kind_place, slide_place};
 ghost use Rattle.cf_index.specs.Ranks.{is_past};
 
 use crate::bits::lowest;
@@ -83,7 +83,8 @@ fn next_leaving(core: &Core, last: Rank) -> Option<Move>
 #[inline(always)]
 #[tactic(auto, using(crate::proofs::Ranks::first_sliding))]
 fn first_slide(slides: u64) -> Option<Move>
-    ensures { result ≡ slice_get (slides_of slides) 0 }
+    ensures first { result ≡ slice_get (slides_of slides) 0 }
+    ensures slide { IfSome result (λ next. kind_place next ≡ slide_place) }
 {
     if slides == 0 {
         None
@@ -95,8 +96,9 @@ fn first_slide(slides: u64) -> Option<Move>
 
 /// The first move within the sidings after a move that is not one of them.
 #[inline(always)]
-fn next_slide(core: &Core, last: Rank) -> Option<Move>
-    ensures { last.kind ≢ slide_place → result ≡ find (is_past last) (filter (is_allowed core.now.plan core.now.state) (slides_from 0 core.now.plan.sidings)) }
+pub(crate) fn next_slide(core: &Core, last: Rank) -> Option<Move>
+    ensures slide { IfSome result (λ next. kind_place next ≡ slide_place) }
+    ensures first { last.kind ≢ slide_place → result ≡ find (is_past last) (filter (is_allowed core.now.plan core.now.state) (slides_from 0 core.now.plan.sidings)) }
 {
     if last.kind < SLIDE {
         first_slide(slides(core))

@@ -1,6 +1,6 @@
 //! Where a move stands in the order of all moves.
 
-ghost use Rattle.std.specs.Prelude.{◌≡◌, ℕ, ◌+◌, ◌<◌, ◌&&◌, nat_lt};
+ghost use Rattle.std.specs.Prelude.{◌≡◌, ℕ, ◌+◌, ◌<◌, ◌&&◌, nat_eq, nat_lt, not};
 ghost use Rattle.cf_layout.specs.Words.{has_bit};
 ghost use Rattle.cf_index.specs.Order.{below_or, slide_place};
 ghost use Rattle.cf_index.specs.Ranks.{first_rank, rank_of};
@@ -133,12 +133,12 @@ impl Rank {
         }
     }
 
-    /// Whether it is that of Emit or of a move over the stages.
+    /// Whether it is neither that of an Issue nor that of a Slide.
     #[inline(always)]
-    pub fn is_before_slide(self) -> bool
-        ensures { result ≡ (nat_lt 0 self.kind && nat_lt self.kind slide_place) }
+    pub fn is_swept(self) -> bool
+        ensures { result ≡ (nat_lt 0 self.kind && not (nat_eq self.kind slide_place)) }
     {
-        ISSUE < self.kind && self.kind < SLIDE
+        ISSUE < self.kind && self.kind != SLIDE
     }
 
     /// The stages of the word at which the move of this kind comes after the rank.

@@ -1,11 +1,11 @@
 //! Where the search after a move starts over, and no Issue is offered.
 
-ghost use Rattle.std.specs.Prelude.{◌≡◌, ◌≢◌, ◌++◌, [], None, filter, find, true};
+ghost use Rattle.std.specs.Prelude.{◌≡◌, ◌≢◌, ◌≤◌, ◌++◌, [], IfSome, None, Some, filter, find, true};
 ghost use Rattle.run_options.specs.declared.guess_rule.GuessRule.{GuessRule as Rule};
 ghost use Rattle.cf_bind.specs.declared.moves.Move.{Move as Step};
 ghost use Rattle.cf_index.specs.Allowed.{all_passing, is_allowed, unheld_issues};
-ghost use Rattle.cf_index.specs.Order.{slide_place};
-ghost use Rattle.cf_index.specs.PickedFrom.{IsPickedFrom, from_emit, outward_on};
+ghost use Rattle.cf_index.specs.Order.{kind_place, slide_place};
+ghost use Rattle.cf_index.specs.PickedFrom.{IsLast, IsPicked, IsPickedFrom, from_emit, outward_on};
 ghost use Rattle.cf_index.specs.Ranks.{first_rank, is_past, rank_of};
 
 use crate::candidates::Candidates;
@@ -13,7 +13,9 @@ use crate::plainly::{is_lowest_free, is_running};
 use crate::rank::{ISSUE, LEAVE, Rank};
 use crate::soon::next;
 use crate::stages::stages;
+use cf_bind::Move;
 use cf_core::Core;
+use run_options::GuessRule;
 
 /// Whether no Issue is offered because it is held back, because fetch waits, or because the lowest stage has an instruction.
 /// Nothing is decoded, so that another reason is not seen.
@@ -55,5 +57,23 @@ impl Candidates {
     {
         let _stages = stages(core);
         issues_none(core, held) && is_at_end(core, last)
+    }
+
+    /// The Issue that is picked where no other move comes after the last pick, if one is offered. Where none is, the search starts
+    /// over with the first of all allowed moves but Issue.
+    #[inline(always)]
+    pub fn next_issue(core: &Core, rule: GuessRule, held: bool) -> Option<Move>
+        ensures issue { IfSome result (λ next. kind_place next ≡ 0) }
+        ensures picked { (last : Step) → 1 ≤ kind_place last → IsLast core.now.plan core.now.state (Some last) →
+            IfSome result (λ next. IsPicked rule held core.now.plan core.now.state (Some last) next) }
+        ensures none { result ≡ None → (last : Step) → 1 ≤ kind_place last → IsLast core.now.plan core.now.state (Some last) →
+            IsPickedFrom rule held core.now.plan core.now.state (Some last) first_rank (from_emit core.now.plan core.now.state) }
+    {
+        let _stages = stages(core);
+        if held {
+            None
+        } else {
+            Candidates::first_issue(core, rule)
+        }
     }
 }

@@ -1,4 +1,4 @@
-//! The kinds of moves that a sweep makes: Emit, and those over the stages, one stage after another.
+//! The kinds of moves that a sweep makes: Emit, those over the stages, one stage after another, and those by which something leaves.
 
 ghost use Rattle.std.specs.Prelude.{◌≡◌, ℕ, ◌≤◌, Bool, IfSome, List, None, Some, find};
 ghost use Rattle.run_options.specs.declared.guess_rule.GuessRule.{GuessRule};
@@ -17,9 +17,9 @@ use crate::stages::{executes, launches, meets, sends, stages};
 use cf_bind::Move;
 use cf_core::Core;
 
-/// A kind of move that a sweep makes: Emit, Climb, Fall, Meet, Execute, Send or Launch.
+/// A kind of move that a sweep makes: Emit, Climb, Fall, Meet, Execute, Send, Launch, Access, Recover, Leave or Exit.
 pub trait SweptKind {
-    /// The move of this kind at a stage. Emit is at the highest alone.
+    /// The move of this kind at a stage. Emit, Access, Leave and Exit have no stage.
     ghost at_stage: { ℕ → Step };
 
     /// What is allowed of this kind and of those after it.
@@ -28,12 +28,16 @@ pub trait SweptKind {
     /// What is allowed of the kinds after it.
     ghost beyond: { Plan → State → List Step };
 
+    /// The part in which the next pick is looked for after a move of this kind: from this kind on, if it has a move for each stage,
+    /// or of the kinds after it.
+    ghost onward: { Plan → State → List Step };
+
     /// The move at the stage.
     fn at(i: u32) -> Move
         ensures value { result ≡ at_stage i }
         ensures after { 1 ≤ kind_place result }
-        ensures before { kind_place result ≤ 7 }
-        ensures picked { (rule : GuessRule) (held : Bool) (plan : Plan) (s : State) → plan.stages ≤ 32 → IsPickedFrom rule held plan s (Some result) (rank_of result) (from plan s) };
+        ensures before { kind_place result ≤ 12 }
+        ensures picked { (rule : GuessRule) (held : Bool) (plan : Plan) (s : State) → plan.stages ≤ 32 → IsPickedFrom rule held plan s (Some result) (rank_of result) (onward plan s) };
 
     /// The first stage past the rank at which the move is allowed.
     fn next(core: &Core, last: Rank) -> Option<u32>
@@ -69,6 +73,8 @@ impl SweptKind for EmitKind {
 
     ghost beyond = { from_climb };
 
+    ghost onward = { from_climb };
+
     #[inline(always)]
     #[tactic(auto, using(crate::proofs::PickedFrom::emitted_on))]
     fn at(_stage: u32) -> Move {
@@ -93,6 +99,8 @@ impl SweptKind for ClimbKind {
 
     ghost beyond = { from_fall };
 
+    ghost onward = { from_climb };
+
     #[inline(always)]
     #[tactic(auto, using(crate::proofs::PickedFrom::climbed_on))]
     fn at(i: u32) -> Move {
@@ -115,6 +123,8 @@ impl SweptKind for FallKind {
     ghost from = { from_fall };
 
     ghost beyond = { from_meet };
+
+    ghost onward = { from_fall };
 
     #[inline(always)]
     #[tactic(auto, using(crate::proofs::PickedFrom::fallen_on))]
@@ -139,6 +149,8 @@ impl SweptKind for MeetKind {
 
     ghost beyond = { from_execute };
 
+    ghost onward = { from_meet };
+
     #[inline(always)]
     #[tactic(auto, using(crate::proofs::PickedFrom::met_on))]
     fn at(i: u32) -> Move {
@@ -161,6 +173,8 @@ impl SweptKind for ExecuteKind {
     ghost from = { from_execute };
 
     ghost beyond = { from_send };
+
+    ghost onward = { from_execute };
 
     #[inline(always)]
     #[tactic(auto, using(crate::proofs::PickedFrom::executed_on))]
@@ -185,6 +199,8 @@ impl SweptKind for SendKind {
 
     ghost beyond = { from_launch };
 
+    ghost onward = { from_send };
+
     #[inline(always)]
     #[tactic(auto, using(crate::proofs::PickedFrom::sent_on))]
     fn at(i: u32) -> Move {
@@ -207,6 +223,8 @@ impl SweptKind for LaunchKind {
     ghost from = { from_launch };
 
     ghost beyond = { outward_on };
+
+    ghost onward = { from_launch };
 
     #[inline(always)]
     #[tactic(auto, using(crate::proofs::PickedFrom::launched_on))]

@@ -1,7 +1,7 @@
 -- Turns of the rule: what a move of a swept kind leaves as it is, and where some turns lead.
-use Rattle.std.specs.Prelude.{◌&&◌, find, slice_set}
+use Rattle.std.specs.Prelude.{◌&&◌, find, not, slice_get, slice_set}
 use Rattle.std.proofs.lemmas.Bool.Decides.{nat_tests}
-use Rattle.std.proofs.Common.{◌≡◌, ◌∙◌, sym, refl, ap, subst, ℕ, zero, suc, ◌+◌, ◌-◌, ◌≤◌, ◌<◌, List, [], ◌∷◌, Bool, true, nat_lt, Option, Some, None, Ok, Err, arith}
+use Rattle.std.proofs.Common.{◌≡◌, ◌≢◌, ◌∙◌, sym, refl, ap, subst, ℕ, zero, suc, ◌+◌, ◌-◌, ◌≤◌, ◌<◌, List, [], ◌∷◌, Bool, true, nat_eq, nat_lt, Option, Some, None, Ok, Err, arith}
 use Rattle.run_options.specs.Limits.{most_limit}
 use Rattle.run_options.specs.declared.guess_rule.GuessRule.{GuessRule}
 use Rattle.run_options.specs.declared.reporting.Reporting.{Reporting}
@@ -16,8 +16,9 @@ use Rattle.cf_bind.specs.declared.passenger.Passenger.{Passenger}
 use Rattle.cf_bind.specs.declared.moves.Move.{Move}
 use Rattle.cf_bind.specs.declared.moves.Move.TheVariants as mv
 use Rattle.cf_semantics.specs.declared.event.Event.{Event}
-use Rattle.cf_semantics.specs.moves.Bars.{bar}
-use Rattle.cf_semantics.specs.moves.Moves.{emitted, launch_trap, launched, moved, next, operation, with_passenger}
+use Rattle.cf_semantics.specs.moves.Bars.{bar, last_op, running}
+use Rattle.cf_semantics.specs.moves.Moves.{emitted, launch_trap, launched, moved, next, operation, recovered, with_passenger}
+use Rattle.cf_semantics.specs.state.Layouts.{port}
 use Rattle.cf_semantics.specs.state.Options.{on}
 use Rattle.cf_semantics.specs.state.Passengers.{kind, trapped}
 use Rattle.cf_semantics.specs.state.State.{State, Moment, cell_at, siding_at, with_cell, with_siding}
@@ -25,8 +26,8 @@ use Rattle.cf_core.specs.Processors.{Processor}
 use Rattle.cf_core.specs.Stepping.{MakesOrFails}
 use Rattle.cf_core.specs.declared.fault.Fault.{Fault}
 use Rattle.cf_core.specs.declared.fault.Fault.TheVariants as fault
-use Rattle.cf_index.specs.Order.{kind_place, slide_place}
-use Rattle.cf_index.specs.PickedFrom.{IsPickedFrom, from_climb, from_emit}
+use Rattle.cf_index.specs.Order.{kind_place, leave_place, slide_place}
+use Rattle.cf_index.specs.PickedFrom.{IsLast, IsPicked, IsPickedFrom, from_climb, from_emit}
 use Rattle.cf_index.specs.Ranks.{is_past, rank_of}
 use Rattle.cf_index.specs.declared.rank.Rank.{Rank}
 use Rattle.cf_index.proofs.PickedFrom.{emit_late, picked_after, picked_on}
@@ -39,19 +40,14 @@ use Rattle.cf_run.specs.Made.{CanCount, Made, counted, shown}
 use Rattle.cf_run.specs.Moving.{RunPlace, MoveDoes, place_of}
 use Rattle.cf_run.specs.Policies.{Turned, chooser, choice, most_moves}
 use Rattle.cf_run.specs.Reaching.{GoesOn}
-use Rattle.cf_run.specs.Sweeps.{HasPicked, IsUnderway, ShowsNothing, SweepsTo, TurnsTo}
+use Rattle.cf_run.specs.Sweeps.{HasPicked, IsUnderway, Keeps, ShowsNothing, SweepsTo, TurnsTo}
 use Rattle.cf_run.proofs.ByRule.{ruled-allowed}
 use Rattle.cf_run.proofs.Runs.{can-count}
 use Rattle.cf_run.specs.Asking.{SomeAsks}
 use Rattle.cf_core.specs.Asking.{AsksInput, AsksOutput}
-use Rattle.cf_run.proofs.Coming.{asked-comes, comes-counted, comes-more, comes-nearer, turned-counted, turned-plan}
+use Rattle.cf_run.proofs.Coming.{asked-comes, comes-bounded, comes-counted, comes-more, comes-nearer, turned-counted, turned-plan}
 
 -- What stays --
-
--- the program has ended as before, and as many instructions have retired
-pub record Keeps (s t : State) : Type 0 where
-  pub ending : t.ending ≡ s.ending
-  pub retired : t.retired ≡ s.retired
 
 on_keeps : {X : Type 0} (o : Option X) (s : State) (f : X → State) → ((x : X) → Keeps s (f x)) → Keeps s (on o s f)
 on_keeps None s f all = record { ending = refl; retired = refl }
@@ -71,30 +67,37 @@ launched_keeps plan s i c p = of (launch_trap s p)
     of None = on_keeps (siding_of plan (kind p)) s _ (λ k. record { ending = refl; retired = refl })
     of (Some e) = record { ending = refl; retired = refl }
 
-moved_keeps : (plan : Plan) (s : State) (m : Move) → 1 ≤ kind_place m → kind_place m ≤ 7 → Keeps s (moved plan s m)
-unfolding moved
-moved_keeps plan s (mv.Climb i) after before =
-    on_keeps (cell_at s.cells i) s _ (λ c. on_keeps (cell_at s.cells (i + 1)) s _ (λ d. record { ending = refl; retired = refl }))
-moved_keeps plan s (mv.Fall i) after before =
-    on_keeps (cell_at s.cells i) s _ (λ c. on_keeps (cell_at s.cells (i - 1)) s _ (λ d. record { ending = refl; retired = refl }))
-moved_keeps plan s (mv.Meet i) after before =
-    on_keeps (cell_at s.cells i) s _ (λ c. on_keeps c.passenger s _ (λ p. on_keeps c.packet s _ (λ k. record { ending = refl; retired = refl })))
-moved_keeps plan s (mv.Issue g) after before = absurd (omega (arith, after))
-moved_keeps plan s mv.Emit after before = on_keeps (cell_at s.cells plan.stages) s _ (λ c. emitted_keeps s plan.stages s.lane c)
-moved_keeps plan s (mv.Execute i) after before =
-    on_keeps (cell_at s.cells i) s _ (λ c. on_keeps c.passenger s _ (λ p. record { ending = refl; retired = refl }))
-moved_keeps plan s (mv.Send i) after before =
-    on_keeps (cell_at s.cells i) s _ (λ c. on_keeps c.passenger s _ (λ p. record { ending = refl; retired = refl }))
-moved_keeps plan s (mv.Launch i) after before =
-    on_keeps (cell_at s.cells i) s _ (λ c. on_keeps c.passenger s _ (λ p. launched_keeps plan s i c p))
-moved_keeps plan s (mv.Slide k c) after before = absurd (omega (arith, before))
-moved_keeps plan s mv.Access after before = absurd (omega (arith, before))
-moved_keeps plan s (mv.Recover i) after before = absurd (omega (arith, before))
-moved_keeps plan s mv.Leave after before = absurd (omega (arith, before))
-moved_keeps plan s mv.Exit after before = absurd (omega (arith, before))
-moved_keeps plan s mv.Serve after before = absurd (omega (arith, before))
+recovered_keeps : (plan : Plan) (s : State) (i : ℕ) (c : Cell) (p : Passenger) → Keeps s (recovered plan s i c p)
+recovered_keeps plan s i c p =
+    on_keeps (siding_of plan (kind p)) s _ (λ k. on_keeps (last_op (siding_at s k)) s _ (λ op. record { ending = refl; retired = refl }))
 
-next_state : (plan : Plan) (m : Moment) (v : Move) → kind_place v ≤ 7 → (next plan m v).state ≡ moved plan m.state v
+moved_keeps : (plan : Plan) (s : State) (m : Move) → kind_place m ≢ leave_place → Keeps s (moved plan s m)
+unfolding moved
+moved_keeps plan s (mv.Issue g) other =
+    on_keeps (cell_at s.cells 1) s _ (λ c. on_keeps (running s.fetch) s _ (λ pc. record { ending = refl; retired = refl }))
+moved_keeps plan s mv.Emit other = on_keeps (cell_at s.cells plan.stages) s _ (λ c. emitted_keeps s plan.stages s.lane c)
+moved_keeps plan s (mv.Climb i) other =
+    on_keeps (cell_at s.cells i) s _ (λ c. on_keeps (cell_at s.cells (i + 1)) s _ (λ d. record { ending = refl; retired = refl }))
+moved_keeps plan s (mv.Fall i) other =
+    on_keeps (cell_at s.cells i) s _ (λ c. on_keeps (cell_at s.cells (i - 1)) s _ (λ d. record { ending = refl; retired = refl }))
+moved_keeps plan s (mv.Meet i) other =
+    on_keeps (cell_at s.cells i) s _ (λ c. on_keeps c.passenger s _ (λ p. on_keeps c.packet s _ (λ k. record { ending = refl; retired = refl })))
+moved_keeps plan s (mv.Execute i) other =
+    on_keeps (cell_at s.cells i) s _ (λ c. on_keeps c.passenger s _ (λ p. record { ending = refl; retired = refl }))
+moved_keeps plan s (mv.Send i) other =
+    on_keeps (cell_at s.cells i) s _ (λ c. on_keeps c.passenger s _ (λ p. record { ending = refl; retired = refl }))
+moved_keeps plan s (mv.Launch i) other =
+    on_keeps (cell_at s.cells i) s _ (λ c. on_keeps c.passenger s _ (λ p. launched_keeps plan s i c p))
+moved_keeps plan s (mv.Slide k c) other = on_keeps (slice_get (siding_at s k) c) s _ (λ o. record { ending = refl; retired = refl })
+moved_keeps plan s mv.Access other = on_keeps (last_op (siding_at s (port plan))) s _ (λ op. record { ending = refl; retired = refl })
+moved_keeps plan s (mv.Recover i) other =
+    on_keeps (cell_at s.cells i) s _ (λ c. on_keeps c.passenger s _ (λ p. recovered_keeps plan s i c p))
+moved_keeps plan s mv.Leave other = absurd (other refl)
+moved_keeps plan s mv.Exit other =
+    on_keeps (cell_at s.cells 1) s _ (λ c. on_keeps c.packet s _ (λ k. record { ending = refl; retired = refl }))
+moved_keeps plan s mv.Serve other = record { ending = refl; retired = refl }
+
+next_state : (plan : Plan) (m : Moment) (v : Move) → kind_place v ≤ 12 → (next plan m v).state ≡ moved plan m.state v
 unfolding next
 next_state plan m (mv.Issue g) before = refl
 next_state plan m mv.Emit before = refl
@@ -111,20 +114,30 @@ next_state plan m mv.Leave before = refl
 next_state plan m mv.Exit before = refl
 next_state plan m mv.Serve before = absurd (omega (arith, before))
 
-pub makes_keeps : (old new : Processor) (m : Move) (before after : Streams) (e : Event) → 1 ≤ kind_place m → kind_place m ≤ 7 →
+pub makes_keeps : (old new : Processor) (m : Move) (before after : Streams) (e : Event) → kind_place m ≤ 12 → kind_place m ≢ leave_place →
     MakesOrFails old new m before after (Ok e) → Keeps old.state new.state
 unfolding MakesOrFails
-makes_keeps old new m before after e late early makes =
+makes_keeps old new m before after e early other makes =
     let from : Moment = record { state = old.state; rest = makes.0.rest; output = [] } in
     let state : moved old.plan old.state m ≡ new.state = sym (next_state old.plan from m early) ∙ ap (λ (t : Moment). t.state) makes.0.is in
-    subst (Keeps old.state) state (moved_keeps old.plan old.state m late early)
+    subst (Keeps old.state) state (moved_keeps old.plan old.state m other)
+
+-- so the run goes on as before
+pub goes_kept : (limit : ℕ) (s t : State) → GoesOn limit s → Keeps s t → GoesOn limit t
+goes_kept limit s t goes keeps =
+    let below = goes.below in
+    let retired = keeps.retired in
+    record { unended = keeps.ending ∙ goes.unended; below = omega (arith, below, retired) }
+
+pub all_kept : (s : State) → Keeps s s
+all_kept s = record { ending = refl; retired = refl }
 
 -- no Serve
-no_serve : (m : Move) → kind_place m ≤ 7 → m ≡ mv.Serve → ⊥
+pub no_serve : (m : Move) → kind_place m ≤ 12 → m ≡ mv.Serve → ⊥
 no_serve m early is = let late = ap kind_place is in absurd (omega (arith, early, late))
 
 -- so neither stream fails it
-pub never_fails : (old new : Processor) (m : Move) (before after : Streams) (f : Fault) → kind_place m ≤ 7 → MakesOrFails old new m before after (Err f) → ⊥
+pub never_fails : (old new : Processor) (m : Move) (before after : Streams) (f : Fault) → kind_place m ≤ 12 → MakesOrFails old new m before after (Err f) → ⊥
 unfolding MakesOrFails
 never_fails old new m before after fault.Read early h = no_serve m early h.0
 never_fails old new m before after fault.Write early h = no_serve m early h.0
@@ -145,26 +158,25 @@ does_unshown show m old new before after report tally later e none free makes co
 
 -- What is picked --
 
--- the first move past the rank is the rule's choice
-pub chosen : (rule : GuessRule) (plan : Plan) (count : ℕ) (s : State) (last : Option Move) (r : Rank) (moves : List Move) (m : Move) →
-    IsPickedFrom rule (is_held plan count) plan s last r moves → find (is_past r) moves ≡ Some m →
-    choice round_pick plan (chooser rule last count) s ≡ Some m
-unfolding IsPickedFrom offered_by
-chosen rule plan count s last r moves m picked found = picked m found
+-- the move that is picked is the rule's choice
+pub chosen_so : (rule : GuessRule) (plan : Plan) (count : ℕ) (s : State) (last : Option Move) (m : Move) →
+    IsPicked rule (is_held plan count) plan s last m → choice round_pick plan (chooser rule last count) s ≡ Some m
+unfolding offered_by
+chosen_so rule plan count s last m picked = picked
 
 -- so nothing bars it
-pub chosen_free : (rule : GuessRule) (plan : Plan) (count : ℕ) (s : State) (last : Option Move) (r : Rank) (moves : List Move) (m : Move) →
-    IsPickedFrom rule (is_held plan count) plan s last r moves → find (is_past r) moves ≡ Some m → bar plan s m ≡ None
-chosen_free rule plan count s last r moves m picked found = ruled-allowed rule plan count s _ m (chosen rule plan count s last r moves m picked found)
+pub picked_free : (rule : GuessRule) (plan : Plan) (count : ℕ) (s : State) (last : Option Move) (m : Move) →
+    IsPicked rule (is_held plan count) plan s last m → bar plan s m ≡ None
+picked_free rule plan count s last m picked = ruled-allowed rule plan count s _ m (chosen_so rule plan count s last m picked)
 
 -- and once it is made, the rule has made one turn
-pub chosen_turn : (rule : GuessRule) (limit : ℕ) (show : Reporting) (now new : RunPlace) (last : Option Move) (held count : ℕ) (r : Rank) (moves : List Move)
-    (m : Move) (e : Event) → IsPickedFrom rule (is_held now.core.plan held) now.core.plan now.core.state last r moves → find (is_past r) moves ≡ Some m →
+pub picked_turn : (rule : GuessRule) (limit : ℕ) (show : Reporting) (now new : RunPlace) (last : Option Move) (held count : ℕ)
+    (m : Move) (e : Event) → IsPicked rule (is_held now.core.plan held) now.core.plan now.core.state last m →
     GoesOn limit now.core.state → MoveDoes show m now new (Ok e) →
     count ≡ stopped now.core.plan.stages (paced held m e (is_drained new.core.state)) →
     Turned round_pick round_on limit show now new (chooser rule last held) (chooser rule (Some m) count)
-chosen_turn rule limit show now new last held count r moves m e picked found goes does counts =
-    let c = chosen rule now.core.plan held now.core.state last r moves m picked found in
+picked_turn rule limit show now new last held count m e picked goes does counts =
+    let c = chosen_so rule now.core.plan held now.core.state last m picked in
     record {
       takes = record { goes = goes; move = m; choice_is = c; event = e; does = does };
       policy_is = sym c;
@@ -294,21 +306,68 @@ underway_nearer rule limit show now new last later held count plan u t is =
 pub few_stages : (plan old shown : Plan) → plan ≡ old → shown ≡ old → IsAccepted shown → plan.stages ≤ 32
 few_stages plan old shown is same accepted = (subst IsAccepted (same ∙ sym is) accepted).stages.1
 
--- after a move whose rank is before Slide, the rule picks the first past its rank
-before_slide : (r : Rank) → (nat_lt 0 r.kind && nat_lt r.kind slide_place) ≡ true → (1 ≤ r.kind) × (r.kind < slide_place)
-before_slide r test = (grind (arith, nat_tests, test), grind (arith, nat_tests, test))
+-- after a move whose rank is neither that of an Issue nor that of a Slide, the rule picks the first past its rank
+not_slide : (r : Rank) → (nat_lt 0 r.kind && not (nat_eq r.kind slide_place)) ≡ true → (1 ≤ r.kind) × (r.kind ≢ slide_place)
+not_slide r test = (grind (arith, nat_tests, test), λ e. absurd (grind (arith, nat_tests, test, e)))
 
 pub picks_past : (rule : GuessRule) (held : Bool) (plan : Plan) (s : State) (last : Move) (r : Rank) → plan.stages ≤ 32 → r ≡ rank_of last →
-    (nat_lt 0 r.kind && nat_lt r.kind slide_place) ≡ true → IsPickedFrom rule held plan s (Some last) r (from_emit plan s)
+    (nat_lt 0 r.kind && not (nat_eq r.kind slide_place)) ≡ true → IsPickedFrom rule held plan s (Some last) r (from_emit plan s)
 picks_past rule held plan s last r few is test =
-    let within = before_slide r test in
+    let within = not_slide r test in
     let kind : r.kind ≡ kind_place last = ap (λ (q : Rank). q.kind) is in
     let after : 1 ≤ kind_place last = let low = within.0 in omega (arith, kind, low) in
-    let inside : kind_place last < slide_place = let high = within.1 in omega (arith, kind, high) in
+    let other : kind_place last ≢ slide_place = λ e. within.1 (kind ∙ e) in
     subst (λ (q : Rank). IsPickedFrom rule held plan s (Some last) q (from_emit plan s)) (sym is)
     (picked_on rule held plan s (Some last) (rank_of last) (from_climb plan s) (from_emit plan s) (sym (emit_late plan s (rank_of last) after))
-    (picked_after rule held plan s last few after (λ e. absurd (omega (arith, inside, e)))))
+    (picked_after rule held plan s last few after other))
 
 -- fewer are left after a sweep and one more turn
 pub fewer_left : (most now between new : ℕ) → now ≤ between → most - new < most - between → most - new < most - now
 fewer_left most now between new grows near = omega (arith, grows, near)
+
+-- and after some moves that were counted
+pub underway_less : (rule : GuessRule) (limit : ℕ) (show : Reporting) (new : RunPlace) (last : Option Move) (held made : ℕ) (plan : Plan) →
+    IsUnderway rule limit show new last held → new.core.state.retired ≤ limit → new.core.plan ≡ plan → made < new.tally.moves →
+    most_moves plan limit - new.tally.moves < most_moves plan limit - made
+underway_less rule limit show new last held made plan u within is more =
+    let same : new.core.plan ≡ u.begin.core.plan = ap (λ (p : Processor). p.plan) u.comes.reached.core in
+    let few = comes-bounded rule round_pick round_on limit show u.begin new u.first last held u.accepted u.registers u.opened u.comes within in
+    subst (λ (p : Plan). most_moves p limit - new.tally.moves < most_moves p limit - made) (sym same ∙ is)
+    (less (most_moves u.begin.core.plan limit) made new.tally.moves few more)
+  where
+    less : (most made new : ℕ) → new ≤ most → made < new → most - new < most - made
+    less most made new few more = omega (arith, few, more)
+
+-- so a sweep does not make fewer
+pub swept_more : (rule : GuessRule) (limit : ℕ) (show : Reporting) (now new : RunPlace) (current later : Option Move) (held count made : ℕ) →
+    made ≤ now.tally.moves → SweepsTo rule limit show now new current later held count → made ≤ new.tally.moves
+swept_more rule limit show now new current later held count made before swept =
+    let grows = (sweeps_grow rule limit show now new current later held count swept).moves in
+    omega (arith, before, grows)
+
+-- the parts in which a pick is looked for are the same
+pub picks_same : (rule : GuessRule) (held : Bool) (plan : Plan) (s : State) (last : Option Move) (r : Rank) (xs ys : List Move) → xs ≡ ys →
+    IsPickedFrom rule held plan s last r xs → IsPickedFrom rule held plan s last r ys
+picks_same rule held plan s last r xs ys is picked = subst (IsPickedFrom rule held plan s last r) is picked
+
+-- and where they have no move, none but an Issue comes after the last pick
+pub picks_last : (rule : GuessRule) (held : Bool) (plan : Plan) (s : State) (last : Option Move) (r : Rank) (xs : List Move) →
+    IsPickedFrom rule held plan s last r xs → find (is_past r) xs ≡ None → IsLast plan s last
+unfolding IsPickedFrom
+picks_last rule held plan s last r xs picked none = picked.gone none
+
+pub picks_outside : (rule : GuessRule) (held : Bool) (plan : Plan) (s : State) (last : Option Move) (r : Rank) (xs : List Move) →
+    IsPickedFrom rule held plan s last r xs → r.kind ≢ slide_place
+unfolding IsPickedFrom
+picks_outside rule held plan s last r xs picked = picked.outside
+
+pub picked_here : (rule : GuessRule) (held : Bool) (plan : Plan) (s : State) (last : Option Move) (r : Rank) (xs : List Move) (m : Move) →
+    IsPickedFrom rule held plan s last r xs → find (is_past r) xs ≡ Some m → IsPicked rule held plan s last m
+unfolding IsPickedFrom
+picked_here rule held plan s last r xs m picked found = picked.here m found
+
+-- one turn is a sweep
+pub one_turn : (rule : GuessRule) (limit : ℕ) (show : Reporting) (now new : RunPlace) (last later : Option Move) (held count : ℕ) →
+    Turned round_pick round_on limit show now new (chooser rule last held) (chooser rule later count) → SweepsTo rule limit show now new last later held count
+one_turn rule limit show now new last later held count t =
+    one_more_turn rule limit show now now new last last later held held count (no_turns rule limit show now last held) t

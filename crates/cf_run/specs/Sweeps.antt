@@ -7,6 +7,7 @@ use Rattle.run_options.specs.declared.show.Show.TheVariants as shows
 use Rattle.cf_layout.specs.Accepted.{IsAccepted}
 use Rattle.cf_bind.specs.declared.moves.Move.{Move}
 use Rattle.cf_semantics.specs.moves.Holding.{is_held}
+use Rattle.cf_semantics.specs.state.State.{State}
 use Rattle.cf_index.specs.PickedFrom.{IsPickedFrom}
 use Rattle.cf_index.specs.declared.rank.Rank.{Rank}
 use Rattle.cf_core.specs.Processors.{IsOpened, Processor}
@@ -47,6 +48,11 @@ pub record IsUnderway (rule : GuessRule) (limit : ℕ) (show : Reporting) (now :
   pub registers : length begin.core.state.regs ≡ 32
   pub opened : IsOpened begin.core
   pub comes : HasPicked rule round_pick round_on limit show begin now first last held
+
+-- the program has ended as before, and as many instructions have retired
+pub record Keeps (s t : State) : Type 0 where
+  pub ending : t.ending ≡ s.ending
+  pub retired : t.retired ≡ s.retired
 
 -- nothing is shown during the run
 pub record ShowsNothing (show : Reporting) : Type 0 where

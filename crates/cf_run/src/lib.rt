@@ -11,6 +11,7 @@ mod rule;
 mod script;
 mod showing;
 mod sweep;
+mod turning_over;
 
 pub use facts::known;
 pub use finished::over;

@@ -16,7 +16,8 @@ ghost use Rattle.cf_run.specs.Sweeps.{IsUnderway, PicksFrom, ShowsNothing, Sweep
 use crate::facts::known;
 use crate::finished::over;
 use crate::policy::advance;
-use crate::sweep::{SweepPlace, sweep_stages};
+use crate::sweep::SweepPlace;
+use crate::turning_over::sweep_rounds;
 use cf_bind::Move;
 use cf_core::Core;
 use cf_index::{Candidates, Rank};
@@ -37,7 +38,7 @@ fn sweeps_from(core: &Core, last: Move, round: &Round, pace: &Pace) -> Option<Ra
     let _last = last;
     let _stages = core.layout().stages();
     let rank = round.rank();
-    if rank.is_before_slide() {
+    if rank.is_swept() {
         return Some(rank);
     }
     if Candidates::starts_over(core, rank, pace.held()) {
@@ -82,10 +83,10 @@ fn sweep_after<S: Source, K: Sink, R: Sink>(
     };
     if over(core, limit).is_none() {
         let from = SweepPlace { last, rank };
-        let place = sweep_stages(
+        let last = sweep_rounds(
             core, from, pace, limit, reporting, input, output, report, tally,
         );
-        round.keep(place.last);
+        round.keep(last);
     }
 }
 

@@ -10,11 +10,11 @@ returns-in-Some c = λ other.
     let plan = c.args.core.now.plan in
     let q = is_allowed plan c.args.core.now.state in
     found_here (is_past c.args.last) (filter q (slides_from 0 plan.sidings)) (filter q (all_leaving plan)) c.next_slide.result c.in-Some.next
-    (c.next_slide.ensures other) c.in-Some.is
+    (c.next_slide.ensures.first other) c.in-Some.is
 
 pub returns-in-None : goal.returns-in-None
 returns-in-None c = λ other.
     let plan = c.args.core.now.plan in
     let q = is_allowed plan c.args.core.now.state in
     found_there (is_past c.args.last) (filter q (slides_from 0 plan.sidings)) (filter q (all_leaving plan)) c.next_slide.result c.next_leaving.result
-    (c.next_slide.ensures other) c.in-None.is c.next_leaving.ensures
+    (c.next_slide.ensures.first other) c.in-None.is c.next_leaving.ensures

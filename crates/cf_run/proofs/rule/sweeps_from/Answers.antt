@@ -7,10 +7,10 @@ use Rattle.cf_semantics.specs.moves.Holding.{is_held}
 use Rattle.cf_run.proofs.Turning.{few_stages, picks_past}
 use Rattle.cf_run.proofs.rule.sweeps_from.Goals as goal
 
-pub returns-then-is_before_slide : goal.returns-then-is_before_slide
-returns-then-is_before_slide c =
+pub returns-then-is_swept : goal.returns-then-is_swept
+returns-then-is_swept c =
     picks_past _ _ _ _ _ _ (few_stages c.args.core.now.plan c.args.core.now.plan c.layout.result.now refl c.layout.ensures.layout
-    c.stages-stages.ensures.accepted) (rw c.requires.last at c.rank-rank.ensures) (sym c.is_before_slide.ensures ∙ c.if-is_before_slide.true)
+    c.stages-stages.ensures.accepted) (rw c.requires.last at c.rank-rank.ensures) (sym c.is_swept.ensures ∙ c.if-is_swept.true)
 
 pub returns-then-starts_over : goal.returns-then-starts_over
 returns-then-starts_over c =

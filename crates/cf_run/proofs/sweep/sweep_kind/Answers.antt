@@ -1,6 +1,6 @@
 use Rattle.std.proofs.Common.{◌∙◌, ap, refl, sym}
 use Rattle.cf_layout.specs.Layout.{Plan}
-use Rattle.cf_run.proofs.Turning.{no_turns, one_more_turn, underway_counts, underway_more, underway_nearer}
+use Rattle.cf_run.proofs.Turning.{goes_kept, no_turns, one_more_turn, picks_same, underway_counts, underway_more, underway_nearer}
 use Rattle.cf_run.proofs.sweep.sweep_kind.Goals as goal
 
 pub loop-next-init : goal.loop-next-init
@@ -28,8 +28,8 @@ pub loop-next-preserved : goal.loop-next-preserved
 loop-next-preserved g c = record {
   sweeps = one_more_turn _ _ _ _ _ _ _ _ _ _ _ _ c.loop-next.invariant.sweeps (rw c.loop-next.invariant.rule at c.in-Some.ensures.turned);
   underway = rw (sym c.in-Some.ensures.rule) at (underway_more _ _ _ _ _ _ _ _ _ c.loop-next.invariant.underway c.in-Some.ensures.turned);
-  picked = c.in-Some.ensures.picked;
-  goes = c.in-Some.ensures.goes;
+  picked = picks_same _ _ _ _ _ _ _ _ (c.requires.again _ _) c.in-Some.ensures.picked;
+  goes = goes_kept _ _ _ c.loop-next.invariant.goes (c.in-Some.ensures.keeps c.requires.keeps);
   rule = c.in-Some.ensures.rule ∙ c.loop-next.invariant.rule;
   stages = c.in-Some.ensures.stages ∙ c.loop-next.invariant.stages ∙ ap (λ (plan : Plan). plan.stages) (sym c.in-Some.ensures.plan);
   plan = c.in-Some.ensures.plan ∙ c.loop-next.invariant.plan;

@@ -4,7 +4,7 @@ use Rattle.cf_run.proofs.sweep.sweep_stages.Goals as goal
 
 pub returns-clause-sweeps : goal.returns-clause-sweeps
 returns-clause-sweeps g c =
-    let emit = c.sweep_kind-emitted.ensures.rule in
+    let emit = c.sweep_once-emitted.ensures.rule in
     let climb = c.sweep_kind-climbed.ensures.rule ∙ emit in
     let fall = c.sweep_kind-fallen.ensures.rule ∙ climb in
     let meet = c.sweep_kind-met.ensures.rule ∙ fall in
@@ -16,7 +16,7 @@ returns-clause-sweeps g c =
     (sweeps_on _ _ _ _ _ _ _ _ _ _ _ _
     (sweeps_on _ _ _ _ _ _ _ _ _ _ _ _
     (sweeps_on _ _ _ _ _ _ _ _ _ _ _ _
-    c.sweep_kind-emitted.ensures.sweeps
+    c.sweep_once-emitted.ensures.sweeps
     (rw emit at c.sweep_kind-climbed.ensures.sweeps))
     (rw climb at c.sweep_kind-fallen.ensures.sweeps))
     (rw fall at c.sweep_kind-met.ensures.sweeps))

@@ -1,0 +1,174 @@
+//! The kinds of moves by which something leaves: Access, Recover, Leave and Exit.
+
+ghost use Rattle.std.specs.Prelude.{◌≡◌, ◌≢◌, Bool, IfSome, None, Some, false, find};
+ghost use Rattle.run_options.specs.declared.guess_rule.GuessRule.{GuessRule};
+ghost use Rattle.cf_bind.specs.declared.moves.Move.TheVariants as mv;
+ghost use Rattle.cf_index.specs.Order.{kind_place, slide_place};
+ghost use Rattle.cf_index.specs.Ranks.{first_rank, is_past};
+ghost use Rattle.cf_index.specs.PickedFrom.{IsPickedFrom, from_access, from_exit, from_leave, from_recover, from_serve, outward_on};
+
+use crate::after::passed_slides;
+use crate::bits::{count, lowest};
+use crate::candidates::Candidates;
+use crate::fill::slides;
+use crate::outward::next_slide;
+use crate::rank::{ACCESS, EXIT, LEAVE, RECOVER, Rank};
+use crate::stages::stages;
+use crate::sweeping::SweptKind;
+use cf_bind::Move;
+use cf_core::Core;
+
+/// Access.
+pub struct AccessKind;
+
+/// Recover, by stage.
+pub struct RecoverKind;
+
+/// Leave.
+pub struct LeaveKind;
+
+/// Exit.
+pub struct ExitKind;
+
+impl SweptKind for AccessKind {
+    ghost at_stage = { λ i. mv.Access };
+
+    ghost from = { from_access };
+
+    ghost beyond = { from_recover };
+
+    ghost onward = { from_recover };
+
+    #[inline(always)]
+    #[tactic(auto, using(crate::proofs::PickedFrom::accessed_on))]
+    fn at(_stage: u32) -> Move {
+        Move::Access
+    }
+
+    #[inline(always)]
+    #[tactic(auto, using(crate::proofs::PickedFrom::accessing))]
+    fn next(core: &Core, last: Rank) -> Option<u32> {
+        if last.kind < ACCESS && core.may_access() {
+            Some(1)
+        } else {
+            None
+        }
+    }
+}
+
+impl SweptKind for RecoverKind {
+    ghost at_stage = { mv.Recover };
+
+    ghost from = { from_recover };
+
+    ghost beyond = { from_leave };
+
+    ghost onward = { from_recover };
+
+    #[inline(always)]
+    #[tactic(auto, using(crate::proofs::PickedFrom::recovered_on))]
+    fn at(i: u32) -> Move {
+        Move::Recover(i)
+    }
+
+    #[inline(always)]
+    fn next(core: &Core, last: Rank) -> Option<u32> {
+        let _stages = stages(core);
+        let masks = core.masks();
+        match lowest(last.after(RECOVER, masks.recover)) {
+            Some(k) => Some(k + 1),
+            None => None,
+        }
+    }
+}
+
+impl SweptKind for LeaveKind {
+    ghost at_stage = { λ i. mv.Leave };
+
+    ghost from = { from_leave };
+
+    ghost beyond = { from_exit };
+
+    ghost onward = { from_exit };
+
+    #[inline(always)]
+    #[tactic(auto, using(crate::proofs::PickedFrom::left_on))]
+    fn at(_stage: u32) -> Move {
+        Move::Leave
+    }
+
+    #[inline(always)]
+    #[tactic(auto, using(crate::proofs::PickedFrom::leaving))]
+    fn next(core: &Core, last: Rank) -> Option<u32> {
+        if last.kind < LEAVE && core.may_leave() {
+            Some(1)
+        } else {
+            None
+        }
+    }
+}
+
+impl SweptKind for ExitKind {
+    ghost at_stage = { λ i. mv.Exit };
+
+    ghost from = { from_exit };
+
+    ghost beyond = { from_serve };
+
+    ghost onward = { from_serve };
+
+    #[inline(always)]
+    #[tactic(auto, using(crate::proofs::PickedFrom::exited_on))]
+    fn at(_stage: u32) -> Move {
+        Move::Exit
+    }
+
+    #[inline(always)]
+    #[tactic(auto, using(crate::proofs::PickedFrom::exiting))]
+    fn next(core: &Core, last: Rank) -> Option<u32> {
+        if last.kind < EXIT && core.may_exit() {
+            Some(1)
+        } else {
+            None
+        }
+    }
+}
+
+impl Candidates {
+    /// The first Slide after the rank that is allowed.
+    #[inline(always)]
+    #[tactic(auto, using(crate::proofs::PickedFrom::slide_here, crate::proofs::PickedFrom::slide_gone))]
+    pub fn next_slide(core: &Core, last: Rank) -> Option<Move>
+        ensures slide { IfSome result (λ next. kind_place next ≡ slide_place) }
+        ensures here { last.kind ≢ slide_place → IfSome result (λ next. find (is_past last) (outward_on core.now.plan core.now.state) ≡ Some next) }
+        ensures gone { last.kind ≢ slide_place → result ≡ None →
+            find (is_past last) (from_access core.now.plan core.now.state) ≡ find (is_past last) (outward_on core.now.plan core.now.state) }
+    {
+        next_slide(core, last)
+    }
+
+    /// Whether another Slide that is allowed comes after this one. Where none does, and it was the last pick, the next one is looked
+    /// for among the moves by which something leaves.
+    #[inline(always)]
+    pub fn slides_after(core: &Core, mv: Move) -> bool
+        ensures { (rule : GuessRule) (held : Bool) → result ≡ false → IsPickedFrom rule held core.now.plan core.now.state (Some mv) first_rank (from_access core.now.plan core.now.state) }
+    {
+        match mv {
+            Move::Slide(k, c) => {
+                let word = slides(core);
+                passed_slides(word, k, c) < count(word)
+            }
+            _ => true,
+        }
+    }
+
+    /// Whether Serve is allowed. Where it is not, no move that comes after the rank is left.
+    #[inline(always)]
+    #[tactic(auto, using(crate::proofs::PickedFrom::serve_off))]
+    pub fn may_serve(core: &Core, last: Rank) -> bool
+        ensures { result ≡ false → find (is_past last) (from_serve core.now.plan core.now.state) ≡ None }
+    {
+        let _last = last;
+        core.may_serve()
+    }
+}
