@@ -5,3 +5,5 @@ pub mod Written
 pub mod ReadBack
 pub mod Counted
 mod Names
+pub mod Digits
+pub mod FirstLines

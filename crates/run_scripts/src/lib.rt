@@ -8,6 +8,7 @@ mod reading;
 mod refusal;
 mod script;
 mod trace_refusal;
+mod usual;
 mod words;
 mod writing;
 

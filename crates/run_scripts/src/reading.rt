@@ -6,6 +6,7 @@ ghost use Rattle.run_scripts.specs.MoveLines.{guess_read, kind_read, move_read, 
 
 use crate::kind::Kind;
 use crate::refusal::ScriptKind;
+use crate::usual::cut_move;
 use crate::words::Words;
 use cf_bind::{Guess, Move};
 use texts::is_ascii;
@@ -77,6 +78,9 @@ fn read_words(mut words: Words<'_>) -> Result<Move, ScriptKind>
 pub fn read_move(line: &[u8]) -> Result<Move, ScriptKind>
     ensures { result ≡ move_in line.now }
 {
+    if let Some((mv, [])) = cut_move(line) {
+        return Ok(mv);
+    }
     if is_ascii(line) {
         read_words(Words::of(line))
     } else {

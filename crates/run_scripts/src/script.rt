@@ -1,11 +1,13 @@
 //! Reading a script, line by line.
 
-ghost use Rattle.std.specs.Prelude.{◌≡◌, ◌<◌, ◌≤◌, ◌^◌, length};
+ghost use Rattle.std.specs.Prelude.{◌≡◌, ◌+◌, ◌<◌, ◌≤◌, ◌^◌, ℕ, IfSome, Ok, length};
+ghost use Rattle.rv_text.specs.Lines.{text_lines};
 ghost use Rattle.run_scripts.specs.Limits.{most_script};
-ghost use Rattle.run_scripts.specs.Scripts.{is_skipped, script_of, next_of, after_next};
+ghost use Rattle.run_scripts.specs.Scripts.{is_skipped, script_of, next_of, after_next, told_by, told_from};
 
 use crate::reading::read_move;
 use crate::refusal::ScriptErr;
+use crate::usual::cut_move;
 use crate::words::Words;
 use cf_bind::Move;
 use rv_text::cut_line;
@@ -46,6 +48,20 @@ pub fn is_skipped(line: &[u8]) -> bool
     line.starts_with(b"#") || Words::of(line).is_empty()
 }
 
+/// The move of the first line of a text, as `write_move` writes it, and what follows the line.
+#[inline(always)]
+fn cut_written(text: &[u8]) -> Option<(Move, &[u8])>
+    ensures says { IfSome result (λ cut. (above : ℕ) → told_from above (text_lines text.now)
+        ≡ told_by (above + 1) (Ok cut.0) (told_from (above + 1) (text_lines cut.1.now))) }
+    ensures shorter { IfSome result (λ cut. length cut.1.now < length text.now) }
+{
+    let (mv, rest) = cut_move(text)?;
+    match rest {
+        [b'\n', after @ ..] => Some((mv, after)),
+        _ => None,
+    }
+}
+
 impl<'a> Script<'a> {
     /// The script of a text.
     #[tactic(auto, unfolding(crate::specs::Scripts::script_of))]
@@ -59,10 +75,10 @@ impl<'a> Script<'a> {
         }
     }
 
-    /// The next move with its line, counted from 1; `None` exactly at the end. After a refusal each later call returns
-    /// the same.
+    /// The same as `next`, whatever the lines are.
+    #[inline(never)]
     #[tactic(auto, using(crate::proofs::Counted::counting))]
-    pub fn next(&mut self) -> Result<Option<(u32, Move)>, ScriptErr>
+    fn next_line(&mut self) -> Result<Option<(u32, Move)>, ScriptErr>
         ensures next { result ≡ next_of self.old }
         ensures left { self.new ≡ after_next self.old }
         ensures few { length self.old.moves < 2 ^ 25 }
@@ -80,5 +96,24 @@ impl<'a> Script<'a> {
             self.rest = after;
         }
         Ok(None)
+    }
+
+    /// The next move with its line, counted from 1; `None` exactly at the end. After a refusal each later call returns
+    /// the same.
+    #[inline(always)]
+    #[tactic(auto, using(crate::proofs::Counted::counting))]
+    pub fn next(&mut self) -> Result<Option<(u32, Move)>, ScriptErr>
+        ensures next { result ≡ next_of self.old }
+        ensures left { self.new ≡ after_next self.old }
+        ensures few { length self.old.moves < 2 ^ 25 }
+    {
+        match cut_written(self.rest) {
+            Some((mv, after)) => {
+                self.above += 1;
+                self.rest = after;
+                Ok(Some((self.above, mv)))
+            }
+            None => self.next_line(),
+        }
     }
 }

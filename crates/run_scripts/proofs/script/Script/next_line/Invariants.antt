@@ -2,7 +2,7 @@ use Rattle.std.proofs.Common.{◌≡◌, ◌+◌, ◌≤◌, length}
 use Rattle.rv_text.specs.Lines.{text_lines}
 use Rattle.run_scripts.specs.Limits.{most_script}
 use Rattle.run_scripts.specs.Scripts.{told_from}
-use Rattle.run_scripts.proofs.script.Script.next.Given as goal
+use Rattle.run_scripts.proofs.script.Script.next_line.Given as goal
 
 -- what the lines that are left say is what the script says
 abbrev pub invariant-loop-self : goal.invariant-loop-self

@@ -1,6 +1,6 @@
 use Rattle.std.proofs.Common.{◌≡◌, length, rules}
 use Rattle.run_scripts.proofs.Ends.{next-ended, left-ended}
-use Rattle.run_scripts.proofs.script.Script.next.Goals as goal
+use Rattle.run_scripts.proofs.script.Script.next_line.Goals as goal
 
 pub returns-clause-next : goal.returns-clause-next
 returns-clause-next c =
