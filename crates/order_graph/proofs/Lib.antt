@@ -18,3 +18,4 @@ pub mod Counted
 pub mod Shown
 pub mod Translated
 pub mod Answered
+pub mod Within

@@ -10,3 +10,4 @@ pub mod TrialParts
 pub mod KeyGraph
 pub mod OrderAnswers
 pub mod ReadyStages
+pub mod MoveSpans

@@ -11,6 +11,7 @@ ghost use Rattle.order_claims.specs.MoveLists.{issued_with};
 ghost use Rattle.order_graph.specs.Kinds.{kind_by, kind_told};
 ghost use Rattle.order_graph.specs.KeyGraph.{IsOrderKey, IsOrderNode, IsRightNode, IsWrongAlong, IsWrongEdge, IsWrongFrom, IsWrongNode, IsWrongThere, edge_of, leads_from, memory_loaded, moves_from, node_next, state_of};
 ghost use Rattle.order_keys.specs.Keys.{key_of};
+ghost use Rattle.order_keys.specs.Stages.{lefts_of};
 ghost use Rattle.order_keys.specs.Situations.{bare};
 ghost use Rattle.order_model.specs.RuleBars.{bar_without};
 ghost use Rattle.order_search.specs.Paths.{HasEdgeFault};
@@ -18,12 +19,13 @@ ghost use Rattle.order_search.specs.Views.{IsJudged, TellsFault, seen};
 
 use crate::copying::{copy, copy_into};
 use crate::ready::is_ready;
+use crate::spans::{next_key, put_back};
 use crate::trial::{Trial, note_trial};
 use cf_bind::Move;
 use mem_regions::Regions;
 use order_claims::WrongKind;
 use order_judging::{FailedTest, judge_move, judge_state};
-use order_keys::{Node, write_key};
+use order_keys::Node;
 use order_model::Situation;
 use order_search::Edge;
 use std::alloc::{AllocError, Global};
@@ -47,7 +49,8 @@ pub(crate) fn note_bare(situation: &Situation)
     let _ = situation.lane.len();
 }
 
-/// Makes the next node the one to which the move leads; the memory, which was the node's, is that one's.
+/// Makes the next node, which is the same as the node, the one to which the move leads; the memory, which was the node's, is that
+/// one's.
 fn step_into(
     alloc: Global,
     trial: &Trial,
@@ -59,11 +62,11 @@ fn step_into(
     requires node { IsOrderNode trial.now node.now }
     requires memory { mem.old ≡ memory_after node.now.changes (memory_loaded trial.now) }
     requires leads { Contains (moves_from trial.now node.now) m }
+    requires next { next.old ≡ node.now }
     ensures node { OnOk result (next.new ≡ node_next trial.now node.now m) }
     ensures memory { OnOk result (AreChangesOf (memory_loaded trial.now) mem.new next.new.changes) }
 {
     note_trial(trial);
-    copy_into(alloc, node, next)?;
     next.situation.make_changing(
         alloc,
         trial.away,
@@ -254,19 +257,26 @@ fn fault_along(
     }
 }
 
-/// The edge of a move from a node, whose memory this is, and which is left as it is; the move is made in the next node.
+/// The edge of a move from a node, whose memory this is, and which is left as it is; the move is made in the next node, which is the
+/// same as the node, and is so again afterwards.
 fn edge(
     alloc: Global,
     trial: &Trial,
     mem: &mut Regions,
     node: &Node,
+    key: &[u8],
+    lefts: &[usize],
     m: Move,
     next: &mut Node,
 ) -> Result<Edge<Move, WrongKind>, AllocError>
     requires node { IsRightNode trial.now node.now }
     requires memory { mem.old ≡ memory_after node.now.changes (memory_loaded trial.now) }
+    requires key { key.now ≡ key_of node.now }
+    requires lefts { lefts.now ≡ lefts_of key.now }
     requires leads { Contains (moves_from trial.now node.now) m }
+    requires next { next.old ≡ node.now }
     ensures kept { OnOk result (mem.new ≡ mem.old) }
+    ensures next { OnOk result (next.new ≡ node.now) }
     ensures edge { IfOk result (λ edge. seen edge ≡ edge_of trial.now node.now m) }
     ensures fault { IfOk result (IsJudged (HasEdgeFault (IsWrongEdge trial.now) (IsWrongNode trial.now) (key_of node.now))) }
     ensures key { IfOk result (λ edge. IfNone edge.fault (IsOrderKey trial.now edge.node.items)) }
@@ -275,7 +285,8 @@ fn edge(
     step_into(alloc, trial, mem, node, m, next)?;
     next.changes.turn_into(&node.changes, &trial.image, mem);
     let fault = fault_along(alloc, trial, mem, node, m, &*next)?;
-    let key = write_key(alloc, &*next)?;
+    let key = next_key(alloc, trial, node, key, lefts, m, &*next)?;
+    put_back(alloc, trial, node, m, next)?;
     Ok(Edge {
         label: m,
         fault,
@@ -283,46 +294,53 @@ fn edge(
     })
 }
 
-/// The moves that lead on from a node, in whose memory this is.
+/// Makes moves those that lead on from a node, in whose memory this is.
 #[tactic(auto, using(crate::proofs::Unready::moves_kept))]
 fn moves_on(
-    alloc: Global,
     trial: &Trial,
     mem: &Regions,
     node: &Node,
-) -> Result<Vec<Move>, AllocError>
+    moves: &mut Vec<Move>,
+) -> Result<(), AllocError>
     requires { mem.now ≡ memory_after node.now.changes (memory_loaded trial.now) }
-    ensures { IfOk result (λ moves. moves.items ≡ moves_from trial.now node.now) }
+    ensures { OnOk result (moves.new.items ≡ moves_from trial.now node.now) }
 {
     note_trial(trial);
-    let mut moves = Vec::new(alloc);
+    moves.clear();
     for m in &trial.moves {
         if leads_on(trial, mem, node, *m) {
             moves.push(*m)?;
         }
     }
-    Ok(moves)
+    Ok(())
 }
 
-/// The edges of a node, whose memory this is, and which is left as it is; each move is made in the next node.
+/// The edges of a node, whose memory this is, and which is left as it is; each move is made in the next node. The moves are kept in
+/// the memory of a list.
 pub(crate) fn edges_of(
     alloc: Global,
     trial: &Trial,
     mem: &mut Regions,
     node: &Node,
+    key: &[u8],
+    lefts: &[usize],
+    moves: &mut Vec<Move>,
     next: &mut Node,
 ) -> Result<Vec<Edge<Move, WrongKind>>, AllocError>
     requires node { IsRightNode trial.now node.now }
     requires memory { mem.old ≡ memory_after node.now.changes (memory_loaded trial.now) }
+    requires key { key.now ≡ key_of node.now }
+    requires lefts { lefts.now ≡ lefts_of key.now }
     ensures kept { OnOk result (mem.new ≡ mem.old) }
     ensures edges { IfOk result (λ edges. map seen edges.items ≡ map (edge_of trial.now node.now) (moves_from trial.now node.now)) }
     ensures faults { IfOk result (λ edges. All (IsJudged (HasEdgeFault (IsWrongEdge trial.now) (IsWrongNode trial.now) (key_of node.now))) edges.items) }
     ensures keys { IfOk result (λ edges. All (λ edge. IfNone edge.fault (IsOrderKey trial.now edge.node.items)) edges.items) }
 {
-    let moves = moves_on(alloc, trial, mem, node)?;
+    moves_on(trial, mem, node, moves)?;
+    copy_into(alloc, node, next)?;
     let mut edges = Vec::with_capacity(alloc, moves.len())?;
-    for m in &moves {
-        let judged = edge(alloc, trial, mem, node, *m, next)?;
+    for m in &*moves {
+        let judged = edge(alloc, trial, mem, node, key, lefts, *m, next)?;
         edges.push(judged)?;
     }
     Ok(edges)

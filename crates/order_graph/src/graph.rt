@@ -4,6 +4,7 @@ ghost use Rattle.std.specs.Prelude.{◌≡◌, ◌<◌, ◌^◌, map, length, If
 ghost use Rattle.std.specs.List.{All};
 ghost use Rattle.order_graph.specs.KeyGraph.{IsOrderKey, IsRightNode, IsWrongEdge, IsWrongNode, edges_from, memory_loaded};
 ghost use Rattle.order_keys.specs.Keys.{node_of};
+ghost use Rattle.order_keys.specs.Stages.{lefts_of};
 ghost use Rattle.order_search.specs.Paths.{HasEdgeFault};
 ghost use Rattle.order_search.specs.Views.{IsJudged, seen};
 
@@ -18,11 +19,13 @@ use std::alloc::{AllocError, Global};
 use std::marker::Model;
 
 /// Two nodes whose memory serves again: the one whose edges are asked for, and the one to which each of its moves leads in
-/// turn. What they hold between two calls is seen by no contract.
+/// turn; where the stages of the first stand in its key; and its moves. What they hold between two calls is seen by no contract.
 #[derive(Drop)]
 pub(crate) struct Scratch {
     node: Node,
     next: Node,
+    lefts: Vec<usize>,
+    moves: Vec<Move>,
 }
 
 impl Model for Scratch {
@@ -37,6 +40,8 @@ impl Scratch {
         Scratch {
             node: Node::blank(alloc),
             next: Node::blank(alloc),
+            lefts: Vec::new(alloc),
+            moves: Vec::new(alloc),
         }
     }
 }
@@ -50,25 +55,30 @@ pub struct OrderGraph {
 }
 
 /// Makes a node the one with the key.
-fn read_node(alloc: Global, trial: &Trial, key: &[u8], node: &mut Node) -> Result<(), AllocError>
+fn read_node(
+    alloc: Global,
+    trial: &Trial,
+    key: &[u8],
+    node: &mut Node,
+    lefts: &mut Vec<usize>,
+) -> Result<(), AllocError>
     requires { IsOrderKey trial.now key.now }
     ensures node { OnOk result (node.new ≡ node_of key.now) }
+    ensures lefts { OnOk result (lefts.new.items ≡ lefts_of key.now) }
     ensures right { OnOk result (IsRightNode trial.now node.new) }
 {
     note_trial(trial);
-    let is_read = node.read(alloc, key)?;
+    let is_read = node.read(alloc, key, lefts)?;
     if is_read { Ok(()) } else { unreachable!() }
 }
 
-/// The edges of the node with the key, in a memory that is as it was loaded, and is left so; the node is read into one of the two
-/// nodes, and its moves are made in the other.
+/// The edges of the node with the key, in a memory that is as it was loaded, and is left so.
 fn edges_at(
     alloc: Global,
     trial: &Trial,
     mem: &mut Regions,
     key: &[u8],
-    node: &mut Node,
-    next: &mut Node,
+    scratch: &mut Scratch,
 ) -> Result<Vec<Edge<Move, WrongKind>>, AllocError>
     requires key { IsOrderKey trial.now key.now }
     requires memory { mem.old ≡ memory_loaded trial.now }
@@ -79,9 +89,15 @@ fn edges_at(
     ensures keys { IfOk result (λ edges. All (λ edge. IfNone edge.fault (IsOrderKey trial.now edge.node.items)) edges.items) }
 {
     note_trial(trial);
-    read_node(alloc, trial, key, node)?;
+    let Scratch {
+        node,
+        next,
+        lefts,
+        moves,
+    } = scratch;
+    read_node(alloc, trial, key, node, lefts)?;
     node.changes.apply(&trial.image, mem);
-    let edges = edges_of(alloc, trial, mem, &*node, next)?;
+    let edges = edges_of(alloc, trial, mem, &*node, key, &*lefts, moves, next)?;
     node.changes.take_back(&trial.image, mem);
     Ok(edges)
 }
@@ -106,13 +122,6 @@ impl Graph for OrderGraph {
         alloc: Global,
         key: &[u8],
     ) -> Result<Vec<Edge<Move, WrongKind>>, AllocError> {
-        edges_at(
-            alloc,
-            &self.trial,
-            &mut self.mem,
-            key,
-            &mut self.scratch.node,
-            &mut self.scratch.next,
-        )
+        edges_at(alloc, &self.trial, &mut self.mem, key, &mut self.scratch)
     }
 }

@@ -11,6 +11,7 @@ mod reached;
 mod ready;
 mod replaying;
 mod searching;
+mod spans;
 mod trial;
 
 pub use found::{OrderCounts, OrdersFound, WrongOrder};

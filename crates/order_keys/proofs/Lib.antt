@@ -9,3 +9,4 @@ pub mod PlaceSteps
 pub mod PlacesBack
 pub mod KeysBack
 pub mod PlacesRead
+pub mod StagesPlaced

@@ -45,7 +45,7 @@ one_read bs i empty empty' left left' x places within so_far read =
           (take_more_set places i x inside) so_far.whole;
     }
 
-taken_all : {A : Type 0} (xs : List A) (i : ℕ) → length xs ≤ i → take i xs ≡ xs
+pub taken_all : {A : Type 0} (xs : List A) (i : ℕ) → length xs ≤ i → take i xs ≡ xs
 taken_all [] zero h = refl
 taken_all [] (suc i) h = refl
 taken_all (x ∷ xs) zero h = absurd (omega (arith, h))

@@ -9,7 +9,9 @@ pub mod PassengerFlags
 pub mod Passengers
 pub mod Cells
 pub mod Lists
+pub mod Stages
 pub mod Places
 pub mod Memories
 pub mod Situations
 pub mod Keys
+pub mod Beside

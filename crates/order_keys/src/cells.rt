@@ -1,7 +1,7 @@
 //! What stands in a stage, and in a cell of a siding, in keys.
 
 ghost use Rattle.std.specs.Prelude.{◌≡◌};
-ghost use Rattle.order_keys.specs.Cells.{is_empty as is_empty_in};
+ghost use Rattle.order_keys.specs.Cells.{is_empty as is_empty_in, unpacked_cell};
 
 use crate::pack::Pack;
 use crate::unread::Unread;
@@ -10,7 +10,7 @@ use rv_inst::Instr;
 use std::alloc::AllocError;
 
 /// A stage with nothing in it.
-const EMPTY: Cell = Cell {
+pub(crate) const EMPTY: Cell = Cell {
     passenger: None,
     packet: None,
     met: false,
@@ -56,6 +56,24 @@ impl Pack for Cell {
                 met,
             }
         }
+    }
+}
+
+/// Makes a stage the one at the front of what is left of a key, which it takes from there. One that is empty and stays so is not
+/// written.
+#[inline(always)]
+#[tactic(auto, unfolding(crate::specs::Cells::unpacked_cell, crate::specs::Compounds::unpacked_triple))]
+pub(crate) fn unpack_cell(cell: &mut Cell, key: &mut Unread<'_>)
+    ensures { record { value = cell.new; left = key.new } ≡ unpacked_cell key.old }
+{
+    if key.byte() == 0 {
+        if !is_empty(&*cell) {
+            *cell = EMPTY;
+        }
+    } else {
+        cell.passenger = <Option<Passenger>>::unpack(key);
+        cell.packet = <Option<Packet>>::unpack(key);
+        cell.met = bool::unpack(key);
     }
 }
 

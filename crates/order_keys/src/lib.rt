@@ -1,6 +1,7 @@
 //! The nodes of a search through all orders as byte strings, each node by its own.
 #![tactic(auto)]
 
+mod beside;
 mod bindings;
 mod cells;
 mod changes;
@@ -18,6 +19,8 @@ mod places;
 mod results;
 mod situation_parts;
 mod situations;
+mod stages;
 mod unread;
 
+pub use beside::write_key_beside;
 pub use node::{Node, read_key, write_key};

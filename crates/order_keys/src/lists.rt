@@ -1,11 +1,22 @@
 //! Lists in keys: how many items there are, and the items.
 
 ghost use Rattle.std.specs.Prelude.{◌≡◌, ◌++◌, IfOk};
-ghost use Rattle.order_keys.specs.Lists.{packed_list, unpacked_list};
+ghost use Rattle.order_keys.specs.Lists.{packed_items, packed_list, unpacked_list};
 
 use crate::pack::Pack;
 use crate::unread::Unread;
 use std::alloc::AllocError;
+
+/// Appends items to a key.
+#[tactic(auto, unfolding(crate::specs::Lists::packed_items))]
+pub(crate) fn pack_items<T: Pack>(items: &[T], key: &mut Vec<u8>) -> Result<(), AllocError>
+    ensures { IfOk result (λ _. key.new.items ≡ key.old.items ++ packed_items T.packed items.now) }
+{
+    for item in items {
+        item.pack(key)?;
+    }
+    Ok(())
+}
 
 /// Appends the list to a key.
 #[tactic(auto, unfolding(crate::specs::Lists::packed_list))]
@@ -13,10 +24,7 @@ pub(crate) fn pack_list<T: Pack>(items: &[T], key: &mut Vec<u8>) -> Result<(), A
     ensures { IfOk result (λ _. key.new.items ≡ key.old.items ++ packed_list T.packed items.now) }
 {
     (items.len() as u64).pack(key)?;
-    for item in items {
-        item.pack(key)?;
-    }
-    Ok(())
+    pack_items(items, key)
 }
 
 /// Makes a list the one at the front of what is left of a key, which it takes from there.

@@ -3,6 +3,7 @@
 ghost use Rattle.std.specs.Prelude.{◌≡◌, IfOk, MatchBool, MatchOption, length};
 ghost use Rattle.order_keys.specs.Situations.{bare, IsWhole};
 ghost use Rattle.order_keys.specs.Keys.{bare_node, blank_node, key_of, node_of};
+ghost use Rattle.order_keys.specs.Stages.{lefts_of};
 
 use crate::changes::{pack_changes, unpack_changes};
 use crate::pack::Pack;
@@ -37,7 +38,7 @@ fn note_length(regs: &[u32; 32])
 /// A state has at most 64 requests, and 32 places each in its cache and in its register file; it is seen without a
 /// memory, and without a fault.
 #[inline(always)]
-fn note_shape(situation: &Situation)
+pub(crate) fn note_shape(situation: &Situation)
     ensures whole { IsWhole situation.now }
     ensures bare { bare situation.now ≡ situation.now }
 {
@@ -85,15 +86,22 @@ impl Node {
         }
     }
 
-    /// Makes this node the one with a key, in the memory that it has, where this is enough; or answers `false` where there is
-    /// none: the key's lane is longer than 64, or its cache or its registers are not 32, as in no key of a node. After `false`
-    /// or an error nothing is known of this node.
+    /// Makes this node the one with a key, in the memory that it has, where this is enough, and notes how many bytes of the key are
+    /// left behind the number of stages and behind each stage; or answers `false` where there is none: the key's lane is longer
+    /// than 64, or its cache or its registers are not 32, as in no key of a node. After `false` or an error nothing is known of
+    /// this node.
     #[tactic(auto, unfolding(crate::specs::Keys::node_of, crate::specs::Keys::unpacked_node, crate::specs::Compounds::unpacked_triple))]
-    pub fn read(&mut self, alloc: Global, key: &[u8]) -> Result<bool, AllocError>
-        ensures { IfOk result (λ found. MatchBool found (self.new ≡ node_of key.now) (IsWhole (node_of key.now).situation → ⊥)) }
+    pub fn read(
+        &mut self,
+        alloc: Global,
+        key: &[u8],
+        lefts: &mut Vec<usize>,
+    ) -> Result<bool, AllocError>
+        ensures node { IfOk result (λ found. MatchBool found (self.new ≡ node_of key.now) (IsWhole (node_of key.now).situation → ⊥)) }
+        ensures lefts { IfOk result (λ _. lefts.new.items ≡ lefts_of key.now) }
     {
         let mut key = Unread::new(key);
-        if !unpack_situation(alloc, &mut self.situation, &mut key)? {
+        if !unpack_situation(alloc, &mut self.situation, lefts, &mut key)? {
             return Ok(false);
         }
         unpack_changes(&mut self.changes, &mut key)?;
@@ -108,7 +116,8 @@ pub fn read_key(alloc: Global, key: &[u8]) -> Result<Option<Node>, AllocError>
     ensures { IfOk result (λ found. let node = node_of key.now in MatchOption found (IsWhole node.situation → ⊥) (λ n. n ≡ node)) }
 {
     let mut node = Node::blank(alloc);
-    if node.read(alloc, key)? {
+    let mut lefts = Vec::new(alloc);
+    if node.read(alloc, key, &mut lefts)? {
         Ok(Some(node))
     } else {
         Ok(None)

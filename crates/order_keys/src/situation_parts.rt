@@ -3,11 +3,13 @@
 ghost use Rattle.std.specs.Prelude.{◌≡◌, ◌<◌, IfOk, MatchBool, length};
 ghost use Rattle.order_keys.specs.Lists.{unpacked_list};
 ghost use Rattle.order_keys.specs.Numbers.{unpacked_byte};
+ghost use Rattle.order_keys.specs.Stages.{lefts_of};
 ghost use Rattle.order_keys.specs.Situations.{HasRegisters, unpacked_sidings, unpacked_pipes, unpacked_fetching, unpacked_situation, IsWhole};
 
 use crate::lists::unpack_list;
 use crate::pack::Pack;
 use crate::places::{unpack_places, unpack_registers};
+use crate::stages::unpack_stages;
 use crate::unread::Unread;
 use arrayvec::ArrayVec;
 use cf_bind::{Cell, End, Fetch};
@@ -57,15 +59,17 @@ fn unpack_lane(lane: &mut ArrayVec<u8, 64>, key: &mut Unread<'_>) -> bool
 fn unpack_pipes(
     alloc: Global,
     cells: &mut Vec<Cell>,
+    lefts: &mut Vec<usize>,
     sidings: &mut Vec<SidingOps>,
     lane: &mut ArrayVec<u8, 64>,
     key: &mut Unread<'_>,
 ) -> Result<bool, AllocError>
-    ensures { IfOk result (λ found. MatchBool found
+    ensures pipes { IfOk result (λ found. MatchBool found
         (record { value = (cells.new.items, sidings.new.items, lane.new.items); left = key.new } ≡ unpacked_pipes key.old)
         (64 < length (unpacked_pipes key.old).value.2)) }
+    ensures lefts { IfOk result (λ _. lefts.new.items ≡ lefts_of key.old) }
 {
-    unpack_list(cells, key)?;
+    unpack_stages(cells, lefts, key)?;
     unpack_sidings(alloc, sidings, key)?;
     Ok(unpack_lane(lane, key))
 }
@@ -96,12 +100,14 @@ fn unpack_fetching(
 pub(crate) fn unpack_situation(
     alloc: Global,
     s: &mut Situation,
+    lefts: &mut Vec<usize>,
     key: &mut Unread<'_>,
 ) -> Result<bool, AllocError>
-    ensures { IfOk result (λ found. MatchBool found (record { value = s.new; left = key.new } ≡ unpacked_situation key.old)
+    ensures state { IfOk result (λ found. MatchBool found (record { value = s.new; left = key.new } ≡ unpacked_situation key.old)
         (IsWhole (unpacked_situation key.old).value → ⊥)) }
+    ensures lefts { IfOk result (λ _. lefts.new.items ≡ lefts_of key.old) }
 {
-    if !unpack_pipes(alloc, &mut s.cells, &mut s.sidings, &mut s.lane, key)? {
+    if !unpack_pipes(alloc, &mut s.cells, lefts, &mut s.sidings, &mut s.lane, key)? {
         return Ok(false);
     }
     if !unpack_fetching(&mut s.fetch, &mut s.cache, &mut s.regs, key) {

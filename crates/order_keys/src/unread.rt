@@ -1,6 +1,6 @@
 //! What is left of a key that is read from its front.
 
-ghost use Rattle.std.specs.Prelude.{◌≡◌};
+ghost use Rattle.std.specs.Prelude.{◌≡◌, length};
 ghost use Rattle.order_keys.specs.Numbers.{front, behind};
 
 use std::marker::Model;
@@ -25,6 +25,14 @@ impl<'a> Unread<'a> {
         ensures { result ≡ key.now }
     {
         Unread { left: key }
+    }
+
+    /// How many bytes are not read yet.
+    #[inline(always)]
+    pub(crate) fn count(&self) -> usize
+        ensures { result ≡ length self.now }
+    {
+        self.left.len()
     }
 
     /// The next byte, 0 where none is left; it stays unread.

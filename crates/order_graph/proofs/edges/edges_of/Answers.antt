@@ -14,6 +14,7 @@ use Rattle.order_graph.proofs.edges.edges_of.Goals as goal
 pub loop-m-preserved : goal.loop-m-preserved
 loop-m-preserved c = record {
   memory = c.in_ok-judged.ensures.kept ∙ c.loop-m.invariant.memory;
+  next = c.in_ok-judged.ensures.next;
   moves = c.loop-m.invariant.moves;
   edges = edges_grown (edge_of c.args.trial.now c.args.node.now) c.loop-m.edges.items c.push.new.self.items c.in_ok-judged.judged c.deref-m-items.result.now c.loop-m.m-index _
       c.in_ok-push.ensures.items c.loop-m.invariant.edges c.loop-m-test.true c.in_ok-judged.ensures.edge;

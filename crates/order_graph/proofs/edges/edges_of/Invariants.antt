@@ -11,6 +11,7 @@ use Rattle.order_graph.proofs.edges.edges_of.Given as goal
 abbrev pub invariant-loop-m : goal.invariant-loop-m
 invariant-loop-m l = record {
   memory : l.mem ≡ l.initial.mem;
+  next : l.next ≡ l.node;
   moves : l.m-items ≡ moves_from l.trial l.node;
   edges : map seen l.edges.items ≡ map (edge_of l.trial l.node) (take l.m-index l.m-items);
   faults : All (IsJudged (HasEdgeFault (IsWrongEdge l.trial) (IsWrongNode l.trial) (key_of l.node))) l.edges.items;

@@ -12,18 +12,18 @@ use Rattle.order_graph.proofs.edges.step_into.Goals as goal
 
 pub make_changing-requires-clause-allowed : goal.make_changing-requires-clause-allowed
 make_changing-requires-clause-allowed c =
-    subst (λ (t : OrderTrial). bar_without t.away t.plan (in_memory c.copy_into.new.to.situation c.args.mem.now) c.args.m ≡ None) (sym c.trial.view_is)
-    (subst (λ (k : Node). bar_without c.args.trial.now.away c.args.trial.now.plan (in_memory k.situation c.args.mem.now) c.args.m ≡ None) (sym c.in_ok-copy_into.ensures)
+    subst (λ (t : OrderTrial). bar_without t.away t.plan (in_memory c.args.next.now.situation c.args.mem.now) c.args.m ≡ None) (sym c.trial.view_is)
+    (subst (λ (k : Node). bar_without c.args.trial.now.away c.args.trial.now.plan (in_memory k.situation c.args.mem.now) c.args.m ≡ None) (sym c.requires.next)
     (node_allows c.args.trial.now c.args.node.now c.args.mem.now c.args.m c.requires.memory c.requires.leads))
 
 pub make_changing-requires-clause-count : goal.make_changing-requires-clause-count
 make_changing-requires-clause-count c =
-    subst (λ (k : Node). k.situation.retired + 1 < 2 ^ 64) (sym c.in_ok-copy_into.ensures) (node_count c.args.trial.now c.args.node.now c.note_trial.ensures c.requires.node)
+    subst (λ (k : Node). k.situation.retired + 1 < 2 ^ 64) (sym c.requires.next) (node_count c.args.trial.now c.args.node.now c.note_trial.ensures c.requires.node)
 
 pub make_changing-requires-clause-changes : goal.make_changing-requires-clause-changes
 make_changing-requires-clause-changes c =
-    subst (λ (t : OrderTrial). AreChangesOf (memory_loaded t) c.args.mem.now c.copy_into.new.to.changes) (sym c.trial.view_is)
-    (subst (λ (k : Node). AreChangesOf (memory_loaded c.args.trial.now) c.args.mem.now k.changes) (sym c.in_ok-copy_into.ensures)
+    subst (λ (t : OrderTrial). AreChangesOf (memory_loaded t) c.args.mem.now c.args.next.now.changes) (sym c.trial.view_is)
+    (subst (λ (k : Node). AreChangesOf (memory_loaded c.args.trial.now) c.args.mem.now k.changes) (sym c.requires.next)
     (node_memory c.args.trial.now c.args.node.now c.args.mem.now c.note_trial.ensures c.requires.node c.requires.memory))
 
 pub issues_with-next-requires : goal.issues_with-next-requires
@@ -36,6 +36,6 @@ returns-clause-node c =
     (subst (λ (t : OrderTrial). in_memory c.make_changing.new.self c.make_changing.new.mem
     ≡ (next_without t.away t.plan (alone (in_memory c.args.node.now.situation c.args.mem.now)) c.args.m).state) c.trial.view_is
     (c.in_ok-make_changing.ensures.state
-    ∙ ap (λ (k : Node). (next_without c.trial.inside.away c.trial.inside.layout (alone (in_memory k.situation c.args.mem.now)) c.args.m).state) c.in_ok-copy_into.ensures))
+    ∙ ap (λ (k : Node). (next_without c.trial.inside.away c.trial.inside.layout (alone (in_memory k.situation c.args.mem.now)) c.args.m).state) c.requires.next))
     (subst (λ (t : OrderTrial). AreChangesOf (memory_loaded t) c.make_changing.new.mem c.make_changing.new.changes) c.trial.view_is c.in_ok-make_changing.ensures.changes)
     c.note_bare.ensures c.issues_with-next.ensures
