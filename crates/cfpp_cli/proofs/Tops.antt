@@ -8,9 +8,9 @@ use Rattle.cf_io.specs.declared.failed.Failed.{Failed}
 use Rattle.cli_arguments.specs.Words.{Asked}
 use Rattle.cli_files.specs.Causes.{files_answered, input_answered, output_answered, reading_answered}
 use Rattle.cfpp_cli.specs.Deciding.{Decided, InputTold, files_told}
-use Rattle.cli_files.specs.Outside.{Outside, Report, report_of}
+use Rattle.cli_files.specs.Outside.{Outside, Report}
 use Rattle.cli_reports.specs.Reporting.{PutsReport}
-use Rattle.cli_reports.specs.OutsideChanges.{OutsideChange}
+use Rattle.cli_reports.specs.OutsideChanges.{OutsideChange, change_of}
 use Rattle.cfpp_cli.specs.Top.{Completes, IsTop, NoneRose, Reports, files_failed, input_failed, input_is_file, says_fault}
 use Rattle.cli_reports.specs.declared.reporting.Reported.{Reported}
 use Rattle.cfpp_cli.proofs.FilesRead.{answers-read, breaks-read}
@@ -46,11 +46,11 @@ files-stay false before now failed h = h.still
 
 -- the command was carried out, and its report ends in this way; it began with what the report had before the command was read
 carried-out : (words : List (List ℕ)) (s : OutsideChange) (reported : Reported) (said : Status) (blank full : Report) → s.blank ≡ blank →
-    (d : Decided words s (Ok reported)) → HasCause s.before.output_faults s.after.output_faults (output_answered reported.status) →
-    Ends reported.status said (record s.blank { written = d.comes.3.told }) full d.comes.1 → IsTop words s.before s.after blank full said
-carried-out words s reported said blank full same d output ends =
+    (d : Decided words s (Ok reported)) →
+    Ends reported.status said (record s.blank { written = d.comes.3.told }) full d.comes.1 → IsTop words (change_of s.before s.after blank full) said
+carried-out words s reported said blank full same d ends =
     let carried = d.comes in
-    subst (λ (r : Report). IsTop words s.before s.after r full said) same
+    subst (λ (r : Report). IsTop words (change_of s.before s.after r full) said) same
     (record {
       reading = d.reading;
       reads = d.reads;
@@ -62,27 +62,27 @@ carried-out words s reported said blank full same d output ends =
         answers = carried.2;
         files = d.files;
         input = input-counts (input_is_file d.reading) _ _ reported d.input;
-        output = output;
+        output = d.output;
         reports = record { told = carried.3.told; shows = carried.3.shows; closes = ends };
       });
     })
 
 -- its report was put, and all of it was passed on
 pub top-put : (words : List (List ℕ)) (s : OutsideChange) (reported : Reported) (blank full : Report) → s.blank ≡ blank → Decided words s (Ok reported) →
-    HasCause s.before.output_faults s.after.output_faults (output_answered reported.status) → reported.put ≡ Ok tt →
-    WritesNothing s.full.written full.written → full.faults ≡ s.full.faults → IsTop words s.before s.after blank full reported.status
-top-put words s reported blank full same d output put passed still =
+    reported.put ≡ Ok tt →
+    WritesNothing s.full.written full.written → full.faults ≡ s.full.faults → IsTop words (change_of s.before s.after blank full) reported.status
+top-put words s reported blank full same d put passed still =
     let closes : PutsReport (record s.blank { written = d.comes.3.told }) s.full d.comes.1 (Ok tt) = rw put at d.comes.3.closes in
-    carried-out words s reported reported.status blank full same d output
+    carried-out words s reported reported.status blank full same d
     (inl (refl, text-before d.comes.3.told s.full.written full.written d.comes.1 closes.all passed, still ∙ closes.cause.still))
 
 -- it was put, and the report failed as it passed it on
 pub top-unpassed : (words : List (List ℕ)) (s : OutsideChange) (reported : Reported) (blank full : Report) → s.blank ≡ blank → Decided words s (Ok reported) →
-    HasCause s.before.output_faults s.after.output_faults (output_answered reported.status) → reported.put ≡ Ok tt →
-    WritesNothing s.full.written full.written → Rose s.full.faults full.faults → IsTop words s.before s.after blank full status.WriteFault
-top-unpassed words s reported blank full same d output put passed rose =
+    reported.put ≡ Ok tt →
+    WritesNothing s.full.written full.written → Rose s.full.faults full.faults → IsTop words (change_of s.before s.after blank full) status.WriteFault
+top-unpassed words s reported blank full same d put passed rose =
     let closes : PutsReport (record s.blank { written = d.comes.3.told }) s.full d.comes.1 (Ok tt) = rw put at d.comes.3.closes in
-    carried-out words s reported status.WriteFault blank full same d output
+    carried-out words s reported status.WriteFault blank full same d
     (inr (
       refl,
       part-whole d.comes.3.told full.written d.comes.1 (text-before d.comes.3.told s.full.written full.written d.comes.1 closes.all passed),
@@ -91,17 +91,17 @@ top-unpassed words s reported blank full same d output put passed rose =
 
 -- the report failed at the lines that close it
 pub top-failed : {failed : Failed} (words : List (List ℕ)) (s : OutsideChange) (reported : Reported) (blank : Report) → s.blank ≡ blank →
-    Decided words s (Ok reported) → HasCause s.before.output_faults s.after.output_faults (output_answered reported.status) → reported.put ≡ Err failed →
-    IsTop words s.before s.after blank s.full status.WriteFault
-top-failed {failed = failed} words s reported blank same d output put =
+    Decided words s (Ok reported) → reported.put ≡ Err failed →
+    IsTop words (change_of s.before s.after blank s.full) status.WriteFault
+top-failed {failed = failed} words s reported blank same d put =
     let closes : PutsReport (record s.blank { written = d.comes.3.told }) s.full d.comes.1 (Err failed) = rw put at d.comes.3.closes in
-    carried-out words s reported status.WriteFault blank s.full same d output
+    carried-out words s reported status.WriteFault blank s.full same d
     (inr (refl, part-front d.comes.3.told s.full.written d.comes.1 closes.front, closes.cause.rose))
 
 -- the report failed before these lines
 pub top-cut : {failed : Failed} (words : List (List ℕ)) (s : OutsideChange) (blank : Report) → s.blank ≡ blank → Decided words s (Err failed) →
-    s.after.output_faults ≡ s.before.output_faults → IsTop words s.before s.after blank s.full status.WriteFault
-top-cut {failed = failed} words s blank same d output = subst (λ (r : Report). IsTop words s.before s.after r s.full status.WriteFault) same
+    IsTop words (change_of s.before s.after blank s.full) status.WriteFault
+top-cut {failed = failed} words s blank same d = subst (λ (r : Report). IsTop words (change_of s.before s.after r s.full) status.WriteFault) same
     (record {
       reading = d.reading;
       reads = d.reads;
@@ -112,13 +112,9 @@ top-cut {failed = failed} words s blank same d output = subst (λ (r : Report). 
         rose = d.comes.1;
         files = files-stay (input_is_file d.reading) _ _ failed d.files;
         input = input-stays (input_is_file d.reading) _ _ failed d.input;
-        output = output;
+        output = d.output;
       });
     })
-
--- a report with the same text and the same count is the same
-pub same-report : (a b : Option (List ℕ)) (i j : ℕ) → a ≡ b → i ≡ j → report_of a i ≡ report_of b j
-same-report a b i j text count = rw (text, count) refl
 
 -- a status that says of nothing that it failed says so of neither the files nor the streams
 record SaysNone (answer : Status) : Type 0 where
@@ -167,7 +163,7 @@ stays before now (Err u) e h = absurd (cc)
 -- so where the whole report was put too, no count rose
 completed-rose : (is_file : Bool) (before after : Outside) (blank full : Report) (answer : Status) →
     HasCauses is_file before after answer → says_fault answer ≡ false → full.faults ≡ blank.faults →
-    NoneRose before after blank full
+    NoneRose (change_of before after blank full)
 completed-rose is_file before after blank full answer causes h put =
     let none = says-none answer h in
     record {
@@ -188,17 +184,16 @@ write-says result is h = cc (is, h)
 
 ended-rose : (is_file : Bool) (before after : Outside) (blank full : Report) (result answer : Status)
     (shown closing : List ℕ) → HasCauses is_file before after answer → Reports blank full shown closing answer result →
-    says_fault result ≡ false → NoneRose before after blank full
+    says_fault result ≡ false → NoneRose (change_of before after blank full)
 ended-rose is_file before after blank full result answer shown closing causes reports h = elim reports.closes [
   | inl (same, put, faults) ↦ completed-rose is_file before after blank full answer causes (rw same at h) faults
   | inr (is, front, rose) ↦ absurd (write-says result is h)
 ]
 
-pub none-rose : (words : List (List ℕ)) (before after : Outside) (blank full : Report) (result : Status) →
-    IsTop words before after blank full result → says_fault result ≡ false →
-    NoneRose before after blank full
-none-rose words before after blank full result top h = elim top.ends [
-  | inl c ↦ ended-rose (input_is_file top.reading) before after blank full result c.answer c.shown c.closing
-      (causes-of top.reading before after blank full result c) c.reports h
+pub none-rose : (words : List (List ℕ)) (s : OutsideChange) (result : Status) → IsTop words s result → says_fault result ≡ false →
+    NoneRose s
+none-rose words s result top h = elim top.ends [
+  | inl c ↦ ended-rose (input_is_file top.reading) s.before s.after s.blank s.full result c.answer c.shown c.closing
+      (causes-of top.reading s.before s.after s.blank s.full result c) c.reports h
   | inr cut ↦ absurd (write-says result cut.status_is h)
 ]

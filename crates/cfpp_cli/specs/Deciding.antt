@@ -3,7 +3,7 @@ use Rattle.std.specs.Prelude.{◌≡◌, ℕ, List, Bool, true, false, if◌then
 use Rattle.cf_io.specs.Causes.{HasCause}
 use Rattle.cf_io.specs.declared.failed.Failed.{Failed}
 use Rattle.cli_arguments.specs.Words.{Asked}
-use Rattle.cli_files.specs.Causes.{input_answered}
+use Rattle.cli_files.specs.Causes.{input_answered, output_answered}
 use Rattle.cli_reports.specs.Reporting.{CarriesOut, FaultsReported, files_reported}
 use Rattle.cfpp_cli.specs.Top.{ReadsArguments, Answers, Breaks, input_is_file}
 use Rattle.cli_reports.specs.OutsideChanges.{OutsideChange}
@@ -26,3 +26,4 @@ pub record Decided (words : List (List ℕ)) (s : OutsideChange) (result : Resul
   pub comes : CarriesOut (Answers reading) (Breaks reading) s result
   pub files : HasCause s.before.file_faults s.after.file_faults (files_told (input_is_file reading) result)
   pub input : InputTold (input_is_file reading) s.before.input_faults s.after.input_faults result
+  pub output : FaultsReported output_answered s.before.output_faults s.after.output_faults result

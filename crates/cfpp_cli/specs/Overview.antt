@@ -5,7 +5,7 @@ use Rattle.std.specs.List.{starts_with}
 use Rattle.run_options.specs.Limits.{most_limit, most_timed_limit}
 use Rattle.cli_arguments.specs.declared.names.CommandName.{CommandName}
 use Rattle.cli_arguments.specs.declared.options.Key.{Key}
-use Rattle.cli_arguments.specs.Commands.{word_of, has_help}
+use Rattle.cli_arguments.specs.Commands.{command_word, has_help}
 use Rattle.cli_arguments.specs.Options.{key_word, default_limit, most_seed}
 use Rattle.cli_files.specs.Codes.{exit_code}
 use Rattle.cli_files.specs.declared.status.Status.{Status}
@@ -29,7 +29,7 @@ before_brackets (byte ∷ rest) =
 
 -- how a command is called with the words that it needs
 abbrev pub call_of : CommandName → List ℕ
-call_of name = codes "cfpp " ++ before_brackets (word_of name ++ codes " " ++ operands name)
+call_of name = codes "cfpp " ++ before_brackets (command_word name ++ codes " " ++ operands name)
 
 -- what each status says
 abbrev pub meaning : Status → List ℕ

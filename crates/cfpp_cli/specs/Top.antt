@@ -22,6 +22,7 @@ use Rattle.cli_check.specs.Check.{AnswersCheck}
 use Rattle.cli_gen.specs.Drawn.{AnswersDrawn, BreaksDrawn}
 use Rattle.cli_help.specs.Table.{help_text}
 use Rattle.cli_reports.specs.FileCommands.{PutsOrFails, side_of}
+use Rattle.cli_reports.specs.OutsideChanges.{OutsideChange}
 use Rattle.cli_audit.specs.Effects.{input_side_of}
 use Rattle.cli_list.specs.Listings.{AnswersList}
 use Rattle.cli_orders.specs.Orders.{AnswersOrders, orders_asked}
@@ -163,13 +164,12 @@ pub record ReportFailsFirst (reading : Result Asked ℕ) (before after : Outside
 
 -- the top call: its arguments, the outside and the report before and after it, and its status; of the files that the arguments
 -- name it read the first ones, in their order and each once
-pub record IsTop (words : List (List ℕ)) (before after : Outside) (blank full : Report)
-    (result : Status) : Type 0 where
+pub record IsTop (words : List (List ℕ)) (s : OutsideChange) (result : Status) : Type 0 where
   pub reading : Result Asked ℕ
   pub reads : ReadsArguments words reading
-  pub read : WereRead (files_named reading) before.files after.files
-  pub ends : Completes reading before after blank full result
-      ⊎ ReportFailsFirst reading before after blank full result
+  pub read : WereRead (files_named reading) s.before.files s.after.files
+  pub ends : Completes reading s.before s.after s.blank s.full result
+      ⊎ ReportFailsFirst reading s.before s.after s.blank s.full result
 
 -- the status says that something could not be read or written
 abbrev pub says_fault : Status → Bool
@@ -178,8 +178,8 @@ says_fault status.WriteFault = true
 says_fault _ = false
 
 -- no count of faults rose
-pub record NoneRose (before after : Outside) (blank full : Report) : Type 0 where
-  pub files : after.file_faults ≡ before.file_faults
-  pub input : after.input_faults ≡ before.input_faults
-  pub output : after.output_faults ≡ before.output_faults
-  pub report : full.faults ≡ blank.faults
+pub record NoneRose (s : OutsideChange) : Type 0 where
+  pub files : s.after.file_faults ≡ s.before.file_faults
+  pub input : s.after.input_faults ≡ s.before.input_faults
+  pub output : s.after.output_faults ≡ s.before.output_faults
+  pub report : s.full.faults ≡ s.blank.faults

@@ -1,13 +1,11 @@
 //! The top call.
 
 ghost use Rattle.std.specs.Prelude.{◌≡◌, ◌≢◌, [], false, map, string_bytes};
-ghost use Rattle.cli_files.specs.Causes.{output_answered};
-ghost use Rattle.cli_files.specs.Outside.{outside_of, report_of};
+ghost use Rattle.cli_files.specs.Outside.{report_in};
 ghost use Rattle.cli_files.specs.declared.status.Status.TheVariants as statuses;
 ghost use Rattle.cfpp_cli.specs.Deciding.{Decided};
-ghost use Rattle.cli_reports.specs.Reporting.{FaultsReported};
 ghost use Rattle.cfpp_cli.specs.Top.{IsTop, NoneRose, says_fault};
-ghost use Rattle.cli_reports.specs.OutsideChanges.{outside_change, output_left};
+ghost use Rattle.cli_reports.specs.OutsideChanges.{call_change, outside_change};
 
 use crate::help::{overview, version};
 use cf_io::{Failed, Files, Sink, Source};
@@ -37,9 +35,8 @@ fn decide<F: Files, S: Source, K: Sink, R: ReportSink>(
     files: &mut F,
     streams: RunStreams<'_, S, K, R>,
 ) -> Result<Reported, Failed>
-    ensures decided { Decided (map string_bytes words.now)
-        (outside_change F.told F.faults S.left S.faults K.written K.faults R.written R.faults files.old files.new streams.entry streams.exit) result }
-    ensures output { FaultsReported output_answered (K.faults streams.entry.output.now) (K.faults (output_left streams.exit)) result }
+    ensures { Decided (map string_bytes words.now)
+        (outside_change F.Files S.Source K.Sink R.Sink files.old files.new streams.entry streams.exit) result }
 {
     match read_words(words) {
         Ok(Command::Machine { program, options }) => {
@@ -176,8 +173,7 @@ fn decide<F: Files, S: Source, K: Sink, R: ReportSink>(
 /// Lets the report gather, where each instruction or each move of a run has its lines. Lines that come now and then, such
 /// as those of `--every`, are to be seen as they come.
 fn let_gather<R: ReportSink>(words: &[String], report: &mut R)
-    ensures written { R.written report.new ≡ R.written report.old }
-    ensures faults { R.faults report.new ≡ R.faults report.old }
+    ensures { report_in R.Sink report.new ≡ report_in R.Sink report.old }
 {
     let has_many_lines = match read_words(words) {
         Ok(Command::Machine { options, .. }) => options.show_retired,
@@ -231,20 +227,10 @@ pub fn cfpp<F: Files, S: Source, K: Sink, R: ReportSink>(
     output: &mut K,
     report: &mut R,
 ) -> Status
-    ensures top { IsTop (map string_bytes words.now)
-        (outside_of (F.told files.old) (F.faults files.old) (S.left input.old) (S.faults input.old)
-        (K.written output.old) (K.faults output.old))
-        (outside_of (F.told files.new) (F.faults files.new) (S.left input.new) (S.faults input.new)
-        (K.written output.new) (K.faults output.new))
-        (report_of (R.written report.old) (R.faults report.old))
-        (report_of (R.written report.new) (R.faults report.new)) result }
-    ensures still { says_fault result ≡ false → NoneRose
-        (outside_of (F.told files.old) (F.faults files.old) (S.left input.old) (S.faults input.old)
-        (K.written output.old) (K.faults output.old))
-        (outside_of (F.told files.new) (F.faults files.new) (S.left input.new) (S.faults input.new)
-        (K.written output.new) (K.faults output.new))
-        (report_of (R.written report.old) (R.faults report.old))
-        (report_of (R.written report.new) (R.faults report.new)) }
+    ensures top { IsTop (map string_bytes words.now) (call_change F.Files S.Source K.Sink R.Sink
+        (files.old, (input.old, (output.old, report.old))) (files.new, (input.new, (output.new, report.new)))) result }
+    ensures still { says_fault result ≡ false → NoneRose (call_change F.Files S.Source K.Sink R.Sink
+        (files.old, (input.old, (output.old, report.old))) (files.new, (input.new, (output.new, report.new)))) }
     ensures passed { result ≢ statuses.WriteFault → R.kept report.new ≡ [] }
 {
     let_gather(words, report);

@@ -10,7 +10,7 @@ use Rattle.cli_arguments.specs.declared.names.CommandName.{CommandName}
 use Rattle.cli_arguments.specs.declared.names.CommandName.TheVariants as names
 use Rattle.cli_arguments.specs.Values.{count_in, is_positive, positive_in}
 use Rattle.cli_arguments.specs.Commands.{most, topic_in}
-use Rattle.cli_arguments.specs.Options.{takes, takes_key, is_value, key_of, most_limit_of, default_issues, default_limit, default_states, Setting, limit_to, say_every, show_of, script_from, seed_from, guess_by, input_from, issue_at_most, reach_at_most, do_without, with_mul, with_run, Given, given_in, by_script}
+use Rattle.cli_arguments.specs.Options.{takes_setting, takes_key, is_value, setting_key, most_limit_of, default_issues, default_limit, default_states, Setting, limit_to, say_every, show_of, script_from, seed_from, guess_by, input_from, issue_at_most, reach_at_most, do_without, with_mul, with_run, Given, given_in, by_script}
 use Rattle.cli_arguments.specs.Words.{Asked, gen, help_on, moves, layout_in, limit_of, asked_by, IsBounded, IsStep, Asks}
 use Rattle.cli_arguments.proofs.Settings.{both}
 
@@ -48,12 +48,12 @@ more-within name (do_without rule) settings h w = w
 more-within name with_mul settings h w = w
 more-within name with_run settings h w = w
 
-all-within : (name : CommandName) (settings : List Setting) → list_all (takes name) settings ≡ true →
+all-within : (name : CommandName) (settings : List Setting) → list_all (takes_setting name) settings ≡ true →
     IsGivenWithin name (given_in settings)
 all-within name [] taken = record { limited = tt; stepped = tt; issued = tt; reached = tt }
 all-within name (setting ∷ settings) taken =
-    let b = both (takes name setting) (list_all (takes name) settings) taken in
-    more-within name setting settings (both (takes_key name (key_of setting)) (is_value name setting) b.0).1
+    let b = both (takes_setting name setting) (list_all (takes_setting name) settings) taken in
+    more-within name setting settings (both (takes_key name (setting_key setting)) (is_value name setting) b.0).1
     (all-within name settings b.1)
 
 -- so is what is asked where an option is not given

@@ -17,11 +17,11 @@ use Rattle.cli_arguments.specs.declared.options.Key.TheVariants as keys
 use Rattle.cli_arguments.specs.declared.reading.Subject.{Subject}
 use Rattle.cli_arguments.specs.declared.shown.Shown.{Shown}
 use Rattle.cli_arguments.specs.declared.shown.Shown.TheVariants as shows
-use Rattle.cli_arguments.specs.Values.{amount_of, count_in, digits_in, is_amount, is_within, positive_in, unit_of}
-use Rattle.cli_arguments.specs.Commands.{word_of, fewest, most, is_of, is_positional, name_in, places, topic_in}
-use Rattle.cli_arguments.specs.Options.{key_word, key_of, takes_key, can_show, is_value, most_limit_of, Setting, limit_to, say_every, show_of, script_from, seed_from, guess_by, input_from, issue_at_most, reach_at_most, do_without, Given, by_script}
+use Rattle.cli_arguments.specs.Values.{amount_of, count_in, digits_in, is_amount, is_amount_within, positive_in, unit_of}
+use Rattle.cli_arguments.specs.Commands.{command_word, fewest, most, is_of, is_positional, name_in, place_kind, topic_in}
+use Rattle.cli_arguments.specs.Options.{key_word, setting_key, takes_key, can_show, is_value, most_limit_of, Setting, limit_to, say_every, show_of, script_from, seed_from, guess_by, input_from, issue_at_most, reach_at_most, do_without, Given, by_script}
 use Rattle.cli_arguments.specs.Words.{Asked, gen, help_on, moves, layout_in, limit_of, asked_by}
-use Rattle.cli_arguments.specs.Reading.{ReadingState, start, placed, options, valued, bare, one_more, follow, has_key, nothing_given, positional_in, completed}
+use Rattle.cli_arguments.specs.Reading.{ReadingState, start, placed, options, valued, unplaced, one_place_more, follow, has_key, nothing_given, positional_in, completed}
 use Rattle.cli_arguments.proofs.InTurn.{after, reads, reads-step, reads-append}
 use Rattle.cli_arguments.proofs.Grammar.{positional-read}
 use Rattle.cli_arguments.proofs.Reached.{Reached, HasPlaces, IsGuessed, Stands, reached-last, words-read, stands}
@@ -240,9 +240,9 @@ filler-tried Files = refl
 filler-tried Numbers = refl
 filler-tried Topics = refl
 
-filler-fits : (name : CommandName) → is_positional name (filler-of (places name)) ≡ true
+filler-fits : (name : CommandName) → is_positional name (filler-of (place_kind name)) ≡ true
 unfolding is_positional
-filler-fits name = filler-tried (places name)
+filler-fits name = filler-tried (place_kind name)
 
 fewest-most : (name : CommandName) → fewest name ≤ most name
 fewest-most names.Machine = omega arith
@@ -274,13 +274,13 @@ complete-places (suc missing) words subject few enough stands h =
     elim (cases_lt subject.count (fewest subject.name)) [
       | inr here ↦ complete-placed words subject (record { enough = here; few = few }) stands h
       | inl below ↦
-          let word = filler-of (places subject.name) in
+          let word = filler-of (place_kind subject.name) in
           let room : subject.count < most subject.name =
           omega (arith, below, fewest-most subject.name) in
           complete-word words word
-          (complete-places missing (words ++ word ∷ []) (one_more subject) (omega (arith, room))
+          (complete-places missing (words ++ word ∷ []) (one_place_more subject) (omega (arith, room))
           (omega (arith, enough)) (omega (arith, stands, length-append words (word ∷ [])))
-          (reads-word words word (placed subject) (placed (one_more subject)) h
+          (reads-word words word (placed subject) (placed (one_place_more subject)) h
           (placed-follows subject word (tests-place subject word room (filler-fits subject.name)))))
     ]
 
@@ -306,18 +306,18 @@ shown-some names.Version h = absurd (cc)
 shown-some names.VersionLetter h = absurd (cc)
 
 -- any command that has a limit may have the least
-least-limit : (name : CommandName) → is_within 0 (most_limit_of name) (codes "0") ≡ true
+least-limit : (name : CommandName) → is_amount_within 0 (most_limit_of name) (codes "0") ≡ true
 unfolding is_amount amount_of digits_in unit_of
 least-limit name = grind (arith, nat_tests)
 
-least-step : is_within 1 most_limit (codes "1") ≡ true
+least-step : is_amount_within 1 most_limit (codes "1") ≡ true
 unfolding is_amount amount_of digits_in unit_of
 least-step = refl
 
 -- a value that an option may have
 record HasValue (name : CommandName) (key : Key) : Type 0 where
   setting : Setting
-  key_is : key_of setting ≡ key
+  key_is : setting_key setting ≡ key
   allowed : is_value name setting ≡ true
 
 some-value : (key : Key) (name : CommandName) → takes_key name key ≡ true → has_value key ≡ true → HasValue name key
@@ -338,7 +338,7 @@ some-value keys.Run name taken h = absurd (cc)
 some-follows : (key : Key) (subject : Subject) (given : Given) (v : HasValue subject.name key) → has_value key ≡ true →
     follow (valued subject given key) (value_of v.setting) ≡ Some (options subject (put given v.setting))
 some-follows key subject given v h =
-    let has : has_value (key_of v.setting) ≡ true = subst (λ k. has_value k ≡ true) (sym v.key_is) h in
+    let has : has_value (setting_key v.setting) ≡ true = subst (λ k. has_value k ≡ true) (sym v.key_is) h in
     subst (λ k. follow (valued subject given k) (value_of v.setting) ≡ Some (options subject (put given v.setting))) v.key_is
     (value-follows v.setting subject given has v.allowed)
 
@@ -360,11 +360,11 @@ complete-value words subject given key reached stands h =
 
 complete-start : (words : List (List ℕ)) → reads start words ≡ Some start → Completion words
 complete-start words h =
-    let word : List ℕ = word_of names.Machine in
+    let word : List ℕ = command_word names.Machine in
     complete-word words word
-    (complete-places 1 (words ++ word ∷ []) (bare names.Machine) (omega arith) (omega arith)
+    (complete-places 1 (words ++ word ∷ []) (unplaced names.Machine) (omega arith) (omega arith)
     (omega (arith, length-append words (word ∷ [])))
-    (reads-word words word start (placed (bare names.Machine)) h (start-follows names.Machine)))
+    (reads-word words word start (placed (unplaced names.Machine)) h (start-follows names.Machine)))
 
 complete-state : (words : List (List ℕ)) (state : ReadingState) → Reached state → Stands (length words) state →
     reads start words ≡ Some state → Completion words

@@ -8,7 +8,7 @@ use Rattle.std.specs.Result.{OkIff}
 use Rattle.std.specs.Char.{digit_value}
 use Rattle.std.specs.Str.Parse.{AllDigits, IsNumeral, digits_value, without_leading_plus, ParsesUnsigned}
 use Rattle.texts.specs.Bytes.{is_digit}
-use Rattle.cli_arguments.specs.Values.{is_numeral}
+use Rattle.cli_arguments.specs.Values.{is_decimal_word}
 
 -- a byte from `0` to `9` is a digit
 digit-small : (byte : ℕ) → is_digit byte ≡ true → digit_value byte < 10
@@ -22,7 +22,7 @@ digits-all (byte ∷ word) h =
     (digit-small byte a, digits-all word b)
 
 -- a word of digits has no leading plus
-no-plus : (longest : ℕ) (word : List ℕ) → is_numeral longest word ≡ true → without_leading_plus word ≡ word
+no-plus : (longest : ℕ) (word : List ℕ) → is_decimal_word longest word ≡ true → without_leading_plus word ≡ word
 no-plus longest [] h = refl
 no-plus longest (byte ∷ word) h = grind (arith, nat_tests)
 
@@ -39,7 +39,7 @@ record IsSpelt (longest : ℕ) (word : List ℕ) : Type 0 where
   short : length word ≤ longest
   some : 0 < length word
 
-spelt : (longest : ℕ) (word : List ℕ) → is_numeral longest word ≡ true → IsSpelt longest word
+spelt : (longest : ℕ) (word : List ℕ) → is_decimal_word longest word ≡ true → IsSpelt longest word
 spelt longest word h = record {
   digits = digits-all word (grind (arith, nat_tests));
   short = grind (arith, nat_tests);
@@ -47,10 +47,10 @@ spelt longest word h = record {
 }
 
 -- its value is below the first number with one digit more
-pub digits-below : (longest : ℕ) (word : List ℕ) → is_numeral longest word ≡ true → digits_value 10 word < 10 ^ longest
+pub digits-below : (longest : ℕ) (word : List ℕ) → is_decimal_word longest word ≡ true → digits_value 10 word < 10 ^ longest
 digits-below longest word h = let s = spelt longest word h in value-fits longest word s.short s.digits
 
-numeral-parsed : {E : Type 0} → (longest : ℕ) (word : List ℕ) (r : Result ℕ E) → longest ≤ 10 → is_numeral longest word ≡ true →
+numeral-parsed : {E : Type 0} → (longest : ℕ) (word : List ℕ) (r : Result ℕ E) → longest ≤ 10 → is_decimal_word longest word ≡ true →
     OkIff r (IsNumeral 10 word × (digits_value 10 word < 2 ^ 64)) (digits_value 10 word) →
     r ≡ Ok (digits_value 10 word)
 numeral-parsed longest word (Ok number) few h parsed = cc
@@ -60,7 +60,7 @@ numeral-parsed longest word (Err error) few h parsed =
     absurd (parsed ((s.some, s.digits), omega (arith, below)))
 
 -- what is parsed of such a word
-pub digits-parsed : {E : Type 0} → (longest : ℕ) (word : List ℕ) (r : Result ℕ E) → longest ≤ 10 → is_numeral longest word ≡ true →
+pub digits-parsed : {E : Type 0} → (longest : ℕ) (word : List ℕ) (r : Result ℕ E) → longest ≤ 10 → is_decimal_word longest word ≡ true →
     ParsesUnsigned 64 10 word r → r ≡ Ok (digits_value 10 word)
 digits-parsed {E} longest word r few h parsed =
     numeral-parsed longest word r few h

@@ -6,10 +6,10 @@ use Rattle.std.proofs.Math.Seq.{take-length}
 use Rattle.cli_arguments.specs.declared.names.CommandName.{CommandName}
 use Rattle.cli_arguments.specs.declared.names.CommandName.TheVariants as names
 use Rattle.cli_arguments.specs.declared.reading.Subject.{Subject}
-use Rattle.cli_arguments.specs.Commands.{word_of, fewest, most, is_positional}
-use Rattle.cli_arguments.specs.Options.{key_of, value_words, written, takes, Setting, Given, given_in}
+use Rattle.cli_arguments.specs.Commands.{command_word, fewest, most, is_positional}
+use Rattle.cli_arguments.specs.Options.{setting_key, value_words, setting_words, takes_setting, Setting, Given, given_in}
 use Rattle.cli_arguments.specs.Words.{Asked, asked_by, Asks}
-use Rattle.cli_arguments.specs.Reading.{ReadingState, start, placed, options, valued, bare, one_more, nothing_given, positional_in, completed}
+use Rattle.cli_arguments.specs.Reading.{ReadingState, start, placed, options, valued, unplaced, one_place_more, nothing_given, positional_in, completed}
 use Rattle.cli_arguments.proofs.Steps.{start-read, start-follows, place-tests, tests-place, placed-read, placed-follows, first-option}
 use Rattle.cli_arguments.proofs.InTurn.{after, reads, reads-split, reads-step, none-left}
 use Rattle.cli_arguments.proofs.Settings.{both, put_all, Fresh, fresh-once, once-fresh, put-given, IsWhole, Tail, tail-read, settings-read}
@@ -29,10 +29,10 @@ IsOf (valued s given key) subject = s ≡ subject
 record Placing (subject : Subject) (words : List (List ℕ)) (last : ReadingState) : Type 0 where
   more : List (List ℕ)
   settings : List Setting
-  words_are : words ≡ more ++ written settings
+  words_are : words ≡ more ++ setting_words settings
   few : subject.count + length more ≤ most subject.name
   each : list_all (is_positional subject.name) more ≡ true
-  taken : list_all (takes subject.name) settings ≡ true
+  taken : list_all (takes_setting subject.name) settings ≡ true
   fresh : Fresh nothing_given settings
   of : IsOf last (grown subject (length more))
   asks : (all : List (List ℕ)) → completed all last
@@ -83,7 +83,7 @@ placing-options subject words last few tail = record {
 }
 
 placing-word : (subject : Subject) (word : List ℕ) (words : List (List ℕ)) (last : ReadingState) →
-    is_positional subject.name word ≡ true → Placing (one_more subject) words last →
+    is_positional subject.name word ≡ true → Placing (one_place_more subject) words last →
     Placing subject (word ∷ words) last
 placing-word subject word words last h p = record {
   more = word ∷ p.more;
@@ -109,7 +109,7 @@ placing (word ∷ words) subject last few h whole =
       | inl (place, is) ↦
           let t = place-tests subject word place in
           placing-word subject word words last t.1
-          (placing words (one_more subject) last (omega (arith, t.0))
+          (placing words (one_place_more subject) last (omega (arith, t.0))
           (subst (λ b. reads b words ≡ Some last) is s.rest) whole)
       | inr (enough, followed) ↦
           placing-options subject (word ∷ words) last few
@@ -178,16 +178,16 @@ positional-are first more later =
     take-append-le (length more) more later (omega arith) ∙ take-length more
 
 placing-asks : (name : CommandName) (words : List (List ℕ)) (last : ReadingState) (asked : Asked) →
-    completed (word_of name ∷ words) last ≡ Some asked → Placing (bare name) words last →
-    Asks (word_of name ∷ words) asked
+    completed (command_word name ∷ words) last ≡ Some asked → Placing (unplaced name) words last →
+    Asks (command_word name ∷ words) asked
 placing-asks name words last asked done p =
     let zero-more : 0 + length p.more ≡ length p.more = omega arith in
-    let positional : positional_in (0 + length p.more) (word_of name ∷ words) ≡ p.more =
-    ap (λ (ws : List (List ℕ)). positional_in (0 + length p.more) (word_of name ∷ ws)) p.words_are
-    ∙ (ap (λ (n : ℕ). positional_in n (word_of name ∷ (p.more ++ written p.settings))) zero-more
-    ∙ positional-are (word_of name) p.more (written p.settings)) in
+    let positional : positional_in (0 + length p.more) (command_word name ∷ words) ≡ p.more =
+    ap (λ (ws : List (List ℕ)). positional_in (0 + length p.more) (command_word name ∷ ws)) p.words_are
+    ∙ (ap (λ (n : ℕ). positional_in n (command_word name ∷ (p.more ++ setting_words p.settings))) zero-more
+    ∙ positional-are (command_word name) p.more (setting_words p.settings)) in
     let means : asked_by name p.more (given_in p.settings) ≡ Some asked =
-    sym (p.asks (word_of name ∷ words)
+    sym (p.asks (command_word name ∷ words)
     ∙ (ap (λ (ws : List (List ℕ)). asked_by name ws (put_all nothing_given p.settings)) positional
     ∙ ap (λ (g : Given). asked_by name p.more g) (put-given p.settings p.fresh))) ∙ done in
     record {
@@ -195,7 +195,7 @@ placing-asks name words last asked done p =
       positional = p.more;
       settings = p.settings;
       command = record {
-        words_are = ap (λ (ws : List (List ℕ)). word_of name ∷ ws) p.words_are;
+        words_are = ap (λ (ws : List (List ℕ)). command_word name ∷ ws) p.words_are;
         enough = asked-enough name p.more (given_in p.settings) asked means;
         few = omega (arith, p.few);
         placed = p.each;
@@ -213,14 +213,14 @@ reads-sound [] last asked h done =
 reads-sound (word ∷ words) last asked h done =
     let s = reads-split start word words last h in
     let r = start-read word s.later s.followed in
-    let h1 : reads (placed (bare r.name)) words ≡ Some last =
+    let h1 : reads (placed (unplaced r.name)) words ≡ Some last =
     subst (λ b. reads b words ≡ Some last) r.after_is s.rest in
     let whole = asked-whole (word ∷ words) last asked done in
-    let d : completed (word_of r.name ∷ words) last ≡ Some asked =
+    let d : completed (command_word r.name ∷ words) last ≡ Some asked =
     subst (λ (w : List ℕ). completed (w ∷ words) last ≡ Some asked) r.word_is done in
     subst (λ (w : List ℕ). Asks (w ∷ words) asked) (sym r.word_is)
     (placing-asks r.name words last asked d
-    (placing words (bare r.name) last (omega arith) h1 whole))
+    (placing words (unplaced r.name) last (omega arith) h1 whole))
 
 -- the positional words after which a state is reached in which no value is missing
 pub record HasPositional (words : List (List ℕ)) (subject : Subject) : Type 0 where
@@ -228,18 +228,18 @@ pub record HasPositional (words : List (List ℕ)) (subject : Subject) : Type 0 
   pub count : length (positional_in subject.count words) ≡ subject.count
 
 placing-positional : (name : CommandName) (words : List (List ℕ)) (last : ReadingState) (subject : Subject) →
-    IsOf last subject → Placing (bare name) words last → HasPositional (word_of name ∷ words) subject
+    IsOf last subject → Placing (unplaced name) words last → HasPositional (command_word name ∷ words) subject
 placing-positional name words last subject of p = positional-of last of p.of
   where
     count-of : (count : ℕ) → count ≡ 0 + length p.more →
-        positional_in count (word_of name ∷ words) ≡ p.more
+        positional_in count (command_word name ∷ words) ≡ p.more
     count-of count e =
         let same : count ≡ length p.more = omega (arith, e) in
-        ap (λ (n : ℕ). positional_in n (word_of name ∷ words)) same
-        ∙ (ap (λ (ws : List (List ℕ)). positional_in (length p.more) (word_of name ∷ ws)) p.words_are
-        ∙ positional-are (word_of name) p.more (written p.settings))
+        ap (λ (n : ℕ). positional_in n (command_word name ∷ words)) same
+        ∙ (ap (λ (ws : List (List ℕ)). positional_in (length p.more) (command_word name ∷ ws)) p.words_are
+        ∙ positional-are (command_word name) p.more (setting_words p.settings))
 
-    of-subject : subject ≡ grown (bare name) (length p.more) → HasPositional (word_of name ∷ words) subject
+    of-subject : subject ≡ grown (unplaced name) (length p.more) → HasPositional (command_word name ∷ words) subject
     of-subject e =
         let n : subject.count ≡ 0 + length p.more = ap (λ (s : Subject). s.count) e in
         let are = count-of subject.count n in
@@ -248,8 +248,8 @@ placing-positional name words last subject of p = positional-of last of p.of
           count = ap (λ (ws : List (List ℕ)). length ws) are ∙ omega (arith, n);
         }
 
-    positional-of : (last : ReadingState) → IsOf last subject → IsOf last (grown (bare name) (length p.more)) →
-        HasPositional (word_of name ∷ words) subject
+    positional-of : (last : ReadingState) → IsOf last subject → IsOf last (grown (unplaced name) (length p.more)) →
+        HasPositional (command_word name ∷ words) subject
     positional-of start of same = absurd of
     positional-of (placed s) of same = of-subject (sym of ∙ same)
     positional-of (options s given) of same = of-subject (sym of ∙ same)
@@ -261,10 +261,10 @@ positional-read [] last subject h whole of = absurd (subst IsWhole (sym (none-le
 positional-read (word ∷ words) last subject h whole of =
     let s = reads-split start word words last h in
     let r = start-read word s.later s.followed in
-    let h1 : reads (placed (bare r.name)) words ≡ Some last =
+    let h1 : reads (placed (unplaced r.name)) words ≡ Some last =
     subst (λ b. reads b words ≡ Some last) r.after_is s.rest in
     subst (λ (w : List ℕ). HasPositional (w ∷ words) subject) (sym r.word_is)
-    (placing-positional r.name words last subject of (placing words (bare r.name) last (omega arith) h1 whole))
+    (placing-positional r.name words last subject of (placing words (unplaced r.name) last (omega arith) h1 whole))
 
 -- what is asked is read: positional words
 places-read : (more : List (List ℕ)) (subject : Subject) (words : List (List ℕ)) →
@@ -276,9 +276,9 @@ places-read [] subject words each few =
 places-read (word ∷ more) subject words each few =
     let b = both (is_positional subject.name word) (list_all (is_positional subject.name) more) each in
     let e : subject.count + 1 + length more ≡ subject.count + length (word ∷ more) = omega arith in
-    reads-step (placed subject) word (more ++ words) (placed (one_more subject))
+    reads-step (placed subject) word (more ++ words) (placed (one_place_more subject))
     (placed-follows subject word (tests-place subject word (omega (arith, few)) b.0))
-    ∙ (places-read more (one_more subject) words b.1 (omega (arith, few))
+    ∙ (places-read more (one_place_more subject) words b.1 (omega (arith, few))
     ∙ ap (λ (n : ℕ). reads (placed (record { name = subject.name; count = n })) words) e)
 
 -- what words are read, and what they ask
@@ -289,17 +289,17 @@ pub record Read (words : List (List ℕ)) (asked : Asked) : Type 0 where
 
 -- options after enough positional words
 after-places : (subject : Subject) (settings : List Setting) (all : List (List ℕ)) (asked : Asked) →
-    fewest subject.name ≤ subject.count → list_all (takes subject.name) settings ≡ true →
+    fewest subject.name ≤ subject.count → list_all (takes_setting subject.name) settings ≡ true →
     Fresh nothing_given settings →
     asked_by subject.name (positional_in subject.count all) (put_all nothing_given settings) ≡ Some asked →
-    (last : ReadingState) × (reads (placed subject) (written settings) ≡ Some last) × (completed all last ≡ Some asked)
+    (last : ReadingState) × (reads (placed subject) (setting_words settings) ≡ Some last) × (completed all last ≡ Some asked)
 unfolding completed
 after-places subject [] all asked enough taken fresh means = (placed subject, refl, means)
 after-places subject (setting ∷ settings) all asked enough taken fresh means =
-    let rest : List (List ℕ) = value_words setting ++ written settings in (
+    let rest : List (List ℕ) = value_words setting ++ setting_words settings in (
       options subject (put_all nothing_given (setting ∷ settings)),
       ap (λ (o : Option ReadingState). after o (λ later. reads later rest))
-          (first-option subject (key_of setting) enough)
+          (first-option subject (setting_key setting) enough)
           ∙ settings-read (setting ∷ settings) subject nothing_given taken fresh,
       means,
     )
@@ -308,23 +308,23 @@ pub asks-read : (words : List (List ℕ)) (asked : Asked) → Asks words asked �
 asks-read words asked asks =
     let c = asks.command in
     let count = length asks.positional in
-    let all : List (List ℕ) = word_of asks.name ∷ (asks.positional ++ written asks.settings) in
+    let all : List (List ℕ) = command_word asks.name ∷ (asks.positional ++ setting_words asks.settings) in
     let fresh = once-fresh asks.settings c.none_twice in
     let zero-more : 0 + count ≡ count = omega arith in
     let means : asked_by asks.name (positional_in (0 + count) all) (put_all nothing_given asks.settings)
     ≡ Some asked =
     ap (λ (n : ℕ). asked_by asks.name (positional_in n all) (put_all nothing_given asks.settings)) zero-more
     ∙ (ap (λ (ws : List (List ℕ)). asked_by asks.name ws (put_all nothing_given asks.settings))
-    (positional-are (word_of asks.name) asks.positional (written asks.settings))
+    (positional-are (command_word asks.name) asks.positional (setting_words asks.settings))
     ∙ (ap (λ (g : Given). asked_by asks.name asks.positional g) (put-given asks.settings fresh)
     ∙ asks.means)) in
-    let b = after-places (grown (bare asks.name) count) asks.settings all asked (omega (arith, c.enough)) c.taken fresh means in
+    let b = after-places (grown (unplaced asks.name) count) asks.settings all asked (omega (arith, c.enough)) c.taken fresh means in
     record {
       last = b.0;
       read = ap (λ (ws : List (List ℕ)). reads start ws) c.words_are
-          ∙ (reads-step start (word_of asks.name) (asks.positional ++ written asks.settings)
-          (placed (bare asks.name)) (start-follows asks.name)
-          ∙ (places-read asks.positional (bare asks.name) (written asks.settings) c.placed
+          ∙ (reads-step start (command_word asks.name) (asks.positional ++ setting_words asks.settings)
+          (placed (unplaced asks.name)) (start-follows asks.name)
+          ∙ (places-read asks.positional (unplaced asks.name) (setting_words asks.settings) c.placed
           (omega (arith, c.few))
           ∙ b.1));
       done = ap (λ (ws : List (List ℕ)). completed ws b.0) c.words_are ∙ b.2;

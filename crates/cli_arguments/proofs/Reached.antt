@@ -7,7 +7,7 @@ use Rattle.cli_arguments.specs.declared.options.Key.{Key}
 use Rattle.cli_arguments.specs.declared.options.Key.TheVariants as keys
 use Rattle.cli_arguments.specs.declared.reading.Subject.{Subject}
 use Rattle.cli_arguments.specs.Commands.{fewest, most}
-use Rattle.cli_arguments.specs.Options.{key_of, takes_key, Setting, limit_to, say_every, show_of, script_from, seed_from, guess_by, input_from, issue_at_most, reach_at_most, do_without, with_mul, with_run, Given}
+use Rattle.cli_arguments.specs.Options.{setting_key, takes_key, Setting, limit_to, say_every, show_of, script_from, seed_from, guess_by, input_from, issue_at_most, reach_at_most, do_without, with_mul, with_run, Given}
 use Rattle.cli_arguments.specs.Reading.{ReadingState, start, placed, options, valued, follow, after_key, has_key, is_there, nothing_given}
 use Rattle.cli_arguments.proofs.Steps.{put, has_value, start-read, place-tests, placed-read, option-read, value-read}
 use Rattle.cli_arguments.proofs.InTurn.{reads, reads-split, none-left}
@@ -54,7 +54,7 @@ reached-option subject given word later places guessed h =
     let r = option-read subject given word later h in
     subst Reached (sym r.after_is) (reached-key r.key subject given places r.taken r.fresh guessed)
 
-put-guessed : (setting : Setting) (subject : Subject) (given : Given) → takes_key subject.name (key_of setting) ≡ true →
+put-guessed : (setting : Setting) (subject : Subject) (given : Given) → takes_key subject.name (setting_key setting) ≡ true →
     IsGuessed subject.name given → IsGuessed subject.name (put given setting)
 put-guessed (guess_by rule) subject given taken guessed = (guessed.0, λ untaken. absurd (cc))
 put-guessed (seed_from digits) subject given taken guessed = (λ untaken. absurd (cc), guessed.1)
@@ -84,7 +84,7 @@ reached-next (options subject given) word later reached h =
     reached-option subject given word later reached.0 reached.1 h
 reached-next (valued subject given key) word later reached h =
     let r = value-read key subject given word later h in
-    let taken : takes_key subject.name (key_of r.setting) ≡ true = subst (λ k. takes_key subject.name k ≡ true) (sym r.key_is) reached.1 in
+    let taken : takes_key subject.name (setting_key r.setting) ≡ true = subst (λ k. takes_key subject.name k ≡ true) (sym r.key_is) reached.1 in
     subst Reached (sym r.after_is) (reached.0, put-guessed r.setting subject given taken reached.4)
 
 pub reached-last : (words : List (List ℕ)) (state last : ReadingState) → Reached state →
@@ -142,9 +142,9 @@ size-key keys.Without subject given fresh = omega arith
 size-key keys.Mul subject given fresh = omega (arith, size-if-false given.mul fresh)
 size-key keys.Run subject given fresh = omega (arith, size-if-false given.run fresh)
 
-size-value : (setting : Setting) (subject : Subject) (given : Given) → has_value (key_of setting) ≡ true →
-    has_key given (key_of setting) ≡ false →
-    size (options subject (put given setting)) ≡ size (valued subject given (key_of setting)) + 1
+size-value : (setting : Setting) (subject : Subject) (given : Given) → has_value (setting_key setting) ≡ true →
+    has_key given (setting_key setting) ≡ false →
+    size (options subject (put given setting)) ≡ size (valued subject given (setting_key setting)) + 1
 size-value (limit_to amount) subject given value fresh = omega (arith, not-there-size given.limit fresh)
 size-value (say_every amount) subject given value fresh = omega (arith, not-there-size given.every fresh)
 size-value (show_of shown) subject given value fresh = omega (arith, not-there-size given.show fresh)
@@ -175,9 +175,9 @@ size-next (placed subject) word later reached h = elim (placed-read subject word
 size-next (options subject given) word later reached h = size-option subject given word later h
 size-next (valued subject given key) word later reached h =
     let r = value-read key subject given word later h in
-    let v : has_value (key_of r.setting) ≡ true = subst (λ k. has_value k ≡ true) (sym r.key_is)
+    let v : has_value (setting_key r.setting) ≡ true = subst (λ k. has_value k ≡ true) (sym r.key_is)
     reached.2 in
-    let f : has_key given (key_of r.setting) ≡ false = subst (λ k. has_key given k ≡ false)
+    let f : has_key given (setting_key r.setting) ≡ false = subst (λ k. has_key given k ≡ false)
     (sym r.key_is) reached.3 in
     ap size r.after_is ∙ size-value r.setting subject given v f
 

@@ -2,11 +2,11 @@
 use Rattle.std.proofs.Common.{◌≡◌, ◌*◌, ℕ, List, Bool, true, false, if◌then◌else◌, refl, Some, None, sym, ◌∙◌}
 use Rattle.std.specs.Prelude.{nat_eq}
 use Rattle.std.specs.Str.Parse.{digits_value}
-use Rattle.cli_arguments.specs.Values.{amount_in, amount_of, bounded, digits_in, is_amount, number_before, number_in, numeral_in, unit_of}
+use Rattle.cli_arguments.specs.Values.{amount_in, amount_of, bounded, digits_in, is_amount, number_before, number_up_to, numeral_in, unit_of}
 
 -- the number before the unit is there where the word writes an amount
 before-is : (word : List ℕ) → number_before (unit_of word) (digits_in word) ≡ (if is_amount word then Some (digits_value 10 (digits_in word)) else None)
-unfolding number_before is_amount number_in numeral_in digits_in
+unfolding number_before is_amount number_up_to numeral_in digits_in
 before-is word = by (nat_eq (unit_of word) 1) refl
   where
     by : (b : Bool) → nat_eq (unit_of word) 1 ≡ b → number_before (unit_of word) (digits_in word)

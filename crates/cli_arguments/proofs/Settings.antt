@@ -5,7 +5,7 @@ use Rattle.std.specs.List.{list_all}
 use Rattle.cli_arguments.specs.declared.options.Key.{Key}
 use Rattle.cli_arguments.specs.declared.options.Key.TheVariants as keys
 use Rattle.cli_arguments.specs.declared.reading.Subject.{Subject}
-use Rattle.cli_arguments.specs.Options.{key_word, key_of, value_words, written, takes_key, is_value, takes, excludes, Without, NoneTwice, Setting, limit_to, say_every, show_of, script_from, seed_from, guess_by, input_from, issue_at_most, reach_at_most, do_without, with_mul, with_run, Given, given_in}
+use Rattle.cli_arguments.specs.Options.{key_word, setting_key, value_words, setting_words, takes_key, is_value, takes_setting, excludes, Without, NoneTwice, Setting, limit_to, say_every, show_of, script_from, seed_from, guess_by, input_from, issue_at_most, reach_at_most, do_without, with_mul, with_run, Given, given_in}
 use Rattle.cli_arguments.specs.Reading.{ReadingState, start, placed, options, valued, after_key, has_key, is_there, nothing_given}
 use Rattle.cli_arguments.proofs.InTurn.{reads, reads-split, reads-step, none-left}
 use Rattle.cli_arguments.proofs.Steps.{put, has_value, value_of, option-read, value-read, option-follows, value-follows}
@@ -13,7 +13,7 @@ use Rattle.cli_arguments.proofs.Steps.{put, has_value, value_of, option-read, va
 -- no option is excluded by one before it
 abbrev pub Fresh : Given → List Setting → Type 0
 Fresh given [] = Unit {0}
-Fresh given (setting ∷ settings) = (has_key given (key_of setting) ≡ false) × Fresh (put given setting)
+Fresh given (setting ∷ settings) = (has_key given (setting_key setting) ≡ false) × Fresh (put given setting)
     settings
 
 abbrev pub put_all : Given → List Setting → Given
@@ -26,7 +26,7 @@ or-true false = refl
 
 -- an option that is given with the others excludes what it excludes
 put-key : (given : Given) (setting : Setting) (key : Key) →
-    has_key (put given setting) key ≡ (excludes (key_of setting) key || has_key given key)
+    has_key (put given setting) key ≡ (excludes (setting_key setting) key || has_key given key)
 put-key given (limit_to amount) keys.Limit = refl
 put-key given (limit_to amount) key = refl
 put-key given (say_every amount) keys.Every = refl
@@ -60,44 +60,44 @@ put-key given with_run key = refl
 abbrev IsGiven : Given → Key → Type 0
 IsGiven given key = (other : Key) → excludes key other ≡ true → has_key given other ≡ true
 
-put-given-one : (given : Given) (setting : Setting) → IsGiven (put given setting) (key_of setting)
+put-given-one : (given : Given) (setting : Setting) → IsGiven (put given setting) (setting_key setting)
 put-given-one given setting other e = put-key given setting other ∙ rw e refl
 
 put-keeps : (given : Given) (setting : Setting) (key : Key) → IsGiven given key →
     IsGiven (put given setting) key
 put-keeps given setting key is other e =
-    put-key given setting other ∙ rw (is other e) (or-true (excludes (key_of setting) other))
+    put-key given setting other ∙ rw (is other e) (or-true (excludes (setting_key setting) other))
 
 -- fresh options exclude none of each other
 fresh-without : (settings : List Setting) (given : Given) (key : Key) →
     IsGiven given key → Fresh given settings → Without key settings
 fresh-without [] given key is fresh = tt
 fresh-without (setting ∷ settings) given key is fresh = (
-  free (excludes key (key_of setting)) refl,
+  free (excludes key (setting_key setting)) refl,
   fresh-without settings (put given setting) key (put-keeps given setting key is) fresh.1,
 )
   where
-    free : (b : Bool) → excludes key (key_of setting) ≡ b → b ≡ false
+    free : (b : Bool) → excludes key (setting_key setting) ≡ b → b ≡ false
     free false e = refl
-    free true e = let g : has_key given (key_of setting) ≡ true = is (key_of setting) e in let f = fresh.0 in absurd (cc)
+    free true e = let g : has_key given (setting_key setting) ≡ true = is (setting_key setting) e in let f = fresh.0 in absurd (cc)
 
 pub fresh-once : (settings : List Setting) (given : Given) → Fresh given settings → NoneTwice settings
 fresh-once [] given fresh = tt
 fresh-once (setting ∷ settings) given fresh = (
-  fresh-without settings (put given setting) (key_of setting) (put-given-one given setting) fresh.1,
+  fresh-without settings (put given setting) (setting_key setting) (put-given-one given setting) fresh.1,
   fresh-once settings (put given setting) fresh.1,
 )
 
 -- and options that exclude none of each other are fresh
 abbrev Clear : Given → List Setting → Type 0
 Clear given [] = Unit {0}
-Clear given (setting ∷ settings) = (has_key given (key_of setting) ≡ false) × Clear given settings
+Clear given (setting ∷ settings) = (has_key given (setting_key setting) ≡ false) × Clear given settings
 
 clear-put : (settings : List Setting) (given : Given) (setting : Setting) → Clear given settings →
-    Without (key_of setting) settings → Clear (put given setting) settings
+    Without (setting_key setting) settings → Clear (put given setting) settings
 clear-put [] given setting clear without = tt
 clear-put (next ∷ settings) given setting clear without = (
-  put-key given setting (key_of next) ∙ rw (without.0, clear.0) refl,
+  put-key given setting (setting_key next) ∙ rw (without.0, clear.0) refl,
   clear-put settings given setting clear.1 without.1,
 )
 
@@ -126,7 +126,7 @@ nothing-has keys.Run = refl
 
 clear-nothing : (settings : List Setting) → Clear nothing_given settings
 clear-nothing [] = tt
-clear-nothing (setting ∷ settings) = (nothing-has (key_of setting), clear-nothing settings)
+clear-nothing (setting ∷ settings) = (nothing-has (setting_key setting), clear-nothing settings)
 
 pub once-fresh : (settings : List Setting) → NoneTwice settings → Fresh nothing_given settings
 once-fresh settings once = clear-fresh settings nothing_given (clear-nothing settings) once
@@ -157,7 +157,7 @@ neither true b h = absurd (cc)
 neither false b h = (refl, h)
 
 joined-put : (given : Given) (setting : Setting) (settings : List Setting) →
-    has_key given (key_of setting) ≡ false →
+    has_key given (setting_key setting) ≡ false →
     joined (put given setting) (given_in settings) ≡ joined given (given_in (setting ∷ settings))
 joined-put given (limit_to amount) settings h = let e = not-there given.limit h in rw e
 joined-put given (say_every amount) settings h = let e = not-there given.every h in rw e
@@ -214,8 +214,8 @@ IsWhole (valued subject given key) = ⊥
 -- the words after the positional ones, as a list of options
 pub record Tail (subject : Subject) (given : Given) (words : List (List ℕ)) (last : ReadingState) : Type 0 where
   pub settings : List Setting
-  pub words_are : words ≡ written settings
-  pub taken : list_all (takes subject.name) settings ≡ true
+  pub words_are : words ≡ setting_words settings
+  pub taken : list_all (takes_setting subject.name) settings ≡ true
   pub fresh : Fresh given settings
   pub last_is : last ≡ options subject (put_all given settings)
 
@@ -226,12 +226,12 @@ tail-none subject given last h =
 
 -- one more option before the others
 tail-more : (subject : Subject) (given : Given) (setting : Setting) (words : List (List ℕ)) (last : ReadingState) →
-    takes_key subject.name (key_of setting) ≡ true → is_value subject.name setting ≡ true →
-    has_key given (key_of setting) ≡ false → Tail subject (put given setting) words last →
-    Tail subject given (key_word (key_of setting) ∷ (value_words setting ++ words)) last
+    takes_key subject.name (setting_key setting) ≡ true → is_value subject.name setting ≡ true →
+    has_key given (setting_key setting) ≡ false → Tail subject (put given setting) words last →
+    Tail subject given (key_word (setting_key setting) ∷ (value_words setting ++ words)) last
 tail-more subject given setting words last taken allowed fresh tail = record {
   settings = setting ∷ tail.settings;
-  words_are = ap (λ (ws : List (List ℕ)). key_word (key_of setting) ∷ (value_words setting ++ ws))
+  words_are = ap (λ (ws : List (List ℕ)). key_word (setting_key setting) ∷ (value_words setting ++ ws))
       tail.words_are;
   taken = rw (taken, allowed) tail.taken;
   fresh = (fresh, tail.fresh);
@@ -254,11 +254,11 @@ tail-valued key subject given (value ∷ words) last taken fresh h whole later =
     subst (λ b. reads b words ≡ Some last) v.after_is s.rest in
     let t : Tail subject (put given v.setting) words last = later value words refl
     (put given v.setting) r in
-    let a : takes_key subject.name (key_of v.setting) ≡ true =
+    let a : takes_key subject.name (setting_key v.setting) ≡ true =
     subst (λ k. takes_key subject.name k ≡ true) (sym v.key_is) taken in
-    let f : has_key given (key_of v.setting) ≡ false =
+    let f : has_key given (setting_key v.setting) ≡ false =
     subst (λ k. has_key given k ≡ false) (sym v.key_is) fresh in
-    let m : Tail subject given (key_word (key_of v.setting) ∷ (value_words v.setting ++ words)) last =
+    let m : Tail subject given (key_word (setting_key v.setting) ∷ (value_words v.setting ++ words)) last =
     tail-more subject given v.setting words last a v.allowed f t in
     let m1 : Tail subject given (key_word key ∷ (value_words v.setting ++ words)) last =
     subst (λ k. Tail subject given (key_word k ∷ (value_words v.setting ++ words)) last) v.key_is m in
@@ -330,24 +330,24 @@ tail-read (word ∷ value ∷ words) subject given last h whole =
 
 -- an option with a value is read as it is written
 valued-setting : (setting : Setting) (subject : Subject) (given : Given) (words : List (List ℕ)) →
-    value_words setting ≡ value_of setting ∷ [] → after_key subject given (key_of setting) ≡ valued subject given (key_of setting) →
-    has_value (key_of setting) ≡ true → takes_key subject.name (key_of setting) ≡ true → is_value subject.name setting ≡ true →
-    has_key given (key_of setting) ≡ false →
-    reads (options subject given) (key_word (key_of setting) ∷ (value_words setting ++ words))
+    value_words setting ≡ value_of setting ∷ [] → after_key subject given (setting_key setting) ≡ valued subject given (setting_key setting) →
+    has_value (setting_key setting) ≡ true → takes_key subject.name (setting_key setting) ≡ true → is_value subject.name setting ≡ true →
+    has_key given (setting_key setting) ≡ false →
+    reads (options subject given) (key_word (setting_key setting) ∷ (value_words setting ++ words))
     ≡ reads (options subject (put given setting)) words
 valued-setting setting subject given words one after value taken allowed fresh =
-    ap (λ (vs : List (List ℕ)). reads (options subject given) (key_word (key_of setting) ∷ (vs ++ words))) one
-    ∙ (reads-step (options subject given) (key_word (key_of setting)) (value_of setting ∷ words)
-    (valued subject given (key_of setting))
-    (option-follows subject given (key_of setting) taken fresh ∙ ap (λ (s : ReadingState). Some s) after)
-    ∙ reads-step (valued subject given (key_of setting)) (value_of setting) words (options subject (put given setting))
+    ap (λ (vs : List (List ℕ)). reads (options subject given) (key_word (setting_key setting) ∷ (vs ++ words))) one
+    ∙ (reads-step (options subject given) (key_word (setting_key setting)) (value_of setting ∷ words)
+    (valued subject given (setting_key setting))
+    (option-follows subject given (setting_key setting) taken fresh ∙ ap (λ (s : ReadingState). Some s) after)
+    ∙ reads-step (valued subject given (setting_key setting)) (value_of setting) words (options subject (put given setting))
     (value-follows setting subject given value allowed))
 
 -- one option is read as it is written
 setting-read : (setting : Setting) (subject : Subject) (given : Given) (words : List (List ℕ)) →
-    takes_key subject.name (key_of setting) ≡ true → is_value subject.name setting ≡ true →
-    has_key given (key_of setting) ≡ false →
-    reads (options subject given) (key_word (key_of setting) ∷ (value_words setting ++ words))
+    takes_key subject.name (setting_key setting) ≡ true → is_value subject.name setting ≡ true →
+    has_key given (setting_key setting) ≡ false →
+    reads (options subject given) (key_word (setting_key setting) ∷ (value_words setting ++ words))
     ≡ reads (options subject (put given setting)) words
 setting-read (limit_to amount) subject given words taken allowed fresh =
     valued-setting (limit_to amount) subject given words refl refl refl taken allowed fresh
@@ -382,12 +382,12 @@ both true false h = absurd (cc)
 both false b h = absurd (cc)
 
 pub settings-read : (settings : List Setting) (subject : Subject) (given : Given) →
-    list_all (takes subject.name) settings ≡ true → Fresh given settings →
-    reads (options subject given) (written settings) ≡ Some (options subject (put_all given settings))
+    list_all (takes_setting subject.name) settings ≡ true → Fresh given settings →
+    reads (options subject given) (setting_words settings) ≡ Some (options subject (put_all given settings))
 settings-read [] subject given taken fresh = refl
 settings-read (setting ∷ settings) subject given taken fresh =
-    let a = both (takes subject.name setting) (list_all (takes subject.name) settings) taken in
-    let t = both (takes_key subject.name (key_of setting)) (is_value subject.name setting)
+    let a = both (takes_setting subject.name setting) (list_all (takes_setting subject.name) settings) taken in
+    let t = both (takes_key subject.name (setting_key setting)) (is_value subject.name setting)
     a.0 in
-    setting-read setting subject given (written settings) t.0 t.1 fresh.0
+    setting-read setting subject given (setting_words settings) t.0 t.1 fresh.0
     ∙ settings-read settings subject (put given setting) a.1 fresh.1

@@ -13,10 +13,10 @@ use Rattle.cli_arguments.specs.declared.options.Key.{Key}
 use Rattle.cli_arguments.specs.declared.options.Key.TheVariants as keys
 use Rattle.cli_arguments.specs.declared.reading.Subject.{Subject}
 use Rattle.cli_arguments.specs.declared.shown.Shown.{Shown}
-use Rattle.cli_arguments.specs.Values.{amount_in, amount_of, is_file_name, is_number, is_positive, is_within, count_in, number_in, positive_in}
-use Rattle.cli_arguments.specs.Commands.{word_of, fewest, most, is_of, is_positional, name_in, places, topic_in}
-use Rattle.cli_arguments.specs.Options.{key_word, show_word, key_of, value_words, takes_key, can_show, is_value, most_limit_of, most_seed, Setting, limit_to, say_every, show_of, script_from, seed_from, guess_by, input_from, issue_at_most, reach_at_most, do_without, with_mul, with_run, Given, rule_word}
-use Rattle.cli_arguments.specs.Reading.{ReadingState, start, placed, options, valued, bare, one_more, follow, when, after_name, after_key, after_option, after_value, has_place, has_key, with_value, key_in, shown_in, shown_by, nothing_given, rule_in}
+use Rattle.cli_arguments.specs.Values.{amount_in, amount_of, is_file_name, is_number_word, is_positive, is_amount_within, count_in, number_up_to, positive_in}
+use Rattle.cli_arguments.specs.Commands.{command_word, fewest, most, is_of, is_positional, name_in, place_kind, topic_in}
+use Rattle.cli_arguments.specs.Options.{key_word, show_word, setting_key, value_words, takes_key, can_show, is_value, most_limit_of, most_seed, Setting, limit_to, say_every, show_of, script_from, seed_from, guess_by, input_from, issue_at_most, reach_at_most, do_without, with_mul, with_run, Given, rule_word}
+use Rattle.cli_arguments.specs.Reading.{ReadingState, start, placed, options, valued, unplaced, one_place_more, follow, when, after_name, after_key, after_option, after_value, has_place, has_key, given_with_value, key_in, shown_in, showable, nothing_given, rule_in}
 use Rattle.cli_arguments.proofs.Texts.{name-read, name-written, key-read, key-written, shown-read, shown-written, rule-read, rule-written}
 
 -- what is given with one more option
@@ -55,8 +55,8 @@ true-both false b g h = absurd (cc)
 -- the command's word
 pub record NameRead (word : List ℕ) (later : ReadingState) : Type 0 where
   pub name : CommandName
-  pub word_is : word ≡ word_of name
-  pub after_is : later ≡ placed (bare name)
+  pub word_is : word ≡ command_word name
+  pub after_is : later ≡ placed (unplaced name)
 
 name-found : (found : Option CommandName) (word : List ℕ) (later : ReadingState) → name_in word ≡ found →
     after_name found ≡ Some later → NameRead word later
@@ -68,7 +68,7 @@ pub start-read : (word : List ℕ) (later : ReadingState) → follow start word 
 unfolding follow
 start-read word later h = name-found (name_in word) word later refl h
 
-pub start-follows : (name : CommandName) → follow start (word_of name) ≡ Some (placed (bare name))
+pub start-follows : (name : CommandName) → follow start (command_word name) ≡ Some (placed (unplaced name))
 unfolding follow
 start-follows name = rw (name-written name) refl
 
@@ -92,9 +92,9 @@ tests-place subject word room h =
 
 place-tried : (has enough : Bool) (subject : Subject) (word : List ℕ) (later : ReadingState) →
     has_place subject word ≡ has → nat_le (fewest subject.name) subject.count ≡ enough →
-    (if has then Some (placed (one_more subject))
+    (if has then Some (placed (one_place_more subject))
     else if enough then after_option subject nothing_given (key_in word) else None) ≡ Some later →
-    ((has_place subject word ≡ true) × (later ≡ placed (one_more subject)))
+    ((has_place subject word ≡ true) × (later ≡ placed (one_place_more subject)))
     ⊎ ((nat_le (fewest subject.name) subject.count ≡ true)
     × (after_option subject nothing_given (key_in word) ≡ Some later))
 place-tried true enough subject word later e f h = inl (e, cc)
@@ -103,7 +103,7 @@ place-tried false false subject word later e f h = absurd (cc)
 
 pub placed-read : (subject : Subject) (word : List ℕ) (later : ReadingState) →
     follow (placed subject) word ≡ Some later →
-    ((has_place subject word ≡ true) × (later ≡ placed (one_more subject)))
+    ((has_place subject word ≡ true) × (later ≡ placed (one_place_more subject)))
     ⊎ ((nat_le (fewest subject.name) subject.count ≡ true)
     × (follow (options subject nothing_given) word ≡ Some later))
 unfolding follow
@@ -112,7 +112,7 @@ placed-read subject word later h =
     refl refl h
 
 pub placed-follows : (subject : Subject) (word : List ℕ) → has_place subject word ≡ true →
-    follow (placed subject) word ≡ Some (placed (one_more subject))
+    follow (placed subject) word ≡ Some (placed (one_place_more subject))
 unfolding follow
 placed-follows subject word h = rw h refl
 
@@ -168,7 +168,7 @@ key-tried Topics key = key-no-topic key
 
 key-no-positional : (name : CommandName) (key : Key) → is_positional name (key_word key) ≡ false
 unfolding is_positional
-key-no-positional name key = key-tried (places name) key
+key-no-positional name key = key-tried (place_kind name) key
 
 and-false : (a : Bool) → (a && false) ≡ false
 and-false true = refl
@@ -222,7 +222,7 @@ option-follows subject given key taken fresh =
 pub record ValueRead (subject : Subject) (given : Given) (key : Key) (word : List ℕ) (later : ReadingState) :
     Type 0 where
   pub setting : Setting
-  pub key_is : key_of setting ≡ key
+  pub key_is : setting_key setting ≡ key
   pub word_is : value_words setting ≡ word ∷ []
   pub allowed : is_value subject.name setting ≡ true
   pub after_is : later ≡ options subject (put given setting)
@@ -232,10 +232,10 @@ if-some : {A : Type 0} → (b : Bool) (x y : A) → (if b then Some x else None)
 if-some true x y h = (refl, cc)
 if-some false x y h = absurd (cc)
 
-number-test : (most : ℕ) (word : List ℕ) (number : ℕ) → number_in most word ≡ Some number →
-    (is_number most word ≡ true) × (number ≡ digits_value 10 word)
-unfolding number_in
-number-test most word number h = if-some (is_number most word) (digits_value 10 word) number h
+number-test : (most : ℕ) (word : List ℕ) (number : ℕ) → number_up_to most word ≡ Some number →
+    (is_number_word most word ≡ true) × (number ≡ digits_value 10 word)
+unfolding number_up_to
+number-test most word number h = if-some (is_number_word most word) (digits_value 10 word) number h
 
 positive-test : (most : ℕ) (word : List ℕ) (number : ℕ) → positive_in most word ≡ Some number →
     (is_positive most word ≡ true) × (number ≡ digits_value 10 word)
@@ -243,11 +243,11 @@ unfolding positive_in
 positive-test most word number h = if-some (is_positive most word) (digits_value 10 word) number h
 
 amount-test : (least most : ℕ) (word : List ℕ) (amount : ℕ) → amount_in least most word ≡ Some amount →
-    (is_within least most word ≡ true) × (amount ≡ amount_of word)
+    (is_amount_within least most word ≡ true) × (amount ≡ amount_of word)
 unfolding amount_in
-amount-test least most word amount h = if-some (is_within least most word) (amount_of word) amount h
+amount-test least most word amount h = if-some (is_amount_within least most word) (amount_of word) amount h
 
-shown-test : (name : CommandName) (found : Option Shown) (shown : Shown) → shown_by name found ≡ Some shown →
+shown-test : (name : CommandName) (found : Option Shown) (shown : Shown) → showable name found ≡ Some shown →
     (found ≡ Some shown) × (can_show name shown ≡ true)
 shown-test name None shown h = absurd (cc)
 shown-test name (Some other) shown h =
@@ -257,7 +257,7 @@ shown-test name (Some other) shown h =
 
 -- the word is the value of an option, with which this much more is given
 record IsSetting (subject : Subject) (given more : Given) (key : Key) (word : List ℕ) (setting : Setting) : Type 0 where
-  key_is : key_of setting ≡ key
+  key_is : setting_key setting ≡ key
   word_is : value_words setting ≡ word ∷ []
   allowed : is_value subject.name setting ≡ true
   more_is : more ≡ put given setting
@@ -290,7 +290,7 @@ one-word word other same = ap (λ (w : List ℕ). w ∷ []) (sym same)
 
 pub value-read : (key : Key) (subject : Subject) (given : Given) (word : List ℕ) (later : ReadingState) →
     follow (valued subject given key) word ≡ Some later → ValueRead subject given key word later
-unfolding follow with_value
+unfolding follow given_with_value
 value-read keys.Limit subject given word later h =
     value-found (amount_in 0 (most_limit_of subject.name) word) (λ n. record given { limit = Some n }) (λ n. limit_to word)
     subject given keys.Limit word later
@@ -302,7 +302,7 @@ value-read keys.Every subject given word later h =
     (λ n e. let t = amount-test 1 most_limit word n e in
     record { key_is = refl; word_is = refl; allowed = t.0; more_is = ap (λ (m : ℕ). record given { every = Some m }) t.1 }) h
 value-read keys.Show subject given word later h =
-    value-found (shown_by subject.name (shown_in word)) (λ shown. record given { show = Some shown }) show_of
+    value-found (showable subject.name (shown_in word)) (λ shown. record given { show = Some shown }) show_of
     subject given keys.Show word later
     (λ shown e. let t = shown-test subject.name (shown_in word) shown e in
     record { key_is = refl; word_is = one-word word (show_word shown) (shown-read word shown t.0); allowed = t.1; more_is = refl }) h
@@ -310,7 +310,7 @@ value-read keys.Script subject given word later h =
     file-found (is_file_name word) (record given { script = Some word }) (script_from word) subject given keys.Script word later
     (λ t. record { key_is = refl; word_is = refl; allowed = t; more_is = refl }) h
 value-read keys.Seed subject given word later h =
-    value-found (number_in most_seed word) (λ n. record given { seed = Some n }) (λ n. seed_from word)
+    value-found (number_up_to most_seed word) (λ n. record given { seed = Some n }) (λ n. seed_from word)
     subject given keys.Seed word later
     (λ n e. let t = number-test most_seed word n e in
     record { key_is = refl; word_is = refl; allowed = t.0; more_is = ap (λ (m : ℕ). record given { seed = Some m }) t.1 }) h
@@ -336,9 +336,9 @@ value-read keys.Without subject given word later h =
 value-read keys.Mul subject given word later h = absurd (cc)
 value-read keys.Run subject given word later h = absurd (cc)
 
-number-is : (most : ℕ) (word : List ℕ) → is_number most word ≡ true →
-    number_in most word ≡ Some (digits_value 10 word)
-unfolding number_in
+number-is : (most : ℕ) (word : List ℕ) → is_number_word most word ≡ true →
+    number_up_to most word ≡ Some (digits_value 10 word)
+unfolding number_up_to
 number-is most word h = rw h
 
 positive-is : (most : ℕ) (word : List ℕ) → is_positive most word ≡ true →
@@ -346,7 +346,7 @@ positive-is : (most : ℕ) (word : List ℕ) → is_positive most word ≡ true 
 unfolding positive_in
 positive-is most word h = rw h
 
-amount-is : (least most : ℕ) (word : List ℕ) → is_within least most word ≡ true →
+amount-is : (least most : ℕ) (word : List ℕ) → is_amount_within least most word ≡ true →
     amount_in least most word ≡ Some (amount_of word)
 unfolding amount_in
 amount-is least most word h = rw h
@@ -373,10 +373,10 @@ value_of with_mul = []
 value_of with_run = []
 
 -- a value that the option may have is read as it is written
-pub value-follows : (setting : Setting) (subject : Subject) (given : Given) → has_value (key_of setting) ≡ true →
+pub value-follows : (setting : Setting) (subject : Subject) (given : Given) → has_value (setting_key setting) ≡ true →
     is_value subject.name setting ≡ true →
-    follow (valued subject given (key_of setting)) (value_of setting) ≡ Some (options subject (put given setting))
-unfolding follow with_value
+    follow (valued subject given (setting_key setting)) (value_of setting) ≡ Some (options subject (put given setting))
+unfolding follow given_with_value
 value-follows (limit_to amount) subject given value h = rw (amount-is 0 (most_limit_of subject.name) amount h)
 value-follows (say_every amount) subject given value h = rw (amount-is 1 most_limit amount h)
 value-follows (show_of shown) subject given value h = rw (shown-written shown, h)

@@ -10,7 +10,7 @@ use Rattle.cli_arguments.specs.declared.options.Key.{Key}
 use Rattle.cli_arguments.specs.declared.options.Key.TheVariants as keys
 use Rattle.cli_arguments.specs.declared.shown.Shown.{Shown}
 use Rattle.cli_arguments.specs.declared.shown.Shown.TheVariants as shows
-use Rattle.cli_arguments.specs.Commands.{word_of, is_text, name_in}
+use Rattle.cli_arguments.specs.Commands.{command_word, is_text, name_in}
 use Rattle.cli_arguments.specs.Options.{key_word, show_word, rule_word}
 use Rattle.cli_arguments.specs.Reading.{key_in, shown_in, rule_in}
 
@@ -35,30 +35,30 @@ first-named {T} word text written here others same later name = by (is_text word
 none-named : {T : Type 0} (word : List ℕ) (written : T → List ℕ) (name : T) → None ≡ Some name → word ≡ written name
 none-named word written name h = absurd (cc)
 
-pub name-read : (word : List ℕ) (name : CommandName) → name_in word ≡ Some name → word ≡ word_of name
+pub name-read : (word : List ℕ) (name : CommandName) → name_in word ≡ Some name → word ≡ command_word name
 unfolding name_in
 name-read word =
-    first-named word (codes "machine") word_of names.Machine _ refl
-    (first-named word (codes "run") word_of names.Run _ refl
-    (first-named word (codes "moves") word_of names.Moves _ refl
-    (first-named word (codes "rounds") word_of names.Rounds _ refl
-    (first-named word (codes "orders") word_of names.Orders _ refl
-    (first-named word (codes "conform") word_of names.Conform _ refl
-    (first-named word (codes "debug") word_of names.Debug _ refl
-    (first-named word (codes "time") word_of names.Time _ refl
-    (first-named word (codes "audit") word_of names.Audit _ refl
-    (first-named word (codes "check") word_of names.Check _ refl
-    (first-named word (codes "asm") word_of names.Asm _ refl
-    (first-named word (codes "list") word_of names.List _ refl
-    (first-named word (codes "gen") word_of names.Gen _ refl
-    (first-named word (codes "help") word_of names.Help _ refl
-    (first-named word (codes "--help") word_of names.HelpOption _ refl
-    (first-named word (codes "-h") word_of names.HelpLetter _ refl
-    (first-named word (codes "--version") word_of names.Version _ refl
-    (first-named word (codes "-V") word_of names.VersionLetter _ refl
-    (none-named word word_of))))))))))))))))))
+    first-named word (codes "machine") command_word names.Machine _ refl
+    (first-named word (codes "run") command_word names.Run _ refl
+    (first-named word (codes "moves") command_word names.Moves _ refl
+    (first-named word (codes "rounds") command_word names.Rounds _ refl
+    (first-named word (codes "orders") command_word names.Orders _ refl
+    (first-named word (codes "conform") command_word names.Conform _ refl
+    (first-named word (codes "debug") command_word names.Debug _ refl
+    (first-named word (codes "time") command_word names.Time _ refl
+    (first-named word (codes "audit") command_word names.Audit _ refl
+    (first-named word (codes "check") command_word names.Check _ refl
+    (first-named word (codes "asm") command_word names.Asm _ refl
+    (first-named word (codes "list") command_word names.List _ refl
+    (first-named word (codes "gen") command_word names.Gen _ refl
+    (first-named word (codes "help") command_word names.Help _ refl
+    (first-named word (codes "--help") command_word names.HelpOption _ refl
+    (first-named word (codes "-h") command_word names.HelpLetter _ refl
+    (first-named word (codes "--version") command_word names.Version _ refl
+    (first-named word (codes "-V") command_word names.VersionLetter _ refl
+    (none-named word command_word))))))))))))))))))
 
-pub name-written : (name : CommandName) → name_in (word_of name) ≡ Some name
+pub name-written : (name : CommandName) → name_in (command_word name) ≡ Some name
 unfolding name_in
 name-written names.Machine = refl
 name-written names.Run = refl

@@ -8,25 +8,25 @@ use Rattle.cli_arguments.specs.declared.names.PlaceKind.TheVariants.{Files, Numb
 use Rattle.cli_arguments.specs.Values.{is_file_name, count_in}
 
 -- the first word of each command
-abbrev pub word_of : CommandName → List ℕ
-word_of names.Machine = codes "machine"
-word_of names.Run = codes "run"
-word_of names.Moves = codes "moves"
-word_of names.Rounds = codes "rounds"
-word_of names.Orders = codes "orders"
-word_of names.Conform = codes "conform"
-word_of names.Debug = codes "debug"
-word_of names.Time = codes "time"
-word_of names.Audit = codes "audit"
-word_of names.Check = codes "check"
-word_of names.Asm = codes "asm"
-word_of names.List = codes "list"
-word_of names.Gen = codes "gen"
-word_of names.Help = codes "help"
-word_of names.HelpOption = codes "--help"
-word_of names.HelpLetter = codes "-h"
-word_of names.Version = codes "--version"
-word_of names.VersionLetter = codes "-V"
+abbrev pub command_word : CommandName → List ℕ
+command_word names.Machine = codes "machine"
+command_word names.Run = codes "run"
+command_word names.Moves = codes "moves"
+command_word names.Rounds = codes "rounds"
+command_word names.Orders = codes "orders"
+command_word names.Conform = codes "conform"
+command_word names.Debug = codes "debug"
+command_word names.Time = codes "time"
+command_word names.Audit = codes "audit"
+command_word names.Check = codes "check"
+command_word names.Asm = codes "asm"
+command_word names.List = codes "list"
+command_word names.Gen = codes "gen"
+command_word names.Help = codes "help"
+command_word names.HelpOption = codes "--help"
+command_word names.HelpLetter = codes "-h"
+command_word names.Version = codes "--version"
+command_word names.VersionLetter = codes "-V"
 
 -- how many positional words a command has at least
 abbrev pub fewest : CommandName → ℕ
@@ -116,10 +116,10 @@ unfoldable pub topic_in : List ℕ → Option CommandName
 topic_in word = helped (name_in word)
 
 -- what the positional words of a command are: names of files, numbers, or commands
-abbrev pub places : CommandName → PlaceKind
-places names.Gen = Numbers
-places names.Help = Topics
-places _ = Files
+abbrev pub place_kind : CommandName → PlaceKind
+place_kind names.Gen = Numbers
+place_kind names.Help = Topics
+place_kind _ = Files
 
 -- a word of this kind
 abbrev pub is_of : PlaceKind → List ℕ → Bool
@@ -129,4 +129,4 @@ is_of Topics word = is_some (topic_in word)
 
 -- a word that may stand among the positional words of a command
 unfoldable pub is_positional : CommandName → List ℕ → Bool
-is_positional name word = is_of (places name) word
+is_positional name word = is_of (place_kind name) word

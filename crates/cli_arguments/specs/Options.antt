@@ -12,7 +12,7 @@ use Rattle.cli_arguments.specs.declared.options.Key.{Key}
 use Rattle.cli_arguments.specs.declared.options.Key.TheVariants as keys
 use Rattle.cli_arguments.specs.declared.shown.Shown.{Shown}
 use Rattle.cli_arguments.specs.declared.shown.Shown.TheVariants as shows
-use Rattle.cli_arguments.specs.Values.{amount_of, is_file_name, is_number, is_positive, is_within}
+use Rattle.cli_arguments.specs.Values.{amount_of, is_file_name, is_number_word, is_positive, is_amount_within}
 
 -- an option, with the value of those that have one
 pub data Setting : Type 0 where
@@ -30,19 +30,19 @@ pub data Setting : Type 0 where
   with_run : Setting
 
 -- which option it is
-abbrev pub key_of : Setting → Key
-key_of (limit_to amount) = keys.Limit
-key_of (say_every amount) = keys.Every
-key_of (show_of shown) = keys.Show
-key_of (script_from file) = keys.Script
-key_of (seed_from digits) = keys.Seed
-key_of (guess_by rule) = keys.Guess
-key_of (input_from file) = keys.Input
-key_of (issue_at_most digits) = keys.Issues
-key_of (reach_at_most digits) = keys.States
-key_of (do_without rule) = keys.Without
-key_of with_mul = keys.Mul
-key_of with_run = keys.Run
+abbrev pub setting_key : Setting → Key
+setting_key (limit_to amount) = keys.Limit
+setting_key (say_every amount) = keys.Every
+setting_key (show_of shown) = keys.Show
+setting_key (script_from file) = keys.Script
+setting_key (seed_from digits) = keys.Seed
+setting_key (guess_by rule) = keys.Guess
+setting_key (input_from file) = keys.Input
+setting_key (issue_at_most digits) = keys.Issues
+setting_key (reach_at_most digits) = keys.States
+setting_key (do_without rule) = keys.Without
+setting_key with_mul = keys.Mul
+setting_key with_run = keys.Run
 
 -- the option's own word
 abbrev pub key_word : Key → List ℕ
@@ -91,9 +91,9 @@ value_words with_mul = []
 value_words with_run = []
 
 -- the words of the options, in their order
-abbrev pub written : List Setting → List (List ℕ)
-written [] = []
-written (setting ∷ settings) = key_word (key_of setting) ∷ (value_words setting ++ written settings)
+abbrev pub setting_words : List Setting → List (List ℕ)
+setting_words [] = []
+setting_words (setting ∷ settings) = key_word (setting_key setting) ∷ (value_words setting ++ setting_words settings)
 
 -- the options of each command
 abbrev pub takes_key : CommandName → Key → Bool
@@ -161,11 +161,11 @@ most_limit_of _ = most_limit
 
 -- a value that the option may have
 abbrev pub is_value : CommandName → Setting → Bool
-is_value name (limit_to amount) = is_within 0 (most_limit_of name) amount
-is_value name (say_every amount) = is_within 1 most_limit amount
+is_value name (limit_to amount) = is_amount_within 0 (most_limit_of name) amount
+is_value name (say_every amount) = is_amount_within 1 most_limit amount
 is_value name (show_of shown) = can_show name shown
 is_value name (script_from file) = is_file_name file
-is_value name (seed_from digits) = is_number most_seed digits
+is_value name (seed_from digits) = is_number_word most_seed digits
 is_value name (guess_by rule) = true
 is_value name (input_from file) = is_file_name file
 is_value name (issue_at_most digits) = is_positive most_issues digits
@@ -175,8 +175,8 @@ is_value name with_mul = true
 is_value name with_run = true
 
 -- the command has the option, and it may have that value
-abbrev pub takes : CommandName → Setting → Bool
-takes name setting = takes_key name (key_of setting) && is_value name setting
+abbrev pub takes_setting : CommandName → Setting → Bool
+takes_setting name setting = takes_key name (setting_key setting) && is_value name setting
 
 -- which options exclude each other: each excludes itself, a script excludes a seed, and a script excludes a guess rule
 abbrev pub excludes : Key → Key → Bool
@@ -201,12 +201,12 @@ excludes _ _ = false
 -- the option excludes none of these
 abbrev pub Without : Key → List Setting → Type 0
 Without key [] = Unit {0}
-Without key (setting ∷ settings) = (excludes key (key_of setting) ≡ false) × Without key settings
+Without key (setting ∷ settings) = (excludes key (setting_key setting) ≡ false) × Without key settings
 
 -- none of the options excludes a later one
 abbrev pub NoneTwice : List Setting → Type 0
 NoneTwice [] = Unit {0}
-NoneTwice (setting ∷ settings) = Without (key_of setting) settings × NoneTwice settings
+NoneTwice (setting ∷ settings) = Without (setting_key setting) settings × NoneTwice settings
 
 -- what chooses the moves of a run: the script in a file, a seed from which they are drawn, or the fixed rule; the latter
 -- two of the moves that a guess rule keeps

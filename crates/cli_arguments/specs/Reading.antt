@@ -10,7 +10,7 @@ use Rattle.cli_arguments.specs.declared.options.Key.TheVariants as keys
 use Rattle.cli_arguments.specs.declared.reading.Subject.{Subject}
 use Rattle.cli_arguments.specs.declared.shown.Shown.{Shown}
 use Rattle.cli_arguments.specs.declared.shown.Shown.TheVariants as shows
-use Rattle.cli_arguments.specs.Values.{amount_in, is_file_name, number_in, positive_in}
+use Rattle.cli_arguments.specs.Values.{amount_in, is_file_name, number_up_to, positive_in}
 use Rattle.cli_arguments.specs.Commands.{fewest, most, is_positional, is_text, name_in}
 use Rattle.cli_arguments.specs.Options.{takes_key, can_show, most_limit_of, most_seed, Given}
 use Rattle.cli_arguments.specs.Words.{Asked, asked_by}
@@ -103,16 +103,16 @@ when true x = Some x
 when false x = None
 
 -- a command without positional words yet, and the command with one more
-abbrev pub bare : CommandName → Subject
-bare name = record { name = name; count = 0 }
+abbrev pub unplaced : CommandName → Subject
+unplaced name = record { name = name; count = 0 }
 
-abbrev pub one_more : Subject → Subject
-one_more subject = record { name = subject.name; count = subject.count + 1 }
+abbrev pub one_place_more : Subject → Subject
+one_place_more subject = record { name = subject.name; count = subject.count + 1 }
 
 -- after the first word
 abbrev pub after_name : Option CommandName → Option ReadingState
 after_name None = None
-after_name (Some name) = Some (placed (bare name))
+after_name (Some name) = Some (placed (unplaced name))
 
 -- after an option's own word
 abbrev pub after_key : Subject → Given → Key → ReadingState
@@ -133,35 +133,35 @@ has_place subject word = nat_lt subject.count (most subject.name) && is_position
 -- after one more positional word, or after the first option's own word where there are enough of them
 abbrev pub after_place : Subject → List ℕ → Option ReadingState
 after_place subject word =
-    if has_place subject word then Some (placed (one_more subject))
+    if has_place subject word then Some (placed (one_place_more subject))
     else if nat_le (fewest subject.name) subject.count then after_option subject nothing_given (key_in word)
     else None
 
 -- what the command can show of it
-abbrev pub shown_by : CommandName → Option Shown → Option Shown
-shown_by name None = None
-shown_by name (Some shown) = when (can_show name shown) shown
+abbrev pub showable : CommandName → Option Shown → Option Shown
+showable name None = None
+showable name (Some shown) = when (can_show name shown) shown
 
 -- what is given with one more value
-unfoldable pub with_value : CommandName → Given → Key → List ℕ → Option Given
-with_value name given keys.Limit word =
+unfoldable pub given_with_value : CommandName → Given → Key → List ℕ → Option Given
+given_with_value name given keys.Limit word =
     option_map (λ limit. record given { limit = Some limit }) (amount_in 0 (most_limit_of name) word)
-with_value name given keys.Every word =
+given_with_value name given keys.Every word =
     option_map (λ every. record given { every = Some every }) (amount_in 1 most_limit word)
-with_value name given keys.Show word = option_map (λ shown. record given { show = Some shown }) (shown_by name (shown_in word))
-with_value name given keys.Script word = when (is_file_name word) (record given { script = Some word })
-with_value name given keys.Seed word =
-    option_map (λ seed. record given { seed = Some seed }) (number_in most_seed word)
-with_value name given keys.Guess word = option_map (λ rule. record given { guess = Some rule }) (rule_in word)
-with_value name given keys.Input word = when (is_file_name word) (record given { input = Some word })
-with_value name given keys.Issues word =
+given_with_value name given keys.Show word = option_map (λ shown. record given { show = Some shown }) (showable name (shown_in word))
+given_with_value name given keys.Script word = when (is_file_name word) (record given { script = Some word })
+given_with_value name given keys.Seed word =
+    option_map (λ seed. record given { seed = Some seed }) (number_up_to most_seed word)
+given_with_value name given keys.Guess word = option_map (λ rule. record given { guess = Some rule }) (rule_in word)
+given_with_value name given keys.Input word = when (is_file_name word) (record given { input = Some word })
+given_with_value name given keys.Issues word =
     option_map (λ issues. record given { issues = Some issues }) (positive_in most_issues word)
-with_value name given keys.States word =
+given_with_value name given keys.States word =
     option_map (λ states. record given { states = Some states }) (positive_in most_states word)
-with_value name given keys.Without word =
+given_with_value name given keys.Without word =
     option_map (λ rule. record given { without = Some rule }) (rule_named word)
-with_value name given keys.Mul word = None
-with_value name given keys.Run word = None
+given_with_value name given keys.Mul word = None
+given_with_value name given keys.Run word = None
 
 -- after an option's value
 abbrev pub after_value : Subject → Option Given → Option ReadingState
@@ -173,7 +173,7 @@ unfoldable pub follow : ReadingState → List ℕ → Option ReadingState
 follow start word = after_name (name_in word)
 follow (placed subject) word = after_place subject word
 follow (options subject given) word = after_option subject given (key_in word)
-follow (valued subject given key) word = after_value subject (with_value subject.name given key word)
+follow (valued subject given key) word = after_value subject (given_with_value subject.name given key word)
 
 -- the positional words: that many words after the first
 abbrev pub positional_in : ℕ → List (List ℕ) → List (List ℕ)

@@ -11,24 +11,24 @@ is_file_name [] = false
 is_file_name (byte ∷ bytes) = not (starts_with nat_eq (byte ∷ bytes) (codes "--"))
 
 -- decimal digits, at least one and at most this many, the first of which may be zeros
-abbrev pub is_numeral : ℕ → List ℕ → Bool
-is_numeral longest word = nat_le 1 (length word) && nat_le (length word) longest && list_all is_digit word
+abbrev pub is_decimal_word : ℕ → List ℕ → Bool
+is_decimal_word longest word = nat_le 1 (length word) && nat_le (length word) longest && list_all is_digit word
 
 -- 1 to 10 digits, with a value that is at most this
-abbrev pub is_number : ℕ → List ℕ → Bool
-is_number most word = is_numeral 10 word && nat_le (digits_value 10 word) most
+abbrev pub is_number_word : ℕ → List ℕ → Bool
+is_number_word most word = is_decimal_word 10 word && nat_le (digits_value 10 word) most
 
 -- the same, with a value that is not 0
 abbrev pub is_positive : ℕ → List ℕ → Bool
-is_positive most word = is_number most word && nat_le 1 (digits_value 10 word)
+is_positive most word = is_number_word most word && nat_le 1 (digits_value 10 word)
 
 -- the number that a word writes in at most this many digits
 unfoldable pub numeral_in : ℕ → List ℕ → Option ℕ
-numeral_in longest word = if is_numeral longest word then Some (digits_value 10 word) else None
+numeral_in longest word = if is_decimal_word longest word then Some (digits_value 10 word) else None
 
 -- the number that a word writes, which is at most the given one
-unfoldable pub number_in : ℕ → List ℕ → Option ℕ
-number_in most word = if is_number most word then Some (digits_value 10 word) else None
+unfoldable pub number_up_to : ℕ → List ℕ → Option ℕ
+number_up_to most word = if is_number_word most word then Some (digits_value 10 word) else None
 
 -- the same, which is not 0
 unfoldable pub positive_in : ℕ → List ℕ → Option ℕ
@@ -62,11 +62,11 @@ most_plain = 1000000000
 
 -- a word that writes an amount: a number, or 1 to 4 digits with a letter
 unfoldable pub is_amount : List ℕ → Bool
-is_amount word = if nat_eq (unit_of word) 1 then is_number most_plain word else is_numeral 4 (digits_in word)
+is_amount word = if nat_eq (unit_of word) 1 then is_number_word most_plain word else is_decimal_word 4 (digits_in word)
 
 -- the number before the unit
 unfoldable pub number_before : (unit : ℕ) → (digits : List ℕ) → Option ℕ
-number_before unit digits = if nat_eq unit 1 then number_in most_plain digits else numeral_in 4 digits
+number_before unit digits = if nat_eq unit 1 then number_up_to most_plain digits else numeral_in 4 digits
 
 -- the amount that it writes
 unfoldable pub amount_of : List ℕ → ℕ
@@ -77,9 +77,9 @@ unfoldable pub bounded : (least most amount : ℕ) → Option ℕ
 bounded least most amount = if nat_le least amount && nat_le amount most then Some amount else None
 
 -- a word that writes an amount within these bounds
-abbrev pub is_within : (least most : ℕ) → List ℕ → Bool
-is_within least most word = is_amount word && nat_le least (amount_of word) && nat_le (amount_of word) most
+abbrev pub is_amount_within : (least most : ℕ) → List ℕ → Bool
+is_amount_within least most word = is_amount word && nat_le least (amount_of word) && nat_le (amount_of word) most
 
 -- the amount that a word writes within these bounds
 unfoldable pub amount_in : (least most : ℕ) → List ℕ → Option ℕ
-amount_in least most word = if is_within least most word then Some (amount_of word) else None
+amount_in least most word = if is_amount_within least most word then Some (amount_of word) else None

@@ -38,11 +38,11 @@ given_of o = record {
 }
 
 -- what is known after the words that were read
-abbrev pub state_of : rust_reading.ArgumentReading → ReadingState
-state_of readings.Start = start
-state_of (readings.Placed subject) = placed subject
-state_of (readings.Options subject given) = options subject (given_of given)
-state_of (readings.Value subject given key) = valued subject (given_of given) key
+abbrev pub reading_state_of : rust_reading.ArgumentReading → ReadingState
+reading_state_of readings.Start = start
+reading_state_of (readings.Placed subject) = placed subject
+reading_state_of (readings.Options subject given) = options subject (given_of given)
+reading_state_of (readings.Value subject given key) = valued subject (given_of given) key
 
 -- where a layout is
 abbrev pub layout_of : LayoutWord → NamedLayout

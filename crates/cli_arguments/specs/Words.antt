@@ -17,18 +17,18 @@ use Rattle.cli_arguments.specs.declared.command.OrdersOptions.{OrdersOptions}
 use Rattle.cli_arguments.specs.declared.shown.Shown.{Shown}
 use Rattle.cli_arguments.specs.declared.shown.Shown.TheVariants as shown
 use Rattle.cli_arguments.specs.Values.{count_in}
-use Rattle.cli_arguments.specs.Commands.{word_of, fewest, most, is_positional, topic_in}
-use Rattle.cli_arguments.specs.Options.{Setting, written, takes, default_issues, default_limit, default_states, NoneTwice, Schedule, by_rule, Given, given_in, by_script, by_seed}
+use Rattle.cli_arguments.specs.Commands.{command_word, fewest, most, is_positional, topic_in}
+use Rattle.cli_arguments.specs.Options.{Setting, setting_words, takes_setting, default_issues, default_limit, default_states, NoneTwice, Schedule, by_rule, Given, given_in, by_script, by_seed}
 
 -- the words are a command's, with its positional words and after them options of that command, which
 -- exclude none of each other
 pub record IsCommand (words : List (List ℕ)) (name : CommandName) (positional : List (List ℕ))
     (settings : List Setting) : Type 0 where
-  pub words_are : words ≡ word_of name ∷ (positional ++ written settings)
+  pub words_are : words ≡ command_word name ∷ (positional ++ setting_words settings)
   pub enough : fewest name ≤ length positional
   pub few : length positional ≤ most name
   pub placed : list_all (is_positional name) positional ≡ true
-  pub taken : list_all (takes name) settings ≡ true
+  pub taken : list_all (takes_setting name) settings ≡ true
   pub none_twice : NoneTwice settings
 
 -- where a layout is: built in, or in a file
@@ -73,14 +73,14 @@ abbrev pub limit_of : Given → ℕ
 limit_of given = unwrap_or given.limit default_limit
 
 -- what is shown of a run: the report alone where nothing is given
-abbrev pub lines_of : Option Shown → Show
-lines_of (Some shown.Retired) = shows.Retired
-lines_of (Some shown.Moves) = shows.Moves
-lines_of _ = shows.Report
+abbrev pub run_show_of : Option Shown → Show
+run_show_of (Some shown.Retired) = shows.Retired
+run_show_of (Some shown.Moves) = shows.Moves
+run_show_of _ = shows.Report
 
 -- what a run writes to the report before the lines that close it
 abbrev pub reporting_of : Given → Reporting
-reporting_of given = record { show = lines_of given.show; every = given.every }
+reporting_of given = record { show = run_show_of given.show; every = given.every }
 
 -- what is shown of the run of a layout whose time is compared
 abbrev pub time_show_of : Option Shown → TimeShow
@@ -94,8 +94,8 @@ shows_edges (Some shown.Edges) = true
 shows_edges _ = false
 
 -- the guess rule, which keeps every guess where none is given
-abbrev pub rule_of : Given → GuessRule
-rule_of given = unwrap_or given.guess rules.Any
+abbrev pub guess_rule_of : Given → GuessRule
+guess_rule_of given = unwrap_or given.guess rules.Any
 
 -- the schedule by what is given of a script and of a seed: the fixed rule where neither is given
 abbrev pub schedule_by : GuessRule → Option (List ℕ) → Option ℕ → Schedule
@@ -104,20 +104,20 @@ schedule_by rule None (Some seed) = by_seed seed rule
 schedule_by rule None None = by_rule rule
 
 abbrev pub schedule_of : Given → Schedule
-schedule_of given = schedule_by (rule_of given) given.script given.seed
+schedule_of given = schedule_by (guess_rule_of given) given.script given.seed
 
 -- what the options of `time` and of `orders` say
 abbrev pub times_of : Given → TimeChoices
 times_of given = record {
   limit = limit_of given;
-  rule = rule_of given;
+  rule = guess_rule_of given;
   seed = given.seed;
   show = time_show_of given.show;
   input = given.input;
 }
 
-abbrev pub orders_of : Given → OrdersOptions
-orders_of given = record {
+abbrev pub orders_options_of : Given → OrdersOptions
+orders_options_of given = record {
   issues = unwrap_or given.issues default_issues;
   states = unwrap_or given.states default_states;
   without = given.without;
@@ -133,14 +133,14 @@ is_retired _ = false
 -- `moves` may be the script
 abbrev pub asked_by : CommandName → List (List ℕ) → Given → Option Asked
 asked_by names.Machine (program ∷ []) given =
-    Some (machine program (limit_of given) (is_retired (lines_of given.show)) given.mul given.every)
+    Some (machine program (limit_of given) (is_retired (run_show_of given.show)) given.mul given.every)
 asked_by names.Run (layout ∷ program ∷ []) given =
     Some (run (layout_in layout) program (schedule_of given) (limit_of given) (reporting_of given))
 asked_by names.Moves (layout ∷ program ∷ []) given =
     option_map (λ file. moves (layout_in layout) program (by_script file) (limit_of given) given.every) given.script
 asked_by names.Rounds (layout ∷ program ∷ []) given =
-    Some (rounds (layout_in layout) program (limit_of given) given.every (rule_of given))
-asked_by names.Orders (layout ∷ program ∷ []) given = Some (orders (layout_in layout) program (orders_of given))
+    Some (rounds (layout_in layout) program (limit_of given) given.every (guess_rule_of given))
+asked_by names.Orders (layout ∷ program ∷ []) given = Some (orders (layout_in layout) program (orders_options_of given))
 asked_by names.Conform (layout ∷ program ∷ []) given =
     Some (conform (layout_in layout) program (limit_of given))
 asked_by names.Debug (layout ∷ program ∷ []) given = Some (debug (layout_in layout) program)

@@ -3,9 +3,9 @@
 
 ghost use Rattle.std.specs.Prelude.{◌≡◌, ◌≤◌, [], ◌∷◌, IfOk, MatchResult, drop, length, map, string_bytes, option_map, take};
 ghost use Rattle.cli_arguments.specs.Options.{Given};
-ghost use Rattle.cli_arguments.specs.Words.{Asks, IsBadAt, IsBounded, asked_by, layout_in, orders_of, times_of};
+ghost use Rattle.cli_arguments.specs.Words.{Asks, IsBadAt, IsBounded, asked_by, layout_in, orders_options_of, times_of};
 ghost use Rattle.cli_arguments.specs.Reading.{completed};
-ghost use Rattle.cli_arguments.specs.Views.{state_of, given_of, asked_of, layout_of, times_view};
+ghost use Rattle.cli_arguments.specs.Views.{reading_state_of, given_of, asked_of, layout_of, times_view};
 
 use crate::names::CommandName;
 use crate::numbers::read_count;
@@ -251,7 +251,7 @@ fn with_one<'a>(name: CommandName, word: &'a str, options: Options<'a>) -> Optio
 
 /// The options of `orders`.
 fn orders_options(options: Options<'_>) -> OrdersOptions
-    ensures { result ≡ orders_of (given_of options.entry) }
+    ensures { result ≡ orders_options_of (given_of options.entry) }
 {
     OrdersOptions {
         issues: options.issues.unwrap_or(DEFAULT_ISSUES),
@@ -401,7 +401,7 @@ fn positional(words: &[String], count: usize) -> &[String]
 /// What is asked where no word is left, or None where one is missing.
 #[tactic(auto, using(crate::proofs::Completions::mapped), unfolding(crate::specs::Reading::completed))]
 fn complete<'a>(words: &'a [String], reading: ArgumentReading<'a>) -> Option<Command<'a>>
-    ensures { option_map asked_of result ≡ completed (map string_bytes words.entry.now) (state_of reading.entry) }
+    ensures { option_map asked_of result ≡ completed (map string_bytes words.entry.now) (reading_state_of reading.entry) }
 {
     match reading {
         ArgumentReading::Placed(subject) => with_words(

@@ -3,7 +3,7 @@
 
 ghost use Rattle.std.specs.Prelude.{◌≡◌};
 ghost use Rattle.cli_arguments.specs.Values.{is_file_name};
-ghost use Rattle.cli_arguments.specs.Commands.{fewest, has_help, is_of, is_positional, most, name_in, places, topic_in};
+ghost use Rattle.cli_arguments.specs.Commands.{fewest, has_help, is_of, is_positional, most, name_in, place_kind, topic_in};
 
 use crate::numbers::read_count;
 
@@ -128,7 +128,7 @@ impl CommandName {
 
     /// What its positional words are.
     fn places(self) -> PlaceKind
-        ensures { result ≡ places self }
+        ensures { result ≡ place_kind self }
     {
         match self {
             CommandName::Gen => PlaceKind::Numbers,

@@ -4,7 +4,7 @@
 ghost use Rattle.std.specs.Prelude.{◌≡◌, ◌<◌, ◌≤◌, ◌^◌, IfSome};
 ghost use Rattle.std.specs.List.{list_all};
 ghost use Rattle.texts.specs.Bytes.{is_digit};
-ghost use Rattle.cli_arguments.specs.Values.{is_numeral as is_number_word, count_in, number_in, numeral_in, positive_in};
+ghost use Rattle.cli_arguments.specs.Values.{is_decimal_word, count_in, number_up_to, numeral_in, positive_in};
 
 /// The longest number: ten decimal digits.
 const MOST_DIGITS: usize = 10;
@@ -19,7 +19,7 @@ fn has_only_digits(word: &str) -> bool
 }
 
 fn is_numeral(word: &str, longest: usize) -> bool
-    ensures { result ≡ is_number_word longest word.now }
+    ensures { result ≡ is_decimal_word longest word.now }
 {
     !word.is_empty() && word.len() <= longest && has_only_digits(word)
 }
@@ -38,9 +38,9 @@ pub(crate) fn read_numeral(word: &str, longest: usize) -> Option<u64>
 }
 
 /// The number that a word writes in 1 to 10 decimal digits, where it is at most `most`.
-#[tactic(auto, unfolding(crate::specs::Values::number_in, crate::specs::Values::numeral_in))]
+#[tactic(auto, unfolding(crate::specs::Values::number_up_to, crate::specs::Values::numeral_in))]
 pub(crate) fn read_number(word: &str, most: u64) -> Option<u64>
-    ensures number { result ≡ number_in most word.now }
+    ensures number { result ≡ number_up_to most word.now }
     ensures within { IfSome result (λ number. number ≤ most) }
 {
     let number = read_numeral(word, MOST_DIGITS)?;
@@ -48,7 +48,7 @@ pub(crate) fn read_number(word: &str, most: u64) -> Option<u64>
 }
 
 /// The same, where it is not 0.
-#[tactic(auto, unfolding(crate::specs::Values::positive_in, crate::specs::Values::number_in))]
+#[tactic(auto, unfolding(crate::specs::Values::positive_in, crate::specs::Values::number_up_to))]
 pub(crate) fn read_positive(word: &str, most: u64) -> Option<u64>
     ensures number { result ≡ positive_in most word.now }
     ensures within { IfSome result (λ number. number ≤ most) }

@@ -1,10 +1,10 @@
 //! The options of the commands, and what they give.
-#![tactic(auto, unfolding(crate::specs::Reading::key_in, crate::specs::Reading::rule_in, crate::specs::Reading::with_value))]
+#![tactic(auto, unfolding(crate::specs::Reading::key_in, crate::specs::Reading::rule_in, crate::specs::Reading::given_with_value))]
 
 ghost use Rattle.std.specs.Prelude.{◌≡◌, option_map};
 ghost use Rattle.cli_arguments.specs.declared.options.Key.TheVariants as keys;
 ghost use Rattle.cli_arguments.specs.Options.{most_limit_of, takes_key};
-ghost use Rattle.cli_arguments.specs.Reading.{key_in, rule_in, has_key, nothing_given, with_value};
+ghost use Rattle.cli_arguments.specs.Reading.{key_in, rule_in, has_key, nothing_given, given_with_value};
 ghost use Rattle.cli_arguments.specs.Words.{schedule_of};
 ghost use Rattle.cli_arguments.specs.Views.{given_of, schedule_view};
 
@@ -199,7 +199,7 @@ impl<'a> Options<'a> {
 
     /// The options with a value of `--show`, where the command can show it.
     fn with_shown(self, name: CommandName, word: &str) -> Option<Self>
-        ensures { option_map given_of result ≡ with_value name (given_of self.entry) keys.Show word.now }
+        ensures { option_map given_of result ≡ given_with_value name (given_of self.entry) keys.Show word.now }
     {
         let shown = Shown::from_word(word)?;
         shown.is_of(name).then_some(Options {
@@ -210,7 +210,7 @@ impl<'a> Options<'a> {
 
     /// The options with a limit of that command.
     fn with_limit(self, name: CommandName, word: &str) -> Option<Self>
-        ensures { option_map given_of result ≡ with_value name (given_of self.entry) keys.Limit word.now }
+        ensures { option_map given_of result ≡ given_with_value name (given_of self.entry) keys.Limit word.now }
     {
         let limit = read_amount(word, 0, most_limit(name))?;
         Some(Options {
@@ -221,7 +221,7 @@ impl<'a> Options<'a> {
 
     /// The options with an amount of `--every`.
     fn with_every(self, name: CommandName, word: &str) -> Option<Self>
-        ensures { option_map given_of result ≡ with_value name (given_of self.entry) keys.Every word.now }
+        ensures { option_map given_of result ≡ given_with_value name (given_of self.entry) keys.Every word.now }
     {
         let every = read_amount(word, 1, MOST_LIMIT)?;
         Some(Options {
@@ -232,7 +232,7 @@ impl<'a> Options<'a> {
 
     /// The options with a seed.
     fn with_seed(self, name: CommandName, word: &str) -> Option<Self>
-        ensures { option_map given_of result ≡ with_value name (given_of self.entry) keys.Seed word.now }
+        ensures { option_map given_of result ≡ given_with_value name (given_of self.entry) keys.Seed word.now }
     {
         let seed = read_number(word, MOST_SEED)?;
         Some(Options {
@@ -243,7 +243,7 @@ impl<'a> Options<'a> {
 
     /// The options with a guess rule.
     fn with_guess(self, name: CommandName, word: &str) -> Option<Self>
-        ensures { option_map given_of result ≡ with_value name (given_of self.entry) keys.Guess word.now }
+        ensures { option_map given_of result ≡ given_with_value name (given_of self.entry) keys.Guess word.now }
     {
         let rule = rule_of(word)?;
         Some(Options {
@@ -254,7 +254,7 @@ impl<'a> Options<'a> {
 
     /// The options with how many issues a search makes at most.
     fn with_issues(self, name: CommandName, word: &str) -> Option<Self>
-        ensures { option_map given_of result ≡ with_value name (given_of self.entry) keys.Issues word.now }
+        ensures { option_map given_of result ≡ given_with_value name (given_of self.entry) keys.Issues word.now }
     {
         let issues = read_positive(word, MOST_ISSUES)?;
         Some(Options {
@@ -265,7 +265,7 @@ impl<'a> Options<'a> {
 
     /// The options with how many states it reaches at most.
     fn with_states(self, name: CommandName, word: &str) -> Option<Self>
-        ensures { option_map given_of result ≡ with_value name (given_of self.entry) keys.States word.now }
+        ensures { option_map given_of result ≡ given_with_value name (given_of self.entry) keys.States word.now }
     {
         let states = read_positive(word, MOST_STATES)?;
         Some(Options {
@@ -276,7 +276,7 @@ impl<'a> Options<'a> {
 
     /// The options with the rule that is taken away.
     fn with_without(self, name: CommandName, word: &str) -> Option<Self>
-        ensures { option_map given_of result ≡ with_value name (given_of self.entry) keys.Without word.now }
+        ensures { option_map given_of result ≡ given_with_value name (given_of self.entry) keys.Without word.now }
     {
         let rule = Rule::named(word)?;
         Some(Options {
@@ -287,7 +287,7 @@ impl<'a> Options<'a> {
 
     /// The options with the value of one more, where the command allows it.
     pub(crate) fn with_value(self, name: CommandName, key: Key, word: &'a str) -> Option<Self>
-        ensures { option_map given_of result ≡ with_value name (given_of self.entry) key word.entry.now }
+        ensures { option_map given_of result ≡ given_with_value name (given_of self.entry) key word.entry.now }
     {
         match key {
             Key::Limit => self.with_limit(name, word),

@@ -2,8 +2,8 @@
 #![tactic(auto, unfolding(crate::specs::Reading::follow))]
 
 ghost use Rattle.std.specs.Prelude.{◌≡◌, ◌+◌, ◌<◌, ◌^◌, option_map};
-ghost use Rattle.cli_arguments.specs.Reading.{follow, has_place, one_more, after_option, after_place, nothing_given};
-ghost use Rattle.cli_arguments.specs.Views.{given_of, state_of};
+ghost use Rattle.cli_arguments.specs.Reading.{follow, has_place, one_place_more, after_option, after_place, nothing_given};
+ghost use Rattle.cli_arguments.specs.Views.{given_of, reading_state_of};
 
 use crate::names::CommandName;
 use crate::options::{Key, Options};
@@ -39,7 +39,7 @@ impl Subject {
     /// With one more positional word.
     fn one_more(self) -> Self
         requires { self.count + 1 < 2 ^ 64 }
-        ensures { result ≡ one_more self }
+        ensures { result ≡ one_place_more self }
     {
         Subject {
             name: self.name,
@@ -54,7 +54,7 @@ fn after_subject<'a>(
     options: Options<'a>,
     key: Option<Key>,
 ) -> Option<ArgumentReading<'a>>
-    ensures { option_map state_of result ≡ after_option subject (given_of options.entry) key }
+    ensures { option_map reading_state_of result ≡ after_option subject (given_of options.entry) key }
 {
     let key = key?;
     if !key.is_of(subject.name) || options.has(key) {
@@ -90,7 +90,7 @@ fn after_subject<'a>(
 
 /// What is known after one more positional word, or after the first option's own word.
 fn after_place<'a>(subject: Subject, word: &'a str) -> Option<ArgumentReading<'a>>
-    ensures { option_map state_of result ≡ after_place subject word.entry.now }
+    ensures { option_map reading_state_of result ≡ after_place subject word.entry.now }
 {
     if subject.has_place(word) {
         return Some(ArgumentReading::Placed(subject.one_more()));
@@ -104,7 +104,7 @@ fn after_place<'a>(subject: Subject, word: &'a str) -> Option<ArgumentReading<'a
 impl<'a> ArgumentReading<'a> {
     /// What is known after one more word, or None where that word has no place.
     pub(crate) fn follow(self, word: &'a str) -> Option<Self>
-        ensures { option_map state_of result ≡ follow (state_of self.entry) word.entry.now }
+        ensures { option_map reading_state_of result ≡ follow (reading_state_of self.entry) word.entry.now }
     {
         match self {
             ArgumentReading::Start => {

@@ -4,7 +4,7 @@
 ghost use Rattle.std.specs.Prelude.{◌≡◌};
 ghost use Rattle.cli_arguments.specs.Options.{can_show};
 ghost use Rattle.cli_arguments.specs.Reading.{shown_in};
-ghost use Rattle.cli_arguments.specs.Words.{lines_of, shows_edges, time_show_of};
+ghost use Rattle.cli_arguments.specs.Words.{run_show_of, shows_edges, time_show_of};
 
 use crate::names::CommandName;
 use run_options::{Show, TimeShow};
@@ -57,7 +57,7 @@ impl Shown {
 
 /// What a run shows.
 pub(crate) fn lines_of(shown: Option<Shown>) -> Show
-    ensures { result ≡ lines_of shown }
+    ensures { result ≡ run_show_of shown }
 {
     match shown {
         Some(Shown::Retired) => Show::Retired,

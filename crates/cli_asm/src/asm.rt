@@ -1,6 +1,6 @@
 //! The command `asm`.
 
-ghost use Rattle.cli_reports.specs.FileCommands.{AnswersByFile, AnswersByOutput, file_side, side_faults};
+ghost use Rattle.cli_reports.specs.FileCommands.{AnswersByFile, AnswersByOutput};
 ghost use Rattle.cli_asm.specs.Sources.{AssemblesSource, AnswersAsm};
 
 use crate::assembling::file_of;
@@ -14,8 +14,7 @@ const MOST_SOURCE: u64 = 1_048_577;
 
 /// Assembles a source that was read, and puts the file.
 fn assemble_source<K: Sink>(alloc: Global, source: &[u8], output: &mut K) -> Answer
-    ensures { AnswersByOutput (AssemblesSource source.now) (K.written output.old) (K.written output.new)
-        (K.faults output.old) (K.faults output.new) result }
+    ensures { AnswersByOutput (AssemblesSource source.now) K.Sink output.old output.new result }
 {
     match file_of(alloc, source) {
         Ok(file) => put_text(file.as_slice(), output),
@@ -30,9 +29,7 @@ pub fn assemble_program<F: Files, K: Sink>(
     files: &mut F,
     output: &mut K,
 ) -> Answer
-    ensures { AnswersByFile (AnswersAsm source.now)
-        (file_side (F.told files.old) (K.written output.old)) (file_side (F.told files.new) (K.written output.new))
-        (side_faults (F.faults files.old) (K.faults output.old)) (side_faults (F.faults files.new) (K.faults output.new)) result }
+    ensures { AnswersByFile (AnswersAsm source.now) F.Files K.Sink (files.old, output.old) (files.new, output.new) result }
 {
     match files.read(alloc, source, MOST_SOURCE) {
         Ok(bytes) => assemble_source(alloc, bytes.as_slice(), output),

@@ -2,6 +2,8 @@
 use Rattle.std.specs.Prelude.{◌≡◌, ℕ, List, Option, Ok}
 use Rattle.cf_io.specs.Causes.{HasCause}
 use Rattle.cf_io.specs.Reads.{FilesSeen}
+use Rattle.cf_io.specs.declared.files.Files.{Ghosts as FilesMembers}
+use Rattle.cf_io.specs.declared.source.Source.{Ghosts as SourceMembers}
 use Rattle.cli_files.specs.Causes.{files_answered, input_answered, output_answered}
 use Rattle.cli_files.specs.Outside.{Outside}
 use Rattle.cli_files.specs.declared.answer.Answer.{Answer}
@@ -19,26 +21,22 @@ abbrev pub input_side_of : Outside → InputSide
 input_side_of outside = input_side outside.files outside.streams.input
 
 -- what a call that has the input alone leaves of it: the answer says neither of a file nor of the output that it failed, and the
--- count of the input's faults rose exactly where it says so
-pub record AnswersByInput (Comes : Option (List ℕ) → Option (List ℕ) → Status → List ℕ → Type 0) (before after : Option (List ℕ))
-    (faults_before faults_after : ℕ) (answer : Answer) : Type 0 where
-  pub comes : Comes before after answer.status answer.closing
+-- count of the input's faults rose exactly if it says so
+pub record AnswersByInput {S : Type 0} (Comes : Option (List ℕ) → Option (List ℕ) → Status → List ℕ → Type 0)
+    (of_input : SourceMembers S) (before after : S) (answer : Answer) : Type 0 where
+  pub comes : Comes (of_input.left before) (of_input.left after) answer.status answer.closing
   pub files : files_answered answer.status ≡ Ok tt
-  pub input : HasCause faults_before faults_after (input_answered answer.status)
+  pub input : HasCause (of_input.faults before) (of_input.faults after) (input_answered answer.status)
   pub output : output_answered answer.status ≡ Ok tt
 
--- how often the files and the input have failed
-pub record InputFaults : Type 0 where
-  pub files : ℕ
-  pub input : ℕ
-
-abbrev pub input_side_faults : ℕ → ℕ → InputFaults
-input_side_faults files input = record { files = files; input = input }
+-- what files and a source expose
+abbrev pub input_side_in : {F S : Type 0} → FilesMembers F → SourceMembers S → F × S → InputSide
+input_side_in of_files of_input both = input_side (of_files.told both.0) (of_input.left both.1)
 
 -- the same of a call that has the files too
-pub record AnswersByFileAndInput (Answers : InputSide → InputSide → Status → List ℕ → Type 0) (before after : InputSide)
-    (faults_before faults_after : InputFaults) (answer : Answer) : Type 0 where
-  pub answers : Answers before after answer.status answer.closing
-  pub files : HasCause faults_before.files faults_after.files (files_answered answer.status)
-  pub input : HasCause faults_before.input faults_after.input (input_answered answer.status)
+pub record AnswersByFileAndInput {F S : Type 0} (Answers : InputSide → InputSide → Status → List ℕ → Type 0)
+    (of_files : FilesMembers F) (of_input : SourceMembers S) (before after : F × S) (answer : Answer) : Type 0 where
+  pub answers : Answers (input_side_in of_files of_input before) (input_side_in of_files of_input after) answer.status answer.closing
+  pub files : HasCause (of_files.faults before.0) (of_files.faults after.0) (files_answered answer.status)
+  pub input : HasCause (of_input.faults before.1) (of_input.faults after.1) (input_answered answer.status)
   pub output : output_answered answer.status ≡ Ok tt

@@ -5,7 +5,7 @@ ghost use Rattle.std.specs.Prelude.{◌≡◌, ◌≤◌, length};
 ghost use Rattle.cli_arguments.specs.Views.{layout_of};
 ghost use Rattle.cf_audit.specs.Limits.{most_trace};
 ghost use Rattle.cli_audit.specs.Audit.{audit_asked, AnswersAudit, ComesOfTrace, audit_status, audit_report};
-ghost use Rattle.cli_audit.specs.Effects.{AnswersByFileAndInput, AnswersByInput, input_side, input_side_faults};
+ghost use Rattle.cli_audit.specs.Effects.{AnswersByFileAndInput, AnswersByInput};
 
 use crate::reports::trace_of;
 use crate::traces::trace_at;
@@ -42,8 +42,7 @@ fn answer_of(found: Audit) -> Answer
 fn audit_loaded<S: Source>(alloc: Global, loaded: Loaded, text: &[u8], input: &mut S) -> Answer
     requires count { loaded.machine.retired ≡ 0 }
     requires size { length text.now ≤ most_trace }
-    ensures { AnswersByInput (ComesOfTrace loaded.layout loaded.machine text.now) (S.left input.old) (S.left input.new)
-        (S.faults input.old) (S.faults input.new) result }
+    ensures { AnswersByInput (ComesOfTrace loaded.layout loaded.machine text.now) S.Source input.old input.new result }
 {
     match Core::new(alloc, loaded.layout, loaded.machine) {
         Ok(mut core) => answer_of(audit(&mut core, text, input)),
@@ -65,8 +64,7 @@ pub fn audit_trace<F: Files, S: Source>(
     input: &mut S,
 ) -> Answer
     ensures { AnswersByFileAndInput (AnswersAudit (audit_asked (layout_of layout.entry) program.now trace.now))
-        (input_side (F.told files.old) (S.left input.old)) (input_side (F.told files.new) (S.left input.new))
-        (input_side_faults (F.faults files.old) (S.faults input.old)) (input_side_faults (F.faults files.new) (S.faults input.new)) result }
+        F.Files S.Source (files.old, input.old) (files.new, input.new) result }
 {
     let loaded = match load(alloc, layout, program, files) {
         Ok(loaded) => loaded,

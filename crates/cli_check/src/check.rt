@@ -2,7 +2,7 @@
 
 ghost use Rattle.cli_arguments.specs.Views.{layout_of};
 ghost use Rattle.cli_check.specs.Check.{AnswersCheck, WritesText};
-ghost use Rattle.cli_reports.specs.FileCommands.{AnswersByFile, AnswersByOutput, file_side, side_faults};
+ghost use Rattle.cli_reports.specs.FileCommands.{AnswersByFile, AnswersByOutput};
 
 use cf_io::{Files, Sink, put_all};
 use cf_layout::Layout;
@@ -13,8 +13,7 @@ use std::alloc::Global;
 
 /// Writes the layout in its canonical form.
 fn write_text<K: Sink>(alloc: Global, layout: &Layout, output: &mut K) -> Answer
-    ensures { AnswersByOutput (WritesText layout.now) (K.written output.old) (K.written output.new)
-        (K.faults output.old) (K.faults output.new) result }
+    ensures { AnswersByOutput (WritesText layout.now) K.Sink output.old output.new result }
 {
     let text = match write_layout(alloc, layout) {
         Ok(text) => text,
@@ -33,9 +32,7 @@ pub fn check_layout<F: Files, K: Sink>(
     files: &mut F,
     output: &mut K,
 ) -> Answer
-    ensures { AnswersByFile (AnswersCheck (layout_of word.entry))
-        (file_side (F.told files.old) (K.written output.old)) (file_side (F.told files.new) (K.written output.new))
-        (side_faults (F.faults files.old) (K.faults output.old)) (side_faults (F.faults files.new) (K.faults output.new)) result }
+    ensures { AnswersByFile (AnswersCheck (layout_of word.entry)) F.Files K.Sink (files.old, output.old) (files.new, output.new) result }
 {
     match layout_at(alloc, word, files) {
         Ok(layout) => write_text(alloc, &layout, output),

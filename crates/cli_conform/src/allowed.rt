@@ -3,7 +3,7 @@
 
 ghost use Rattle.std.specs.Prelude.{◌++◌, codes};
 ghost use Rattle.cf_bind.specs.MoveTexts.{move_line};
-ghost use Rattle.cf_report.specs.Putting.{PutsText};
+ghost use Rattle.cli_reports.specs.Reporting.{PutsInto};
 ghost use Rattle.cli_conform.specs.LogLines.{allowed_line, allowed_lines, allowed_text};
 
 use cf_bind::{Move, MoveLine, move_text};
@@ -13,8 +13,7 @@ use cf_io::{Failed, Sink, put_all};
 
 /// Puts the line of a move that can be made, without its line feed.
 fn put_words<R: Sink>(mv: Move, report: &mut R) -> Result<(), Failed>
-    ensures { PutsText (R.written report.old) (R.written report.new)
-        (R.faults report.old) (R.faults report.new) (codes "allowed " ++ move_line mv) result }
+    ensures { PutsInto R.Sink report.old report.new (codes "allowed " ++ move_line mv) result }
 {
     let mut line = MoveLine::new();
     move_text(mv, &mut line);
@@ -24,8 +23,7 @@ fn put_words<R: Sink>(mv: Move, report: &mut R) -> Result<(), Failed>
 
 /// Puts the line of a move that can be made.
 fn put_allowed<R: Sink>(mv: Move, report: &mut R) -> Result<(), Failed>
-    ensures { PutsText (R.written report.old) (R.written report.new)
-        (R.faults report.old) (R.faults report.new) (allowed_line mv) result }
+    ensures { PutsInto R.Sink report.old report.new (allowed_line mv) result }
 {
     put_words(mv, report)?;
     put_all(report, b"\n")
@@ -33,8 +31,7 @@ fn put_allowed<R: Sink>(mv: Move, report: &mut R) -> Result<(), Failed>
 
 /// Puts the lines of some candidates.
 fn put_listed<R: Sink>(candidates: &Candidates, report: &mut R) -> Result<(), Failed>
-    ensures { PutsText (R.written report.old) (R.written report.new)
-        (R.faults report.old) (R.faults report.new) (allowed_lines candidates.now) result }
+    ensures { PutsInto R.Sink report.old report.new (allowed_lines candidates.now) result }
 {
     for place in 0..candidates.len() {
         put_allowed(candidates.pick(place), report)?;
@@ -48,8 +45,7 @@ pub(crate) fn put_candidates<R: Sink>(
     candidates: &mut Candidates,
     report: &mut R,
 ) -> Result<(), Failed>
-    ensures { PutsText (R.written report.old) (R.written report.new)
-        (R.faults report.old) (R.faults report.new) (allowed_text core.now.plan core.now.state) result }
+    ensures { PutsInto R.Sink report.old report.new (allowed_text core.now.plan core.now.state) result }
 {
     candidates.fill(core);
     put_listed(candidates, report)

@@ -2,9 +2,9 @@
 #![tactic(auto, unfolding(crate::specs::LogLines::log_help, crate::specs::LogLines::expected_text, crate::specs::LogLines::agreement_text, crate::specs::LogLines::log_closing))]
 
 ghost use Rattle.std.specs.Prelude.{◌≡◌, ◌++◌, codes};
-ghost use Rattle.cf_report.specs.Putting.{PutsText};
+ghost use Rattle.cli_reports.specs.Reporting.{PutsInto};
 ghost use Rattle.report_closing.specs.Closing.{rest_text};
-ghost use Rattle.cli_files.specs.Outside.{report_of};
+ghost use Rattle.cli_files.specs.Outside.{report_in};
 ghost use Rattle.cli_conform.specs.Conform.{ClosesLog, log_status};
 ghost use Rattle.cli_conform.specs.LogLines.{after_refusal, agreement_text, expected_text, log_closing, log_help, log_line};
 
@@ -42,8 +42,7 @@ fn put_head<R: Sink>(
     answer: Conformed,
     report: &mut R,
 ) -> Result<(), Failed>
-    ensures { PutsText (R.written report.old) (R.written report.new)
-        (R.faults report.old) (R.faults report.new) (log_line limit moves answer) result }
+    ensures { PutsInto R.Sink report.old report.new (log_line limit moves answer) result }
 {
     let page = log_page(limit, moves, answer);
     put_all(report, page.bytes())
@@ -51,8 +50,7 @@ fn put_head<R: Sink>(
 
 /// Puts what the line should be.
 fn put_wanted<R: Sink>(wanted: &[u8], report: &mut R) -> Result<(), Failed>
-    ensures { PutsText (R.written report.old) (R.written report.new)
-        (R.faults report.old) (R.faults report.new) (codes "expected " ++ wanted.now) result }
+    ensures { PutsInto R.Sink report.old report.new (codes "expected " ++ wanted.now) result }
 {
     put_all(report, b"expected ")?;
     put_all(report, wanted)
@@ -60,8 +58,7 @@ fn put_wanted<R: Sink>(wanted: &[u8], report: &mut R) -> Result<(), Failed>
 
 /// The same, if there is such a line.
 fn put_expected<R: Sink>(wanted: Option<Page>, report: &mut R) -> Result<(), Failed>
-    ensures { PutsText (R.written report.old) (R.written report.new)
-        (R.faults report.old) (R.faults report.new) (expected_text wanted) result }
+    ensures { PutsInto R.Sink report.old report.new (expected_text wanted) result }
 {
     match wanted {
         Some(page) => put_wanted(page.bytes(), report),
@@ -76,8 +73,7 @@ fn put_after<R: Sink>(
     kind: LogKind,
     report: &mut R,
 ) -> Result<(), Failed>
-    ensures { PutsText (R.written report.old) (R.written report.new)
-        (R.faults report.old) (R.faults report.new) (after_refusal core.now.plan core.now.state kind) result }
+    ensures { PutsInto R.Sink report.old report.new (after_refusal core.now.plan core.now.state kind) result }
 {
     match kind {
         LogKind::Barred(_) => put_candidates(core, candidates, report),
@@ -99,8 +95,7 @@ fn put_help<R: Sink>(
     answer: Conformed,
     report: &mut R,
 ) -> Result<(), Failed>
-    ensures { PutsText (R.written report.old) (R.written report.new)
-        (R.faults report.old) (R.faults report.new) (log_help core.now.plan core.now.state progress.now.latest answer) result }
+    ensures { PutsInto R.Sink report.old report.new (log_help core.now.plan core.now.state progress.now.latest answer) result }
 {
     match answer {
         Conformed::Ran(_) => Ok(()),
@@ -124,8 +119,7 @@ fn counts_page(retired: u64, observed: u64) -> Page
 
 /// Puts these two counts.
 fn put_counts<R: Sink>(retired: u64, observed: u64, report: &mut R) -> Result<(), Failed>
-    ensures { PutsText (R.written report.old) (R.written report.new)
-        (R.faults report.old) (R.faults report.new) (agreement_text retired observed) result }
+    ensures { PutsInto R.Sink report.old report.new (agreement_text retired observed) result }
 {
     let page = counts_page(retired, observed);
     put_all(report, page.bytes())
@@ -133,8 +127,7 @@ fn put_counts<R: Sink>(retired: u64, observed: u64, report: &mut R) -> Result<()
 
 /// Puts the counts of the moves, the registers and the picture.
 fn put_rest<R: Sink>(core: &Core, tally: &Tally, report: &mut R) -> Result<(), Failed>
-    ensures { PutsText (R.written report.old) (R.written report.new)
-        (R.faults report.old) (R.faults report.new) (rest_text core.now.plan core.now.state tally.now) result }
+    ensures { PutsInto R.Sink report.old report.new (rest_text core.now.plan core.now.state tally.now) result }
 {
     put_tally(tally, report)?;
     put_registers(core.regs(), report)?;
@@ -150,8 +143,7 @@ fn put_closing<R: Sink>(
     answer: Conformed,
     report: &mut R,
 ) -> Result<(), Failed>
-    ensures { PutsText (R.written report.old) (R.written report.new)
-        (R.faults report.old) (R.faults report.new) (log_closing limit answer core.now.plan core.now.state progress.now) result }
+    ensures { PutsInto R.Sink report.old report.new (log_closing limit answer core.now.plan core.now.state progress.now) result }
 {
     put_head(limit, progress.tally.moves, answer, report)?;
     put_help(core, candidates, progress, answer, report)?;
@@ -168,8 +160,7 @@ pub(crate) fn close_log<R: Sink>(
     answer: Conformed,
     report: &mut R,
 ) -> Reported
-    ensures { ClosesLog limit answer core.now progress.now (report_of (R.written report.old) (R.faults report.old))
-        (report_of (R.written report.new) (R.faults report.new)) result }
+    ensures { ClosesLog limit answer core.now progress.now (report_in R.Sink report.old) (report_in R.Sink report.new) result }
 {
     Reported {
         status: status_of(limit, progress.tally.moves, answer),

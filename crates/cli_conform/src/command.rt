@@ -4,7 +4,7 @@ ghost use Rattle.std.specs.Prelude.{◌≡◌, ◌≤◌};
 ghost use Rattle.run_options.specs.Limits.{most_limit};
 ghost use Rattle.cli_arguments.specs.Views.{layout_of};
 ghost use Rattle.cli_reports.specs.Reporting.{ReportsCommand, ReportsRun};
-ghost use Rattle.cli_reports.specs.OutsideChanges.{streams_change, faults_change, outside_change};
+ghost use Rattle.cli_reports.specs.OutsideChanges.{run_change, outside_change};
 ghost use Rattle.cli_conform.specs.Conform.{conform_asked, JudgesCore, ComesOfLog, AnswersConform};
 
 use crate::closing::close_log;
@@ -25,8 +25,7 @@ fn conform_opened<S: Source, K: Sink, R: Sink>(
     requires limit { limit ≤ most_limit }
     requires retired { opened.old.core.state.retired ≤ limit }
     ensures { ReportsRun (JudgesCore limit opened.old.core opened.new.core)
-        (streams_change S.left K.written R.written R.faults streams.entry streams.exit)
-        (faults_change S.faults K.faults streams.entry streams.exit) result }
+        (run_change S.Source K.Sink R.Sink streams.entry streams.exit) result }
 {
     let RunStreams {
         input,
@@ -56,8 +55,7 @@ fn conform_loaded<S: Source, K: Sink, R: Sink>(
     requires count { loaded.machine.retired ≡ 0 }
     requires limit { limit ≤ most_limit }
     ensures { ReportsRun (ComesOfLog limit loaded.layout loaded.machine)
-        (streams_change S.left K.written R.written R.faults streams.entry streams.exit)
-        (faults_change S.faults K.faults streams.entry streams.exit) result }
+        (run_change S.Source K.Sink R.Sink streams.entry streams.exit) result }
 {
     match open(alloc, loaded.layout, loaded.machine) {
         Ok(mut opened) => conform_opened(&mut opened, limit, streams),
@@ -80,7 +78,7 @@ pub fn conform_log<F: Files, S: Source, K: Sink, R: Sink>(
 ) -> Reported
     requires { limit ≤ most_limit }
     ensures { ReportsCommand (AnswersConform (conform_asked (layout_of layout.entry) program.now limit))
-        (outside_change F.told F.faults S.left S.faults K.written K.faults R.written R.faults files.old files.new streams.entry streams.exit) result }
+        (outside_change F.Files S.Source K.Sink R.Sink files.old files.new streams.entry streams.exit) result }
 {
     match load(alloc, layout, program, files) {
         Ok(loaded) => conform_loaded(alloc, loaded, limit, streams),

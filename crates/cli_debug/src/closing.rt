@@ -1,7 +1,7 @@
 //! How a session finishes: its status, and the line that closes its report.
 
 ghost use Rattle.std.specs.Prelude.{◌≡◌};
-ghost use Rattle.cli_files.specs.Outside.{report_of};
+ghost use Rattle.cli_files.specs.Outside.{report_in};
 ghost use Rattle.cli_debug.specs.Closing.{ClosesSession, closing_of_session, session_broken, session_status};
 
 use cf_debug::Debugged;
@@ -35,8 +35,7 @@ fn answer_of(ended: Debugged) -> Answer
 /// Puts the line that closes the report of a session, where the commands did not end it. It fails where the report
 /// failed during the session; nothing more is then put to the report.
 pub fn close_session<R: Sink>(ended: Debugged, report: &mut R) -> Result<Reported, Failed>
-    ensures { ClosesSession ended (report_of (R.written report.old) (R.faults report.old))
-        (report_of (R.written report.new) (R.faults report.new)) result }
+    ensures { ClosesSession ended (report_in R.Sink report.old) (report_in R.Sink report.new) result }
 {
     if is_cut(ended) {
         return Err(Failed);

@@ -5,7 +5,7 @@ ghost use Rattle.cf_core.specs.Processors.{IsOpened, opened};
 ghost use Rattle.cf_debug.specs.Limits.{most_retired};
 ghost use Rattle.cli_arguments.specs.Views.{layout_of};
 ghost use Rattle.cli_debug.specs.Debug.{AnswersDebug, AnswersSession, BreaksDebug, BreaksSession, ComesOfCommands};
-ghost use Rattle.cli_reports.specs.OutsideChanges.{faults_change, outside_change, streams_change};
+ghost use Rattle.cli_reports.specs.OutsideChanges.{outside_change, run_change};
 ghost use Rattle.cli_reports.specs.Reporting.{CarriesOutCommand, CarriesOutRun};
 
 use crate::closing::close_session;
@@ -29,8 +29,7 @@ fn debug_opened<S: Source, K: Sink, R: Sink>(
     ensures { CarriesOutRun
         (λ before after blank answer shown closing. AnswersSession opened.old.core before after answer (shown ++ closing))
         (BreaksSession opened.old.core)
-        (streams_change S.left K.written R.written R.faults streams.entry streams.exit)
-        (faults_change S.faults K.faults streams.entry streams.exit) result }
+        (run_change S.Source K.Sink R.Sink streams.entry streams.exit) result }
 {
     let RunStreams {
         input,
@@ -59,8 +58,7 @@ fn debug_loaded<S: Source, K: Sink, R: Sink>(
     ensures { CarriesOutRun
         (λ before after blank answer shown closing. ComesOfCommands loaded.layout loaded.machine before after answer (shown ++ closing))
         (BreaksSession (opened loaded.layout loaded.machine))
-        (streams_change S.left K.written R.written R.faults streams.entry streams.exit)
-        (faults_change S.faults K.faults streams.entry streams.exit) result }
+        (run_change S.Source K.Sink R.Sink streams.entry streams.exit) result }
 {
     let Ok(mut ring) = Ring::new(alloc) else {
         return Ok(put_answer(no_memory(), streams.report));
@@ -86,7 +84,7 @@ pub fn debug_program<F: Files, S: Source, K: Sink, R: Sink>(
     ensures { CarriesOutCommand
         (λ before after blank answer shown closing. AnswersDebug (layout_of layout.entry) program.now before after answer (shown ++ closing))
         (BreaksDebug (layout_of layout.entry) program.now)
-        (outside_change F.told F.faults S.left S.faults K.written K.faults R.written R.faults files.old files.new streams.entry streams.exit) result }
+        (outside_change F.Files S.Source K.Sink R.Sink files.old files.new streams.entry streams.exit) result }
 {
     match load(alloc, layout, program, files) {
         Ok(loaded) => debug_loaded(alloc, loaded, streams),

@@ -1,10 +1,10 @@
 -- A program that is loaded again, and the parts that it is loaded of.
-use Rattle.std.proofs.Common.{◌≡◌, ◌≢◌, ℕ, ◌+◌, List, [], ◌∷◌, length, All, Bool, true, false, if◌then◌else◌, Option, Result, Ok, Err, IfOk, IfErr, inl, subst, arith}
+use Rattle.std.proofs.Common.{◌≡◌, ◌≢◌, ℕ, ◌+◌, List, [], ◌∷◌, length, Bool, true, false, if◌then◌else◌, Option, Result, Ok, Err, IfOk, IfErr, inl, subst}
 use Rattle.cf_io.specs.Reads.{FilesSeen}
 use Rattle.elf_view.specs.Refusal.{starts_with_elf}
 use Rattle.mem_regions.specs.declared.Part.{Part}
 use Rattle.mem_regions.specs.declared.refusal.LoadErr.{LoadErr}
-use Rattle.mem_regions.specs.declared.refusal.LoadErr.TheVariants.{Overlap, TooMany, TooLarge, WrapsAround, NoMemory}
+use Rattle.mem_regions.specs.declared.refusal.LoadErr.TheVariants.{NoMemory}
 use Rattle.mem_regions.specs.Causes.{AreAccepted, IsLoadCause}
 use Rattle.cli_files.specs.Files.{IsFrontOf}
 use Rattle.cli_files.specs.Image.{most_bytes, IsProgramFile, elf_parts, flat_part, opened, stack_part}

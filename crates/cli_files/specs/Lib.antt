@@ -12,6 +12,7 @@ pub mod Opening
 pub mod Outside
 pub mod Programs
 pub mod Reads
+pub mod ReadsFiles
 pub mod RunFiles
 pub mod Schedules
 pub mod Scripts

@@ -5,6 +5,9 @@ use Rattle.cf_io.specs.Reads.{FilesSeen}
 use Rattle.rv_machine.specs.Hart.{Hart}
 use Rattle.cf_layout.specs.Layout.{Plan}
 use Rattle.cli_arguments.specs.Options.{Schedule}
+use Rattle.cli_arguments.specs.Views.{layout_of, schedule_view}
+use Rattle.cli_arguments.specs.declared.command.LayoutWord.{LayoutWord}
+use Rattle.cli_arguments.specs.declared.command.RunOptions.{RunOptions}
 use Rattle.cli_arguments.specs.Words.{NamedLayout}
 use Rattle.cli_files.specs.Loading.{IsLoaded, LacksLoaded}
 use Rattle.cli_files.specs.Outside.{Outside}
@@ -28,6 +31,11 @@ run_asked layout program schedule limit reporting = record {
   limit = limit;
   reporting = reporting;
 }
+
+-- the same by what contracts see of the words
+abbrev pub run_asked_by : LayoutWord → List ℕ → RunOptions → RunAsked
+run_asked_by layout program options =
+    run_asked (layout_of layout) program (schedule_view options.schedule) options.limit options.reporting
 
 -- all are there: after layout and program this schedule was read
 pub record RunFilesRead (asked : RunAsked) (before after : Option FilesSeen) (plan : Plan) (hart : Hart)

@@ -1,13 +1,12 @@
 //! A program that is loaded three times: on a machine, in a memory of its own, and as it was loaded.
 
 ghost use Rattle.std.specs.Prelude.{◌≡◌, IfOk, IfErr, All, true, false};
-ghost use Rattle.cf_io.specs.Causes.{HasCause};
 ghost use Rattle.elf_view.specs.Refusal.{starts_with_elf};
 ghost use Rattle.mem_regions.specs.Causes.{AreAccepted};
 ghost use Rattle.mem_regions.specs.Loading.{LiesIn, loaded};
-ghost use Rattle.cli_files.specs.Causes.{files_read};
 ghost use Rattle.cli_files.specs.Image.{IsProgramFile, opened};
 ghost use Rattle.cli_files.specs.Programs.{IsNoProgram, IsProgramAt, LacksProgram};
+ghost use Rattle.cli_files.specs.ReadsFiles.{ReadsFiles};
 
 use crate::answer::{Answer, no_memory, unread};
 use crate::opening::{MOST_BYTES, is_elf, open_again};
@@ -138,13 +137,10 @@ pub(crate) fn images_at<F: Files>(
     name: &str,
     files: &mut F,
 ) -> Result<ProgramImages, Answer>
-    ensures ok { IfOk result (λ images. IsProgramAt name.now (F.told files.old) (F.told files.new) images.machine) }
+    ensures reads { ReadsFiles (λ before after images. IsProgramAt name.now before after images.machine) (LacksProgram name.now) F.Files files.old files.new result }
     ensures image { IfOk result (λ images. images.machine.mem ≡ images.image) }
     ensures memory { IfOk result (λ images. images.mem ≡ images.image) }
     ensures count { IfOk result (λ images. images.machine.retired ≡ 0) }
-    ensures refused { IfErr result (λ answer. LacksProgram name.now
-        (F.told files.old) (F.told files.new) answer.status answer.closing) }
-    ensures faults { HasCause (F.faults files.old) (F.faults files.new) (files_read result) }
 {
     match files.read(alloc, name, MOST_BYTES + 1) {
         Ok(file) => open_images(alloc, file.as_slice()),

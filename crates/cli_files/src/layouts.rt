@@ -1,12 +1,11 @@
 //! The layouts that words of the command line name.
 
 ghost use Rattle.std.specs.Prelude.{IfOk, IfErr};
-ghost use Rattle.cf_io.specs.Causes.{HasCause};
 ghost use Rattle.cli_arguments.specs.Words.{in_file};
 ghost use Rattle.cli_arguments.specs.Views.{layout_of};
 ghost use Rattle.layout_file.specs.Answers.{Describes};
-ghost use Rattle.cli_files.specs.Causes.{files_read};
 ghost use Rattle.cli_files.specs.Layouts.{IsNoLayout, IsLayoutAt, LacksLayout};
+ghost use Rattle.cli_files.specs.ReadsFiles.{ReadsFiles};
 
 use crate::answer::{Answer, no_memory, unread};
 use crate::status::{Status, Which};
@@ -38,10 +37,7 @@ fn read_content(alloc: Global, file: &[u8]) -> Result<Layout, Answer>
 
 /// The layout in the file of this name, or the answer where it gives none.
 fn read_file<F: Files>(alloc: Global, name: &str, files: &mut F) -> Result<Layout, Answer>
-    ensures ok { IfOk result (IsLayoutAt (in_file name.now) (F.told files.old) (F.told files.new)) }
-    ensures refused { IfErr result (λ answer. LacksLayout (in_file name.now) (F.told files.old) (F.told files.new)
-        answer.status answer.closing) }
-    ensures faults { HasCause (F.faults files.old) (F.faults files.new) (files_read result) }
+    ensures { ReadsFiles (IsLayoutAt (in_file name.now)) (LacksLayout (in_file name.now)) F.Files files.old files.new result }
 {
     match files.read(alloc, name, MOST_BYTES + 1) {
         Ok(file) => read_content(alloc, file.as_slice()),
@@ -56,10 +52,7 @@ pub fn layout_at<F: Files>(
     word: LayoutWord<'_>,
     files: &mut F,
 ) -> Result<Layout, Answer>
-    ensures ok { IfOk result (IsLayoutAt (layout_of word.entry) (F.told files.old) (F.told files.new)) }
-    ensures refused { IfErr result (λ answer. LacksLayout (layout_of word.entry) (F.told files.old) (F.told files.new)
-        answer.status answer.closing) }
-    ensures faults { HasCause (F.faults files.old) (F.faults files.new) (files_read result) }
+    ensures { ReadsFiles (IsLayoutAt (layout_of word.entry)) (LacksLayout (layout_of word.entry)) F.Files files.old files.new result }
 {
     match word {
         LayoutWord::Plain => Ok(plain()),

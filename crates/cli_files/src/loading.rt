@@ -1,10 +1,9 @@
 //! The layout and the program that a command works on.
 
-ghost use Rattle.std.specs.Prelude.{◌≡◌, IfOk, IfErr};
-ghost use Rattle.cf_io.specs.Causes.{HasCause};
+ghost use Rattle.std.specs.Prelude.{◌≡◌, IfOk};
 ghost use Rattle.cli_arguments.specs.Views.{layout_of};
-ghost use Rattle.cli_files.specs.Causes.{files_read};
 ghost use Rattle.cli_files.specs.Loading.{IsLoaded, IsLoadedLoosely, LacksLoaded, LacksLoadedLoosely};
+ghost use Rattle.cli_files.specs.ReadsFiles.{ReadsFiles};
 
 use crate::answer::Answer;
 use crate::images::{ProgramImages, images_at};
@@ -31,12 +30,9 @@ pub fn load<F: Files>(
     program: &str,
     files: &mut F,
 ) -> Result<Loaded, Answer>
-    ensures loaded { IfOk result (λ loaded. IsLoaded (layout_of layout.entry) program.now
-        (F.told files.old) (F.told files.new) loaded.layout loaded.machine) }
+    ensures reads { ReadsFiles (λ before after loaded. IsLoaded (layout_of layout.entry) program.now before after loaded.layout loaded.machine)
+        (LacksLoaded (layout_of layout.entry) program.now) F.Files files.old files.new result }
     ensures count { IfOk result (λ loaded. loaded.machine.retired ≡ 0) }
-    ensures lacks { IfErr result (λ answer. LacksLoaded (layout_of layout.entry) program.now
-        (F.told files.old) (F.told files.new) answer.status answer.closing) }
-    ensures faults { HasCause (F.faults files.old) (F.faults files.new) (files_read result) }
 {
     let layout = match layout_at(alloc, layout, files) {
         Ok(layout) => layout,
@@ -69,14 +65,11 @@ pub fn load_images<F: Files>(
     program: &str,
     files: &mut F,
 ) -> Result<LoadedImages, Answer>
-    ensures loaded { IfOk result (λ loaded. IsLoaded (layout_of layout.entry) program.now
-        (F.told files.old) (F.told files.new) loaded.layout loaded.images.machine) }
+    ensures reads { ReadsFiles (λ before after loaded. IsLoaded (layout_of layout.entry) program.now before after loaded.layout loaded.images.machine)
+        (LacksLoaded (layout_of layout.entry) program.now) F.Files files.old files.new result }
     ensures image { IfOk result (λ loaded. loaded.images.machine.mem ≡ loaded.images.image) }
     ensures memory { IfOk result (λ loaded. loaded.images.mem ≡ loaded.images.image) }
     ensures count { IfOk result (λ loaded. loaded.images.machine.retired ≡ 0) }
-    ensures lacks { IfErr result (λ answer. LacksLoaded (layout_of layout.entry) program.now
-        (F.told files.old) (F.told files.new) answer.status answer.closing) }
-    ensures faults { HasCause (F.faults files.old) (F.faults files.new) (files_read result) }
 {
     let layout = match layout_at(alloc, layout, files) {
         Ok(layout) => layout,
@@ -95,14 +88,11 @@ pub fn load_images_loosely<F: Files>(
     program: &str,
     files: &mut F,
 ) -> Result<LooseImages, Answer>
-    ensures loaded { IfOk result (λ loaded. IsLoadedLoosely (layout_of layout.entry) program.now
-        (F.told files.old) (F.told files.new) loaded.layout loaded.images.machine) }
+    ensures reads { ReadsFiles (λ before after loaded. IsLoadedLoosely (layout_of layout.entry) program.now before after loaded.layout loaded.images.machine)
+        (LacksLoadedLoosely (layout_of layout.entry) program.now) F.Files files.old files.new result }
     ensures image { IfOk result (λ loaded. loaded.images.machine.mem ≡ loaded.images.image) }
     ensures memory { IfOk result (λ loaded. loaded.images.mem ≡ loaded.images.image) }
     ensures count { IfOk result (λ loaded. loaded.images.machine.retired ≡ 0) }
-    ensures lacks { IfErr result (λ answer. LacksLoadedLoosely (layout_of layout.entry) program.now
-        (F.told files.old) (F.told files.new) answer.status answer.closing) }
-    ensures faults { HasCause (F.faults files.old) (F.faults files.new) (files_read result) }
 {
     let layout = match loose_layout_at(alloc, layout, files) {
         Ok(layout) => layout,

@@ -1,12 +1,11 @@
 //! The layouts that words of the command line name, where a layout may break the rule on where control turns.
 
 ghost use Rattle.std.specs.Prelude.{IfOk, IfErr};
-ghost use Rattle.cf_io.specs.Causes.{HasCause};
 ghost use Rattle.cli_arguments.specs.Words.{in_file};
 ghost use Rattle.cli_arguments.specs.Views.{layout_of};
 ghost use Rattle.layout_file.specs.Answers.{DescribesLoosely};
-ghost use Rattle.cli_files.specs.Causes.{files_read};
 ghost use Rattle.cli_files.specs.LooseLayouts.{IsLooseLayoutAt, IsNoLooseLayout, LacksLooseLayout};
+ghost use Rattle.cli_files.specs.ReadsFiles.{ReadsFiles};
 
 use crate::answer::{Answer, no_memory, unread};
 use crate::status::{Status, Which};
@@ -42,10 +41,7 @@ fn read_loose_file<F: Files>(
     name: &str,
     files: &mut F,
 ) -> Result<LooseLayout, Answer>
-    ensures ok { IfOk result (IsLooseLayoutAt (in_file name.now) (F.told files.old) (F.told files.new)) }
-    ensures refused { IfErr result (λ answer. LacksLooseLayout (in_file name.now) (F.told files.old) (F.told files.new)
-        answer.status answer.closing) }
-    ensures faults { HasCause (F.faults files.old) (F.faults files.new) (files_read result) }
+    ensures { ReadsFiles (IsLooseLayoutAt (in_file name.now)) (LacksLooseLayout (in_file name.now)) F.Files files.old files.new result }
 {
     match files.read(alloc, name, MOST_BYTES + 1) {
         Ok(file) => read_loosely(alloc, file.as_slice()),
@@ -61,10 +57,7 @@ pub fn loose_layout_at<F: Files>(
     word: LayoutWord<'_>,
     files: &mut F,
 ) -> Result<LooseLayout, Answer>
-    ensures ok { IfOk result (IsLooseLayoutAt (layout_of word.entry) (F.told files.old) (F.told files.new)) }
-    ensures refused { IfErr result (λ answer. LacksLooseLayout (layout_of word.entry) (F.told files.old) (F.told files.new)
-        answer.status answer.closing) }
-    ensures faults { HasCause (F.faults files.old) (F.faults files.new) (files_read result) }
+    ensures { ReadsFiles (IsLooseLayoutAt (layout_of word.entry)) (LacksLooseLayout (layout_of word.entry)) F.Files files.old files.new result }
 {
     match word {
         LayoutWord::Plain => Ok(*plain().loose()),

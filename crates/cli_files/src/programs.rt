@@ -1,10 +1,9 @@
 //! The programs that words of the command line name.
 
 ghost use Rattle.std.specs.Prelude.{◌≡◌, IfOk, IfErr};
-ghost use Rattle.cf_io.specs.Causes.{HasCause};
-ghost use Rattle.cli_files.specs.Causes.{files_read};
 ghost use Rattle.cli_files.specs.Image.{IsProgramFile, opened};
 ghost use Rattle.cli_files.specs.Programs.{IsProgramAt, LacksProgram, IsNoProgram};
+ghost use Rattle.cli_files.specs.ReadsFiles.{ReadsFiles};
 
 use crate::answer::{Answer, no_memory, no_program, unread};
 use crate::opening::{MOST_BYTES, OpenErr, open};
@@ -29,11 +28,8 @@ pub fn open_image(alloc: Global, image: &[u8]) -> Result<Machine, Answer>
 
 /// The machine that the program in the file of this name starts, or the answer where it gives none.
 pub fn program_at<F: Files>(alloc: Global, name: &str, files: &mut F) -> Result<Machine, Answer>
-    ensures ok { IfOk result (IsProgramAt name.now (F.told files.old) (F.told files.new)) }
+    ensures reads { ReadsFiles (IsProgramAt name.now) (LacksProgram name.now) F.Files files.old files.new result }
     ensures count { IfOk result (λ machine. machine.retired ≡ 0) }
-    ensures refused { IfErr result (λ answer. LacksProgram name.now
-        (F.told files.old) (F.told files.new) answer.status answer.closing) }
-    ensures faults { HasCause (F.faults files.old) (F.faults files.new) (files_read result) }
 {
     match files.read(alloc, name, MOST_BYTES + 1) {
         Ok(image) => open_image(alloc, image.as_slice()),

@@ -1,10 +1,8 @@
 //! The files of a run of the processor.
 
-ghost use Rattle.std.specs.Prelude.{◌≡◌, IfOk, IfErr};
-ghost use Rattle.cf_io.specs.Causes.{HasCause};
-ghost use Rattle.cli_files.specs.Causes.{files_read};
-ghost use Rattle.cli_arguments.specs.Views.{layout_of, schedule_view as asked_schedule};
-ghost use Rattle.cli_files.specs.RunFiles.{run_asked, RunFilesRead, LacksRunFile};
+ghost use Rattle.std.specs.Prelude.{◌≡◌, IfOk};
+ghost use Rattle.cli_files.specs.ReadsFiles.{ReadsFiles};
+ghost use Rattle.cli_files.specs.RunFiles.{run_asked_by, RunFilesRead, LacksRunFile};
 ghost use Rattle.cli_files.specs.Schedules.{ready_schedule_view, FitsScript};
 
 use crate::answer::Answer;
@@ -33,17 +31,11 @@ pub fn read_files<F: Files>(
     options: RunOptions<'_>,
     files: &mut F,
 ) -> Result<ReadyRun, Answer>
-    ensures ready { IfOk result (λ ready. RunFilesRead
-        (run_asked (layout_of layout.entry) program.now (asked_schedule options.entry.schedule) options.entry.limit options.entry.reporting)
-        (F.told files.old) (F.told files.new)
-        ready.layout ready.machine (ready_schedule_view ready.schedule)) }
+    ensures reads { ReadsFiles
+        (λ before after ready. RunFilesRead (run_asked_by layout.entry program.now options.entry) before after ready.layout ready.machine (ready_schedule_view ready.schedule))
+        (LacksRunFile (run_asked_by layout.entry program.now options.entry)) F.Files files.old files.new result }
     ensures count { IfOk result (λ ready. ready.machine.retired ≡ 0) }
     ensures fits { IfOk result (λ ready. FitsScript (ready_schedule_view ready.schedule)) }
-    ensures lacks { IfErr result (λ answer. LacksRunFile
-        (run_asked (layout_of layout.entry) program.now (asked_schedule options.entry.schedule) options.entry.limit options.entry.reporting)
-        (F.told files.old) (F.told files.new)
-        answer.status answer.closing) }
-    ensures faults { HasCause (F.faults files.old) (F.faults files.new) (files_read result) }
 {
     let loaded = match load(alloc, layout, program, files) {
         Ok(loaded) => loaded,

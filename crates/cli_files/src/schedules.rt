@@ -1,8 +1,7 @@
 //! What chooses the moves of a run, once its files are read.
 
-ghost use Rattle.std.specs.Prelude.{IfOk, IfErr};
-ghost use Rattle.cf_io.specs.Causes.{HasCause};
-ghost use Rattle.cli_files.specs.Causes.{files_read};
+ghost use Rattle.std.specs.Prelude.{IfOk};
+ghost use Rattle.cli_files.specs.ReadsFiles.{ReadsFiles};
 ghost use Rattle.cli_arguments.specs.Views.{schedule_view as asked_schedule};
 ghost use Rattle.cli_files.specs.Schedules.{ready_schedule_view, FitsScript, IsScheduled, LacksSchedule};
 
@@ -29,14 +28,9 @@ pub fn schedule_at<F: Files>(
     schedule: Schedule<'_>,
     files: &mut F,
 ) -> Result<ReadySchedule, Answer>
-    ensures ready { IfOk result (λ ready. IsScheduled (asked_schedule schedule.entry)
-        (F.told files.old) (F.told files.new)
-        (ready_schedule_view ready)) }
+    ensures reads { ReadsFiles (λ before after ready. IsScheduled (asked_schedule schedule.entry) before after (ready_schedule_view ready))
+        (LacksSchedule (asked_schedule schedule.entry)) F.Files files.old files.new result }
     ensures fits { IfOk result (λ ready. FitsScript (ready_schedule_view ready)) }
-    ensures lacks { IfErr result (λ answer. LacksSchedule (asked_schedule schedule.entry)
-        (F.told files.old) (F.told files.new)
-        answer.status answer.closing) }
-    ensures faults { HasCause (F.faults files.old) (F.faults files.new) (files_read result) }
 {
     match schedule {
         Schedule::Script(file) => match script_at(alloc, file, files) {

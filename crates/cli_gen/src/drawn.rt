@@ -7,7 +7,7 @@ ghost use Rattle.cli_files.specs.Memory.{SaysNoMemory};
 ghost use Rattle.cli_gen.specs.Drawn.{AnswersDrawn, BreaksDrawn, StartsDrawn};
 ghost use Rattle.cli_reports.specs.FileCommands.{AnswersByOutput, PutsOrFails};
 ghost use Rattle.cli_reports.specs.Reporting.{CarriesOutRun};
-ghost use Rattle.cli_reports.specs.OutsideChanges.{streams_change, faults_change};
+ghost use Rattle.cli_reports.specs.OutsideChanges.{run_change};
 
 use cf_gen::generate;
 use cf_io::{Failed, MemSink, Sink, Source};
@@ -28,8 +28,7 @@ const MOST_TEXT: usize = 1_048_576;
 pub fn put_drawn<K: Sink>(number: u32, output: &mut K) -> Answer
     requires some { 1 ≤ number }
     requires limit { number ≤ most_statements }
-    ensures { AnswersByOutput (PutsOrFails (program_text number)) (K.written output.old) (K.written output.new)
-        (K.faults output.old) (K.faults output.new) result }
+    ensures { AnswersByOutput (PutsOrFails (program_text number)) K.Sink output.old output.new result }
 {
     match generate(number, output) {
         Ok(()) => done(),
@@ -99,8 +98,7 @@ pub fn run_drawn<S: Source, K: Sink, R: ReportSink>(
     requires some { 1 ≤ number }
     requires limit { number ≤ most_statements }
     ensures { CarriesOutRun (AnswersDrawn number) (BreaksDrawn number)
-        (streams_change S.left K.written R.written R.faults streams.entry streams.exit)
-        (faults_change S.faults K.faults streams.entry streams.exit) result }
+        (run_change S.Source K.Sink R.Sink streams.entry streams.exit) result }
 {
     let machine = match drawn_machine(alloc, number) {
         Ok(machine) => machine,

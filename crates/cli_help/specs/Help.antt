@@ -5,7 +5,7 @@ use Rattle.cli_arguments.specs.declared.names.CommandName.{CommandName}
 use Rattle.cli_arguments.specs.declared.names.CommandName.TheVariants as names
 use Rattle.cli_arguments.specs.declared.options.Key.{Key}
 use Rattle.cli_arguments.specs.declared.options.Key.TheVariants as keys
-use Rattle.cli_arguments.specs.Commands.{word_of}
+use Rattle.cli_arguments.specs.Commands.{command_word}
 use Rattle.cli_arguments.specs.Options.{key_word, takes_key}
 use Rattle.texts.specs.Lines.{line}
 
@@ -41,7 +41,7 @@ key_words (key ∷ others) = flat_map (λ k. codes " " ++ key_word k) (key ∷ o
 -- the first two lines: the command with its positional words, and the options that the grammar gives it
 abbrev pub head_lines : CommandName → List ℕ
 head_lines name =
-    line (codes "cfpp " ++ word_of name ++ codes " " ++ operands name)
+    line (codes "cfpp " ++ command_word name ++ codes " " ++ operands name)
     ++ line (codes "Options:" ++ key_words (filter (takes_key name) all_keys))
 
 -- the help text of a command begins with these

@@ -4,7 +4,7 @@ ghost use Rattle.std.specs.Prelude.{OnOk, IfErr};
 ghost use Rattle.cf_io.specs.Causes.{HasCause};
 ghost use Rattle.cf_io.specs.Puts.{Writes};
 ghost use Rattle.cli_list.specs.Causes.{output_listed};
-ghost use Rattle.cli_reports.specs.FileCommands.{AnswersByFile, AnswersByOutput, file_side, side_faults};
+ghost use Rattle.cli_reports.specs.FileCommands.{AnswersByFile, AnswersByOutput};
 ghost use Rattle.cli_list.specs.Listings.{listing_of, IsListable, IsNotListed, ListsImage, AnswersList};
 
 use asm_listing::{ListingErr, put_elf_listing, put_flat_listing};
@@ -57,8 +57,7 @@ fn put_listing<K: Sink>(alloc: Global, image: &[u8], output: &mut K) -> Result<(
 
 /// Lists a program that was read.
 fn list_image<K: Sink>(alloc: Global, image: &[u8], output: &mut K) -> Answer
-    ensures { AnswersByOutput (ListsImage image.now) (K.written output.old) (K.written output.new)
-        (K.faults output.old) (K.faults output.new) result }
+    ensures { AnswersByOutput (ListsImage image.now) K.Sink output.old output.new result }
 {
     match put_listing(alloc, image, output) {
         Ok(()) => done(),
@@ -75,9 +74,7 @@ pub fn list_program<F: Files, K: Sink>(
     files: &mut F,
     output: &mut K,
 ) -> Answer
-    ensures { AnswersByFile (AnswersList program.now)
-        (file_side (F.told files.old) (K.written output.old)) (file_side (F.told files.new) (K.written output.new))
-        (side_faults (F.faults files.old) (K.faults output.old)) (side_faults (F.faults files.new) (K.faults output.new)) result }
+    ensures { AnswersByFile (AnswersList program.now) F.Files K.Sink (files.old, output.old) (files.new, output.new) result }
 {
     match files.read(alloc, program, MOST_BYTES + 1) {
         Ok(image) => list_image(alloc, image.as_slice(), output),

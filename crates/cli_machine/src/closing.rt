@@ -1,7 +1,7 @@
 //! How a run of the sequential machine finishes: its closing lines.
 
 ghost use Rattle.std.specs.Prelude.{◌≡◌};
-ghost use Rattle.cli_files.specs.Outside.{report_of};
+ghost use Rattle.cli_files.specs.Outside.{report_in};
 ghost use Rattle.cli_machine.specs.Closing.{ClosesMachine, report_failed};
 
 use cf_io::{Failed, Sink};
@@ -24,8 +24,7 @@ pub fn close_machine<R: Sink>(
     finish: Ran,
     report: &mut R,
 ) -> Result<Reported, Failed>
-    ensures { ClosesMachine limit finish machine.now (report_of (R.written report.old) (R.faults report.old))
-        (report_of (R.written report.new) (R.faults report.new)) result }
+    ensures { ClosesMachine limit finish machine.now (report_in R.Sink report.old) (report_in R.Sink report.new) result }
 {
     if is_cut(finish) {
         return Err(Failed);

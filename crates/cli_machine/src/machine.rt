@@ -4,7 +4,7 @@ ghost use Rattle.std.specs.Prelude.{◌≡◌};
 ghost use Rattle.cli_machine.specs.Machine.{RunsHart, BreaksHart, AnswersMachine, BreaksProgram};
 ghost use Rattle.cli_machine.specs.Options.{chosen_of};
 ghost use Rattle.cli_reports.specs.Reporting.{CarriesOutCommand, CarriesOutRun};
-ghost use Rattle.cli_reports.specs.OutsideChanges.{streams_change, faults_change, outside_change};
+ghost use Rattle.cli_reports.specs.OutsideChanges.{run_change, outside_change};
 
 use crate::closing::close_machine;
 use crate::running::run;
@@ -29,8 +29,7 @@ fn run_machine<S: Source, K: Sink, R: ReportSink>(
     ensures { CarriesOutRun
         (λ before after blank. RunsHart (chosen_of options.limit options.show_retired options.mul options.every) machine before after)
         (BreaksHart (chosen_of options.limit options.show_retired options.mul options.every) machine)
-        (streams_change S.left K.written R.written R.faults streams.entry streams.exit)
-        (faults_change S.faults K.faults streams.entry streams.exit) result }
+        (run_change S.Source K.Sink R.Sink streams.entry streams.exit) result }
 {
     let RunStreams {
         input,
@@ -55,7 +54,7 @@ pub fn run_program<F: Files, S: Source, K: Sink, R: ReportSink>(
     ensures { CarriesOutCommand
         (λ before after blank. AnswersMachine program.now (chosen_of options.limit options.show_retired options.mul options.every) before after)
         (BreaksProgram program.now (chosen_of options.limit options.show_retired options.mul options.every))
-        (outside_change F.told F.faults S.left S.faults K.written K.faults R.written R.faults files.old files.new streams.entry streams.exit) result }
+        (outside_change F.Files S.Source K.Sink R.Sink files.old files.new streams.entry streams.exit) result }
 {
     match program_at(alloc, program, files) {
         Ok(machine) => run_machine(machine, options, streams),

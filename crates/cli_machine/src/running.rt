@@ -6,7 +6,7 @@ ghost use Rattle.cf_io.specs.Puts.{WritesNothing};
 ghost use Rattle.mem_regions.specs.Fetching.{fetch_at};
 ghost use Rattle.cf_report.specs.Lines.{retired_line};
 ghost use Rattle.cf_report.specs.Progress.{is_step as is_step_of, machine_line};
-ghost use Rattle.cf_report.specs.Putting.{PutsText};
+ghost use Rattle.cli_reports.specs.Reporting.{PutsInto};
 ghost use Rattle.run_finishes.specs.Stopped.{input_stopped, output_stopped, report_stopped};
 ghost use Rattle.cli_machine.specs.Finish.{RunsToFinish};
 ghost use Rattle.cli_machine.specs.Options.{chosen_of, is_shown, machine_isa, lines_shown, shown_text, is_silent};
@@ -39,8 +39,7 @@ fn put_line<R: Sink>(
     value: u32,
     report: &mut R,
 ) -> Result<(), Failed>
-    ensures { PutsText (R.written report.old) (R.written report.new) (R.faults report.old) (R.faults report.new)
-        (retired_line count (record { pc = pc; word = word; reg = reg; value = value })) result }
+    ensures { PutsInto R.Sink report.old report.new (retired_line count (record { pc = pc; word = word; reg = reg; value = value })) result }
 {
     let line = Retired {
         pc,
@@ -54,8 +53,7 @@ fn put_line<R: Sink>(
 /// The same, where lines are shown.
 #[inline(always)]
 fn show_line<R: Sink>(shows: bool, count: u64, line: Retired, report: &mut R) -> Result<(), Failed>
-    ensures puts { PutsText (R.written report.old) (R.written report.new) (R.faults report.old) (R.faults report.new)
-        (lines_shown shows (retired_line count line)) result }
+    ensures puts { PutsInto R.Sink report.old report.new (lines_shown shows (retired_line count line)) result }
     ensures shows { OnErr result (shows ≡ true) }
 {
     if shows {
@@ -68,8 +66,7 @@ fn show_line<R: Sink>(shows: bool, count: u64, line: Retired, report: &mut R) ->
 /// Puts how far the run has come, where it is said after this many retired instructions.
 #[inline(always)]
 fn show_progress<R: Sink>(every: Option<u64>, count: u64, report: &mut R) -> Result<(), Failed>
-    ensures puts { PutsText (R.written report.old) (R.written report.new) (R.faults report.old) (R.faults report.new)
-        (lines_shown (is_step_of every count) (machine_line count)) result }
+    ensures puts { PutsInto R.Sink report.old report.new (lines_shown (is_step_of every count) (machine_line count)) result }
     ensures shows { OnErr result (is_step_of every count ≡ true) }
 {
     if is_step(every, count) {
@@ -87,8 +84,7 @@ fn show_step<R: Sink>(
     line: Retired,
     report: &mut R,
 ) -> Result<(), Failed>
-    ensures puts { PutsText (R.written report.old) (R.written report.new) (R.faults report.old) (R.faults report.new)
-        (shown_text options.show_retired options.every count line) result }
+    ensures puts { PutsInto R.Sink report.old report.new (shown_text options.show_retired options.every count line) result }
     ensures shows { OnErr result (is_shown options.show_retired options.every count ≡ true) }
 {
     show_line(options.show_retired, count, line, report)?;

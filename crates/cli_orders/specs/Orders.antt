@@ -3,6 +3,7 @@ use Rattle.std.specs.Prelude.{◌≡◌, ◌⊎◌, ℕ, List, codes, length, Bo
 use Rattle.cf_io.specs.Causes.{HasCause}
 use Rattle.cf_io.specs.Puts.{Writes, WritesFront}
 use Rattle.cf_io.specs.Reads.{FilesSeen}
+use Rattle.cf_io.specs.declared.sink.Sink.{Ghosts as SinkMembers}
 use Rattle.rv_machine.specs.Hart.{Hart}
 use Rattle.rv_machine.specs.Streams.{Streams}
 use Rattle.texts.specs.Lines.{line}
@@ -20,7 +21,7 @@ use Rattle.cli_arguments.specs.Words.{NamedLayout}
 use Rattle.cli_files.specs.Causes.{files_answered, input_answered, output_answered}
 use Rattle.cli_files.specs.Loading.{IsLoaded, IsLoadedLoosely, LacksLoaded, LacksLoadedLoosely}
 use Rattle.cli_files.specs.Memory.{LacksProcessor, SaysNoMemory}
-use Rattle.cli_files.specs.Outside.{Outside, Report}
+use Rattle.cli_files.specs.Outside.{Outside, report_in}
 use Rattle.cli_files.specs.declared.status.Status.{Status}
 use Rattle.cli_files.specs.declared.status.Status.TheVariants as status
 use Rattle.cli_reports.specs.Reporting.{ReportsAlone}
@@ -39,12 +40,13 @@ orders_asked layout program options = record { layout = layout; program = progra
 
 -- what a call that has the output and the report leaves of them: the status says neither of a file nor of the input that it failed, and
 -- the count of the output's faults rose exactly where it says so
-pub record ReportsByOutput (answers : Option (List ℕ) → Option (List ℕ) → Status → List ℕ → Type 0) (before after : Option (List ℕ))
-    (faults_before faults_after : ℕ) (blank full : Report) (reported : Reported) : Type 0 where
-  pub comes : ReportsAlone (answers before after) blank full reported
+pub record ReportsByOutput {K R : Type 0} (answers : Option (List ℕ) → Option (List ℕ) → Status → List ℕ → Type 0)
+    (of_output : SinkMembers K) (of_report : SinkMembers R) (before after : K × R) (reported : Reported) : Type 0 where
+  pub comes : ReportsAlone (answers (of_output.written before.0) (of_output.written after.0))
+      (report_in of_report before.1) (report_in of_report after.1) reported
   pub files : files_answered reported.status ≡ Ok tt
   pub input : input_answered reported.status ≡ Ok tt
-  pub output : HasCause faults_before faults_after (output_answered reported.status)
+  pub output : HasCause (of_output.faults before.0) (of_output.faults after.0) (output_answered reported.status)
 
 -- a text was put to the output, and this is the status and such the report; or the output failed after a prefix of it
 abbrev pub PutsFirst : (text : List ℕ) → (said : Status) → (Reports : List ℕ → Type 0) → (before after : Option (List ℕ)) → Status → List ℕ → Type 0

@@ -2,9 +2,10 @@
 
 ghost use Rattle.std.specs.Prelude.{◌≡◌, ◌≢◌, ◌≤◌, None, false, true};
 ghost use Rattle.run_options.specs.Limits.{most_issues};
+ghost use Rattle.cf_layout.specs.Accepted.{IsEquipped};
 ghost use Rattle.cli_arguments.specs.Views.{layout_of};
 ghost use Rattle.cli_orders.specs.Orders.{AnswersOrders, ComesOfOrders, is_loose as is_loosely, orders_asked};
-ghost use Rattle.cli_reports.specs.OutsideChanges.{streams_change, faults_change, outside_change};
+ghost use Rattle.cli_reports.specs.OutsideChanges.{run_change, outside_change};
 ghost use Rattle.cli_reports.specs.Reporting.{ReportsCommand, ReportsRun};
 
 use crate::found::put_found;
@@ -24,6 +25,13 @@ fn is_loose(away: Option<Rule>) -> bool
     matches!(away, Some(Rule::ControlAboveMemory))
 }
 
+/// A fact for the prover: a layout has passed the tests of its parts, so each state that a search reaches can be put.
+fn is_equipped(layout: &LooseLayout)
+    ensures { IsEquipped layout.now }
+{
+    let _ = layout.stages();
+}
+
 /// Searches all orders of a program under a layout, and puts what is found.
 fn search_images<S: Source, K: Sink, R: Sink>(
     alloc: Global,
@@ -38,10 +46,10 @@ fn search_images<S: Source, K: Sink, R: Sink>(
     requires issues { options.issues ≤ most_issues }
     requires states { 1 ≤ options.states }
     ensures { ReportsRun (ComesOfOrders options layout.now images.machine)
-        (streams_change S.left K.written R.written R.faults streams.entry streams.exit)
-        (faults_change S.faults K.faults streams.entry streams.exit) result }
+        (run_change S.Source K.Sink R.Sink streams.entry streams.exit) result }
 {
-    let _ = layout.stages();
+    let loose = layout.loose();
+    is_equipped(loose);
     let found = search_orders(
         alloc,
         layout,
@@ -57,7 +65,7 @@ fn search_images<S: Source, K: Sink, R: Sink>(
         output,
         report,
     } = streams;
-    put_found(alloc, layout.loose(), options, found, output, report)
+    put_found(alloc, loose, options, found, output, report)
 }
 
 /// The same under a layout that may break the rule on where control turns, which is the one that is taken away.
@@ -75,10 +83,9 @@ fn search_images_loosely<S: Source, K: Sink, R: Sink>(
     requires states { 1 ≤ options.states }
     requires rule { options.without ≢ None }
     ensures { ReportsRun (ComesOfOrders options layout.now images.machine)
-        (streams_change S.left K.written R.written R.faults streams.entry streams.exit)
-        (faults_change S.faults K.faults streams.entry streams.exit) result }
+        (run_change S.Source K.Sink R.Sink streams.entry streams.exit) result }
 {
-    let _ = layout.stages();
+    is_equipped(layout);
     let found = search_loosely(
         alloc,
         layout,
@@ -110,7 +117,7 @@ fn search_strictly<F: Files, S: Source, K: Sink, R: Sink>(
     requires states { 1 ≤ options.states }
     requires rule { is_loosely options.without ≡ false }
     ensures { ReportsCommand (AnswersOrders (orders_asked (layout_of layout.entry) program.now options))
-        (outside_change F.told F.faults S.left S.faults K.written K.faults R.written R.faults files.old files.new streams.entry streams.exit) result }
+        (outside_change F.Files S.Source K.Sink R.Sink files.old files.new streams.entry streams.exit) result }
 {
     match load_images(alloc, layout, program, files) {
         Ok(LoadedImages { layout, images }) => search_images(
@@ -133,7 +140,7 @@ fn search_without_control<F: Files, S: Source, K: Sink, R: Sink>(
     requires states { 1 ≤ options.states }
     requires rule { is_loosely options.without ≡ true }
     ensures { ReportsCommand (AnswersOrders (orders_asked (layout_of layout.entry) program.now options))
-        (outside_change F.told F.faults S.left S.faults K.written K.faults R.written R.faults files.old files.new streams.entry streams.exit) result }
+        (outside_change F.Files S.Source K.Sink R.Sink files.old files.new streams.entry streams.exit) result }
 {
     match load_images_loosely(alloc, layout, program, files) {
         Ok(LooseImages { layout, images }) => search_images_loosely(
@@ -160,7 +167,7 @@ pub fn search_program<F: Files, S: Source, K: Sink, R: Sink>(
     requires issues { options.issues ≤ most_issues }
     requires states { 1 ≤ options.states }
     ensures { ReportsCommand (AnswersOrders (orders_asked (layout_of layout.entry) program.now options))
-        (outside_change F.told F.faults S.left S.faults K.written K.faults R.written R.faults files.old files.new streams.entry streams.exit) result }
+        (outside_change F.Files S.Source K.Sink R.Sink files.old files.new streams.entry streams.exit) result }
 {
     if is_loose(options.without) {
         search_without_control(alloc, layout, program, options, files, streams)

@@ -1,7 +1,7 @@
 //! What is put of what a search has found.
 
 ghost use Rattle.std.specs.Prelude.{◌≡◌, ◌⊎◌, IfOk};
-ghost use Rattle.cli_files.specs.Outside.{report_of};
+ghost use Rattle.cli_files.specs.Outside.{report_in};
 ghost use Rattle.cli_files.specs.declared.status.Status.TheVariants.{Wrong as IsWrong};
 ghost use Rattle.cli_orders.specs.OrderTexts.{DoEnd, IsWrongReport, script_text};
 ghost use Rattle.cli_orders.specs.Orders.{CanBePut, ComesOfFound, PutsFirst, PutsFound, PutsNothing, PutsReached, ReportsByOutput};
@@ -28,7 +28,7 @@ fn report_wrong<R: Sink>(layout: &LooseLayout, wrong: &WrongOrder, report: &mut 
     requires { CanBePut (founds.Wrong wrong.now) }
     ensures status { result.status ≡ IsWrong }
     ensures reports { ReportsAlone (λ answer text. IsWrongReport layout.now wrong.now text)
-        (report_of (R.written report.old) (R.faults report.old)) (report_of (R.written report.new) (R.faults report.new)) result }
+        (report_in R.Sink report.old) (report_in R.Sink report.new) result }
 {
     let seen = seen_line(&wrong.seen);
     Reported {
@@ -49,8 +49,7 @@ fn put_wrong<K: Sink, R: Sink>(
     ensures { ReportsByOutput (λ before after answer text.
         PutsFirst (script_text wrong.now.moves.items) IsWrong (IsWrongReport layout.now wrong.now) before after answer text
         ⊎ PutsNothing before after answer text)
-        (K.written output.old) (K.written output.new) (K.faults output.old) (K.faults output.new)
-        (report_of (R.written report.old) (R.faults report.old)) (report_of (R.written report.new) (R.faults report.new)) result }
+        K.Sink R.Sink (output.old, report.old) (output.new, report.new) result }
 {
     let script = match script_of(alloc, wrong.moves.as_slice()) {
         Ok(script) => script,
@@ -72,7 +71,7 @@ fn answer_reached<K: Sink>(
     requires searched { IsSearched reached.old }
     requires end { DoEnd reached.old.reached.orders }
     ensures { AnswersByOutput (λ before after answer text. PutsReached edges reached.old before after answer text ⊎ PutsNothing before after answer text)
-        (K.written output.old) (K.written output.new) (K.faults output.old) (K.faults output.new) result }
+        K.Sink output.old output.new result }
 {
     let text = match shown_edges(alloc, edges, reached) {
         Ok(text) => text,
@@ -95,8 +94,7 @@ fn put_some<K: Sink, R: Sink>(
 ) -> Reported
     requires { CanBePut found }
     ensures { ReportsByOutput (λ before after answer text. PutsFound options layout.now found before after answer text ⊎ PutsNothing before after answer text)
-        (K.written output.old) (K.written output.new) (K.faults output.old) (K.faults output.new)
-        (report_of (R.written report.old) (R.faults report.old)) (report_of (R.written report.new) (R.faults report.new)) result }
+        K.Sink R.Sink (output.old, report.old) (output.new, report.new) result }
 {
     match found {
         OrdersFound::Wrong(wrong) => put_wrong(alloc, layout, &wrong, output, report),
@@ -120,8 +118,7 @@ pub(crate) fn put_found<K: Sink, R: Sink>(
 ) -> Reported
     requires { IfOk found CanBePut }
     ensures { ReportsByOutput (ComesOfFound options layout.now found)
-        (K.written output.old) (K.written output.new) (K.faults output.old) (K.faults output.new)
-        (report_of (R.written report.old) (R.faults report.old)) (report_of (R.written report.new) (R.faults report.new)) result }
+        K.Sink R.Sink (output.old, report.old) (output.new, report.new) result }
 {
     match found {
         Ok(found) => put_some(alloc, layout, options, found, output, report),

@@ -4,7 +4,7 @@
 ghost use Rattle.std.specs.Prelude.{◌≡◌, ◌≤◌, ◌++◌, codes, length};
 ghost use Rattle.texts.specs.Lines.{counted_line};
 ghost use Rattle.cf_report.specs.Lines.{retired_line};
-ghost use Rattle.cf_report.specs.Putting.{PutsText};
+ghost use Rattle.cli_reports.specs.Reporting.{PutsInto};
 ghost use Rattle.order_report.specs.Drawing.{IsDrawable};
 ghost use Rattle.cli_orders.specs.OrderTexts.{both_lines, kind_word, named_line, order_tally, wrong_line, wrong_report, wrong_text};
 
@@ -47,8 +47,7 @@ fn wrong_page(moves: u64, kind: WrongKind) -> Page
 
 /// Puts it.
 fn put_head<R: Sink>(moves: u64, kind: WrongKind, report: &mut R) -> Result<(), Failed>
-    ensures { PutsText (R.written report.old) (R.written report.new)
-        (R.faults report.old) (R.faults report.new) (wrong_line moves kind) result }
+    ensures { PutsInto R.Sink report.old report.new (wrong_line moves kind) result }
 {
     let page = wrong_page(moves, kind);
     put_all(report, page.bytes())
@@ -56,8 +55,7 @@ fn put_head<R: Sink>(moves: u64, kind: WrongKind, report: &mut R) -> Result<(), 
 
 /// Puts the line of the instruction that retired as the `n`th, after a word.
 fn put_line<R: Sink>(name: &[u8], n: u64, line: &Retired, report: &mut R) -> Result<(), Failed>
-    ensures { PutsText (R.written report.old) (R.written report.new)
-        (R.faults report.old) (R.faults report.new) (name.now ++ retired_line n line.now) result }
+    ensures { PutsInto R.Sink report.old report.new (name.now ++ retired_line n line.now) result }
 {
     put_all(report, name)?;
     put_retired(n, line, report)
@@ -70,8 +68,7 @@ fn put_named<R: Sink>(
     line: Option<Retired>,
     report: &mut R,
 ) -> Result<(), Failed>
-    ensures { PutsText (R.written report.old) (R.written report.new)
-        (R.faults report.old) (R.faults report.new) (named_line name.now n line) result }
+    ensures { PutsInto R.Sink report.old report.new (named_line name.now n line) result }
 {
     match line {
         Some(line) => put_line(name, n, &line, report),
@@ -86,8 +83,7 @@ fn put_pair<R: Sink>(
     wanted: Option<Retired>,
     report: &mut R,
 ) -> Result<(), Failed>
-    ensures { PutsText (R.written report.old) (R.written report.new) (R.faults report.old) (R.faults report.new)
-        (named_line (codes "seen ") n seen ++ named_line (codes "wanted ") n wanted) result }
+    ensures { PutsInto R.Sink report.old report.new (named_line (codes "seen ") n seen ++ named_line (codes "wanted ") n wanted) result }
 {
     put_named(b"seen ", n, seen, report)?;
     put_named(b"wanted ", n, wanted, report)
@@ -101,8 +97,7 @@ fn put_both<R: Sink>(
     wanted: Option<Retired>,
     report: &mut R,
 ) -> Result<(), Failed>
-    ensures { PutsText (R.written report.old) (R.written report.new)
-        (R.faults report.old) (R.faults report.new) (both_lines kind n seen wanted) result }
+    ensures { PutsInto R.Sink report.old report.new (both_lines kind n seen wanted) result }
 {
     match kind {
         WrongKind::Retired => put_pair(n, seen, wanted, report),
@@ -112,8 +107,7 @@ fn put_both<R: Sink>(
 
 /// Puts how many instructions have retired.
 fn put_count<R: Sink>(retired: u64, report: &mut R) -> Result<(), Failed>
-    ensures { PutsText (R.written report.old) (R.written report.new)
-        (R.faults report.old) (R.faults report.new) (counted_line (codes "retired ") retired) result }
+    ensures { PutsInto R.Sink report.old report.new (counted_line (codes "retired ") retired) result }
 {
     let mut page = Page::new();
     page.push_counted(b"retired ", retired);
@@ -149,8 +143,7 @@ fn put_parts<R: Sink>(
     report: &mut R,
 ) -> Result<(), Failed>
     requires { IsDrawable wrong.now.reached }
-    ensures { PutsText (R.written report.old) (R.written report.new) (R.faults report.old) (R.faults report.new)
-        (wrong_text layout.now tally.now.moves wrong.now.kind retired seen wrong.now.wanted wrong.now.reached tally.now) result }
+    ensures { PutsInto R.Sink report.old report.new (wrong_text layout.now tally.now.moves wrong.now.kind retired seen wrong.now.wanted wrong.now.reached tally.now) result }
 {
     put_head(tally.moves, wrong.kind, report)?;
     put_both(wrong.kind, retired, seen, wrong.wanted, report)?;
@@ -166,8 +159,7 @@ pub(crate) fn put_report<R: Sink>(
     report: &mut R,
 ) -> Result<(), Failed>
     requires { IsDrawable wrong.now.reached }
-    ensures { PutsText (R.written report.old) (R.written report.new)
-        (R.faults report.old) (R.faults report.new) (wrong_report layout.now wrong.now seen) result }
+    ensures { PutsInto R.Sink report.old report.new (wrong_report layout.now wrong.now seen) result }
 {
     let tally = counts_of(wrong.moves.len() as u64, wrong.counts);
     put_parts(

@@ -12,7 +12,7 @@ use Rattle.cli_files.specs.declared.answer.Answer.{Answer}
 use Rattle.cli_files.specs.declared.status.Status.{Status}
 use Rattle.cli_reports.specs.Reporting.{PutsReport, PutsAfter, PutsClosing, ReportsAlone, Comes, PutsDecided, Adds}
 use Rattle.cli_reports.specs.Reporting.{FaultsReported, FaultsAre, StreamFaultsAre, files_reported}
-use Rattle.cli_reports.specs.OutsideChanges.{stream_faults}
+use Rattle.cli_reports.specs.OutsideChanges.{RunSeen}
 use Rattle.cli_reports.specs.declared.reporting.Reported.{Reported}
 
 -- nothing was shown before the text
@@ -67,14 +67,20 @@ decided-files half full (Ok answer) (Err failed) closes = absurd closes
 decided-files half full (Err failed) (Ok reported) closes = absurd closes
 decided-files half full (Err failed) (Err other) closes = refl
 
+-- what is seen of a run of the outside and the report
+abbrev run_of : Outside → Report → RunSeen
+run_of outside report = record {
+  streams = outside.streams;
+  input_faults = outside.input_faults;
+  output_faults = outside.output_faults;
+  report = report;
+}
+
 -- after files were read, and the program in one of them ran, the counts are those that the reading and the run leave
-pub faults-ran : (before after : Outside) (result : Result Reported Failed) →
+pub faults-ran : (before after : Outside) (blank full : Report) (result : Result Reported Failed) →
     after.file_faults ≡ before.file_faults →
-    StreamFaultsAre (record {
-      before = stream_faults before.input_faults before.output_faults;
-      after = stream_faults after.input_faults after.output_faults;
-    }) result → FaultsAre before after result
-faults-ran before after result same ran = record {
+    StreamFaultsAre (run_of before blank) (run_of after full) result → FaultsAre before after result
+faults-ran before after blank full result same ran = record {
   files = rw same (no-cause before.file_faults (files_reported result) ran.files);
   input = ran.input;
   output = ran.output;

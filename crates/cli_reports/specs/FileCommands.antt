@@ -3,6 +3,8 @@ use Rattle.std.specs.Prelude.{◌≡◌, ℕ, List, [], codes, Option, Ok}
 use Rattle.cf_io.specs.Causes.{HasCause}
 use Rattle.cf_io.specs.Puts.{Writes, WritesFront}
 use Rattle.cf_io.specs.Reads.{FilesSeen}
+use Rattle.cf_io.specs.declared.files.Files.{Ghosts as FilesMembers}
+use Rattle.cf_io.specs.declared.sink.Sink.{Ghosts as SinkMembers}
 use Rattle.texts.specs.Lines.{line}
 use Rattle.cli_files.specs.Causes.{files_answered, input_answered, output_answered}
 use Rattle.cli_files.specs.Outside.{Outside}
@@ -40,29 +42,25 @@ PutsOrFails text before after status.WriteFault report = FailsText text before a
 PutsOrFails text before after _ report = ⊥
 
 -- what a call that has the output alone leaves of it: the answer says neither of a file nor of the input that it failed, and the count of
--- the output's faults rose exactly where it says so
-pub record AnswersByOutput (Comes : Option (List ℕ) → Option (List ℕ) → Status → List ℕ → Type 0) (before after : Option (List ℕ))
-    (faults_before faults_after : ℕ) (answer : Answer) : Type 0 where
-  pub comes : Comes before after answer.status answer.closing
+-- the output's faults rose exactly if it says so
+pub record AnswersByOutput {K : Type 0} (Comes : Option (List ℕ) → Option (List ℕ) → Status → List ℕ → Type 0)
+    (of_output : SinkMembers K) (before after : K) (answer : Answer) : Type 0 where
+  pub comes : Comes (of_output.written before) (of_output.written after) answer.status answer.closing
   pub files : files_answered answer.status ≡ Ok tt
   pub input : input_answered answer.status ≡ Ok tt
-  pub output : HasCause faults_before faults_after (output_answered answer.status)
+  pub output : HasCause (of_output.faults before) (of_output.faults after) (output_answered answer.status)
 
--- how often the files and the output have failed
-pub record SideFaults : Type 0 where
-  pub files : ℕ
-  pub output : ℕ
-
-abbrev pub side_faults : ℕ → ℕ → SideFaults
-side_faults files output = record { files = files; output = output }
+-- what files and a sink expose
+abbrev pub side_in : {F K : Type 0} → FilesMembers F → SinkMembers K → F × K → FileSide
+side_in of_files of_output both = file_side (of_files.told both.0) (of_output.written both.1)
 
 -- the same of a call that has the files too
-pub record AnswersByFile (Answers : FileSide → FileSide → Status → List ℕ → Type 0) (before after : FileSide)
-    (faults_before faults_after : SideFaults) (answer : Answer) : Type 0 where
-  pub answers : Answers before after answer.status answer.closing
-  pub files : HasCause faults_before.files faults_after.files (files_answered answer.status)
+pub record AnswersByFile {F K : Type 0} (Answers : FileSide → FileSide → Status → List ℕ → Type 0) (of_files : FilesMembers F)
+    (of_output : SinkMembers K) (before after : F × K) (answer : Answer) : Type 0 where
+  pub answers : Answers (side_in of_files of_output before) (side_in of_files of_output after) answer.status answer.closing
+  pub files : HasCause (of_files.faults before.0) (of_files.faults after.0) (files_answered answer.status)
   pub input : input_answered answer.status ≡ Ok tt
-  pub output : HasCause faults_before.output faults_after.output (output_answered answer.status)
+  pub output : HasCause (of_output.faults before.1) (of_output.faults after.1) (output_answered answer.status)
 
 -- the file was read, and this comes of its bytes
 pub record ComesOfFile

@@ -1,17 +1,12 @@
--- What the objects lent to a command tell, as it begins and as it ends.
-use Rattle.std.specs.Prelude.{ℕ, List, Option}
+-- What the objects passed to a command expose, as it begins and as it ends.
+use Rattle.std.specs.Prelude.{ℕ}
 use Rattle.std.specs.Borrow.{MutBor}
-use Rattle.cf_io.specs.Reads.{FilesSeen}
+use Rattle.cf_io.specs.declared.files.Files.{Ghosts as FilesMembers}
+use Rattle.cf_io.specs.declared.sink.Sink.{Ghosts as SinkMembers}
+use Rattle.cf_io.specs.declared.source.Source.{Ghosts as SourceMembers}
 use Rattle.rv_machine.specs.Streams.{Streams as StreamsTold, streams_of}
-use Rattle.cli_files.specs.Outside.{Outside, Report, outside_of, report_of}
+use Rattle.cli_files.specs.Outside.{Outside, Report, outside_seen, report_in}
 use Rattle.cli_reports.specs.declared.streams.RunStreams.{RunStreams}
-
--- the streams and the report of a run, before and after
-pub record StreamsChange : Type 0 where
-  pub before : StreamsTold
-  pub after : StreamsTold
-  pub blank : Report
-  pub full : Report
 
 -- the three objects of a run as a call leaves them
 abbrev pub StreamsLeft : (S K R U : Type 0) → Type 0
@@ -26,34 +21,31 @@ output_left left = left.1.0.now
 abbrev pub report_left : {S K R U : Type 0} → StreamsLeft S K R U → R
 report_left left = left.1.1.0.now
 
--- what they tell, given what a source and two sinks tell, and the count of faults of the report
-abbrev pub streams_change : {S K R U : Type 0} → (S → Option (List ℕ)) → (K → Option (List ℕ)) → (R → Option (List ℕ)) → (R → ℕ) →
-    RunStreams S K R → StreamsLeft S K R U → StreamsChange
-streams_change unread written reported faults lent left = record {
-  before = streams_of (unread lent.input.now) (written lent.output.now);
-  after = streams_of (unread (input_left left)) (written (output_left left));
-  blank = report_of (reported lent.report.now) (faults lent.report.now);
-  full = report_of (reported (report_left left)) (faults (report_left left));
+-- what is seen of a run at one moment: its streams, how often its input and its output have failed, and the report
+pub record RunSeen : Type 0 where
+  pub streams : StreamsTold
+  pub input_faults : ℕ
+  pub output_faults : ℕ
+  pub report : Report
+
+abbrev pub run_seen : {S K R : Type 0} → SourceMembers S → SinkMembers K → SinkMembers R → S → K → R → RunSeen
+run_seen of_input of_output of_report input output report = record {
+  streams = streams_of (of_input.left input) (of_output.written output);
+  input_faults = of_input.faults input;
+  output_faults = of_output.faults output;
+  report = report_in of_report report;
 }
 
--- how often the program's input and its output have failed
-pub record StreamFaults : Type 0 where
-  pub input : ℕ
-  pub output : ℕ
+-- as it begins and as it ends
+pub record RunChange : Type 0 where
+  pub before : RunSeen
+  pub after : RunSeen
 
-abbrev pub stream_faults : ℕ → ℕ → StreamFaults
-stream_faults input output = record { input = input; output = output }
-
--- those counts, before and after
-pub record StreamFaultsChange : Type 0 where
-  pub before : StreamFaults
-  pub after : StreamFaults
-
--- given how the counts of a source and of a sink are seen
-abbrev pub faults_change : {S K R U : Type 0} → (S → ℕ) → (K → ℕ) → RunStreams S K R → StreamsLeft S K R U → StreamFaultsChange
-faults_change input_faults output_faults lent left = record {
-  before = stream_faults (input_faults lent.input.now) (output_faults lent.output.now);
-  after = stream_faults (input_faults (input_left left)) (output_faults (output_left left));
+abbrev pub run_change : {S K R U : Type 0} → SourceMembers S → SinkMembers K → SinkMembers R → RunStreams S K R →
+    StreamsLeft S K R U → RunChange
+run_change of_input of_output of_report lent left = record {
+  before = run_seen of_input of_output of_report lent.input.now lent.output.now lent.report.now;
+  after = run_seen of_input of_output of_report (input_left left) (output_left left) (report_left left);
 }
 
 -- the outside and the report, before and after
@@ -63,14 +55,21 @@ pub record OutsideChange : Type 0 where
   pub blank : Report
   pub full : Report
 
--- what the files and those three tell, given what files, a source and two sinks tell, and their counts of faults
-abbrev pub outside_change : {F S K R U : Type 0} → (F → Option FilesSeen) → (F → ℕ) → (S → Option (List ℕ)) → (S → ℕ) →
-    (K → Option (List ℕ)) → (K → ℕ) → (R → Option (List ℕ)) → (R → ℕ) → F → F → RunStreams S K R → StreamsLeft S K R U → OutsideChange
-outside_change told file_faults unread input_faults written output_faults reported report_faults files files_left lent left = record {
-  before = outside_of (told files) (file_faults files) (unread lent.input.now) (input_faults lent.input.now)
-      (written lent.output.now) (output_faults lent.output.now);
-  after = outside_of (told files_left) (file_faults files_left) (unread (input_left left)) (input_faults (input_left left))
-      (written (output_left left)) (output_faults (output_left left));
-  blank = report_of (reported lent.report.now) (report_faults lent.report.now);
-  full = report_of (reported (report_left left)) (report_faults (report_left left));
-}
+abbrev pub change_of : (before after : Outside) → (blank full : Report) → OutsideChange
+change_of before after blank full = record { before = before; after = after; blank = blank; full = full }
+
+-- of a command that is given its streams and its report as one value
+abbrev pub outside_change : {F S K R U : Type 0} → FilesMembers F → SourceMembers S → SinkMembers K → SinkMembers R → F → F →
+    RunStreams S K R → StreamsLeft S K R U → OutsideChange
+outside_change of_files of_input of_output of_report files files_left lent left =
+    change_of (outside_seen of_files of_input of_output files lent.input.now lent.output.now)
+    (outside_seen of_files of_input of_output files_left (input_left left) (output_left left))
+    (report_in of_report lent.report.now) (report_in of_report (report_left left))
+
+-- of a call that is given them one by one
+abbrev pub call_change : {F S K R : Type 0} → FilesMembers F → SourceMembers S → SinkMembers K → SinkMembers R →
+    F × (S × (K × R)) → F × (S × (K × R)) → OutsideChange
+call_change of_files of_input of_output of_report old new =
+    change_of (outside_seen of_files of_input of_output old.0 old.1.0 old.1.1.0)
+    (outside_seen of_files of_input of_output new.0 new.1.0 new.1.1.0)
+    (report_in of_report old.1.1.1) (report_in of_report new.1.1.1)

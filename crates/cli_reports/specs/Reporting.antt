@@ -3,18 +3,23 @@ use Rattle.std.specs.Prelude.{◌≡◌, ℕ, List, Bool, true, false, Option, R
 use Rattle.cf_io.specs.Causes.{Rose, HasCause}
 use Rattle.cf_io.specs.Puts.{Writes}
 use Rattle.cf_io.specs.declared.failed.Failed.{Failed}
+use Rattle.cf_io.specs.declared.sink.Sink.{Ghosts as SinkMembers}
 use Rattle.rv_machine.specs.Streams.{Streams}
 use Rattle.cf_report.specs.Putting.{PutsText}
 use Rattle.cli_files.specs.Causes.{files_answered, input_answered, output_answered}
-use Rattle.cli_files.specs.Outside.{Outside, Report}
+use Rattle.cli_files.specs.Outside.{Outside, Report, report_in}
 use Rattle.cli_files.specs.declared.answer.Answer.{Answer}
 use Rattle.cli_files.specs.declared.status.Status.{Status}
-use Rattle.cli_reports.specs.OutsideChanges.{OutsideChange, StreamsChange, StreamFaultsChange}
+use Rattle.cli_reports.specs.OutsideChanges.{OutsideChange, RunChange, RunSeen}
 use Rattle.cli_reports.specs.declared.reporting.Reported.{Reported}
 
 -- the text was put to the report, or the report failed after a prefix of it
 abbrev pub PutsReport : (half full : Report) → (text : List ℕ) → Result (Unit {0}) Failed → Type 0
 PutsReport half full text put = PutsText half.written full.written half.faults full.faults text put
+
+-- the same of the sink that the report is put to
+abbrev pub PutsInto : {R : Type 0} → SinkMembers R → (before after : R) → (text : List ℕ) → Result (Unit {0}) Failed → Type 0
+PutsInto of_report before after text put = PutsReport (report_in of_report before) (report_in of_report after) text put
 
 -- what was shown was put, and the closing lines after it, or the report failed after a prefix of these
 pub record PutsAfter (blank full : Report) (shown closing : List ℕ) (put : Result (Unit {0}) Failed) : Type 0 where
@@ -38,8 +43,8 @@ abbrev pub ReportsAll : (Outside → Outside → Status → List ℕ → Type 0)
 ReportsAll answers s reported = ReportsAlone (answers s.before s.after) s.blank s.full reported
 
 -- the same of a run, over its streams and its report alone
-abbrev pub ReportsOver : (Streams → Streams → Status → List ℕ → Type 0) → StreamsChange → Reported → Type 0
-ReportsOver answers p reported = ReportsAlone (answers p.before p.after) p.blank p.full reported
+abbrev pub ReportsOver : (Streams → Streams → Status → List ℕ → Type 0) → RunChange → Reported → Type 0
+ReportsOver answers c reported = ReportsAlone (answers c.before.streams c.after.streams) c.before.report c.after.report reported
 
 -- the command was carried out, or the report failed while it was
 abbrev pub Comes : (Status → List ℕ → List ℕ → Type 0) → Type 0 → (blank full : Report) → Result Reported Failed → Type 0
@@ -54,9 +59,10 @@ CarriesOut answers breaks s result =
 
 -- the same of a run, over its streams and its report alone
 abbrev pub ComesOver : (Streams → Streams → Option (List ℕ) → Status → List ℕ → List ℕ → Type 0) →
-    (Streams → Streams → Option (List ℕ) → Option (List ℕ) → Type 0) → StreamsChange → Result Reported Failed → Type 0
-ComesOver answers breaks p result =
-    Comes (answers p.before p.after p.blank.written) (breaks p.before p.after p.blank.written p.full.written) p.blank p.full result
+    (Streams → Streams → Option (List ℕ) → Option (List ℕ) → Type 0) → RunChange → Result Reported Failed → Type 0
+ComesOver answers breaks c result =
+    Comes (answers c.before.streams c.after.streams c.before.report.written)
+    (breaks c.before.streams c.after.streams c.before.report.written c.after.report.written) c.before.report c.after.report result
 
 -- an error where a file could not be read
 abbrev pub files_reported : Result Reported Failed → Result (Unit {0}) (Unit {0})
@@ -76,10 +82,10 @@ pub record FaultsAre (before after : Outside) (result : Result Reported Failed) 
   pub output : FaultsReported output_answered before.output_faults after.output_faults result
 
 -- the same of a run, which reads no file: its status does not say that one could not be read
-pub record StreamFaultsAre (counts : StreamFaultsChange) (result : Result Reported Failed) : Type 0 where
+pub record StreamFaultsAre (before after : RunSeen) (result : Result Reported Failed) : Type 0 where
   pub files : files_reported result ≡ Ok tt
-  pub input : FaultsReported input_answered counts.before.input counts.after.input result
-  pub output : FaultsReported output_answered counts.before.output counts.after.output result
+  pub input : FaultsReported input_answered before.input_faults after.input_faults result
+  pub output : FaultsReported output_answered before.output_faults after.output_faults result
 
 -- what a command that shows lines leaves of all that it was lent, with the counts of faults
 pub record CarriesOutCommand (answers : Outside → Outside → Option (List ℕ) → Status → List ℕ → List ℕ → Type 0)
@@ -96,16 +102,16 @@ pub record ReportsCommand (answers : Outside → Outside → Status → List ℕ
 
 -- what a run leaves of its streams and its report, with the counts of faults of the streams
 pub record CarriesOutRun (answers : Streams → Streams → Option (List ℕ) → Status → List ℕ → List ℕ → Type 0)
-    (breaks : Streams → Streams → Option (List ℕ) → Option (List ℕ) → Type 0) (p : StreamsChange)
-    (counts : StreamFaultsChange) (result : Result Reported Failed) : Type 0 where
-  pub comes : ComesOver answers breaks p result
-  pub faults : StreamFaultsAre counts result
+    (breaks : Streams → Streams → Option (List ℕ) → Option (List ℕ) → Type 0) (c : RunChange)
+    (result : Result Reported Failed) : Type 0 where
+  pub comes : ComesOver answers breaks c result
+  pub faults : StreamFaultsAre c.before c.after result
 
 -- the same of a run that shows nothing
-pub record ReportsRun (answers : Streams → Streams → Status → List ℕ → Type 0) (p : StreamsChange)
-    (counts : StreamFaultsChange) (reported : Reported) : Type 0 where
-  pub reports : ReportsOver answers p reported
-  pub faults : StreamFaultsAre counts (Ok reported)
+pub record ReportsRun (answers : Streams → Streams → Status → List ℕ → Type 0) (c : RunChange) (reported : Reported) :
+    Type 0 where
+  pub reports : ReportsOver answers c reported
+  pub faults : StreamFaultsAre c.before c.after (Ok reported)
 
 -- the closing lines of what was decided were put; where the report had failed, no lines were
 abbrev pub PutsDecided : Result Answer Failed → (half full : Report) → Result Reported Failed → Type 0

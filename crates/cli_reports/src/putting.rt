@@ -7,8 +7,7 @@ use cli_files::{Answer, done, write_fault};
 
 /// Puts a text to the output.
 pub fn put_text<K: Sink>(text: &[u8], output: &mut K) -> Answer
-    ensures { AnswersByOutput (PutsOrFails text.now) (K.written output.old) (K.written output.new)
-        (K.faults output.old) (K.faults output.new) result }
+    ensures { AnswersByOutput (PutsOrFails text.now) K.Sink output.old output.new result }
 {
     match put_all(output, text) {
         Ok(()) => done(),

@@ -1,9 +1,8 @@
 //! The outcome of a command once its report was put.
 
 ghost use Rattle.std.specs.Prelude.{◌≡◌};
-ghost use Rattle.cf_report.specs.Putting.{PutsText};
-ghost use Rattle.cli_files.specs.Outside.{report_of};
-ghost use Rattle.cli_reports.specs.Reporting.{PutsDecided};
+ghost use Rattle.cli_files.specs.Outside.{report_in};
+ghost use Rattle.cli_reports.specs.Reporting.{PutsInto, PutsDecided};
 
 use cf_io::{Failed, Sink, put_all};
 use cli_files::{Answer, Status};
@@ -21,8 +20,7 @@ pub struct Reported {
 /// Puts the lines that close a report.
 pub fn put_answer<R: Sink>(answer: Answer, report: &mut R) -> Reported
     ensures status { result.status ≡ answer.status }
-    ensures puts { PutsText (R.written report.old) (R.written report.new)
-        (R.faults report.old) (R.faults report.new) answer.closing result.put }
+    ensures puts { PutsInto R.Sink report.old report.new answer.closing result.put }
 {
     let put = put_all(report, answer.closing.bytes());
     Reported {
@@ -36,8 +34,7 @@ pub fn put_decided<R: Sink>(
     decided: Result<Answer, Failed>,
     report: &mut R,
 ) -> Result<Reported, Failed>
-    ensures { PutsDecided decided (report_of (R.written report.old) (R.faults report.old))
-        (report_of (R.written report.new) (R.faults report.new)) result }
+    ensures { PutsDecided decided (report_in R.Sink report.old) (report_in R.Sink report.new) result }
 {
     match decided {
         Ok(answer) => Ok(put_answer(answer, report)),

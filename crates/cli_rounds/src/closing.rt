@@ -3,7 +3,7 @@
 ghost use Rattle.std.specs.Prelude.{◌≡◌};
 ghost use Rattle.run_finishes.specs.declared.finish.Scripted.TheVariants.{Ran as Finished};
 ghost use Rattle.report_closing.specs.Closing.{is_report_fault};
-ghost use Rattle.cli_files.specs.Outside.{report_of};
+ghost use Rattle.cli_files.specs.Outside.{report_in};
 ghost use Rattle.cli_rounds.specs.Closing.{ClosesRounds};
 
 use cf_core::Core;
@@ -30,8 +30,7 @@ pub fn close_in_rounds<R: Sink>(
     tally: &Tally,
     report: &mut R,
 ) -> Result<Reported, Failed>
-    ensures { ClosesRounds limit finish rounds core.now tally.now (report_of (R.written report.old) (R.faults report.old))
-        (report_of (R.written report.new) (R.faults report.new)) result }
+    ensures { ClosesRounds limit finish rounds core.now tally.now (report_in R.Sink report.old) (report_in R.Sink report.new) result }
 {
     if is_cut(finish) {
         return Err(Failed);

@@ -6,7 +6,7 @@ ghost use Rattle.cli_arguments.specs.Views.{layout_of};
 ghost use Rattle.cf_rounds.specs.Running.{ran_of as ran_for};
 ghost use Rattle.cf_core.specs.Processors.{opened, IsOpened};
 ghost use Rattle.cli_reports.specs.Reporting.{CarriesOutCommand, CarriesOutRun};
-ghost use Rattle.cli_reports.specs.OutsideChanges.{streams_change, faults_change, outside_change};
+ghost use Rattle.cli_reports.specs.OutsideChanges.{run_change, outside_change};
 ghost use Rattle.cli_rounds.specs.Rounds.{rounds_asked, RunsCoreInRounds, ComesInRounds, BreaksInRounds, AnswersRounds, BreaksRounds};
 
 use crate::closing::close_in_rounds;
@@ -60,8 +60,7 @@ fn run_core<S: Source, K: Sink, R: Sink>(
     requires opened { IsOpened opened.old.core }
     ensures { CarriesOutRun (RunsCoreInRounds rule limit every opened.old.core opened.new.core)
         (BreaksInRounds rule limit every opened.old.core)
-        (streams_change S.left K.written R.written R.faults streams.entry streams.exit)
-        (faults_change S.faults K.faults streams.entry streams.exit) result }
+        (run_change S.Source K.Sink R.Sink streams.entry streams.exit) result }
 {
     let RunStreams {
         input,
@@ -99,8 +98,7 @@ fn run_loaded<S: Source, K: Sink, R: Sink>(
     requires limit { limit ≤ most_limit }
     ensures { CarriesOutRun (ComesInRounds rule limit every loaded.layout loaded.machine)
         (BreaksInRounds rule limit every (opened loaded.layout loaded.machine))
-        (streams_change S.left K.written R.written R.faults streams.entry streams.exit)
-        (faults_change S.faults K.faults streams.entry streams.exit) result }
+        (run_change S.Source K.Sink R.Sink streams.entry streams.exit) result }
 {
     match open(alloc, loaded.layout, loaded.machine) {
         Ok(mut opened) => run_core(&mut opened, rule, limit, every, streams),
@@ -124,7 +122,7 @@ pub fn run_in_rounds<F: Files, S: Source, K: Sink, R: Sink>(
     requires { options.limit ≤ most_limit }
     ensures { CarriesOutCommand (AnswersRounds (rounds_asked (layout_of layout.entry) program.now options.limit options.every options.rule))
         (BreaksRounds (rounds_asked (layout_of layout.entry) program.now options.limit options.every options.rule))
-        (outside_change F.told F.faults S.left S.faults K.written K.faults R.written R.faults files.old files.new streams.entry streams.exit) result }
+        (outside_change F.Files S.Source K.Sink R.Sink files.old files.new streams.entry streams.exit) result }
 {
     match load(alloc, layout, program, files) {
         Ok(loaded) => {

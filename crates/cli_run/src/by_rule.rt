@@ -4,7 +4,7 @@ ghost use Rattle.cf_run.specs.Policies.{CanRun};
 ghost use Rattle.cf_sched.specs.Policies.{round_on, round_pick};
 ghost use Rattle.cli_reports.specs.Reporting.{CarriesOutRun};
 ghost use Rattle.cli_run.specs.Run.{ByPolicy, RunsCore, BreaksCore};
-ghost use Rattle.cli_reports.specs.OutsideChanges.{streams_change, faults_change};
+ghost use Rattle.cli_reports.specs.OutsideChanges.{run_change};
 
 use crate::closing::close;
 use cf_core::Core;
@@ -33,8 +33,7 @@ pub fn run_by_rule<S: Source, K: Sink, R: ReportSink>(
     requires begins { CanRun limit core.old }
     ensures { CarriesOutRun (RunsCore limit reporting core.old core.new (ByPolicy rule round_pick round_on limit reporting round))
         (BreaksCore limit reporting core.old (ByPolicy rule round_pick round_on limit reporting round))
-        (streams_change S.left K.written R.written R.faults streams.entry streams.exit)
-        (faults_change S.faults K.faults streams.entry streams.exit) result }
+        (run_change S.Source K.Sink R.Sink streams.entry streams.exit) result }
 {
     let mut round = round;
     let RunStreams {

@@ -5,7 +5,7 @@ ghost use Rattle.run_options.specs.Limits.{most_limit};
 ghost use Rattle.run_scripts.specs.Limits.{most_script};
 ghost use Rattle.cli_reports.specs.Reporting.{CarriesOutRun};
 ghost use Rattle.cli_run.specs.Run.{ByScript, RunsCore, BreaksCore};
-ghost use Rattle.cli_reports.specs.OutsideChanges.{streams_change, faults_change};
+ghost use Rattle.cli_reports.specs.OutsideChanges.{run_change};
 
 use crate::closing::close;
 use cf_core::Core;
@@ -32,8 +32,7 @@ pub fn run_by_script<S: Source, K: Sink, R: ReportSink>(
     requires fits { length text.now ≤ most_script }
     ensures { CarriesOutRun (RunsCore limit reporting core.old core.new (ByScript limit reporting text.now))
         (BreaksCore limit reporting core.old (ByScript limit reporting text.now))
-        (streams_change S.left K.written R.written R.faults streams.entry streams.exit)
-        (faults_change S.faults K.faults streams.entry streams.exit) result }
+        (run_change S.Source K.Sink R.Sink streams.entry streams.exit) result }
 {
     let RunStreams {
         input,

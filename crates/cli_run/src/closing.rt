@@ -2,7 +2,7 @@
 
 ghost use Rattle.std.specs.Prelude.{◌≡◌};
 ghost use Rattle.report_closing.specs.Closing.{is_report_fault};
-ghost use Rattle.cli_files.specs.Outside.{report_of};
+ghost use Rattle.cli_files.specs.Outside.{report_in};
 ghost use Rattle.cli_processor.specs.Statuses.{status_of as status_for};
 ghost use Rattle.cli_run.specs.Closing.{ClosesCore};
 
@@ -41,8 +41,7 @@ pub fn close<R: Sink>(
     tally: &Tally,
     report: &mut R,
 ) -> Result<Reported, Failed>
-    ensures { ClosesCore limit finish core.now tally.now (report_of (R.written report.old) (R.faults report.old))
-        (report_of (R.written report.new) (R.faults report.new)) result }
+    ensures { ClosesCore limit finish core.now tally.now (report_in R.Sink report.old) (report_in R.Sink report.new) result }
 {
     if is_cut(finish) {
         return Err(Failed);

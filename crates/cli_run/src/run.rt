@@ -8,7 +8,7 @@ ghost use Rattle.cf_run.specs.Policies.{CanRun};
 ghost use Rattle.cli_files.specs.RunFiles.{run_asked};
 ghost use Rattle.cli_reports.specs.Reporting.{CarriesOutCommand, CarriesOutRun};
 ghost use Rattle.cli_run.specs.Run.{chosen_by, RunsCore, RunsWithTail, BreaksCore, ComesOf, AnswersRun, BreaksRun};
-ghost use Rattle.cli_reports.specs.OutsideChanges.{streams_change, faults_change, outside_change};
+ghost use Rattle.cli_reports.specs.OutsideChanges.{run_change, outside_change};
 ghost use Rattle.cli_files.specs.Schedules.{ready_schedule_view, FitsScript};
 
 use crate::by_policy::run_by_policy;
@@ -41,8 +41,7 @@ fn run_scheduled<S: Source, K: Sink, R: ReportSink>(
     requires fits { FitsScript (ready_schedule_view schedule.now) }
     ensures { CarriesOutRun (RunsCore limit reporting core.old core.new (chosen_by limit reporting (ready_schedule_view schedule.now)))
         (BreaksCore limit reporting core.old (chosen_by limit reporting (ready_schedule_view schedule.now)))
-        (streams_change S.left K.written R.written R.faults streams.entry streams.exit)
-        (faults_change S.faults K.faults streams.entry streams.exit) result }
+        (run_change S.Source K.Sink R.Sink streams.entry streams.exit) result }
 {
     match schedule {
         ReadySchedule::Script(text) => {
@@ -72,8 +71,7 @@ fn run_opened<S: Source, K: Sink, R: ReportSink>(
     ensures { CarriesOutRun
         (RunsWithTail options.entry.limit options.entry.reporting tail opened.old.core opened.new.core (chosen_by options.entry.limit options.entry.reporting (ready_schedule_view schedule.now)))
         (BreaksCore options.entry.limit options.entry.reporting opened.old.core (chosen_by options.entry.limit options.entry.reporting (ready_schedule_view schedule.now)))
-        (streams_change S.left K.written R.written R.faults streams.entry streams.exit)
-        (faults_change S.faults K.faults streams.entry streams.exit) result }
+        (run_change S.Source K.Sink R.Sink streams.entry streams.exit) result }
 {
     let RunStreams {
         input,
@@ -109,8 +107,7 @@ pub fn run_ready<S: Source, K: Sink, R: ReportSink>(
     ensures { CarriesOutRun
         (ComesOf options.entry.limit options.entry.reporting tail ready.layout ready.machine (ready_schedule_view ready.schedule))
         (BreaksCore options.entry.limit options.entry.reporting (opened ready.layout ready.machine) (chosen_by options.entry.limit options.entry.reporting (ready_schedule_view ready.schedule)))
-        (streams_change S.left K.written R.written R.faults streams.entry streams.exit)
-        (faults_change S.faults K.faults streams.entry streams.exit) result }
+        (run_change S.Source K.Sink R.Sink streams.entry streams.exit) result }
 {
     match open(alloc, ready.layout, ready.machine) {
         Ok(mut opened) => run_opened(&mut opened, &ready.schedule, options, tail, streams),
@@ -136,7 +133,7 @@ pub fn run_processor<F: Files, S: Source, K: Sink, R: ReportSink>(
     ensures { CarriesOutCommand
         (AnswersRun tail (run_asked (layout_of layout.entry) program.now (asked_schedule options.entry.schedule) options.entry.limit options.entry.reporting))
         (BreaksRun (run_asked (layout_of layout.entry) program.now (asked_schedule options.entry.schedule) options.entry.limit options.entry.reporting))
-        (outside_change F.told F.faults S.left S.faults K.written K.faults R.written R.faults files.old files.new streams.entry streams.exit) result }
+        (outside_change F.Files S.Source K.Sink R.Sink files.old files.new streams.entry streams.exit) result }
 {
     match read_files(alloc, layout, program, options, files) {
         Ok(ready) => run_ready(alloc, ready, options, tail, streams),

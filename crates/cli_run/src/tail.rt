@@ -1,9 +1,8 @@
 //! What follows the report of a run.
 
 ghost use Rattle.std.specs.Prelude.{◌≡◌};
-ghost use Rattle.cf_report.specs.Putting.{PutsText};
-ghost use Rattle.cli_files.specs.Outside.{report_of};
-ghost use Rattle.cli_reports.specs.Reporting.{Adds};
+ghost use Rattle.cli_files.specs.Outside.{report_in};
+ghost use Rattle.cli_reports.specs.Reporting.{Adds, PutsInto};
 ghost use Rattle.cli_run.specs.Tail.{tail_text};
 
 use cf_core::Core;
@@ -24,8 +23,7 @@ pub enum Tail {
 
 /// Puts the lines of the tail after a run of this status.
 fn put_tail<R: Sink>(tail: Tail, status: &Status, core: &Core, report: &mut R) -> Result<(), Failed>
-    ensures { PutsText (R.written report.old) (R.written report.new)
-        (R.faults report.old) (R.faults report.new) (tail_text tail status.now core.now) result }
+    ensures { PutsInto R.Sink report.old report.new (tail_text tail status.now core.now) result }
 {
     match tail {
         Tail::Nothing => Ok(()),
@@ -39,8 +37,8 @@ fn put_tail<R: Sink>(tail: Tail, status: &Status, core: &Core, report: &mut R) -
 /// Puts them where the report has been put so far.
 pub fn add_tail<R: Sink>(tail: Tail, core: &Core, reported: Reported, report: &mut R) -> Reported
     ensures status { result.status ≡ reported.status }
-    ensures adds { Adds reported.put (report_of (R.written report.old) (R.faults report.old))
-        (report_of (R.written report.new) (R.faults report.new)) (tail_text tail reported.status core.now) result.put }
+    ensures adds { Adds reported.put (report_in R.Sink report.old)
+        (report_in R.Sink report.new) (tail_text tail reported.status core.now) result.put }
 {
     let put = match reported.put {
         Ok(()) => put_tail(tail, &reported.status, core, report),

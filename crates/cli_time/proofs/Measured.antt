@@ -23,7 +23,7 @@ use Rattle.cf_timed.proofs.Chaining.{longest}
 use Rattle.cf_io.proofs.Owing.{writes-nothing}
 use Rattle.cf_run.specs.Made.{Made}
 use Rattle.run_ledger.specs.NotedRuns.{RunsNoted}
-use Rattle.run_ledger.specs.RunLedgers.{told_by}
+use Rattle.run_ledger.specs.RunLedgers.{breakdown_in}
 use Rattle.run_ledger.specs.declared.breakdown.Breakdown.{Breakdown}
 use Rattle.run_ledger.specs.declared.run_ledger.RunLedger.{RunLedger}
 use Rattle.cf_run.proofs.Opened.{can-run}
@@ -92,7 +92,7 @@ pub takes-sites : (rule : DelayRule) (options : RunChoices) (core last : Process
     (made : Breakdown) → options.show ≡ shows.Sites →
     RunsNoted options.rule rule options.limit (begins core (over bytes)) last (over left) clock ledger measured.moves measured.answer →
     measured.time ≡ clock.latest → measured.retired ≡ last.state.retired →
-    measured.moves ≤ most_moves core.plan (last.state.retired - core.state.retired) → measured.sites ≡ Some made → made ≡ told_by ledger →
+    measured.moves ≤ most_moves core.plan (last.state.retired - core.state.retired) → measured.sites ≡ Some made → made ≡ breakdown_in ledger →
     MeasuresRun rule options core.plan core bytes (record { measured = measured; shown = [] })
 takes-sites rule options core last bytes left clock ledger measured made shown noted time retired bounded some told =
     takes rule options core last bytes left clock measured [] noted.timed time retired bounded

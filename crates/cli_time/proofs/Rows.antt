@@ -14,7 +14,7 @@ use Rattle.cli_time.specs.declared.choices.RunChoices.{RunChoices}
 use Rattle.cli_arguments.specs.Words.{NamedLayout}
 use Rattle.cli_time.specs.Lines.{closing_lines, layout_lines, time_lines}
 use Rattle.cli_time.specs.Measures.{BreaksTaking, Measures, MeasuresFirst, TakenRun, rule_by}
-use Rattle.cli_time.specs.Runs.{MeasuringStops, PutsAll, PutsFewer, PutsMoves, TimingStops, report_stopped}
+use Rattle.cli_time.specs.Runs.{MeasuringStops, PutsAll, PutsFewer, PutsMoves, TimingStops, stopped_by_report}
 use Rattle.cli_time.specs.declared.stop.Stop.{Stop}
 use Rattle.cli_time.specs.declared.stop.Stop.TheVariants as stop
 use Rattle.cli_time.specs.Times.{BreaksAtLayout}
@@ -182,8 +182,8 @@ rows-stop words options delays plans start blank told full before now place time
     rows-cut words options delays plans start blank told full before now place times plan h at_plan cut
 
 pub rows-stopped : (before now later : ℕ) (stops : Stop) → now ≡ before →
-    HasCause {T = Unit {0}} {E = Unit {0}} now later (report_stopped {T = Unit {0}} (Err stops)) →
-    HasCause {T = Unit {0}} {E = Unit {0}} before later (report_stopped {T = Unit {0}} (Err stops))
+    HasCause {T = Unit {0}} {E = Unit {0}} now later (stopped_by_report {T = Unit {0}} (Err stops)) →
+    HasCause {T = Unit {0}} {E = Unit {0}} before later (stopped_by_report {T = Unit {0}} (Err stops))
 rows-stopped before now later stops still h = rw (← still) h
 
 -- the count of the report's faults rose there

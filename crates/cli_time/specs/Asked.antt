@@ -35,6 +35,6 @@ time_asked delays program layouts options = record {
 }
 
 -- the word that names a layout
-unfoldable pub name_of : NamedLayout → List ℕ
-name_of plain = codes "plain"
-name_of (in_file name) = name
+unfoldable pub layout_name : NamedLayout → List ℕ
+layout_name plain = codes "plain"
+layout_name (in_file name) = name

@@ -5,7 +5,7 @@ use Rattle.texts.specs.Lines.{counted_line, line}
 use Rattle.cf_timed.specs.declared.answer.Timed.{Timed}
 use Rattle.cf_timed.specs.TimedRuns.{answer_of}
 use Rattle.cli_arguments.specs.Words.{NamedLayout}
-use Rattle.cli_time.specs.Asked.{name_of}
+use Rattle.cli_time.specs.Asked.{layout_name}
 use Rattle.cli_time.specs.Measures.{TakenRun}
 use Rattle.cli_time.specs.SiteLines.{sites_text}
 use Rattle.cli_time.specs.declared.measuring.Measured.{Measured}
@@ -15,8 +15,8 @@ abbrev pub unended : List ℕ → List ℕ
 unended text = take (length text - 1) text
 
 -- how the run ended: the first line of the report of `run`, without its line feed
-unfoldable pub ending_text : ℕ → Timed → List ℕ
-ending_text limit answer = unended (line_of_run limit (answer_of answer))
+unfoldable pub run_ending_text : ℕ → Timed → List ℕ
+run_ending_text limit answer = unended (line_of_run limit (answer_of answer))
 
 -- a number after its name
 unfoldable pub number_text : List ℕ → ℕ → List ℕ
@@ -25,12 +25,12 @@ number_text name number = name ++ decimal number
 -- what was measured, after the name of the layout
 unfoldable pub measured_text : ℕ → Measured → List ℕ
 measured_text limit measured =
-    codes ": " ++ ending_text limit measured.answer ++ number_text (codes " time ") measured.time
+    codes ": " ++ run_ending_text limit measured.answer ++ number_text (codes " time ") measured.time
     ++ number_text (codes " moves ") measured.moves ++ counted_line (codes " retired ") measured.retired
 
 -- the line of a layout
 abbrev pub time_line : ℕ → NamedLayout → Measured → List ℕ
-time_line limit word measured = name_of word ++ measured_text limit measured
+time_line limit word measured = layout_name word ++ measured_text limit measured
 
 -- the same, and after it the lines of what the time is made of, where that is shown
 abbrev pub closing_lines : ℕ → NamedLayout → Measured → List ℕ
@@ -48,4 +48,4 @@ time_lines limit (word ∷ words) (taken ∷ more) = layout_lines limit word tak
 
 -- the line that names the layout with the least time
 abbrev pub least_line : NamedLayout → List ℕ
-least_line word = codes "least " ++ line (name_of word)
+least_line word = codes "least " ++ line (layout_name word)

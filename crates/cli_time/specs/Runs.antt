@@ -39,10 +39,10 @@ TimingStops words options delays plans start blank full (stop.NoMemory place) = 
 TimingStops words options delays plans start blank full stop.Failed = BreaksAtLayout words options delays plans start blank full
 
 -- an error where the report failed
-abbrev pub report_stopped : {T : Type 0} → Result T Stop → Result (Unit {0}) (Unit {0})
-report_stopped (Ok times) = Ok tt
-report_stopped (Err (stop.NoMemory place)) = Ok tt
-report_stopped (Err stop.Failed) = Err tt
+abbrev pub stopped_by_report : {T : Type 0} → Result T Stop → Result (Unit {0}) (Unit {0})
+stopped_by_report (Ok times) = Ok tt
+stopped_by_report (Err (stop.NoMemory place)) = Ok tt
+stopped_by_report (Err stop.Failed) = Err tt
 
 -- a run of an opened processor was measured, and the report got the lines of its moves where these are shown
 pub record PutsRun (rule : DelayRule) (options : RunChoices) (plan : Plan) (core : Processor) (bytes : List ℕ) (blank full : Option (List ℕ)) (measured : Measured) : Type 0 where

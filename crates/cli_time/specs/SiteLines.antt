@@ -21,12 +21,12 @@ use_line number busy waiting empty =
     codes "stage " ++ decimal number ++ codes " busy " ++ decimal busy ++ codes " waiting " ++ decimal waiting ++ counted_line (codes " empty ") empty
 
 -- a stage
-abbrev pub stage_line : Breakdown → ℕ → List ℕ
-stage_line made i = use_line i (number_at made.stages i) (number_at made.waiting i) (number_at made.empty i)
+abbrev pub stage_use_line : Breakdown → ℕ → List ℕ
+stage_use_line made i = use_line i (number_at made.stages i) (number_at made.waiting i) (number_at made.empty i)
 
 -- a siding
-abbrev pub siding_line : Breakdown → ℕ → List ℕ
-siding_line made k = busy_line (codes "siding ") k (number_at made.sidings k)
+abbrev pub siding_use_line : Breakdown → ℕ → List ℕ
+siding_use_line made k = busy_line (codes "siding ") k (number_at made.sidings k)
 
 -- the numbers of the stages, the highest first
 abbrev pub falling_stages : Breakdown → List ℕ
@@ -65,12 +65,12 @@ unfoldable pub latency_text : List ℕ → ℕ → ℕ → List ℕ
 latency_text name retired ticks = if nat_lt 0 retired then latency_line name retired ticks else []
 
 -- the class at an index in class order
-unfoldable pub class_at : ℕ → Class
-class_at place = unwrap_or (slice_get classes place) Free
+unfoldable pub class_of_place : ℕ → Class
+class_of_place place = unwrap_or (slice_get classes place) Free
 
 -- the line of the class there, if an instruction of it retired
 abbrev pub class_line : Breakdown → ℕ → List ℕ
-class_line made place = latency_text (class_name (class_at place)) (number_at made.retired place) (number_at made.latencies place)
+class_line made place = latency_text (class_name (class_of_place place)) (number_at made.retired place) (number_at made.latencies place)
 
 -- those of all classes
 unfoldable pub classes_text : Breakdown → List ℕ
@@ -80,7 +80,7 @@ classes_text made = flat_map (class_line made) (counted_from 0 (length classes))
 -- chain
 unfoldable pub breakdown_text : Breakdown → List ℕ
 breakdown_text made =
-    flat_map (stage_line made) (falling_stages made) ++ flat_map (siding_line made) (siding_numbers made)
+    flat_map (stage_use_line made) (falling_stages made) ++ flat_map (siding_use_line made) (siding_numbers made)
     ++ kinds_line (codes "moves") made.moves ++ classes_text made ++ kinds_line (codes "chain") made.chain
 
 -- nothing where it is not shown

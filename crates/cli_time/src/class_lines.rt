@@ -1,13 +1,13 @@
 //! The lines of the classes of instructions.
-#![tactic(auto, unfolding(crate::specs::SiteLines::latency_line, crate::specs::SiteLines::class_at))]
+#![tactic(auto, unfolding(crate::specs::SiteLines::latency_line, crate::specs::SiteLines::class_of_place))]
 
 ghost use Rattle.std.specs.Prelude.{◌≡◌, ◌+◌, ◌≤◌, ◌++◌, decimal, length};
 ghost use Rattle.std.specs.List.{flat_map};
-ghost use Rattle.cf_report.specs.Putting.{PutsText};
+ghost use Rattle.cli_reports.specs.Reporting.{PutsInto};
 ghost use Rattle.texts.specs.Room.{page_room};
 ghost use Rattle.cf_semantics.specs.moves.Candidates.{counted_from};
 ghost use Rattle.cf_timed.specs.Numbers.{number_at};
-ghost use Rattle.cli_time.specs.SiteLines.{class_at as class_of_place, class_line, classes_text, latency_line, latency_text};
+ghost use Rattle.cli_time.specs.SiteLines.{class_of_place, class_line, classes_text, latency_line, latency_text};
 
 use cf_io::{Failed, Sink, put_all};
 use itoa::Buffer;
@@ -72,8 +72,7 @@ fn put_latency<R: Sink>(
     report: &mut R,
 ) -> Result<(), Failed>
     requires { length name.now ≤ 10 }
-    ensures { PutsText (R.written report.old) (R.written report.new)
-        (R.faults report.old) (R.faults report.new) (latency_text name.now retired ticks) result }
+    ensures { PutsInto R.Sink report.old report.new (latency_text name.now retired ticks) result }
 {
     if retired > 0 {
         let page = latency_page(name, retired, ticks);
@@ -100,8 +99,7 @@ fn latency_at(numbers: &[u128], place: usize) -> u128
 /// Puts the line of the class at an index in class order, if an instruction of it retired.
 #[tactic(auto, using(crate::proofs::ClassNames::class_short))]
 fn put_class<R: Sink>(made: &Breakdown, place: usize, report: &mut R) -> Result<(), Failed>
-    ensures { PutsText (R.written report.old) (R.written report.new)
-        (R.faults report.old) (R.faults report.new) (class_line made.now place) result }
+    ensures { PutsInto R.Sink report.old report.new (class_line made.now place) result }
 {
     let retired = retired_at(&made.retired, place);
     let ticks = latency_at(&made.latencies, place);
@@ -115,8 +113,7 @@ fn put_class<R: Sink>(made: &Breakdown, place: usize, report: &mut R) -> Result<
 
 /// Puts the lines of all classes.
 pub(crate) fn put_classes<R: Sink>(made: &Breakdown, report: &mut R) -> Result<(), Failed>
-    ensures { PutsText (R.written report.old) (R.written report.new)
-        (R.faults report.old) (R.faults report.new) (classes_text made.now) result }
+    ensures { PutsInto R.Sink report.old report.new (classes_text made.now) result }
 {
     for place in 0..CLASSES.len() {
         put_class(made, place, report)?;

@@ -10,8 +10,8 @@ ghost use Rattle.cli_files.specs.Causes.{output_answered};
 ghost use Rattle.cli_files.specs.Deciding.{Decides, reading_decided};
 ghost use Rattle.cli_files.specs.Image.{IsProgramFile, opened};
 ghost use Rattle.cli_time.specs.Asked.{time_asked};
-ghost use Rattle.cli_time.specs.Effects.{CarriesOutOverFiles, files_and_report};
-ghost use Rattle.cli_time.specs.Runs.{PutsAll, TimingStops, report_stopped};
+ghost use Rattle.cli_time.specs.Effects.{CarriesOutOverFiles};
+ghost use Rattle.cli_time.specs.Runs.{PutsAll, TimingStops, stopped_by_report};
 ghost use Rattle.cli_time.specs.Times.{AnswersTime, BreaksTime, BreaksTimes, TimesOf};
 
 use crate::choices::{RunChoices, choices_by};
@@ -48,7 +48,7 @@ fn time_each<R: Sink>(
         (machine_on (opened (vec_items ready.now.image)) input.now) (R.written report.old) (R.written report.new) times.items)
         (λ stop. TimingStops (map layout_in (map string_bytes words.now)) options ready.now.delays (vec_items ready.now.layouts)
         (machine_on (opened (vec_items ready.now.image)) input.now) (R.written report.old) (R.written report.new) stop) }
-    ensures cause { HasCause (R.faults report.old) (R.faults report.new) (report_stopped result) }
+    ensures cause { HasCause (R.faults report.old) (R.faults report.new) (stopped_by_report result) }
 {
     let limit = options.limit;
     let layouts = ready.layouts.as_slice();
@@ -164,8 +164,7 @@ pub fn compare_layouts<F: Files, R: Sink>(
         (time_asked delays.now program.now (map layout_in (map string_bytes layouts.now)) (times_view options.entry))
         before after answer (shown ++ closing))
         (BreaksTime (time_asked delays.now program.now (map layout_in (map string_bytes layouts.now)) (times_view options.entry)))
-        (files_and_report (F.told files.old) (F.faults files.old) (R.written report.old) (R.faults report.old))
-        (files_and_report (F.told files.new) (F.faults files.new) (R.written report.new) (R.faults report.new)) result }
+        F.Files R.Sink (files.old, report.old) (files.new, report.new) result }
 {
     let decided = compare_files(alloc, delays, program, layouts, options, files, report);
     put_decided(decided, report)

@@ -1,10 +1,9 @@
 //! The delays that a file gives.
 
 ghost use Rattle.std.specs.Prelude.{◌≡◌, ◌≤◌, IfOk, IfErr, Ok, length};
-ghost use Rattle.cf_io.specs.Causes.{HasCause};
 ghost use Rattle.cf_timed.specs.DelayLines.{delays_in};
 ghost use Rattle.cf_timed.specs.Limits.{most_delays};
-ghost use Rattle.cli_files.specs.Causes.{files_read};
+ghost use Rattle.cli_files.specs.ReadsFiles.{ReadsFiles};
 ghost use Rattle.cli_files.specs.declared.status.Status.TheVariants.{BadDelays};
 ghost use Rattle.cli_time.specs.DelayFiles.{IsDelaysAt, LacksDelays, RefusesText};
 ghost use Rattle.report_refusals.specs.Delays.{bad_delays as bad_delays_text};
@@ -49,10 +48,7 @@ pub(crate) fn delays_at<F: Files>(
     name: &str,
     files: &mut F,
 ) -> Result<Delays, Answer>
-    ensures ok { IfOk result (IsDelaysAt name.now (F.told files.old) (F.told files.new)) }
-    ensures refused { IfErr result (λ answer. LacksDelays name.now
-        (F.told files.old) (F.told files.new) answer.status answer.closing) }
-    ensures faults { HasCause (F.faults files.old) (F.faults files.new) (files_read result) }
+    ensures { ReadsFiles (IsDelaysAt name.now) (LacksDelays name.now) F.Files files.old files.new result }
 {
     match files.read(alloc, name, MOST_BYTES + 1) {
         Ok(text) => read_text(text.as_slice()),

@@ -1,10 +1,9 @@
 //! The layouts that some words name.
 
-ghost use Rattle.std.specs.Prelude.{◌≡◌, ◌<◌, IfOk, IfErr, Some, length, map, slice_get, string_bytes, vec_items};
-ghost use Rattle.cf_io.specs.Causes.{HasCause};
+ghost use Rattle.std.specs.Prelude.{◌≡◌, ◌<◌, Some, length, map, slice_get, string_bytes, vec_items};
 ghost use Rattle.cli_arguments.specs.Views.{layout_of};
 ghost use Rattle.cli_arguments.specs.Words.{layout_in};
-ghost use Rattle.cli_files.specs.Causes.{files_read};
+ghost use Rattle.cli_files.specs.ReadsFiles.{ReadsFiles};
 ghost use Rattle.cli_time.specs.LayoutFiles.{AreLayoutsAt, LacksLayouts};
 
 use cf_io::Files;
@@ -27,11 +26,8 @@ pub(crate) fn layouts_at<F: Files>(
     words: &[String],
     files: &mut F,
 ) -> Result<Vec<Layout>, Answer>
-    ensures ok { IfOk result (λ layouts. AreLayoutsAt (map layout_in (map string_bytes words.now))
-        (F.told files.old) (F.told files.new) (vec_items layouts)) }
-    ensures refused { IfErr result (λ answer. LacksLayouts (map layout_in (map string_bytes words.now))
-        (F.told files.old) (F.told files.new) answer.status answer.closing) }
-    ensures faults { HasCause (F.faults files.old) (F.faults files.new) (files_read result) }
+    ensures { ReadsFiles (λ before after layouts. AreLayoutsAt (map layout_in (map string_bytes words.now)) before after (vec_items layouts))
+        (LacksLayouts (map layout_in (map string_bytes words.now))) F.Files files.old files.new result }
 {
     let mut layouts = Vec::new(alloc);
     for place in 0..words.len() {

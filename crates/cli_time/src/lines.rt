@@ -1,12 +1,12 @@
 //! The lines of the report.
-#![tactic(auto, unfolding(crate::specs::Lines::ending_text, crate::specs::Lines::number_text, crate::specs::Lines::measured_text, crate::specs::Asked::name_of))]
+#![tactic(auto, unfolding(crate::specs::Lines::run_ending_text, crate::specs::Lines::number_text, crate::specs::Lines::measured_text, crate::specs::Asked::layout_name))]
 
 ghost use Rattle.std.specs.Prelude.{◌≡◌, ◌+◌, ◌≤◌, ◌++◌, length};
-ghost use Rattle.cf_report.specs.Putting.{PutsText};
+ghost use Rattle.cli_reports.specs.Reporting.{PutsInto};
 ghost use Rattle.cf_timed.specs.TimedRuns.{answer_of};
 ghost use Rattle.cli_arguments.specs.Views.{layout_of};
-ghost use Rattle.cli_time.specs.Asked.{name_of};
-ghost use Rattle.cli_time.specs.Lines.{closing_lines, ending_text, least_line, measured_text, number_text};
+ghost use Rattle.cli_time.specs.Asked.{layout_name};
+ghost use Rattle.cli_time.specs.Lines.{closing_lines, run_ending_text, least_line, measured_text, number_text};
 ghost use Rattle.texts.specs.Room.{page_room};
 
 use crate::measuring::Measured;
@@ -34,7 +34,7 @@ fn ran(answer: Timed) -> Ran
 /// How the run ended.
 fn push_ending(page: &mut Page, limit: u64, answer: Timed)
     requires { length page.old + 80 ≤ page_room }
-    ensures text { page.new ≡ page.old ++ ending_text limit answer }
+    ensures text { page.new ≡ page.old ++ run_ending_text limit answer }
     ensures size { length page.new ≤ length page.old + 80 }
 {
     let line = run_line(limit, ran(answer));
@@ -67,7 +67,7 @@ fn measured_page(limit: u64, measured: Measured) -> Page
 
 /// The word that names a layout.
 fn name_of(word: LayoutWord<'_>) -> &[u8]
-    ensures { result.now ≡ name_of (layout_of word.entry) }
+    ensures { result.now ≡ layout_name (layout_of word.entry) }
 {
     match word {
         LayoutWord::Plain => b"plain",
@@ -77,8 +77,7 @@ fn name_of(word: LayoutWord<'_>) -> &[u8]
 
 /// Puts one text, and another after it.
 fn put_both<R: Sink>(first: &[u8], second: &[u8], report: &mut R) -> Result<(), Failed>
-    ensures { PutsText (R.written report.old) (R.written report.new)
-        (R.faults report.old) (R.faults report.new) (first.now ++ second.now) result }
+    ensures { PutsInto R.Sink report.old report.new (first.now ++ second.now) result }
 {
     put_all(report, first)?;
     put_all(report, second)
@@ -91,8 +90,7 @@ pub(crate) fn put_layout<R: Sink>(
     measured: Measured,
     report: &mut R,
 ) -> Result<(), Failed>
-    ensures { PutsText (R.written report.old) (R.written report.new)
-        (R.faults report.old) (R.faults report.new) (closing_lines limit (layout_of word.entry) measured) result }
+    ensures { PutsInto R.Sink report.old report.new (closing_lines limit (layout_of word.entry) measured) result }
 {
     let page = measured_page(limit, measured);
     put_both(name_of(word), page.bytes(), report)?;
@@ -101,8 +99,7 @@ pub(crate) fn put_layout<R: Sink>(
 
 /// Puts the line that names the layout with the least time.
 pub(crate) fn put_least<R: Sink>(word: LayoutWord<'_>, report: &mut R) -> Result<(), Failed>
-    ensures { PutsText (R.written report.old) (R.written report.new)
-        (R.faults report.old) (R.faults report.new) (least_line (layout_of word.entry)) result }
+    ensures { PutsInto R.Sink report.old report.new (least_line (layout_of word.entry)) result }
 {
     put_all(report, b"least ")?;
     put_both(name_of(word), b"\n", report)

@@ -9,7 +9,7 @@ ghost use Rattle.cf_timed.specs.TimedRuns.{CanBegin, HasCauses, answer_of};
 ghost use Rattle.cli_files.specs.Image.{IsProgramFile, opened};
 ghost use Rattle.cli_time.specs.Measures.{BreaksTaking, MeasuresRun};
 ghost use Rattle.cf_core.specs.Processors.{opened as opened_core};
-ghost use Rattle.cli_time.specs.Runs.{MeasuringStops, PutsMoves, PutsRun, report_stopped};
+ghost use Rattle.cli_time.specs.Runs.{MeasuringStops, PutsMoves, PutsRun, stopped_by_report};
 ghost use Rattle.run_options.specs.declared.time_show.TimeShow.TheVariants as shows;
 
 use crate::choices::RunChoices;
@@ -213,7 +213,7 @@ pub(crate) fn measure<R: Sink>(
         (R.written report.old) (R.written report.new))
         (MeasuringStops place ready.now.delays options layout.now (machine_on (opened (vec_items ready.now.image)) input.now)
         (R.written report.old) (R.written report.new)) }
-    ensures cause { HasCause (R.faults report.old) (R.faults report.new) (report_stopped result) }
+    ensures cause { HasCause (R.faults report.old) (R.faults report.new) (stopped_by_report result) }
 {
     let Ok(loaded) = load(alloc, ready.image.as_slice(), layout) else {
         return Err(Stop::NoMemory(place));

@@ -1,11 +1,10 @@
 //! The files that the command reads.
 
-ghost use Rattle.std.specs.Prelude.{◌≡◌, IfOk, IfErr, map, string_bytes, vec_items};
-ghost use Rattle.cf_io.specs.Causes.{HasCause};
+ghost use Rattle.std.specs.Prelude.{◌≡◌, IfOk, map, string_bytes, vec_items};
 ghost use Rattle.cli_arguments.specs.Words.{layout_in};
-ghost use Rattle.cli_files.specs.Causes.{files_read};
 ghost use Rattle.cli_files.specs.Image.{IsProgramFile, opened};
 ghost use Rattle.cli_files.specs.Programs.{IsProgramAt, LacksProgram};
+ghost use Rattle.cli_files.specs.ReadsFiles.{ReadsFiles};
 ghost use Rattle.cli_time.specs.Asked.{files_asked};
 ghost use Rattle.cli_time.specs.Reading.{DelaysAndLayoutsRead, TimeFilesRead, LacksTimeFile, LacksDelaysOrLayouts};
 
@@ -27,11 +26,9 @@ pub(crate) struct ReadyTimes {
 
 /// The bytes of the file of this name, which are a program, or the answer where they are no program.
 fn image_at<F: Files>(alloc: Global, name: &str, files: &mut F) -> Result<Vec<u8>, Answer>
-    ensures ok { IfOk result (λ image. IsProgramAt name.now (F.told files.old) (F.told files.new) (opened (vec_items image))) }
+    ensures reads { ReadsFiles (λ before after image. IsProgramAt name.now before after (opened (vec_items image))) (LacksProgram name.now)
+        F.Files files.old files.new result }
     ensures program { IfOk result (λ image. IsProgramFile (vec_items image)) }
-    ensures refused { IfErr result (λ answer. LacksProgram name.now
-        (F.told files.old) (F.told files.new) answer.status answer.closing) }
-    ensures faults { HasCause (F.faults files.old) (F.faults files.new) (files_read result) }
 {
     match files.read(alloc, name, MOST_BYTES + 1) {
         Ok(image) => match open_image(alloc, image.as_slice()) {
@@ -57,11 +54,9 @@ fn laid_at<F: Files>(
     layouts: &[String],
     files: &mut F,
 ) -> Result<DelaysAndLayouts, Answer>
-    ensures laid { IfOk result (λ laid. DelaysAndLayoutsRead delays.now (map layout_in (map string_bytes layouts.now))
-        (F.told files.old) (F.told files.new) laid.delays (vec_items laid.layouts)) }
-    ensures lacks { IfErr result (λ answer. LacksDelaysOrLayouts delays.now (map layout_in (map string_bytes layouts.now))
-        (F.told files.old) (F.told files.new) answer.status answer.closing) }
-    ensures faults { HasCause (F.faults files.old) (F.faults files.new) (files_read result) }
+    ensures { ReadsFiles
+        (λ before after laid. DelaysAndLayoutsRead delays.now (map layout_in (map string_bytes layouts.now)) before after laid.delays (vec_items laid.layouts))
+        (LacksDelaysOrLayouts delays.now (map layout_in (map string_bytes layouts.now))) F.Files files.old files.new result }
 {
     let delays = match delays_at(alloc, delays, files) {
         Ok(delays) => delays,
@@ -81,14 +76,10 @@ pub(crate) fn read_files<F: Files>(
     layouts: &[String],
     files: &mut F,
 ) -> Result<ReadyTimes, Answer>
-    ensures ready { IfOk result (λ ready. TimeFilesRead
-        (files_asked delays.now program.now (map layout_in (map string_bytes layouts.now)))
-        (F.told files.old) (F.told files.new) ready.delays (vec_items ready.layouts) (opened (vec_items ready.image))) }
+    ensures reads { ReadsFiles (λ before after ready. TimeFilesRead (files_asked delays.now program.now (map layout_in (map string_bytes layouts.now)))
+        before after ready.delays (vec_items ready.layouts) (opened (vec_items ready.image)))
+        (LacksTimeFile (files_asked delays.now program.now (map layout_in (map string_bytes layouts.now)))) F.Files files.old files.new result }
     ensures program { IfOk result (λ ready. IsProgramFile (vec_items ready.image)) }
-    ensures lacks { IfErr result (λ answer. LacksTimeFile
-        (files_asked delays.now program.now (map layout_in (map string_bytes layouts.now)))
-        (F.told files.old) (F.told files.new) answer.status answer.closing) }
-    ensures faults { HasCause (F.faults files.old) (F.faults files.new) (files_read result) }
 {
     let laid = match laid_at(alloc, delays, layouts, files) {
         Ok(laid) => laid,

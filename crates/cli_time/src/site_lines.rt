@@ -3,11 +3,11 @@
 
 ghost use Rattle.std.specs.Prelude.{◌≡◌, ◌+◌, ◌<◌, ◌≤◌, ◌++◌, ◌∷◌, [], length};
 ghost use Rattle.std.specs.List.{flat_map, zip};
-ghost use Rattle.cf_report.specs.Putting.{PutsText};
+ghost use Rattle.cli_reports.specs.Reporting.{PutsInto};
 ghost use Rattle.run_scripts.specs.Kinds.{name_at, names};
 ghost use Rattle.texts.specs.Room.{page_room};
 ghost use Rattle.cf_timed.specs.Numbers.{number_at};
-ghost use Rattle.cli_time.specs.SiteLines.{breakdown_text, busy_line, counts_text, falling_stages, kinds_line, siding_line, siding_numbers, sites_text, stage_line, use_line};
+ghost use Rattle.cli_time.specs.SiteLines.{breakdown_text, busy_line, counts_text, falling_stages, kinds_line, siding_use_line, siding_numbers, sites_text, stage_use_line, use_line};
 
 use crate::class_lines::put_classes;
 use cf_io::{Failed, Sink, put_all};
@@ -37,8 +37,7 @@ fn ticks_at(numbers: &[u64], number: u32) -> u64
 /// Puts the line of a place.
 fn put_busy<R: Sink>(name: &[u8], number: u32, ticks: u64, report: &mut R) -> Result<(), Failed>
     requires { length name.now ≤ 10 }
-    ensures { PutsText (R.written report.old) (R.written report.new)
-        (R.faults report.old) (R.faults report.new) (busy_line name.now number ticks) result }
+    ensures { PutsInto R.Sink report.old report.new (busy_line name.now number ticks) result }
 {
     let page = busy_page(name, number, ticks);
     put_all(report, page.bytes())
@@ -62,8 +61,7 @@ fn use_page(number: u32, busy: u64, waiting: u64, empty: u64) -> Page
 
 /// Puts the line of a stage.
 fn put_stage<R: Sink>(made: &Breakdown, stage: u32, report: &mut R) -> Result<(), Failed>
-    ensures { PutsText (R.written report.old) (R.written report.new)
-        (R.faults report.old) (R.faults report.new) (stage_line made.now stage) result }
+    ensures { PutsInto R.Sink report.old report.new (stage_use_line made.now stage) result }
 {
     let page = use_page(
         stage,
@@ -76,17 +74,14 @@ fn put_stage<R: Sink>(made: &Breakdown, stage: u32, report: &mut R) -> Result<()
 
 /// Puts the line of a siding.
 fn put_siding<R: Sink>(made: &Breakdown, siding: u32, report: &mut R) -> Result<(), Failed>
-    ensures { PutsText (R.written report.old) (R.written report.new)
-        (R.faults report.old) (R.faults report.new) (siding_line made.now siding) result }
+    ensures { PutsInto R.Sink report.old report.new (siding_use_line made.now siding) result }
 {
     put_busy(b"siding ", siding, ticks_at(&made.sidings, siding), report)
 }
 
 /// Puts the lines of the stages, the highest first.
 fn put_stages<R: Sink>(made: &Breakdown, report: &mut R) -> Result<(), Failed>
-    ensures { PutsText (R.written report.old) (R.written report.new)
-        (R.faults report.old) (R.faults report.new)
-        (flat_map (stage_line made.now) (falling_stages made.now)) result }
+    ensures { PutsInto R.Sink report.old report.new (flat_map (stage_use_line made.now) (falling_stages made.now)) result }
 {
     let stages = made.layout.stages();
     for above in 0..stages {
@@ -97,9 +92,7 @@ fn put_stages<R: Sink>(made: &Breakdown, report: &mut R) -> Result<(), Failed>
 
 /// Puts the lines of the sidings.
 fn put_sidings<R: Sink>(made: &Breakdown, report: &mut R) -> Result<(), Failed>
-    ensures { PutsText (R.written report.old) (R.written report.new)
-        (R.faults report.old) (R.faults report.new)
-        (flat_map (siding_line made.now) (siding_numbers made.now)) result }
+    ensures { PutsInto R.Sink report.old report.new (flat_map (siding_use_line made.now) (siding_numbers made.now)) result }
 {
     for siding in 0..made.layout.siding_count() {
         put_siding(made, siding, report)?;
@@ -149,8 +142,7 @@ fn kinds_page(name: &[u8], numbers: &[u64; 14]) -> Page
 /// Puts the line of that.
 fn put_kinds<R: Sink>(name: &[u8], numbers: &[u64; 14], report: &mut R) -> Result<(), Failed>
     requires { length name.now ≤ 10 }
-    ensures { PutsText (R.written report.old) (R.written report.new)
-        (R.faults report.old) (R.faults report.new) (kinds_line name.now numbers.now) result }
+    ensures { PutsInto R.Sink report.old report.new (kinds_line name.now numbers.now) result }
 {
     let page = kinds_page(name, numbers);
     put_all(report, page.bytes())
@@ -158,8 +150,7 @@ fn put_kinds<R: Sink>(name: &[u8], numbers: &[u64; 14], report: &mut R) -> Resul
 
 /// Puts the lines of what a time is made of.
 fn put_breakdown<R: Sink>(made: &Breakdown, report: &mut R) -> Result<(), Failed>
-    ensures { PutsText (R.written report.old) (R.written report.new)
-        (R.faults report.old) (R.faults report.new) (breakdown_text made.now) result }
+    ensures { PutsInto R.Sink report.old report.new (breakdown_text made.now) result }
 {
     put_stages(made, report)?;
     put_sidings(made, report)?;
@@ -173,8 +164,7 @@ fn put_breakdown<R: Sink>(made: &Breakdown, report: &mut R) -> Result<(), Failed
 /// took; and how many moves of each kind are on a longest chain.
 #[tactic(auto, unfolding(crate::specs::SiteLines::sites_text))]
 pub(crate) fn put_sites<R: Sink>(sites: &Option<Breakdown>, report: &mut R) -> Result<(), Failed>
-    ensures { PutsText (R.written report.old) (R.written report.new)
-        (R.faults report.old) (R.faults report.new) (sites_text sites.now) result }
+    ensures { PutsInto R.Sink report.old report.new (sites_text sites.now) result }
 {
     match sites {
         Some(made) => put_breakdown(made, report),

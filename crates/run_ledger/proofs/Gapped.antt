@@ -5,9 +5,9 @@ use Rattle.cf_layout.specs.Layout.{Plan}
 use Rattle.cf_semantics.specs.moves.Candidates.{counted_from}
 use Rattle.cf_timed.proofs.Numbered.{numbered_length}
 use Rattle.run_ledger.specs.GapCounts.{after_use, gaps_after, gaps_at, gaps_noted, with_gap}
-use Rattle.run_ledger.specs.Gaps.{Gap, gap, gaps_from, holds_any, total, users}
+use Rattle.run_ledger.specs.Gaps.{Gap, gap, gaps_from, holds_any, gap_total, users}
 use Rattle.run_ledger.specs.Ledgers.{plus, plus_if}
-use Rattle.run_ledger.specs.SeenMoves.{SeenMove, start_of}
+use Rattle.run_ledger.specs.SeenMoves.{SeenMove, move_start}
 use Rattle.run_ledger.specs.Using.{uses_stage}
 use Rattle.run_ledger.specs.declared.gaps.StageGaps.{StageGaps}
 use Rattle.run_ledger.proofs.Numbered.{numbered_same}
@@ -43,13 +43,13 @@ over_each plan n (m ∷ moves) f =
 
 -- the last gap, and one before others
 last_held : (b : Bool) (number begin end : ℕ) → number < 2 ^ 64 →
-    plus_if b number (end - begin) ≡ plus number (total (filter (λ g. g.is_held) (gap begin end b ∷ [])))
+    plus_if b number (end - begin) ≡ plus number (gap_total (filter (λ g. g.is_held) (gap begin end b ∷ [])))
 last_held true number begin end small = omega arith
 last_held false number begin end small = omega (arith, small)
 
 first_held : (b : Bool) (number begin end : ℕ) (gaps : List Gap) →
-    plus (plus_if b number (end - begin)) (total (filter (λ g. g.is_held) gaps))
-    ≡ plus number (total (filter (λ g. g.is_held) (gap begin end b ∷ gaps)))
+    plus (plus_if b number (end - begin)) (gap_total (filter (λ g. g.is_held) gaps))
+    ≡ plus number (gap_total (filter (λ g. g.is_held) (gap begin end b ∷ gaps)))
 first_held true number begin end gaps = omega arith
 first_held false number begin end gaps = refl
 
@@ -60,54 +60,56 @@ still_small false number more small = small
 -- so what is counted as waiting are the gaps in which something is held
 pub waiting-over : (plan : Plan) (i : ℕ) (moves : List SeenMove) (g : StageGaps) (end : ℕ) → g.waiting < 2 ^ 64 →
     (with_gap (gaps_over plan i moves g) end).waiting
-    ≡ plus g.waiting (total (filter (λ x. x.is_held) (gaps_from i g.until g.is_held (users plan i moves) end)))
+    ≡ plus g.waiting (gap_total (filter (λ x. x.is_held) (gaps_from i g.until g.is_held (users plan i moves) end)))
 unfolding gaps_after
 waiting-over plan i [] g end small = last_held g.is_held g.waiting g.until end small
 waiting-over plan i (m ∷ moves) g end small =
     by (uses_stage plan i m.done.mv)
-    (waiting-over plan i moves (after_use g m.done (holds_any m.state i)) end (still_small g.is_held g.waiting (start_of m.done - g.until) small))
+    (waiting-over plan i moves (after_use g m.done (holds_any m.state i)) end (still_small g.is_held g.waiting (move_start m.done - g.until) small))
     (waiting-over plan i moves g end small)
   where
     by : (b : Bool) →
         (with_gap (gaps_over plan i moves (after_use g m.done (holds_any m.state i))) end).waiting
-        ≡ plus (with_gap g (start_of m.done)).waiting
-        (total (filter (λ x. x.is_held) (gaps_from i m.done.time (holds_any m.state i) (users plan i moves) end))) →
-        (with_gap (gaps_over plan i moves g) end).waiting ≡ plus g.waiting (total (filter (λ x. x.is_held) (gaps_from i g.until g.is_held (users plan i moves) end))) →
+        ≡ plus (with_gap g (move_start m.done)).waiting
+        (gap_total (filter (λ x. x.is_held) (gaps_from i m.done.time (holds_any m.state i) (users plan i moves) end))) →
+        (with_gap (gaps_over plan i moves g) end).waiting ≡ plus g.waiting
+        (gap_total (filter (λ x. x.is_held) (gaps_from i g.until g.is_held (users plan i moves) end))) →
         (with_gap (gaps_over plan i moves (cond b (after_use g m.done (holds_any m.state i)) g)) end).waiting
-        ≡ plus g.waiting (total (filter (λ x. x.is_held) (gaps_from i g.until g.is_held (cond b (m ∷ users plan i moves) (users plan i moves)) end)))
+        ≡ plus g.waiting (gap_total (filter (λ x. x.is_held) (gaps_from i g.until g.is_held (cond b (m ∷ users plan i moves) (users plan i moves)) end)))
     by true used unused =
-        used ∙ first_held g.is_held g.waiting g.until (start_of m.done) (gaps_from i m.done.time (holds_any m.state i) (users plan i moves) end)
+        used ∙ first_held g.is_held g.waiting g.until (move_start m.done) (gaps_from i m.done.time (holds_any m.state i) (users plan i moves) end)
     by false used unused = unused
 
 -- and what is counted as empty the others
 last_empty : (b : Bool) (number begin end : ℕ) → number < 2 ^ 64 →
-    plus_if (not b) number (end - begin) ≡ plus number (total (filter (λ g. not g.is_held) (gap begin end b ∷ [])))
+    plus_if (not b) number (end - begin) ≡ plus number (gap_total (filter (λ g. not g.is_held) (gap begin end b ∷ [])))
 last_empty true number begin end small = omega (arith, small)
 last_empty false number begin end small = omega arith
 
 first_empty : (b : Bool) (number begin end : ℕ) (gaps : List Gap) →
-    plus (plus_if (not b) number (end - begin)) (total (filter (λ g. not g.is_held) gaps))
-    ≡ plus number (total (filter (λ g. not g.is_held) (gap begin end b ∷ gaps)))
+    plus (plus_if (not b) number (end - begin)) (gap_total (filter (λ g. not g.is_held) gaps))
+    ≡ plus number (gap_total (filter (λ g. not g.is_held) (gap begin end b ∷ gaps)))
 first_empty true number begin end gaps = refl
 first_empty false number begin end gaps = omega arith
 
 pub empty-over : (plan : Plan) (i : ℕ) (moves : List SeenMove) (g : StageGaps) (end : ℕ) → g.empty < 2 ^ 64 →
     (with_gap (gaps_over plan i moves g) end).empty
-    ≡ plus g.empty (total (filter (λ x. not x.is_held) (gaps_from i g.until g.is_held (users plan i moves) end)))
+    ≡ plus g.empty (gap_total (filter (λ x. not x.is_held) (gaps_from i g.until g.is_held (users plan i moves) end)))
 unfolding gaps_after
 empty-over plan i [] g end small = last_empty g.is_held g.empty g.until end small
 empty-over plan i (m ∷ moves) g end small =
     by (uses_stage plan i m.done.mv)
-    (empty-over plan i moves (after_use g m.done (holds_any m.state i)) end (still_small (not g.is_held) g.empty (start_of m.done - g.until) small))
+    (empty-over plan i moves (after_use g m.done (holds_any m.state i)) end (still_small (not g.is_held) g.empty (move_start m.done - g.until) small))
     (empty-over plan i moves g end small)
   where
     by : (b : Bool) →
         (with_gap (gaps_over plan i moves (after_use g m.done (holds_any m.state i))) end).empty
-        ≡ plus (with_gap g (start_of m.done)).empty
-        (total (filter (λ x. not x.is_held) (gaps_from i m.done.time (holds_any m.state i) (users plan i moves) end))) →
-        (with_gap (gaps_over plan i moves g) end).empty ≡ plus g.empty (total (filter (λ x. not x.is_held) (gaps_from i g.until g.is_held (users plan i moves) end))) →
+        ≡ plus (with_gap g (move_start m.done)).empty
+        (gap_total (filter (λ x. not x.is_held) (gaps_from i m.done.time (holds_any m.state i) (users plan i moves) end))) →
+        (with_gap (gaps_over plan i moves g) end).empty ≡ plus g.empty (gap_total
+        (filter (λ x. not x.is_held) (gaps_from i g.until g.is_held (users plan i moves) end))) →
         (with_gap (gaps_over plan i moves (cond b (after_use g m.done (holds_any m.state i)) g)) end).empty
-        ≡ plus g.empty (total (filter (λ x. not x.is_held) (gaps_from i g.until g.is_held (cond b (m ∷ users plan i moves) (users plan i moves)) end)))
+        ≡ plus g.empty (gap_total (filter (λ x. not x.is_held) (gaps_from i g.until g.is_held (cond b (m ∷ users plan i moves) (users plan i moves)) end)))
     by true used unused =
-        used ∙ first_empty g.is_held g.empty g.until (start_of m.done) (gaps_from i m.done.time (holds_any m.state i) (users plan i moves) end)
+        used ∙ first_empty g.is_held g.empty g.until (move_start m.done) (gaps_from i m.done.time (holds_any m.state i) (users plan i moves) end)
     by false used unused = unused

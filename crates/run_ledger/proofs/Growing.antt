@@ -15,7 +15,7 @@ use Rattle.cf_timed.specs.declared.timed_move.TimedMove.{TimedMove}
 use Rattle.cf_timed.specs.Times.{DelayedMove, done_after, greatest_time, time_after, times, times_after}
 use Rattle.cf_timed.proofs.Delaying.{all_time, kept_time}
 use Rattle.cf_timed.proofs.Numbered.{numbered_at}
-use Rattle.run_ledger.specs.Breakdowns.{busy, chain_to, kinds, leads_to, of_kind}
+use Rattle.run_ledger.specs.Breakdowns.{busy, chain_to, kind_counts, leads_to, of_kind}
 use Rattle.run_ledger.specs.SeenMoves.{untimed}
 use Rattle.run_ledger.specs.Ledgers.{one_more, plus, plus_if}
 use Rattle.run_ledger.proofs.Numbered.{numbered_set}
@@ -115,7 +115,8 @@ length_if : (b : Bool) (move : DelayedMove) → length (cond b (move ∷ []) [])
 length_if true move = refl
 length_if false move = refl
 
-of_kind_more : (moves : List DelayedMove) (move : DelayedMove) (kind : ℕ) → of_kind (moves ++ move ∷ []) kind ≡ of_kind moves kind + cond (nat_eq (kind_place move.mv) kind) 1 0
+of_kind_more : (moves : List DelayedMove) (move : DelayedMove) (kind : ℕ) →
+    of_kind (moves ++ move ∷ []) kind ≡ of_kind moves kind + cond (nat_eq (kind_place move.mv) kind) 1 0
 unfolding of_kind
 of_kind_more moves move kind =
     ap length (filter-append (λ m. kind_place m.mv == kind) moves (move ∷ []))
@@ -150,10 +151,12 @@ kind_within Exit = omega arith
 kind_within Serve = omega arith
 
 -- one more move of its kind
-pub kinds_more : (moves : List DelayedMove) (move : DelayedMove) → length moves + 1 < 2 ^ 64 → one_more (kinds moves) move.mv ≡ kinds (moves ++ move ∷ [])
+pub kinds_more : (moves : List DelayedMove) (move : DelayedMove) → length moves + 1 < 2 ^ 64 →
+    one_more (kind_counts moves) move.mv ≡ kind_counts (moves ++ move ∷ [])
 kinds_more moves move small =
-    ap (λ (n : ℕ). slice_set (kinds moves) (kind_place move.mv) (plus n 1)) (numbered_at (of_kind moves) 14 (kind_place move.mv) (kind_within move.mv))
-    ∙ numbered_set (of_kind moves) (of_kind (moves ++ move ∷ [])) 14 (kind_place move.mv) (plus (of_kind moves (kind_place move.mv)) 1) (kind_within move.mv) here others
+    ap (λ (n : ℕ). slice_set (kind_counts moves) (kind_place move.mv) (plus n 1)) (numbered_at (of_kind moves) 14 (kind_place move.mv) (kind_within move.mv))
+    ∙ numbered_set (of_kind moves) (of_kind (moves ++ move ∷ [])) 14 (kind_place move.mv) (plus (of_kind moves (kind_place move.mv)) 1)
+    (kind_within move.mv) here others
   where
     here : plus (of_kind moves (kind_place move.mv)) 1 ≡ of_kind (moves ++ move ∷ []) (kind_place move.mv)
     here =

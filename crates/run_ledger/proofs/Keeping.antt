@@ -1,5 +1,6 @@
 -- A ledger that has recorded the moves of a run knows what its time is made of.
-use Rattle.std.proofs.Common.{◌≡◌, ◌∙◌, refl, sym, ap, subst, ℕ, zero, suc, ◌+◌, ◌-◌, ◌*◌, ◌^◌, ◌<◌, ◌≤◌, List, [], ◌∷◌, ◌++◌, length, map, Bool, true, false, cond, nat_eq, arith, append-nil, append_assoc}
+use Rattle.std.proofs.Common.{◌≡◌, ◌∙◌, refl, sym, ap, subst, ℕ, zero, suc, ◌+◌, ◌-◌, ◌*◌, ◌^◌, ◌<◌, ◌≤◌, List, [], ◌∷◌, ◌++◌, length, map}
+use Rattle.std.proofs.Common.{Bool, true, false, cond, nat_eq, arith, append-nil, append_assoc}
 use Rattle.std.specs.Prelude.{replicate, ◌&&◌}
 use Rattle.std.specs.List.{AllByRecursion}
 use Rattle.std.proofs.lemmas.List.{length-append}
@@ -15,9 +16,10 @@ use Rattle.cf_timed.proofs.Chaining.{always}
 use Rattle.cf_timed.proofs.Following.{AreKept, IsKept, no_later}
 use Rattle.cf_timed.proofs.Greatest.{greatest_where}
 use Rattle.cf_timed.proofs.Delaying.{kept_time}
-use Rattle.run_ledger.specs.Breakdowns.{busy, chain_to, is_last, kinds, leads_to, longest_chain, of_kind}
+use Rattle.run_ledger.specs.Breakdowns.{busy, chain_to, is_last, kind_counts, leads_to, longest_chain, of_kind}
 use Rattle.run_ledger.specs.Using.{uses_siding, uses_stage}
-use Rattle.run_ledger.specs.Ledgers.{charged, followed, later, latest_of, mark_at, mark_of, no_mark, noted, noted_all, one_more, opened, place_number, place_numbers, plus, plus_if, put_marks}
+use Rattle.run_ledger.specs.Ledgers.{charged, followed, later, latest_of, chain_mark_at, mark_of, no_chain_mark, ledger_noted, noted_all}
+use Rattle.run_ledger.specs.Ledgers.{one_more, new_ledger, place_number, place_numbers, plus, plus_if, put_marks}
 use Rattle.run_ledger.specs.declared.ledger.Ledger.{Ledger}
 use Rattle.run_ledger.specs.declared.mark.ChainMark.{ChainMark}
 use Rattle.run_ledger.proofs.Growing.{AreShort, busy_few, busy_more, chain_few, grows, kinds_more, times_few, times_length, times_more, times_none}
@@ -39,11 +41,11 @@ pub record Keeps (plan : Plan) (moves : List DelayedMove) (l : Ledger) : Type 0 
   pub layout_is : l.layout ≡ plan
   pub count_is : l.count ≡ length moves
   pub room : length l.marks ≡ 102
-  pub marks_are : (x : Site) → IsKept x → mark_at l.marks (place_number x) ≡ latest_where plan (at_place plan x) (times plan moves)
+  pub marks_are : (x : Site) → IsKept x → chain_mark_at l.marks (place_number x) ≡ latest_where plan (at_place plan x) (times plan moves)
   pub last_is : l.last ≡ latest_where plan any_move (times plan moves)
   pub stages_are : l.stages ≡ map (λ i. busy (uses_stage plan i) moves) (counted_from 0 33)
   pub sidings_are : l.sidings ≡ map (λ k. busy (uses_siding plan k) moves) (counted_from 0 8)
-  pub kinds_are : l.kinds ≡ kinds moves
+  pub kinds_are : l.kinds ≡ kind_counts moves
 
 -- the marks of some sites
 marks_same : (f g : Site → ChainMark) (xs : List Site) → AllByRecursion IsKept xs → ((x : Site) → IsKept x → f x ≡ g x) → map f xs ≡ map g xs
@@ -53,18 +55,18 @@ marks_same f g (x ∷ xs) kept same =
     let r = marks_same f g xs kept.1 same in
     rw (h, r) refl
 
-map_twice : (marks : List ChainMark) (xs : List Site) → map (mark_at marks) (map place_number xs) ≡ map (λ x. mark_at marks (place_number x)) xs
+map_twice : (marks : List ChainMark) (xs : List Site) → map (chain_mark_at marks) (map place_number xs) ≡ map (λ x. chain_mark_at marks (place_number x)) xs
 map_twice marks [] = refl
-map_twice marks (x ∷ xs) = ap (λ (l : List ChainMark). mark_at marks (place_number x) ∷ l) (map_twice marks xs)
+map_twice marks (x ∷ xs) = ap (λ (l : List ChainMark). chain_mark_at marks (place_number x) ∷ l) (map_twice marks xs)
 
 -- the mark that a move follows is that of the latest that shares a site with it
 follows_latest : (plan : Plan) (moves : List DelayedMove) (l : Ledger) (move : DelayedMove) → Keeps plan moves l → AreKept plan move.mv →
     followed l move.mv ≡ latest_where plan (λ d. shares plan move.mv d.mv) (times plan moves)
 unfolding followed shares
 follows_latest plan moves l move h kept =
-    ap (λ (p : Plan). latest_of no_mark (map (mark_at l.marks) (map place_number (used p move.mv)))) h.layout_is
-    ∙ ap (latest_of no_mark) (map_twice l.marks (used plan move.mv))
-    ∙ ap (latest_of no_mark) (marks_same (λ x. mark_at l.marks (place_number x)) (λ x. latest_where plan (at_place plan x) (times plan moves))
+    ap (λ (p : Plan). latest_of no_chain_mark (map (chain_mark_at l.marks) (map place_number (used p move.mv)))) h.layout_is
+    ∙ ap (latest_of no_chain_mark) (map_twice l.marks (used plan move.mv))
+    ∙ ap (latest_of no_chain_mark) (marks_same (λ x. chain_mark_at l.marks (place_number x)) (λ x. latest_where plan (at_place plan x) (times plan moves))
     (used plan move.mv) kept h.marks_are)
     ∙ ap (λ (m : ChainMark). latest_of m (map (λ x. latest_where plan (at_place plan x) (times plan moves)) (used plan move.mv)))
     (sym (latest_never plan (times plan moves)))
@@ -78,7 +80,7 @@ waits plan done move = let t = latest_time plan (λ d. shares plan move.mv d.mv)
 
 -- its chain is that of the mark that it follows
 leads_latest : (plan : Plan) (done : List TimedMove) (move : DelayedMove) → (latest_where plan (λ d. shares plan move.mv d.mv) done).kinds
-    ≡ kinds (chain_to plan (leads_to plan (done_after plan done move)) done)
+    ≡ kind_counts (chain_to plan (leads_to plan (done_after plan done move)) done)
 leads_latest plan done move =
     let w = waits plan done move in
     let e : time_after plan done move - move.delay ≡ (latest_where plan (λ d. shares plan move.mv d.mv) done).time = omega (arith, w) in
@@ -86,7 +88,8 @@ leads_latest plan done move =
     (λ d. ap (λ (n : ℕ). shares plan move.mv d.mv && nat_eq d.time n) e)
 
 -- the mark of a move that is made now
-mark_now : (plan : Plan) (moves : List DelayedMove) (l : Ledger) (move : DelayedMove) → Keeps plan moves l → AreKept plan move.mv → AreShort moves → move.delay ≤ 1000 →
+mark_now : (plan : Plan) (moves : List DelayedMove) (l : Ledger) (move : DelayedMove) → Keeps plan moves l → AreKept plan move.mv → AreShort moves →
+    move.delay ≤ 1000 →
     1000 * (length moves + 1) < 2 ^ 64 → mark_of l move ≡ mark_after plan (done_after plan (times plan moves) move) (times plan moves)
 unfolding mark_of
 mark_now plan moves l move h kept few short small =
@@ -101,14 +104,14 @@ mark_now plan moves l move h kept few short small =
     let time_is : plus old.time (move.delay) ≡ time_after plan done move = omega (arith, w, t, k, g, short, small) in
     let number_is : plus (length moves) 1 ≡ length done + 1 = omega (arith, n, small) in
     let c = chain_few plan (leads_to plan (done_after plan done move)) done in
-    let kinds_is : one_more old.kinds move.mv ≡ kinds (chain_to plan (leads_to plan (done_after plan done move)) done ++ move ∷ []) =
+    let kinds_is : one_more old.kinds move.mv ≡ kind_counts (chain_to plan (leads_to plan (done_after plan done move)) done ++ move ∷ []) =
     ap (λ (ks : List ℕ). one_more ks move.mv) (leads_latest plan done move) ∙ kinds_more (chain_to plan
     (leads_to plan (done_after plan done move)) done) move (omega (arith, c, n, small)) in
     all l.count (followed l move.mv) old h.count_is f time_is number_is kinds_is
   where
     all : (count : ℕ) (first old : ChainMark) → count ≡ length moves → first ≡ old
         → plus old.time move.delay ≡ time_after plan (times plan moves) move → plus (length moves) 1 ≡ length (times plan moves) + 1
-        → one_more old.kinds move.mv ≡ kinds (chain_to plan (leads_to plan (done_after plan (times plan moves) move))
+        → one_more old.kinds move.mv ≡ kind_counts (chain_to plan (leads_to plan (done_after plan (times plan moves) move))
         (times plan moves) ++ move ∷ [])
         → record { time = plus first.time move.delay; number = plus count 1; kinds = one_more first.kinds move.mv }
         ≡ mark_after plan (done_after plan (times plan moves) move) (times plan moves)
@@ -117,12 +120,12 @@ mark_now plan moves l move h kept few short small =
 -- the mark of a site after it
 marks_more : (plan : Plan) (moves : List DelayedMove) (l : Ledger) (move : DelayedMove) (x : Site) → Keeps plan moves l → AreKept plan move.mv → IsKept x →
     mark_of l move ≡ mark_after plan (done_after plan (times plan moves) move) (times plan moves)
-    → mark_at (put_marks (mark_of l move) l.marks (place_numbers plan move.mv)) (place_number x) ≡ latest_where plan (at_place plan x)
+    → chain_mark_at (put_marks (mark_of l move) l.marks (place_numbers plan move.mv)) (place_number x) ≡ latest_where plan (at_place plan x)
     (done_after plan (times plan moves) move ∷ times plan moves)
 unfolding uses_place
 marks_more plan moves l move x h kept here mark_is =
     marks_put (mark_of l move) l.marks (used plan move.mv) x h.room kept here
-    ∙ ap (λ (m : ChainMark). cond (among x (used plan move.mv)) m (mark_at l.marks (place_number x))) mark_is
+    ∙ ap (λ (m : ChainMark). cond (among x (used plan move.mv)) m (chain_mark_at l.marks (place_number x))) mark_is
     ∙ ap (λ (m : ChainMark). cond (among x (used plan move.mv)) (mark_after plan (done_after plan (times plan moves) move)
     (times plan moves)) m) (h.marks_are x here)
     ∙ by (among x (used plan move.mv)) refl
@@ -141,9 +144,10 @@ marks_more plan moves l move x h kept here mark_is =
     by false e = sym (later_none (latest_where plan (at_place plan x) (times plan moves)))
 
 -- one more move
-pub keeps-more : (plan : Plan) (moves : List DelayedMove) (l : Ledger) (move : DelayedMove) → Keeps plan moves l → AreKept plan move.mv → AreShort moves → move.delay ≤ 1000 →
-    1000 * (length moves + 1) < 2 ^ 64 → Keeps plan (moves ++ move ∷ []) (noted l move)
-unfolding noted
+pub keeps-more : (plan : Plan) (moves : List DelayedMove) (l : Ledger) (move : DelayedMove) → Keeps plan moves l → AreKept plan move.mv → AreShort moves →
+    move.delay ≤ 1000 →
+    1000 * (length moves + 1) < 2 ^ 64 → Keeps plan (moves ++ move ∷ []) (ledger_noted l move)
+unfolding ledger_noted
 keeps-more plan moves l move h kept few short small =
     let m = mark_now plan moves l move h kept few short small in
     let more = times_more plan moves move in
@@ -152,7 +156,7 @@ keeps-more plan moves l move h kept few short small =
       count_is = count;
       room = put_size (mark_of l move) l.marks (place_numbers l.layout move.mv) ∙ h.room;
       marks_are = λ x here.
-          ap (λ (p : Plan). mark_at (put_marks (mark_of l move) l.marks (place_numbers p move.mv)) (place_number x)) h.layout_is
+          ap (λ (p : Plan). chain_mark_at (put_marks (mark_of l move) l.marks (place_numbers p move.mv)) (place_number x)) h.layout_is
           ∙ marks_more plan moves l move x h kept here m
           ∙ ap (latest_where plan (at_place plan x)) (sym more);
       last_is = ap (λ (a : ChainMark). later a (mark_of l move)) h.last_is
@@ -180,13 +184,13 @@ keeps-more plan moves l move h kept few short small =
             grows (uses i move.mv) (busy (uses i) moves) move.delay (omega (arith, b, short, small)) ∙ sym (busy_more (uses i) moves move)
 
 -- before the first
-no_marks : (n i : ℕ) → mark_at (replicate n no_mark) i ≡ no_mark
+no_marks : (n i : ℕ) → chain_mark_at (replicate n no_chain_mark) i ≡ no_chain_mark
 no_marks zero i = refl
 no_marks (suc n) zero = refl
 no_marks (suc n) (suc i) = no_marks n i
 
-pub keeps-start : (plan : Plan) → Keeps plan [] (opened plan)
-unfolding opened busy of_kind sum_of_delays
+pub keeps-start : (plan : Plan) → Keeps plan [] (new_ledger plan)
+unfolding new_ledger busy of_kind sum_of_delays
 keeps-start plan =
     let none = times_none plan in
     record {
@@ -207,8 +211,8 @@ pub keeps-all : (plan : Plan) (front moves : List DelayedMove) (l : Ledger) → 
 keeps-all plan front [] l few short kept small h = subst (λ (ms : List DelayedMove). Keeps plan ms l) (sym (append-nil front)) h
 keeps-all plan front (move ∷ moves) l few short kept small h =
     let n = length-append front (move ∷ []) in
-    subst (λ (ms : List DelayedMove). Keeps plan ms (noted_all (noted l move) moves)) (append_assoc front (move ∷ []) moves)
-    (keeps-all plan (front ++ move ∷ []) moves (noted l move) (short-last front move few short.0) short.1 kept.1 (omega (arith, n, small))
+    subst (λ (ms : List DelayedMove). Keeps plan ms (noted_all (ledger_noted l move) moves)) (append_assoc front (move ∷ []) moves)
+    (keeps-all plan (front ++ move ∷ []) moves (ledger_noted l move) (short-last front move few short.0) short.1 kept.1 (omega (arith, n, small))
     (keeps-more plan front l move h kept.0 few short.0 (omega (arith, small))))
   where
     short-last : (front : List DelayedMove) (one : DelayedMove) → AreShort front → one.delay ≤ 1000 → AreShort (front ++ one ∷ [])
@@ -220,8 +224,8 @@ pub record KnowsSites (plan : Plan) (moves : List DelayedMove) (l : Ledger) : Ty
   pub layout_is : l.layout ≡ plan
   pub stages_are : l.stages ≡ map (λ i. busy (uses_stage plan i) moves) (counted_from 0 33)
   pub sidings_are : l.sidings ≡ map (λ k. busy (uses_siding plan k) moves) (counted_from 0 8)
-  pub kinds_are : l.kinds ≡ kinds moves
-  pub chain_is : l.last.kinds ≡ kinds (longest_chain plan moves)
+  pub kinds_are : l.kinds ≡ kind_counts moves
+  pub chain_is : l.last.kinds ≡ kind_counts (longest_chain plan moves)
   pub end_is : l.last.time ≡ greatest_time (times plan moves)
 
 keeps-knows : (plan : Plan) (moves : List DelayedMove) (l : Ledger) → Keeps plan moves l → KnowsSites plan moves l
@@ -241,6 +245,7 @@ keeps-knows plan moves l h =
     }
 
 pub knows-all : (plan : Plan) (moves : List DelayedMove) → AreShort moves → AllByRecursion (λ d. AreKept plan d.mv) moves → 1000 * length moves < 2 ^ 64 →
-    KnowsSites plan moves (noted_all (opened plan) moves)
+    KnowsSites plan moves (noted_all (new_ledger plan) moves)
 knows-all plan moves short kept small =
-    keeps-knows plan moves (noted_all (opened plan) moves) (keeps-all plan [] moves (opened plan) tt short kept (omega (arith, small)) (keeps-start plan))
+    keeps-knows plan moves (noted_all (new_ledger plan) moves) (keeps-all plan [] moves (new_ledger plan) tt short kept (omega (arith, small))
+    (keeps-start plan))

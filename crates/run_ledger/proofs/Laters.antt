@@ -1,12 +1,12 @@
 -- The later of two marks.
 use Rattle.std.proofs.Common.{◌≡◌, refl, ℕ, ◌<◌, ◌≤◌, max, Bool, true, false, cond, arith}
 use Rattle.std.proofs.lemmas.Bool.Decides.{nat_tests}
-use Rattle.run_ledger.specs.Ledgers.{is_later, later, no_mark}
+use Rattle.run_ledger.specs.Ledgers.{is_later, later, no_chain_mark}
 use Rattle.run_ledger.specs.declared.mark.ChainMark.{ChainMark}
 
 -- the later of a mark and no mark is the mark
-pub later_none : (a : ChainMark) → later a no_mark ≡ a
-later_none a = let e : is_later a no_mark ≡ false = grind (arith, nat_tests) in rw e refl
+pub later_none : (a : ChainMark) → later a no_chain_mark ≡ a
+later_none a = let e : is_later a no_chain_mark ≡ false = grind (arith, nat_tests) in rw e refl
 
 -- a mark with a greater number and no earlier time is the later one
 pub later_new : (a b : ChainMark) → a.time ≤ b.time → a.number < b.number → later a b ≡ b

@@ -6,9 +6,9 @@ use Rattle.std.proofs.lemmas.Bool.Decides.{nat_tests}
 use Rattle.cf_layout.specs.Layout.{Plan}
 use Rattle.cf_timed.specs.declared.timed_move.TimedMove.{TimedMove}
 use Rattle.cf_timed.proofs.Greatest.{greatest_where, where_more, where_none}
-use Rattle.run_ledger.specs.Breakdowns.{chain_to, kinds, leads_to, of_kind}
+use Rattle.run_ledger.specs.Breakdowns.{chain_to, kind_counts, leads_to, of_kind}
 use Rattle.run_ledger.specs.SeenMoves.{untimed}
-use Rattle.run_ledger.specs.Ledgers.{later, latest_of, no_mark}
+use Rattle.run_ledger.specs.Ledgers.{later, latest_of, no_chain_mark}
 use Rattle.run_ledger.specs.declared.mark.ChainMark.{ChainMark}
 use Rattle.run_ledger.proofs.Laters.{later_new, later_none, later_number, later_old, later_time, new_both, new_first, new_second}
 
@@ -17,21 +17,21 @@ abbrev pub mark_after : Plan → TimedMove → List TimedMove → ChainMark
 mark_after plan done earlier = record {
   time = done.time;
   number = length earlier + 1;
-  kinds = kinds (chain_to plan (leads_to plan done) earlier ++ untimed done ∷ []);
+  kinds = kind_counts (chain_to plan (leads_to plan done) earlier ++ untimed done ∷ []);
 }
 
 -- or no mark, where it does not count
 abbrev pub mark_if : Plan → Bool → TimedMove → List TimedMove → ChainMark
-mark_if plan counts done earlier = cond counts (mark_after plan done earlier) no_mark
+mark_if plan counts done earlier = cond counts (mark_after plan done earlier) no_chain_mark
 
 -- the mark of the latest of the moves that pass a test
 abbrev pub latest_where : Plan → (TimedMove → Bool) → List TimedMove → ChainMark
-latest_where plan test [] = no_mark
+latest_where plan test [] = no_chain_mark
 latest_where plan test (done ∷ earlier) = later (latest_where plan test earlier) (mark_if plan (test done) done earlier)
 
 -- and of the last that passes it
 abbrev pub last_where : Plan → (TimedMove → Bool) → List TimedMove → ChainMark
-last_where plan test [] = no_mark
+last_where plan test [] = no_chain_mark
 last_where plan test (done ∷ earlier) = cond (test done) (mark_after plan done earlier) (last_where plan test earlier)
 
 -- the time of the latest
@@ -72,14 +72,14 @@ latest_same plan p q (done ∷ earlier) same =
     rw (r, h) refl
 
 -- a test that nothing passes
-pub latest_never : (plan : Plan) (moves : List TimedMove) → latest_where plan (λ d. false) moves ≡ no_mark
+pub latest_never : (plan : Plan) (moves : List TimedMove) → latest_where plan (λ d. false) moves ≡ no_chain_mark
 latest_never plan [] = refl
-latest_never plan (done ∷ earlier) = let r = latest_never plan earlier in rw r (later_none no_mark)
+latest_never plan (done ∷ earlier) = let r = latest_never plan earlier in rw r (later_none no_chain_mark)
 
 -- one test or another
 pub latest_either : (plan : Plan) (p q : TimedMove → Bool) (moves : List TimedMove) →
     latest_where plan (λ d. p d || q d) moves ≡ later (latest_where plan p moves) (latest_where plan q moves)
-latest_either plan p q [] = sym (later_none no_mark)
+latest_either plan p q [] = sym (later_none no_chain_mark)
 latest_either plan p q (done ∷ earlier) =
     ap (λ (m : ChainMark). later m (mark_if plan (p done || q done) done earlier)) (latest_either plan p q earlier)
     ∙ both (p done) (q done)
@@ -110,7 +110,7 @@ latest_either plan p q (done ∷ earlier) =
         by false false m n =
             later_none (later (latest_where plan p earlier) (latest_where plan q earlier))
             ∙ ap (λ (x : ChainMark). later x (latest_where plan q earlier)) (sym (later_none (latest_where plan p earlier)))
-            ∙ ap (later (later (latest_where plan p earlier) no_mark)) (sym (later_none (latest_where plan q earlier)))
+            ∙ ap (later (later (latest_where plan p earlier) no_chain_mark)) (sym (later_none (latest_where plan q earlier)))
 
 -- the tests of a list, one after the other
 pub latest_any : {X : Type 0} (plan : Plan) (p : TimedMove → Bool) (test : X → TimedMove → Bool) (xs : List X) (moves : List TimedMove) →
@@ -134,10 +134,10 @@ latest_any {X} plan p test (x ∷ xs) moves =
 -- the last that passes and finishes at a time, where none that passes finishes later
 at_time : (plan : Plan) (p : TimedMove → Bool) (moves : List TimedMove) (s : ℕ) → (latest_where plan p moves).time ≤ s →
     last_where plan (λ d. p d && nat_eq d.time s) moves ≡ cond (nat_eq (latest_where plan p moves).time s)
-    (latest_where plan p moves) no_mark
+    (latest_where plan p moves) no_chain_mark
 at_time plan p [] s h = by (nat_eq 0 s)
   where
-    by : (b : Bool) → no_mark ≡ cond b no_mark no_mark
+    by : (b : Bool) → no_chain_mark ≡ cond b no_chain_mark no_chain_mark
     by true = refl
     by false = refl
 at_time plan p (done ∷ earlier) s h =
@@ -149,8 +149,8 @@ at_time plan p (done ∷ earlier) s h =
     old = latest_where plan p earlier
 
     stays : (b : Bool) → nat_eq (latest_where plan p earlier).time s ≡ b → done.time < s →
-        cond b (latest_where plan p earlier) no_mark ≡ cond (nat_eq (later (latest_where plan p earlier)
-        (mark_after plan done earlier)).time s) (later (latest_where plan p earlier) (mark_after plan done earlier)) no_mark
+        cond b (latest_where plan p earlier) no_chain_mark ≡ cond (nat_eq (later (latest_where plan p earlier)
+        (mark_after plan done earlier)).time s) (later (latest_where plan p earlier) (mark_after plan done earlier)) no_chain_mark
     stays true e below =
         let q : (latest_where plan p earlier).time ≡ s = grind (arith, nat_tests) in
         let k = later_old (latest_where plan p earlier) (mark_after plan done earlier) (omega (arith, q, below)) in
@@ -162,15 +162,15 @@ at_time plan p (done ∷ earlier) s h =
 
     by : (b : Bool) → cond b done.time 0 ≤ s → (latest_where plan p earlier).time ≤ s →
         last_where plan (λ d. p d && nat_eq d.time s) earlier ≡ cond (nat_eq (latest_where plan p earlier).time s)
-        (latest_where plan p earlier) no_mark → cond (b && nat_eq done.time s) (mark_after plan done earlier)
+        (latest_where plan p earlier) no_chain_mark → cond (b && nat_eq done.time s) (mark_after plan done earlier)
         (last_where plan (λ d. p d && nat_eq d.time s) earlier) ≡ cond (nat_eq (later (latest_where plan p earlier)
-        (mark_if plan b done earlier)).time s) (later (latest_where plan p earlier) (mark_if plan b done earlier)) no_mark
+        (mark_if plan b done earlier)).time s) (later (latest_where plan p earlier) (mark_if plan b done earlier)) no_chain_mark
     by false few g r = let k = later_none (latest_where plan p earlier) in rw k r
     by true few g r = there (nat_eq done.time s) refl
       where
         there : (b : Bool) → nat_eq done.time s ≡ b → cond b (mark_after plan done earlier)
             (last_where plan (λ d. p d && nat_eq d.time s) earlier) ≡ cond (nat_eq (later (latest_where plan p earlier)
-            (mark_after plan done earlier)).time s) (later (latest_where plan p earlier) (mark_after plan done earlier)) no_mark
+            (mark_after plan done earlier)).time s) (later (latest_where plan p earlier) (mark_after plan done earlier)) no_chain_mark
         there true e =
             let q : done.time ≡ s = grind (arith, nat_tests) in
             let n = latest_number plan p earlier in
@@ -189,14 +189,14 @@ latest_last plan p moves =
 
 -- its kinds are those of the chain that ends with it
 pub last_kinds : (plan : Plan) (test : TimedMove → Bool) (moves : List TimedMove) →
-    (last_where plan test moves).kinds ≡ kinds (chain_to plan test moves)
+    (last_where plan test moves).kinds ≡ kind_counts (chain_to plan test moves)
 unfolding of_kind
 last_kinds plan test [] = refl
 last_kinds plan test (done ∷ earlier) = by (test done) (last_kinds plan test earlier)
   where
-    by : (b : Bool) → (last_where plan test earlier).kinds ≡ kinds (chain_to plan test earlier) →
+    by : (b : Bool) → (last_where plan test earlier).kinds ≡ kind_counts (chain_to plan test earlier) →
         (cond b (mark_after plan done earlier) (last_where plan test earlier)).kinds
-        ≡ kinds (cond b (chain_to plan (leads_to plan done) earlier ++ untimed done ∷ []) (chain_to plan test earlier))
+        ≡ kind_counts (cond b (chain_to plan (leads_to plan done) earlier ++ untimed done ∷ []) (chain_to plan test earlier))
     by true r = refl
     by false r = r
 
@@ -212,8 +212,8 @@ chain_same plan p q (done ∷ earlier) same =
 -- the kinds of the chain to the latest that passes
 pub latest_kinds : (plan : Plan) (p test : TimedMove → Bool) (moves : List TimedMove) →
     ((d : TimedMove) → test d ≡ (p d && nat_eq d.time (latest_where plan p moves).time)) →
-    (latest_where plan p moves).kinds ≡ kinds (chain_to plan test moves)
+    (latest_where plan p moves).kinds ≡ kind_counts (chain_to plan test moves)
 latest_kinds plan p test moves same =
     ap (λ (m : ChainMark). m.kinds) (sym (latest_last plan p moves))
     ∙ last_kinds plan (λ d. p d && nat_eq d.time (latest_where plan p moves).time) moves
-    ∙ ap kinds (sym (chain_same plan test (λ d. p d && nat_eq d.time (latest_where plan p moves).time) moves same))
+    ∙ ap kind_counts (sym (chain_same plan test (λ d. p d && nat_eq d.time (latest_where plan p moves).time) moves same))

@@ -1,12 +1,13 @@
 -- Marks that are put at the sites that a move uses.
-use Rattle.std.proofs.Common.{◌≡◌, ◌∙◌, refl, sym, ap, ℕ, zero, suc, ◌+◌, ◌*◌, ◌<◌, List, [], ◌∷◌, drop, get_or, length, map, Bool, true, false, cond, nat_eq, arith}
+use Rattle.std.proofs.Common.{◌≡◌, ◌∙◌, refl, sym, ap, ℕ, zero, suc, ◌+◌, ◌*◌, ◌<◌, List, [], ◌∷◌, drop, get_or, length, map, Bool, true}
+use Rattle.std.proofs.Common.{false, cond, nat_eq, arith}
 use Rattle.std.specs.Prelude.{slice_set, ◌&&◌, ◌||◌}
 use Rattle.std.specs.List.{AllByRecursion}
 use Rattle.std.proofs.lemmas.Bool.Decides.{nat_tests}
 use Rattle.cf_semantics.specs.moves.Sites.{Site, Stage, SidingCell, Lane, Fetching, Memory, Code, among, same_site}
 use Rattle.cf_timed.proofs.Following.{IsKept}
 use Rattle.cf_timed.proofs.Numbered.{set_length}
-use Rattle.run_ledger.specs.Ledgers.{mark_at, place_number, put_marks, with_marks}
+use Rattle.run_ledger.specs.Ledgers.{chain_mark_at, place_number, put_marks, with_marks}
 use Rattle.run_ledger.specs.declared.ledger.Ledger.{Ledger}
 use Rattle.run_ledger.specs.declared.mark.ChainMark.{ChainMark}
 
@@ -69,8 +70,8 @@ number_within Code kept = omega arith
 number_within _ kept = absurd (search kept)
 
 -- a mark that was put, and the others
-at_put : (marks : List ChainMark) (i j : ℕ) (mark : ChainMark) → i < length marks → mark_at (slice_set marks i mark) j
-    ≡ cond (nat_eq j i) mark (mark_at marks j)
+at_put : (marks : List ChainMark) (i j : ℕ) (mark : ChainMark) → i < length marks → chain_mark_at (slice_set marks i mark) j
+    ≡ cond (nat_eq j i) mark (chain_mark_at marks j)
 at_put [] i j mark within = absurd (omega arith)
 at_put (m ∷ marks) zero zero mark within = refl
 at_put (m ∷ marks) zero (suc j) mark within = let e : nat_eq (suc j) 0 ≡ false = grind (arith, nat_tests) in rw e refl
@@ -85,16 +86,16 @@ put_size mark marks (place ∷ places) = put_size mark (slice_set marks place ma
 
 -- the mark at a site, after one was put at some sites
 pub marks_put : (mark : ChainMark) (marks : List ChainMark) (ys : List Site) (x : Site) → length marks ≡ 102 → AllByRecursion IsKept ys → IsKept x →
-    mark_at (put_marks mark marks (map place_number ys)) (place_number x) ≡ cond (among x ys) mark (mark_at marks (place_number x))
+    chain_mark_at (put_marks mark marks (map place_number ys)) (place_number x) ≡ cond (among x ys) mark (chain_mark_at marks (place_number x))
 marks_put mark marks [] x room kept here = refl
 marks_put mark marks (y ∷ ys) x room kept here =
     let w = number_within y kept.0 in
     marks_put mark (slice_set marks (place_number y) mark) ys x (set_length marks (place_number y) mark ∙ room) kept.1 here
     ∙ ap (λ (m : ChainMark). cond (among x ys) mark m) (at_put marks (place_number y) (place_number x) mark (omega (arith, w, room))
-    ∙ ap (λ (b : Bool). cond b mark (mark_at marks (place_number x))) (same_number x y here kept.0))
+    ∙ ap (λ (b : Bool). cond b mark (chain_mark_at marks (place_number x))) (same_number x y here kept.0))
     ∙ both (same_site x y) (among x ys)
   where
-    both : (a b : Bool) → cond b mark (cond a mark (mark_at marks (place_number x))) ≡ cond (a || b) mark (mark_at marks (place_number x))
+    both : (a b : Bool) → cond b mark (cond a mark (chain_mark_at marks (place_number x))) ≡ cond (a || b) mark (chain_mark_at marks (place_number x))
     both true true = refl
     both true false = refl
     both false true = refl

@@ -27,12 +27,12 @@ use Rattle.cf_timed.proofs.Following.{AreKept}
 use Rattle.run_ledger.specs.Breakdowns.{breakdown}
 use Rattle.run_ledger.specs.ClassCounts.{latencies_noted, no_latencies}
 use Rattle.run_ledger.specs.GapCounts.{empty_until, gaps_at, gaps_noted, no_gaps, waiting_until, with_gap}
-use Rattle.run_ledger.specs.Gaps.{empty, gaps, waiting}
-use Rattle.run_ledger.specs.Latencies.{latency, of_class, passages, passages_after, retired, total_ticks}
-use Rattle.run_ledger.specs.Ledgers.{noted, noted_all, opened}
+use Rattle.run_ledger.specs.Gaps.{empty_time, gaps, waiting}
+use Rattle.run_ledger.specs.Latencies.{latency, of_class, passages, passages_after, retired_count, total_ticks}
+use Rattle.run_ledger.specs.Ledgers.{ledger_noted, noted_all, new_ledger}
 use Rattle.run_ledger.specs.NotedRuns.{RunsNoted}
-use Rattle.run_ledger.specs.RunLedgers.{begun, move_noted, moves_noted, told_by}
-use Rattle.run_ledger.specs.SeenMoves.{SeenMove, seen, seen_from, seen_in, time_of, untimed_all}
+use Rattle.run_ledger.specs.RunLedgers.{begun, move_noted, moves_noted, breakdown_in}
+use Rattle.run_ledger.specs.SeenMoves.{SeenMove, seen_move, seen_from, seen_in, time_of, untimed_all}
 use Rattle.run_ledger.specs.declared.gaps.StageGaps.{StageGaps}
 use Rattle.run_ledger.specs.declared.latencies.Latencies.{Latencies}
 use Rattle.run_ledger.specs.declared.run_ledger.RunLedger.{RunLedger}
@@ -45,7 +45,7 @@ use Rattle.run_ledger.proofs.StageTimes.{whole-time}
 
 -- how a ledger notes a move
 abbrev pub notes : RunLedger → Made → TimedMove → RunLedger
-notes l made done = move_noted l (seen done made)
+notes l made done = move_noted l (seen_move done made)
 
 -- and it writes nothing
 abbrev pub silent : RunLedger → Made → TimedMove → List ℕ
@@ -74,11 +74,11 @@ sites-noted l [] = refl
 sites-noted l (m ∷ moves) = sites-noted (move_noted l m) moves
 
 layout-kept : (plan : Plan) (l : RunLedger) (m : SeenMove) → l.sites.layout ≡ plan → (move_noted l m).sites.layout ≡ plan
-unfolding move_noted noted
+unfolding move_noted ledger_noted
 layout-kept plan l m is = is
 
 layout-begun : (plan : Plan) → (begun plan).sites.layout ≡ plan
-unfolding begun opened
+unfolding begun new_ledger
 layout-begun plan = refl
 
 gaps-noted : (plan : Plan) (l : RunLedger) (moves : List SeenMove) → l.sites.layout ≡ plan → (moves_noted l moves).gaps ≡ all_over plan moves l.gaps
@@ -101,9 +101,9 @@ waiting-is : (plan : Plan) (moves : List SeenMove) (i : ℕ) → waiting plan mo
 unfolding waiting gaps
 waiting-is plan moves i small = waiting-over plan i moves no_gaps (time_of plan moves) (omega arith) ∙ omega (arith, small)
 
-empty-is : (plan : Plan) (moves : List SeenMove) (i : ℕ) → empty plan moves i < 2 ^ 64 →
-    (with_gap (gaps_over plan i moves no_gaps) (time_of plan moves)).empty ≡ empty plan moves i
-unfolding empty gaps
+empty-is : (plan : Plan) (moves : List SeenMove) (i : ℕ) → empty_time plan moves i < 2 ^ 64 →
+    (with_gap (gaps_over plan i moves no_gaps) (time_of plan moves)).empty ≡ empty_time plan moves i
+unfolding empty_time gaps
 empty-is plan moves i small = empty-over plan i moves no_gaps (time_of plan moves) (omega arith) ∙ omega (arith, small)
 
 gaps-each : (plan : Plan) (moves : List SeenMove) → all_over plan moves (replicate 33 no_gaps) ≡ map (λ i. gaps_over plan i moves no_gaps) (counted_from 0 33)
@@ -126,14 +126,14 @@ waiting-each : (plan : Plan) (moves : List SeenMove) → ((i : ℕ) → waiting 
     waiting_until (time_of plan moves) (all_over plan moves (replicate 33 no_gaps)) ≡ map (waiting plan moves) (counted_from 0 33)
 waiting-each plan moves small = each-until (λ g. g.waiting) plan moves (waiting plan moves) (λ i. waiting-is plan moves i (small i))
 
-empty-each : (plan : Plan) (moves : List SeenMove) → ((i : ℕ) → empty plan moves i < 2 ^ 64) →
-    empty_until (time_of plan moves) (all_over plan moves (replicate 33 no_gaps)) ≡ map (empty plan moves) (counted_from 0 33)
-empty-each plan moves small = each-until (λ g. g.empty) plan moves (empty plan moves) (λ i. empty-is plan moves i (small i))
+empty-each : (plan : Plan) (moves : List SeenMove) → ((i : ℕ) → empty_time plan moves i < 2 ^ 64) →
+    empty_until (time_of plan moves) (all_over plan moves (replicate 33 no_gaps)) ≡ map (empty_time plan moves) (counted_from 0 33)
+empty-each plan moves small = each-until (λ g. g.empty) plan moves (empty_time plan moves) (λ i. empty-is plan moves i (small i))
 
 -- the instructions of each class
 retired-each : (plan : Plan) (moves : List SeenMove) → length moves < 2 ^ 64 →
-    raised (2 ^ 64 - 1) (λ p. 1) (replicate 11 0) (passages_after plan [] moves) ≡ map (retired plan moves) (counted_from 0 11)
-unfolding retired passages
+    raised (2 ^ 64 - 1) (λ p. 1) (replicate 11 0) (passages_after plan [] moves) ≡ map (retired_count plan moves) (counted_from 0 11)
+unfolding retired_count passages
 retired-each plan moves small =
     raised-each (2 ^ 64 - 1) (λ p. 1) (λ place. 0) (passages_after plan [] moves) (λ place. omega arith)
     ∙ numbered_same (λ place. min (0 + total_of (λ p. 1) (of_class place (passages_after plan [] moves))) (2 ^ 64 - 1))
@@ -181,7 +181,7 @@ unfolding greatest_time
 none-done = refl
 
 -- the parts of a ledger that begins
-sites-begun : (plan : Plan) (moves : List SeenMove) → (moves_noted (begun plan) moves).sites ≡ noted_all (opened plan) (untimed_all moves)
+sites-begun : (plan : Plan) (moves : List SeenMove) → (moves_noted (begun plan) moves).sites ≡ noted_all (new_ledger plan) (untimed_all moves)
 unfolding begun
 sites-begun plan moves = sites-noted (begun plan) moves
 
@@ -196,10 +196,10 @@ latencies-begun plan moves = latencies-noted plan (begun plan) moves (layout-beg
 -- they make up its breakdown
 told-parts : (plan : Plan) (moves : List SeenMove) (l : RunLedger) → KnowsSites plan (untimed_all moves) l.sites →
     waiting_until l.sites.last.time l.gaps ≡ map (waiting plan moves) (counted_from 0 33) →
-    empty_until l.sites.last.time l.gaps ≡ map (empty plan moves) (counted_from 0 33) →
-    l.latencies.retired ≡ map (retired plan moves) (counted_from 0 11) → l.latencies.ticks ≡ map (latency plan moves) (counted_from 0 11) →
-    told_by l ≡ breakdown plan moves
-unfolding told_by breakdown
+    empty_until l.sites.last.time l.gaps ≡ map (empty_time plan moves) (counted_from 0 33) →
+    l.latencies.retired ≡ map (retired_count plan moves) (counted_from 0 11) → l.latencies.ticks ≡ map (latency plan moves) (counted_from 0 11) →
+    breakdown_in l ≡ breakdown plan moves
+unfolding breakdown_in breakdown
 told-parts plan moves l k waits empties counts sums =
     let a = k.layout_is in
     let b = k.stages_are in
@@ -211,7 +211,7 @@ told-parts plan moves l k waits empties counts sums =
 -- so it knows what their time is made of
 told-seen : (plan : Plan) (rule : DelayRule) (s : State) (trace : List Made) → plan.stages < 34 → AreShort (untimed_all (seen_in plan rule s trace)) →
     AllByRecursion (λ d. AreKept plan d.mv) (untimed_all (seen_in plan rule s trace)) → 1000 * length (untimed_all (seen_in plan rule s trace)) < 2 ^ 64 →
-    told_by (moves_noted (begun plan) (seen_in plan rule s trace)) ≡ breakdown plan (seen_in plan rule s trace)
+    breakdown_in (moves_noted (begun plan) (seen_in plan rule s trace)) ≡ breakdown plan (seen_in plan rule s trace)
 told-seen plan rule s trace low short kept small =
     let moves : List SeenMove = seen_in plan rule s trace in
     let l : RunLedger = moves_noted (begun plan) moves in
@@ -232,7 +232,8 @@ told-seen plan rule s trace low short kept small =
     ∙ latency-each plan moves (seen-short plan rule (first_turn s) trace short (let z = none-done in omega (arith, n, small, z))) (omega (arith, n, small)))
 
 pub runs-noted : (r : GuessRule) (rule : DelayRule) (limit : ℕ) (core new : Processor) (before after : Streams) (clock : SiteTimes) (first later : RunLedger)
-    (blank full : Option (List ℕ)) (moves : ℕ) (answer : Timed) → IsAccepted core.plan → length core.state.regs ≡ 32 → CanRunTimed limit core → AreDelays rule.spans → first ≡ begun core.plan →
+    (blank full : Option (List ℕ)) (moves : ℕ) (answer : Timed) → IsAccepted core.plan → length core.state.regs ≡ 32 → CanRunTimed limit core →
+    AreDelays rule.spans → first ≡ begun core.plan →
     RunsWatched notes silent r rule limit (begins core before) new after clock first later blank full moves answer →
     RunsNoted r rule limit (begins core before) new after clock later moves answer
 runs-noted r rule limit core new before after clock first later blank full moves answer acc wide can few begun_so h =
@@ -246,7 +247,7 @@ runs-noted r rule limit core new before after clock first later blank full moves
     let top = acc.stages in
     record {
       timed = h.run;
-      tells = ap told_by (h.noted_all ∙ ap (λ (l : RunLedger). watched notes plan rule t l trace) begun_so ∙ watched-all plan rule t (begun plan) trace)
+      tells = ap breakdown_in (h.noted_all ∙ ap (λ (l : RunLedger). watched notes plan rule t l trace) begun_so ∙ watched-all plan rule t (begun plan) trace)
           ∙ told-seen plan rule core.state trace (omega (arith, top))
           (subst AreShort (sym u) (delays-short plan rule [] (visits_of core.state trace) few))
           (subst (AllByRecursion (λ d. AreKept plan d.mv)) (sym u) (moves-kept plan rule (fresh r h.run.picks) runs.at core.state trace acc runs.picks))

@@ -1,5 +1,6 @@
 -- The instructions that are counted by their classes are those that retire in the run.
-use Rattle.std.proofs.Common.{◌≡◌, ◌≢◌, ◌∙◌, refl, sym, ap, subst, ℕ, zero, suc, ◌+◌, ◌-◌, ◌*◌, ◌^◌, ◌<◌, ◌≤◌, List, [], ◌∷◌, ◌++◌, length, map, Bool, true, false, cond, Option, Some, None, nat_eq, arith}
+use Rattle.std.proofs.Common.{◌≡◌, ◌≢◌, ◌∙◌, refl, sym, ap, subst, ℕ, zero, suc, ◌+◌, ◌-◌, ◌*◌, ◌^◌, ◌<◌, ◌≤◌, List, [], ◌∷◌, ◌++◌, length}
+use Rattle.std.proofs.Common.{map, Bool, true, false, cond, Option, Some, None, nat_eq, arith}
 use Rattle.std.specs.Prelude.{min, replicate, slice_set, nat_lt}
 use Rattle.std.specs.List.{AllByRecursion}
 use Rattle.std.proofs.lemmas.Bool.Decides.{nat_tests}
@@ -14,9 +15,9 @@ use Rattle.cf_timed.specs.Numbers.{number_at}
 use Rattle.cf_timed.specs.declared.timed_move.TimedMove.{TimedMove}
 use Rattle.cf_timed.proofs.Following.{AreKept}
 use Rattle.cf_timed.proofs.Numbered.{numbered_at, set_length}
-use Rattle.run_ledger.specs.ClassCounts.{entered, issues_after, latencies_noted, no_latencies, passed}
-use Rattle.run_ledger.specs.Latencies.{Passage, brought, class_retired, issued, of_class, passage_of, passages_after, total_ticks}
-use Rattle.run_ledger.specs.SeenMoves.{SeenMove, start_of}
+use Rattle.run_ledger.specs.ClassCounts.{entered, issues_after, latencies_noted, no_latencies, passage_noted}
+use Rattle.run_ledger.specs.Latencies.{Passage, brought, class_retired, issue_started, of_class, passage_of, passages_after, total_ticks}
+use Rattle.run_ledger.specs.SeenMoves.{SeenMove, move_start}
 use Rattle.run_ledger.specs.declared.latencies.Latencies.{Latencies}
 use Rattle.run_ledger.proofs.Numbered.{numbered_same, numbered_set}
 
@@ -32,28 +33,28 @@ number_put (n ∷ numbers) (suc i) (suc j) v within = let e : nat_eq (suc i) (su
 -- the starts of the Issue of what is in each stage
 pub record HasIssues (earlier : List TimedMove) (starts : List ℕ) : Type 0 where
   pub room : length starts ≡ 34
-  pub each : (i : ℕ) → i < 34 → number_at starts i ≡ issued earlier i
+  pub each : (i : ℕ) → i < 34 → number_at starts i ≡ issue_started earlier i
 
 -- after one more move
 issues-move : (plan : Plan) (earlier : List TimedMove) (starts : List ℕ) (done : TimedMove) (mv : Move) → AreKept plan mv → HasIssues earlier starts →
     (length (issues_after done mv starts) ≡ 34)
-    × ((i : ℕ) → i < 34 → number_at (issues_after done mv starts) i ≡ brought mv (start_of done) (issued earlier) i)
+    × ((i : ℕ) → i < 34 → number_at (issues_after done mv starts) i ≡ brought mv (move_start done) (issue_started earlier) i)
 issues-move plan earlier starts done (Issue g) kept h = (
-  set_length starts 1 (start_of done) ∙ h.room,
-  λ i within. number_put starts i 1 (start_of done) (let r = h.room in omega (arith, r)) ∙ ap (cond (nat_eq i 1) (start_of done)) (h.each i within),
+  set_length starts 1 (move_start done) ∙ h.room,
+  λ i within. number_put starts i 1 (move_start done) (let r = h.room in omega (arith, r)) ∙ ap (cond (nat_eq i 1) (move_start done)) (h.each i within),
 )
 issues-move plan earlier starts done (Climb j) kept h = by (nat_lt j 33) (let k = kept.1.0 in grind (arith, nat_tests))
   where
     by : (b : Bool) → b ≡ true →
         (length (cond b (slice_set starts (j + 1) (number_at starts j)) starts) ≡ 34)
         × ((i : ℕ) → i < 34 → number_at (cond b (slice_set starts (j + 1) (number_at starts j)) starts) i
-        ≡ cond (nat_eq i (j + 1)) (issued earlier j) (issued earlier i))
+        ≡ cond (nat_eq i (j + 1)) (issue_started earlier j) (issue_started earlier i))
     by true e = (
       set_length starts (j + 1) (number_at starts j) ∙ h.room,
       λ i within.
           number_put starts i (j + 1) (number_at starts j) (let r = h.room in let k = kept.1.0 in omega (arith, r, k))
           ∙ ap (λ (n : ℕ). cond (nat_eq i (j + 1)) n (number_at starts i)) (h.each j (let k = kept.0 in omega (arith, k)))
-          ∙ ap (cond (nat_eq i (j + 1)) (issued earlier j)) (h.each i within),
+          ∙ ap (cond (nat_eq i (j + 1)) (issue_started earlier j)) (h.each i within),
     )
     by false e = absurd (cc)
 issues-move plan earlier starts done Emit kept h = (h.room, h.each)
@@ -112,7 +113,8 @@ raised-one : (cap : ℕ) (amount : Passage → ℕ) (f : ℕ → ℕ) (p : Passa
     slice_set (map f (counted_from 0 11)) (place_of p.class) (min (number_at (map f (counted_from 0 11)) (place_of p.class) + amount p) cap)
     ≡ map (one_raised cap amount p f) (counted_from 0 11)
 raised-one cap amount f p =
-    ap (λ (n : ℕ). slice_set (map f (counted_from 0 11)) (place_of p.class) (min (n + amount p) cap)) (numbered_at f 11 (place_of p.class) (class_within p.class))
+    ap (λ (n : ℕ). slice_set (map f (counted_from 0 11)) (place_of p.class) (min (n + amount p) cap))
+    (numbered_at f 11 (place_of p.class) (class_within p.class))
     ∙ numbered_set f (one_raised cap amount p f) 11 (place_of p.class) (min (f (place_of p.class) + amount p) cap) (class_within p.class)
     (is_here (place_of p.class)) others
   where
@@ -171,14 +173,14 @@ raised-more cap amount numbers (p ∷ front) back =
 grown-one : (plan : Plan) (earlier : List TimedMove) (m : SeenMove) (l : Latencies) → plan.stages < 34 → HasIssues earlier l.issued →
     ((latencies_noted plan m.done m.event l).retired ≡ raised (2 ^ 64 - 1) (λ p. 1) l.retired (passage_of plan earlier m))
     × ((latencies_noted plan m.done m.event l).ticks ≡ raised (2 ^ 128 - 1) (λ p. p.ticks) l.ticks (passage_of plan earlier m))
-unfolding latencies_noted passed
+unfolding latencies_noted passage_noted
 grown-one plan earlier m l low h = by (class_retired m.event)
   where
     by : (class : Option Class) →
-        ((entered m.done (on class l (passed plan m.done l))).retired ≡ raised (2 ^ 64 - 1) (λ p. 1) l.retired
-        (on class [] (λ c. record { class = c; ticks = m.done.time - issued earlier plan.stages } ∷ [])))
-        × ((entered m.done (on class l (passed plan m.done l))).ticks ≡ raised (2 ^ 128 - 1) (λ p. p.ticks) l.ticks
-        (on class [] (λ c. record { class = c; ticks = m.done.time - issued earlier plan.stages } ∷ [])))
+        ((entered m.done (on class l (passage_noted plan m.done l))).retired ≡ raised (2 ^ 64 - 1) (λ p. 1) l.retired
+        (on class [] (λ c. record { class = c; ticks = m.done.time - issue_started earlier plan.stages } ∷ [])))
+        × ((entered m.done (on class l (passage_noted plan m.done l))).ticks ≡ raised (2 ^ 128 - 1) (λ p. p.ticks) l.ticks
+        (on class [] (λ c. record { class = c; ticks = m.done.time - issue_started earlier plan.stages } ∷ [])))
     by None = (refl, refl)
     by (Some c) = (
       refl,
@@ -187,10 +189,10 @@ grown-one plan earlier m l low h = by (class_retired m.event)
     )
 
 issued-noted : (plan : Plan) (m : SeenMove) (l : Latencies) → (latencies_noted plan m.done m.event l).issued ≡ issues_after m.done m.done.mv l.issued
-unfolding latencies_noted passed
+unfolding latencies_noted passage_noted
 issued-noted plan m l = by (class_retired m.event)
   where
-    by : (class : Option Class) → (entered m.done (on class l (passed plan m.done l))).issued ≡ issues_after m.done m.done.mv l.issued
+    by : (class : Option Class) → (entered m.done (on class l (passage_noted plan m.done l))).issued ≡ issues_after m.done m.done.mv l.issued
     by None = refl
     by (Some c) = refl
 
@@ -239,7 +241,8 @@ passages-few plan earlier [] = omega arith
 passages-few plan earlier (m ∷ moves) = by (class_retired m.event) (passages-few plan (m.done ∷ earlier) moves)
   where
     by : (class : Option Class) → length (passages_after plan (m.done ∷ earlier) moves) ≤ length moves →
-        length (on class [] (λ c. record { class = c; ticks = m.done.time - issued earlier plan.stages } ∷ []) ++ passages_after plan (m.done ∷ earlier) moves)
+        length (on class [] (λ c. record { class = c; ticks = m.done.time - issue_started earlier plan.stages } ∷ [])
+        ++ passages_after plan (m.done ∷ earlier) moves)
         ≤ suc (length moves)
     by None r = omega (arith, r)
     by (Some c) r = omega (arith, r)
@@ -250,7 +253,7 @@ passages-short plan earlier [] small = omega arith
 passages-short plan earlier (m ∷ moves) small = by (class_retired m.event) (passages-short plan (m.done ∷ earlier) moves small.1) small.0
   where
     by : (class : Option Class) → total_ticks (passages_after plan (m.done ∷ earlier) moves) ≤ 2 ^ 64 * length moves → m.done.time < 2 ^ 64 →
-        total_ticks (on class [] (λ c. record { class = c; ticks = m.done.time - issued earlier plan.stages } ∷ [])
+        total_ticks (on class [] (λ c. record { class = c; ticks = m.done.time - issue_started earlier plan.stages } ∷ [])
         ++ passages_after plan (m.done ∷ earlier) moves) ≤ 2 ^ 64 * suc (length moves)
     by None r s = omega (arith, r)
     by (Some c) r s = omega (arith, r, s)

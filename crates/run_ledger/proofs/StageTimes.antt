@@ -16,8 +16,8 @@ use Rattle.cf_timed.proofs.Delaying.{kept_time}
 use Rattle.cf_timed.proofs.Following.{last_at, no_later}
 use Rattle.cf_timed.proofs.Greatest.{where_more, where_none}
 use Rattle.run_ledger.specs.Breakdowns.{busy}
-use Rattle.run_ledger.specs.Gaps.{Gap, empty, gaps, gaps_from, holds_any, total, users, waiting}
-use Rattle.run_ledger.specs.SeenMoves.{SeenMove, seen, seen_from, seen_in, time_of, untimed_all}
+use Rattle.run_ledger.specs.Gaps.{Gap, empty_time, gaps, gaps_from, holds_any, gap_total, users, waiting}
+use Rattle.run_ledger.specs.SeenMoves.{SeenMove, seen_move, seen_from, seen_in, time_of, untimed_all}
 use Rattle.run_ledger.specs.Using.{uses_stage}
 
 -- a move starts when the moves before it that use the same stage have finished
@@ -51,7 +51,7 @@ abbrev next_delayed : DelayRule → TimedTurn → Made → DelayedMove
 next_delayed rule t made = delayed_at rule t.state t.earlier made.move
 
 abbrev next_seen : Plan → DelayRule → TimedTurn → Made → SeenMove
-next_seen plan rule t made = seen (done_after plan t.earlier (next_delayed rule t made)) made
+next_seen plan rule t made = seen_move (done_after plan t.earlier (next_delayed rule t made)) made
 
 abbrev rest_seen : Plan → DelayRule → TimedTurn → Made → List Made → List SeenMove
 rest_seen plan rule t made trace = seen_from plan rule (turned plan rule t made) trace
@@ -63,7 +63,7 @@ in_use plan i moves = filter (λ d. uses_stage plan i d.mv) (untimed_all moves)
 -- the moves that use it, and the gaps between them, are all of the time from the first gap on
 spans : (plan : Plan) (rule : DelayRule) (i : ℕ) (t : TimedTurn) (trace : List Made) (begin end : ℕ) (held : Bool) →
     begin ≡ last_at plan t.earlier (Stage i) → greatest_time (times_after plan t.earlier (untimed_all (seen_from plan rule t trace))) ≤ end →
-    sum_of_delays (in_use plan i (seen_from plan rule t trace)) + total (gaps_from i begin held (users plan i (seen_from plan rule t trace)) end) + begin
+    sum_of_delays (in_use plan i (seen_from plan rule t trace)) + gap_total (gaps_from i begin held (users plan i (seen_from plan rule t trace)) end) + begin
     ≡ end
 unfolding sum_of_delays
 spans plan rule i t [] begin end held is late =
@@ -78,17 +78,19 @@ spans plan rule i t (made ∷ trace) begin end held is late =
   where
     by : (b : Bool) → uses_stage plan i made.move ≡ b →
         (uses_stage plan i made.move ≡ true → sum_of_delays (in_use plan i (rest_seen plan rule t made trace))
-        + total (gaps_from i (time_after plan t.earlier (next_delayed rule t made)) (holds_any made.state i) (users plan i (rest_seen plan rule t made trace)) end)
+        + gap_total (gaps_from i (time_after plan t.earlier (next_delayed rule t made)) (holds_any made.state i)
+        (users plan i (rest_seen plan rule t made trace)) end)
         + time_after plan t.earlier (next_delayed rule t made) ≡ end) →
         (uses_stage plan i made.move ≡ false → sum_of_delays (in_use plan i (rest_seen plan rule t made trace))
-        + total (gaps_from i begin held (users plan i (rest_seen plan rule t made trace)) end) + begin ≡ end) →
+        + gap_total (gaps_from i begin held (users plan i (rest_seen plan rule t made trace)) end) + begin ≡ end) →
         sum_of_delays (cond b (next_delayed rule t made ∷ in_use plan i (rest_seen plan rule t made trace)) (in_use plan i (rest_seen plan rule t made trace)))
-        + total (gaps_from i begin held (cond b (next_seen plan rule t made ∷ users plan i (rest_seen plan rule t made trace))
+        + gap_total (gaps_from i begin held (cond b (next_seen plan rule t made ∷ users plan i (rest_seen plan rule t made trace))
         (users plan i (rest_seen plan rule t made trace))) end) + begin ≡ end
     by true e used unused =
         added (next_delayed rule t made).delay (time_after plan t.earlier (next_delayed rule t made)) (last_at plan t.earlier (Stage i))
         (sum_of_delays (in_use plan i (rest_seen plan rule t made trace)))
-        (total (gaps_from i (time_after plan t.earlier (next_delayed rule t made)) (holds_any made.state i) (users plan i (rest_seen plan rule t made trace)) end))
+        (gap_total (gaps_from i (time_after plan t.earlier (next_delayed rule t made)) (holds_any made.state i)
+        (users plan i (rest_seen plan rule t made trace)) end))
         (starts_late plan t.earlier (next_delayed rule t made) i e) (used e) is
       where
         added : (delay time last used left : ℕ) → last + delay ≤ time → used + left + time ≡ end → begin ≡ last →
@@ -97,28 +99,29 @@ spans plan rule i t (made ∷ trace) begin end held is late =
     by false e used unused = unused e
 
 -- a gap is one or the other
-two_kinds : (some : List Gap) → total (filter (λ g. g.is_held) some) + total (filter (λ g. not g.is_held) some) ≡ total some
+two_kinds : (some : List Gap) → gap_total (filter (λ g. g.is_held) some) + gap_total (filter (λ g. not g.is_held) some) ≡ gap_total some
 two_kinds [] = refl
 two_kinds (g ∷ some) = by g.is_held (two_kinds some)
   where
-    by : (b : Bool) → total (filter (λ x. x.is_held) some) + total (filter (λ x. not x.is_held) some) ≡ total some →
-        total (cond b (g ∷ filter (λ x. x.is_held) some) (filter (λ x. x.is_held) some))
-        + total (cond (not b) (g ∷ filter (λ x. not x.is_held) some) (filter (λ x. not x.is_held) some)) ≡ (g.end - g.begin) + total some
+    by : (b : Bool) → gap_total (filter (λ x. x.is_held) some) + gap_total (filter (λ x. not x.is_held) some) ≡ gap_total some →
+        gap_total (cond b (g ∷ filter (λ x. x.is_held) some) (filter (λ x. x.is_held) some))
+        + gap_total (cond (not b) (g ∷ filter (λ x. not x.is_held) some) (filter (λ x. not x.is_held) some)) ≡ (g.end - g.begin) + gap_total some
     by true r = omega (arith, r)
     by false r = omega (arith, r)
 
 -- the law
 pub whole-time : (plan : Plan) (rule : DelayRule) (s : State) (trace : List Made) (i : ℕ) →
-    busy (uses_stage plan i) (untimed_all (seen_in plan rule s trace)) + waiting plan (seen_in plan rule s trace) i + empty plan (seen_in plan rule s trace) i
+    busy (uses_stage plan i) (untimed_all (seen_in plan rule s trace)) + waiting plan (seen_in plan rule s trace) i
+    + empty_time plan (seen_in plan rule s trace) i
     ≡ time_of plan (seen_in plan rule s trace)
-unfolding busy waiting empty gaps times
+unfolding busy waiting empty_time gaps times
 whole-time plan rule s trace i =
     let moves : List SeenMove = seen_in plan rule s trace in
     let end : ℕ = time_of plan moves in
     let z = where_none (λ done. uses_place plan done.mv (Stage i)) in
     let last : greatest_time (times_after plan [] (untimed_all moves)) ≤ end = least end in
-    all (sum_of_delays (in_use plan i moves)) (total (filter (λ g. g.is_held) (gaps_from i 0 false (users plan i moves) end)))
-    (total (filter (λ g. not g.is_held) (gaps_from i 0 false (users plan i moves) end))) (total (gaps_from i 0 false (users plan i moves) end)) end
+    all (sum_of_delays (in_use plan i moves)) (gap_total (filter (λ g. g.is_held) (gaps_from i 0 false (users plan i moves) end)))
+    (gap_total (filter (λ g. not g.is_held) (gaps_from i 0 false (users plan i moves) end))) (gap_total (gaps_from i 0 false (users plan i moves) end)) end
     (spans plan rule i (first_turn s) trace 0 end false (sym z) last) (two_kinds (gaps_from i 0 false (users plan i moves) end))
   where
     least : (n : ℕ) → n ≤ n

@@ -9,8 +9,8 @@ use Rattle.cf_index.specs.Sites.{shares}
 use Rattle.cf_timed.specs.Chains.{sum_of_delays}
 use Rattle.cf_timed.specs.declared.timed_move.TimedMove.{TimedMove}
 use Rattle.cf_timed.specs.Times.{DelayedMove, greatest_time, times}
-use Rattle.run_ledger.specs.Gaps.{empty, waiting}
-use Rattle.run_ledger.specs.Latencies.{latency, retired}
+use Rattle.run_ledger.specs.Gaps.{empty_time, waiting}
+use Rattle.run_ledger.specs.Latencies.{latency, retired_count}
 use Rattle.run_ledger.specs.SeenMoves.{SeenMove, untimed, untimed_all}
 use Rattle.run_ledger.specs.Using.{uses_siding, uses_stage}
 use Rattle.run_ledger.specs.declared.breakdown.Breakdown.{Breakdown}
@@ -24,8 +24,8 @@ unfoldable pub of_kind : List DelayedMove → ℕ → ℕ
 of_kind moves kind = length (filter (λ d. kind_place d.mv == kind) moves)
 
 -- the same for each of the fourteen kinds, in their order
-abbrev pub kinds : List DelayedMove → List ℕ
-kinds moves = map (of_kind moves) (counted_from 0 14)
+abbrev pub kind_counts : List DelayedMove → List ℕ
+kind_counts moves = map (of_kind moves) (counted_from 0 14)
 
 -- the earlier move shares a site with the later one, and finishes when the later one begins
 abbrev pub leads_to : Plan → TimedMove → TimedMove → Bool
@@ -53,10 +53,10 @@ breakdown plan moves = record {
   layout = plan;
   stages = map (λ i. busy (uses_stage plan i) (untimed_all moves)) (counted_from 0 33);
   waiting = map (waiting plan moves) (counted_from 0 33);
-  empty = map (empty plan moves) (counted_from 0 33);
+  empty = map (empty_time plan moves) (counted_from 0 33);
   sidings = map (λ k. busy (uses_siding plan k) (untimed_all moves)) (counted_from 0 8);
-  moves = kinds (untimed_all moves);
-  retired = map (retired plan moves) (counted_from 0 11);
+  moves = kind_counts (untimed_all moves);
+  retired = map (retired_count plan moves) (counted_from 0 11);
   latencies = map (latency plan moves) (counted_from 0 11);
-  chain = kinds (longest_chain plan (untimed_all moves));
+  chain = kind_counts (longest_chain plan (untimed_all moves));
 }

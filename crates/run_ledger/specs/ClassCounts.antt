@@ -10,7 +10,7 @@ use Rattle.cf_timed.specs.Numbers.{number_at}
 use Rattle.cf_timed.specs.declared.timed_move.TimedMove.{TimedMove}
 use Rattle.run_ledger.specs.Latencies.{class_retired}
 use Rattle.run_ledger.specs.Ledgers.{plus}
-use Rattle.run_ledger.specs.SeenMoves.{start_of}
+use Rattle.run_ledger.specs.SeenMoves.{move_start}
 use Rattle.run_ledger.specs.declared.latencies.Latencies.{Latencies}
 
 -- no move was made
@@ -30,20 +30,20 @@ abbrev pub ticks_added : Class → ℕ → List ℕ → List ℕ
 ticks_added class more ticks = slice_set ticks (place_of class) (wide_plus (number_at ticks (place_of class)) more)
 
 -- an instruction of the class leaves the last stage with a move
-unfoldable pub passed : Plan → TimedMove → Latencies → Class → Latencies
-passed plan done l class = record {
+unfoldable pub passage_noted : Plan → TimedMove → Latencies → Class → Latencies
+passage_noted plan done l class = record {
   issued = l.issued;
   retired = one_retired class l.retired;
   ticks = ticks_added class (done.time - number_at l.issued plan.stages) l.ticks;
 }
 
 -- if one retires
-abbrev pub left : Plan → TimedMove → Event → Latencies → Latencies
-left plan done e l = on (class_retired e) l (passed plan done l)
+abbrev pub leaving_noted : Plan → TimedMove → Event → Latencies → Latencies
+leaving_noted plan done e l = on (class_retired e) l (passage_noted plan done l)
 
 -- when the instructions in the stages were issued, after a move
 abbrev pub issues_after : TimedMove → Move → List ℕ → List ℕ
-issues_after done (Issue g) starts = slice_set starts 1 (start_of done)
+issues_after done (Issue g) starts = slice_set starts 1 (move_start done)
 issues_after done (Climb j) starts = if nat_lt j 33 then slice_set starts (j + 1) (number_at starts j) else starts
 issues_after done mv starts = starts
 
@@ -53,4 +53,4 @@ entered done l = record { issued = issues_after done done.mv l.issued; retired =
 
 -- all that a move changes
 unfoldable pub latencies_noted : Plan → TimedMove → Event → Latencies → Latencies
-latencies_noted plan done e l = entered done (left plan done e l)
+latencies_noted plan done e l = entered done (leaving_noted plan done e l)

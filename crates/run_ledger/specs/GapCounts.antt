@@ -6,7 +6,7 @@ use Rattle.cf_semantics.specs.state.State.{State}
 use Rattle.cf_timed.specs.declared.timed_move.TimedMove.{TimedMove}
 use Rattle.run_ledger.specs.Gaps.{holds_any}
 use Rattle.run_ledger.specs.Ledgers.{plus_if}
-use Rattle.run_ledger.specs.SeenMoves.{start_of}
+use Rattle.run_ledger.specs.SeenMoves.{move_start}
 use Rattle.run_ledger.specs.Using.{uses_stage}
 use Rattle.run_ledger.specs.declared.gaps.StageGaps.{StageGaps}
 
@@ -32,8 +32,8 @@ abbrev pub after_use : StageGaps → TimedMove → Bool → StageGaps
 after_use g done held = record {
   until = done.time;
   is_held = held;
-  waiting = (with_gap g (start_of done)).waiting;
-  empty = (with_gap g (start_of done)).empty;
+  waiting = (with_gap g (move_start done)).waiting;
+  empty = (with_gap g (move_start done)).empty;
 }
 
 -- what a move that leaves a state changes, if it uses the stage

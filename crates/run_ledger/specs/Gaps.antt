@@ -3,7 +3,7 @@ use Rattle.std.specs.Prelude.{ℕ, ◌+◌, ◌-◌, List, [], ◌∷◌, filter
 use Rattle.cf_layout.specs.Layout.{Plan}
 use Rattle.cf_semantics.specs.state.Options.{is_some, on}
 use Rattle.cf_semantics.specs.state.State.{State, cell_at}
-use Rattle.run_ledger.specs.SeenMoves.{SeenMove, start_of, time_of}
+use Rattle.run_ledger.specs.SeenMoves.{SeenMove, move_start, time_of}
 use Rattle.run_ledger.specs.Using.{uses_stage}
 
 -- from one time to another no move uses the stage; whether an instruction or a result is in it meanwhile
@@ -28,21 +28,21 @@ users plan i moves = filter (λ m. uses_stage plan i m.done.mv) moves
 -- begins at a time; in each is what the move before it has left there
 abbrev pub gaps_from : ℕ → ℕ → Bool → List SeenMove → ℕ → List Gap
 gaps_from i begin held [] end = gap begin end held ∷ []
-gaps_from i begin held (m ∷ moves) end = gap begin (start_of m.done) held ∷ gaps_from i m.done.time (holds_any m.state i) moves end
+gaps_from i begin held (m ∷ moves) end = gap begin (move_start m.done) held ∷ gaps_from i m.done.time (holds_any m.state i) moves end
 
 -- those of a run, at the start of which the stage is empty
 unfoldable pub gaps : Plan → ℕ → List SeenMove → List Gap
 gaps plan i moves = gaps_from i 0 false (users plan i moves) (time_of plan moves)
 
 -- how long some gaps are together
-abbrev pub total : List Gap → ℕ
-total [] = 0
-total (g ∷ more) = g.end - g.begin + total more
+abbrev pub gap_total : List Gap → ℕ
+gap_total [] = 0
+gap_total (g ∷ more) = g.end - g.begin + gap_total more
 
 -- how long the stage holds an instruction or a result that no move uses
 unfoldable pub waiting : Plan → List SeenMove → ℕ → ℕ
-waiting plan moves i = total (filter (λ g. g.is_held) (gaps plan i moves))
+waiting plan moves i = gap_total (filter (λ g. g.is_held) (gaps plan i moves))
 
 -- how long it holds nothing, and no move uses it
-unfoldable pub empty : Plan → List SeenMove → ℕ → ℕ
-empty plan moves i = total (filter (λ g. not g.is_held) (gaps plan i moves))
+unfoldable pub empty_time : Plan → List SeenMove → ℕ → ℕ
+empty_time plan moves i = gap_total (filter (λ g. not g.is_held) (gaps plan i moves))

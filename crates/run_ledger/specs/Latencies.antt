@@ -12,7 +12,7 @@ use Rattle.cf_semantics.specs.declared.event.Event.{Event}
 use Rattle.cf_semantics.specs.declared.event.Event.TheVariants as event
 use Rattle.cf_semantics.specs.state.Options.{on}
 use Rattle.cf_timed.specs.declared.timed_move.TimedMove.{TimedMove}
-use Rattle.run_ledger.specs.SeenMoves.{SeenMove, start_of}
+use Rattle.run_ledger.specs.SeenMoves.{SeenMove, move_start}
 
 -- all classes, in class order
 abbrev pub classes : List Class
@@ -26,9 +26,9 @@ brought (Climb j) start issued i = if i == j + 1 then issued j else issued i
 brought mv start issued i = issued i
 
 -- when the Issue of the instruction in a stage started, by the moves before, of which the last comes first
-abbrev pub issued : List TimedMove → ℕ → ℕ
-issued [] i = 0
-issued (done ∷ earlier) i = brought done.mv (start_of done) (issued earlier) i
+abbrev pub issue_started : List TimedMove → ℕ → ℕ
+issue_started [] i = 0
+issue_started (done ∷ earlier) i = brought done.mv (move_start done) (issue_started earlier) i
 
 -- the class of the instruction that retired with a move, if one did
 abbrev pub class_retired : Event → Option Class
@@ -46,7 +46,7 @@ pub record Passage : Type 0 where
 -- the one that retires with a move, which leaves the last stage, as a list
 abbrev pub passage_of : Plan → List TimedMove → SeenMove → List Passage
 passage_of plan earlier m =
-    on (class_retired m.event) [] (λ class. record { class = class; ticks = m.done.time - issued earlier plan.stages } ∷ [])
+    on (class_retired m.event) [] (λ class. record { class = class; ticks = m.done.time - issue_started earlier plan.stages } ∷ [])
 
 -- those that retire with the moves after others
 abbrev pub passages_after : Plan → List TimedMove → List SeenMove → List Passage
@@ -67,8 +67,8 @@ total_ticks [] = 0
 total_ticks (p ∷ more) = p.ticks + total_ticks more
 
 -- how many instructions of the class at a place retire
-unfoldable pub retired : Plan → List SeenMove → ℕ → ℕ
-retired plan moves place = length (of_class place (passages plan moves))
+unfoldable pub retired_count : Plan → List SeenMove → ℕ → ℕ
+retired_count plan moves place = length (of_class place (passages plan moves))
 
 -- and how long they take together
 unfoldable pub latency : Plan → List SeenMove → ℕ → ℕ

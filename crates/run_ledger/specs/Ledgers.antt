@@ -23,12 +23,12 @@ place_number (SidingCell k c) = 38 + 8 * k + c
 place_number _ = 102
 
 -- the mark of a site that no move has used
-abbrev pub no_mark : ChainMark
-no_mark = record { time = 0; number = 0; kinds = replicate 14 0 }
+abbrev pub no_chain_mark : ChainMark
+no_chain_mark = record { time = 0; number = 0; kinds = replicate 14 0 }
 
 -- the mark at a site
-abbrev pub mark_at : List ChainMark → ℕ → ChainMark
-mark_at marks place = unwrap_or (slice_get marks place) no_mark
+abbrev pub chain_mark_at : List ChainMark → ℕ → ChainMark
+chain_mark_at marks place = unwrap_or (slice_get marks place) no_chain_mark
 
 -- the second mark is of a move that finishes later, or at the same time and has a greater number
 abbrev pub is_later : ChainMark → ChainMark → Bool
@@ -69,12 +69,12 @@ abbrev pub with_marks : Ledger → List ChainMark → Ledger
 with_marks l marks = record l { marks = marks }
 
 -- the ledger before the first move
-unfoldable pub opened : Plan → Ledger
-opened plan = record {
+unfoldable pub new_ledger : Plan → Ledger
+new_ledger plan = record {
   layout = plan;
   count = 0;
-  marks = replicate 102 no_mark;
-  last = no_mark;
+  marks = replicate 102 no_chain_mark;
+  last = no_chain_mark;
   stages = replicate 33 0;
   sidings = replicate 8 0;
   kinds = replicate 14 0;
@@ -86,7 +86,7 @@ place_numbers plan mv = map place_number (used plan mv)
 
 -- the mark that the move follows: the latest at the sites that it uses
 unfoldable pub followed : Ledger → Move → ChainMark
-followed l mv = latest_of no_mark (map (mark_at l.marks) (place_numbers l.layout mv))
+followed l mv = latest_of no_chain_mark (map (chain_mark_at l.marks) (place_numbers l.layout mv))
 
 -- the mark of a move that is made now
 unfoldable pub mark_of : Ledger → DelayedMove → ChainMark
@@ -97,8 +97,8 @@ mark_of l d = record {
 }
 
 -- the ledger after a move
-unfoldable pub noted : Ledger → DelayedMove → Ledger
-noted l d = record {
+unfoldable pub ledger_noted : Ledger → DelayedMove → Ledger
+ledger_noted l d = record {
   layout = l.layout;
   count = plus l.count 1;
   marks = put_marks (mark_of l d) l.marks (place_numbers l.layout d.mv);
@@ -111,4 +111,4 @@ noted l d = record {
 -- and after some moves
 abbrev pub noted_all : Ledger → List DelayedMove → Ledger
 noted_all l [] = l
-noted_all l (d ∷ moves) = noted_all (noted l d) moves
+noted_all l (d ∷ moves) = noted_all (ledger_noted l d) moves

@@ -9,7 +9,7 @@ use Rattle.cf_timed.specs.Clocks.{SiteTimes}
 use Rattle.cf_timed.specs.DelayedRuns.{DelayRule}
 use Rattle.cf_timed.specs.TimedRuns.{RunsTimed}
 use Rattle.run_ledger.specs.Breakdowns.{breakdown}
-use Rattle.run_ledger.specs.RunLedgers.{told_by}
+use Rattle.run_ledger.specs.RunLedgers.{breakdown_in}
 use Rattle.run_ledger.specs.SeenMoves.{seen_in}
 use Rattle.run_ledger.specs.declared.run_ledger.RunLedger.{RunLedger}
 
@@ -17,4 +17,4 @@ use Rattle.run_ledger.specs.declared.run_ledger.RunLedger.{RunLedger}
 pub record RunsNoted (r : GuessRule) (rule : DelayRule) (limit : ℕ) (begin : RunPlace) (core : Processor) (streams : Streams)
     (clock : SiteTimes) (ledger : RunLedger) (moves : ℕ) (answer : Timed) : Type 0 where
   pub timed : RunsTimed r rule limit begin core streams clock moves answer
-  pub tells : told_by ledger ≡ breakdown begin.core.plan (seen_in begin.core.plan rule begin.core.state timed.right.runs.reaches.trace)
+  pub tells : breakdown_in ledger ≡ breakdown begin.core.plan (seen_in begin.core.plan rule begin.core.state timed.right.runs.reaches.trace)

@@ -3,19 +3,19 @@ use Rattle.std.specs.Prelude.{List, [], ◌∷◌, replicate}
 use Rattle.cf_layout.specs.Layout.{Plan}
 use Rattle.run_ledger.specs.ClassCounts.{latencies_noted, no_latencies}
 use Rattle.run_ledger.specs.GapCounts.{empty_until, gaps_noted, no_gaps, waiting_until}
-use Rattle.run_ledger.specs.Ledgers.{noted, opened}
+use Rattle.run_ledger.specs.Ledgers.{ledger_noted, new_ledger}
 use Rattle.run_ledger.specs.SeenMoves.{SeenMove, untimed}
 use Rattle.run_ledger.specs.declared.breakdown.Breakdown.{Breakdown}
 use Rattle.run_ledger.specs.declared.run_ledger.RunLedger.{RunLedger}
 
 -- the ledger before the first move
 unfoldable pub begun : Plan → RunLedger
-begun plan = record { sites = opened plan; gaps = replicate 33 no_gaps; latencies = no_latencies }
+begun plan = record { sites = new_ledger plan; gaps = replicate 33 no_gaps; latencies = no_latencies }
 
 -- the ledger after a move
 unfoldable pub move_noted : RunLedger → SeenMove → RunLedger
 move_noted l m = record {
-  sites = noted l.sites (untimed m.done);
+  sites = ledger_noted l.sites (untimed m.done);
   gaps = gaps_noted l.sites.layout m.done m.state l.gaps;
   latencies = latencies_noted l.sites.layout m.done m.event l.latencies;
 }
@@ -26,8 +26,8 @@ moves_noted l [] = l
 moves_noted l (m ∷ moves) = moves_noted (move_noted l m) moves
 
 -- its breakdown
-unfoldable pub told_by : RunLedger → Breakdown
-told_by l = record {
+unfoldable pub breakdown_in : RunLedger → Breakdown
+breakdown_in l = record {
   layout = l.sites.layout;
   stages = l.sites.stages;
   waiting = waiting_until l.sites.last.time l.gaps;

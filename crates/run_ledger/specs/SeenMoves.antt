@@ -17,14 +17,14 @@ pub record SeenMove : Type 0 where
   pub state : State
 
 -- the move with that time
-abbrev pub seen : TimedMove → Made → SeenMove
-seen done made = record { done = done; event = made.event; state = made.state }
+abbrev pub seen_move : TimedMove → Made → SeenMove
+seen_move done made = record { done = done; event = made.event; state = made.state }
 
 -- the moves of a run from a turn on, in their order
 abbrev pub seen_from : Plan → DelayRule → TimedTurn → List Made → List SeenMove
 seen_from plan rule t [] = []
 seen_from plan rule t (made ∷ trace) =
-    seen (done_after plan t.earlier (delayed_at rule t.state t.earlier made.move)) made ∷ seen_from plan rule (turned plan rule t made) trace
+    seen_move (done_after plan t.earlier (delayed_at rule t.state t.earlier made.move)) made ∷ seen_from plan rule (turned plan rule t made) trace
 
 -- and from its start
 abbrev pub seen_in : Plan → DelayRule → State → List Made → List SeenMove
@@ -39,8 +39,8 @@ abbrev pub untimed_all : List SeenMove → List DelayedMove
 untimed_all moves = map (λ m. untimed m.done) moves
 
 -- when a move starts
-abbrev pub start_of : TimedMove → ℕ
-start_of done = done.time - done.delay
+abbrev pub move_start : TimedMove → ℕ
+move_start done = done.time - done.delay
 
 -- when the last of the moves finishes
 abbrev pub time_of : Plan → List SeenMove → ℕ

@@ -3,7 +3,7 @@
 ghost use Rattle.std.specs.Prelude.{◌≡◌};
 ghost use Rattle.run_ledger.specs.GapCounts.{after_use as use_after, empty_until, gaps_after as after_move, gaps_noted, no_gaps, waiting_until, with_gap as gap_counted};
 ghost use Rattle.run_ledger.specs.Gaps.{holds_any as is_held_at};
-ghost use Rattle.run_ledger.specs.SeenMoves.{start_of as begun};
+ghost use Rattle.run_ledger.specs.SeenMoves.{move_start as begun};
 
 use crate::charging::plus_if;
 use crate::uses::uses_stage;

@@ -1,7 +1,7 @@
 //! How long instructions take, counted by their classes, move after move.
 
 ghost use Rattle.std.specs.Prelude.{◌≡◌};
-ghost use Rattle.run_ledger.specs.ClassCounts.{issues_after, latencies_noted, left, no_latencies, one_retired as with_one, passed, ticks_added as with_ticks};
+ghost use Rattle.run_ledger.specs.ClassCounts.{issues_after, latencies_noted, leaving_noted, no_latencies, one_retired as with_one, passage_noted, ticks_added as with_ticks};
 ghost use Rattle.cf_layout.specs.Layout.{place_of};
 ghost use Rattle.run_ledger.specs.Latencies.{class_retired as retired_class};
 
@@ -125,9 +125,9 @@ impl Latencies {
 
     /// An instruction of the class leaves the last stage with a move.
     #[inline(always)]
-    #[tactic(auto, unfolding(crate::specs::ClassCounts::passed))]
+    #[tactic(auto, unfolding(crate::specs::ClassCounts::passage_noted))]
     fn passed(self, layout: &Layout, done: &TimedMove, class: Class) -> Latencies
-        ensures { result ≡ passed layout.now done.now self class }
+        ensures { result ≡ passage_noted layout.now done.now self class }
     {
         let top = layout.stages() as usize;
         let start = self.issued.get(top).copied().unwrap_or(0);
@@ -144,7 +144,7 @@ impl Latencies {
     /// The same, if one retires with the move.
     #[inline(always)]
     fn left(self, layout: &Layout, event: &Event, done: &TimedMove) -> Latencies
-        ensures { result ≡ left layout.now done.now event.now self }
+        ensures { result ≡ leaving_noted layout.now done.now event.now self }
     {
         match class_retired(event) {
             Some(class) => self.passed(layout, done, class),

@@ -8,7 +8,7 @@ ghost use Rattle.cf_run.specs.Made.{Made};
 ghost use Rattle.cf_timed.specs.DelayedRuns.{DelayRule};
 ghost use Rattle.cf_timed.specs.Times.{DelayedMove, greatest_time, times};
 ghost use Rattle.run_ledger.specs.Breakdowns.{busy, longest_chain};
-ghost use Rattle.run_ledger.specs.Gaps.{empty, waiting};
+ghost use Rattle.run_ledger.specs.Gaps.{empty_time, waiting};
 ghost use Rattle.run_ledger.specs.SeenMoves.{seen_in, time_of, untimed_all};
 ghost use Rattle.run_ledger.specs.Using.{uses_stage};
 
@@ -26,5 +26,5 @@ pub fn chain_is_longest()
 pub fn stages_add_up()
     ensures { (plan : Plan) (rule : DelayRule) (s : State) (trace : List Made) (i : ℕ) →
         busy (uses_stage plan i) (untimed_all (seen_in plan rule s trace)) + waiting plan (seen_in plan rule s trace) i
-        + empty plan (seen_in plan rule s trace) i ≡ time_of plan (seen_in plan rule s trace) }
+        + empty_time plan (seen_in plan rule s trace) i ≡ time_of plan (seen_in plan rule s trace) }
 {}

@@ -2,7 +2,7 @@
 
 ghost use Rattle.std.specs.Prelude.{◌≡◌, map, slice_set};
 ghost use Rattle.cf_timed.specs.Times.{delayed};
-ghost use Rattle.run_ledger.specs.Ledgers.{followed, latest_of, mark_at, mark_of, no_mark, noted, opened, place_numbers, put_marks, with_marks};
+ghost use Rattle.run_ledger.specs.Ledgers.{followed, latest_of, chain_mark_at, mark_of, no_chain_mark, ledger_noted, new_ledger, place_numbers, put_marks, with_marks};
 
 use crate::charging::{charge_sidings, charge_stages, one_more};
 use crate::mark::{ChainMark, later};
@@ -28,9 +28,9 @@ pub(crate) struct Ledger {
 
 impl Ledger {
     /// A ledger before the first move.
-    #[tactic(auto, unfolding(crate::specs::Ledgers::opened))]
+    #[tactic(auto, unfolding(crate::specs::Ledgers::new_ledger))]
     pub(crate) fn new(layout: &Layout) -> Ledger
-        ensures { result ≡ opened layout.now }
+        ensures { result ≡ new_ledger layout.now }
     {
         Ledger {
             layout: *layout,
@@ -46,14 +46,14 @@ impl Ledger {
     /// The mark at a site.
     #[inline(always)]
     fn mark(&self, place: usize) -> ChainMark
-        ensures { result ≡ mark_at self.now.marks place }
+        ensures { result ≡ chain_mark_at self.now.marks place }
     {
         self.marks.get(place).copied().unwrap_or(ChainMark::none())
     }
 
     /// The latest mark at some sites.
     fn latest(&self, places: &[usize]) -> ChainMark
-        ensures { result ≡ latest_of no_mark (map (mark_at self.now.marks) places.now) }
+        ensures { result ≡ latest_of no_chain_mark (map (chain_mark_at self.now.marks) places.now) }
     {
         let mut latest = ChainMark::none();
         for place in places {
@@ -96,9 +96,9 @@ impl Ledger {
     }
 
     /// Records a move that is made now, and takes so many ticks. Numbers are capped at the greatest `u64`.
-    #[tactic(auto, unfolding(crate::specs::Ledgers::noted))]
+    #[tactic(auto, unfolding(crate::specs::Ledgers::ledger_noted))]
     pub(crate) fn record(&mut self, mv: Move, ticks: u64)
-        ensures { self.new ≡ noted self.old (delayed mv ticks) }
+        ensures { self.new ≡ ledger_noted self.old (delayed mv ticks) }
     {
         let places = places_of(&self.layout, mv);
         let mark = self.mark_of(mv, ticks, places.as_slice());

@@ -1,7 +1,7 @@
 //! What is recorded of the last move that used a site.
 
 ghost use Rattle.std.specs.Prelude.{◌≡◌};
-ghost use Rattle.run_ledger.specs.Ledgers.{later as later_mark, no_mark};
+ghost use Rattle.run_ledger.specs.Ledgers.{later as later_mark, no_chain_mark};
 
 /// A move that was made, and the chain that ends with it.
 #[derive(Clone, Copy)]
@@ -20,7 +20,7 @@ impl ChainMark {
     /// No move.
     #[inline(always)]
     pub(crate) fn none() -> ChainMark
-        ensures { result ≡ no_mark }
+        ensures { result ≡ no_chain_mark }
     {
         ChainMark {
             time: 0,

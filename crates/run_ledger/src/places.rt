@@ -1,6 +1,7 @@
 //! The sites that a move uses, by their numbers.
 
 ghost use Rattle.std.specs.Prelude.{◌≡◌, ◌+◌, ◌-◌, ◌≤◌, ◌<◌, ◌^◌, ◌++◌, ◌∷◌, [], length, map, if◌then◌else◌};
+ghost use Rattle.cf_layout.specs.Accepted.{IsAccepted};
 ghost use Rattle.cf_semantics.specs.moves.Sites.{SidingCell, Stage};
 ghost use Rattle.cf_index.specs.Sites.{ways_in, ways_out};
 ghost use Rattle.run_ledger.specs.Ledgers.{place_number, place_numbers};
@@ -53,13 +54,20 @@ fn push_if(places: &mut ArrayVec<usize, 10>, taken: bool, place: usize)
     }
 }
 
+/// A fact for the prover: a layout has passed its tests, so it has at most eight sidings, each within its stages.
+fn is_accepted(layout: &Layout)
+    ensures { IsAccepted layout.now }
+{
+    let _ = layout.stages();
+}
+
 /// Appends the first cells of the sidings that launch at the stage.
 #[tactic(auto, unfolding(cf_index::specs::Sites::ways_in))]
 fn push_entries(layout: &Layout, i: u32, places: &mut ArrayVec<usize, 10>)
     requires { length places.old.items ≤ 1 }
     ensures { places.new.items ≡ places.old.items ++ map place_number (ways_in layout.now i) }
 {
-    let _accepted = layout.stages();
+    is_accepted(layout);
     for k in 0..layout.siding_count() {
         let launches = layout.launch_stage(k) == i;
         push_if(places, launches, cell(k as usize, 0));
@@ -72,7 +80,7 @@ fn push_exits(layout: &Layout, i: u32, places: &mut ArrayVec<usize, 10>)
     requires { length places.old.items ≤ 1 }
     ensures { places.new.items ≡ places.old.items ++ map place_number (ways_out layout.now i) }
 {
-    let _accepted = layout.stages();
+    is_accepted(layout);
     for k in 0..layout.siding_count() {
         let recovers = layout.recover_stage(k) == i;
         let last = layout.cells_of(k).saturating_sub(1);

@@ -2,8 +2,8 @@
 
 ghost use Rattle.std.specs.Prelude.{◌≡◌, []};
 ghost use Rattle.cf_timed.specs.Turns.{made_as};
-ghost use Rattle.run_ledger.specs.RunLedgers.{begun, move_noted, told_by};
-ghost use Rattle.run_ledger.specs.SeenMoves.{seen};
+ghost use Rattle.run_ledger.specs.RunLedgers.{begun, move_noted, breakdown_in};
+ghost use Rattle.run_ledger.specs.SeenMoves.{seen_move};
 
 use crate::breakdown::Breakdown;
 use crate::gaps::{StageGaps, empty_until, note_gaps, waiting_until};
@@ -42,7 +42,7 @@ impl RunLedger {
     /// types.
     #[tactic(auto, unfolding(crate::specs::RunLedgers::move_noted))]
     fn record(&mut self, core: &Core, event: &Event, done: &TimedMove)
-        ensures { self.new ≡ move_noted self.old (seen done.now (made_as done.now.mv event.now core.now.state)) }
+        ensures { self.new ≡ move_noted self.old (seen_move done.now (made_as done.now.mv event.now core.now.state)) }
     {
         let layout = self.sites.layout;
         self.gaps = note_gaps(&layout, core, done, &self.gaps);
@@ -51,9 +51,9 @@ impl RunLedger {
     }
 
     /// What the time of the run is made of.
-    #[tactic(auto, unfolding(crate::specs::RunLedgers::told_by))]
+    #[tactic(auto, unfolding(crate::specs::RunLedgers::breakdown_in))]
     pub fn breakdown(&self) -> Breakdown
-        ensures { result ≡ told_by self.now }
+        ensures { result ≡ breakdown_in self.now }
     {
         let end = self.sites.last.time;
         Breakdown {
@@ -71,7 +71,7 @@ impl RunLedger {
 }
 
 impl Watcher for RunLedger {
-    ghost noted = { λ l made done. move_noted l (seen done made) };
+    ghost noted = { λ l made done. move_noted l (seen_move done made) };
 
     ghost text = { λ l made done. [] };
 

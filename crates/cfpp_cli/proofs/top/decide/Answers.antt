@@ -12,8 +12,8 @@ use Rattle.cli_reports.proofs.PutReports.{shows-none}
 use Rattle.cfpp_cli.proofs.Beside.{comes-beside, untouched}
 use Rattle.cfpp_cli.proofs.top.decide.Goals as goal
 
-pub returns-in-Ok-Machine-clause-decided : goal.returns-in-Ok-Machine-clause-decided
-returns-in-Ok-Machine-clause-decided g c =
+pub returns-in-Ok-Machine : goal.returns-in-Ok-Machine
+returns-in-Ok-Machine g c =
     let o = c.in-Ok-Machine.options in
     record {
       reading = Ok (machine c.in-Ok-Machine.program.now o.limit o.show_retired o.mul o.every);
@@ -21,13 +21,11 @@ returns-in-Ok-Machine-clause-decided g c =
       comes = c.run_program.ensures.comes;
       files = c.run_program.ensures.faults.files;
       input = c.run_program.ensures.faults.input;
+      output = c.run_program.ensures.faults.output;
     }
 
-pub returns-in-Ok-Machine-clause-output : goal.returns-in-Ok-Machine-clause-output
-returns-in-Ok-Machine-clause-output g c = c.run_program.ensures.faults.output
-
-pub returns-in-Ok-Run-clause-decided : goal.returns-in-Ok-Run-clause-decided
-returns-in-Ok-Run-clause-decided g c =
+pub returns-in-Ok-Run : goal.returns-in-Ok-Run
+returns-in-Ok-Run g c =
     let o = c.in-Ok-Run.options in
     record {
       reading = Ok (run (layout_of c.in-Ok-Run.layout) c.in-Ok-Run.program.now (schedule_view o.schedule) o.limit o.reporting);
@@ -35,13 +33,11 @@ returns-in-Ok-Run-clause-decided g c =
       comes = c.run_processor.ensures.comes;
       files = c.run_processor.ensures.faults.files;
       input = c.run_processor.ensures.faults.input;
+      output = c.run_processor.ensures.faults.output;
     }
 
-pub returns-in-Ok-Run-clause-output : goal.returns-in-Ok-Run-clause-output
-returns-in-Ok-Run-clause-output g c = c.run_processor.ensures.faults.output
-
-pub returns-in-Ok-Moves-clause-decided : goal.returns-in-Ok-Moves-clause-decided
-returns-in-Ok-Moves-clause-decided g c =
+pub returns-in-Ok-Moves : goal.returns-in-Ok-Moves
+returns-in-Ok-Moves g c =
     record {
       reading = Ok (moves (layout_of c.in-Ok-Moves.layout) c.in-Ok-Moves.program.now (schedule_view c.in-Ok-Moves.schedule) c.in-Ok-Moves.limit
           c.in-Ok-Moves.every);
@@ -49,23 +45,22 @@ returns-in-Ok-Moves-clause-decided g c =
       comes = c.run_processor-in-Ok-Moves.ensures.comes;
       files = c.run_processor-in-Ok-Moves.ensures.faults.files;
       input = c.run_processor-in-Ok-Moves.ensures.faults.input;
+      output = c.run_processor-in-Ok-Moves.ensures.faults.output;
     }
 
-pub returns-in-Ok-Moves-clause-output : goal.returns-in-Ok-Moves-clause-output
-returns-in-Ok-Moves-clause-output g c = c.run_processor-in-Ok-Moves.ensures.faults.output
-
-pub returns-in-Ok-Check-clause-decided : goal.returns-in-Ok-Check-clause-decided
-returns-in-Ok-Check-clause-decided g c =
+pub returns-in-Ok-Check : goal.returns-in-Ok-Check
+returns-in-Ok-Check g c =
     record {
       reading = Ok (check (layout_of c.in-Ok-Check.layout));
       reads = rw c.in-Ok-Check.field-0-is at c.in-Ok-Check.ensures.answers;
       comes = ([], _, rw c.put_answer.ensures.status (c.check_layout-answer.ensures.answers, refl), shows-none _ _ _ _ c.put_answer.ensures.puts);
       files = rw c.put_answer.ensures.status c.check_layout-answer.ensures.files;
       input = rw c.put_answer.ensures.status (no-cause _ _ c.check_layout-answer.ensures.input);
+      output = rw c.put_answer.ensures.status c.check_layout-answer.ensures.output;
     }
 
-pub returns-in-Ok-Asm-clause-decided : goal.returns-in-Ok-Asm-clause-decided
-returns-in-Ok-Asm-clause-decided g c =
+pub returns-in-Ok-Asm : goal.returns-in-Ok-Asm
+returns-in-Ok-Asm g c =
     record {
       reading = Ok (asm c.in-Ok-Asm.source.now);
       reads = rw c.in-Ok-Asm.field-0-is at c.in-Ok-Asm.ensures.answers;
@@ -77,10 +72,11 @@ returns-in-Ok-Asm-clause-decided g c =
       );
       files = rw c.put_answer-in-Ok-Asm.ensures.status c.assemble_program-answer.ensures.files;
       input = rw c.put_answer-in-Ok-Asm.ensures.status (no-cause _ _ c.assemble_program-answer.ensures.input);
+      output = rw c.put_answer-in-Ok-Asm.ensures.status c.assemble_program-answer.ensures.output;
     }
 
-pub returns-in-Ok-List-clause-decided : goal.returns-in-Ok-List-clause-decided
-returns-in-Ok-List-clause-decided g c =
+pub returns-in-Ok-List : goal.returns-in-Ok-List
+returns-in-Ok-List g c =
     record {
       reading = Ok (listing c.in-Ok-List.program.now);
       reads = rw c.in-Ok-List.field-0-is at c.in-Ok-List.ensures.answers;
@@ -92,10 +88,11 @@ returns-in-Ok-List-clause-decided g c =
       );
       files = rw c.put_answer-in-Ok-List.ensures.status c.list_program-answer.ensures.files;
       input = rw c.put_answer-in-Ok-List.ensures.status (no-cause _ _ c.list_program-answer.ensures.input);
+      output = rw c.put_answer-in-Ok-List.ensures.status c.list_program-answer.ensures.output;
     }
 
-pub returns-in-Ok-Gen-default-false-clause-decided : goal.returns-in-Ok-Gen-default-false-clause-decided
-returns-in-Ok-Gen-default-false-clause-decided g c =
+pub returns-in-Ok-Gen-default-false : goal.returns-in-Ok-Gen-default-false
+returns-in-Ok-Gen-default-false g c =
     record {
       reading = Ok (gen c.in-Ok-Gen-default-false.number false);
       reads = rw (c.in-Ok-Gen-default-false.field-0-is, c.in-Ok-Gen-default-false.field-0-1-test) at
@@ -108,10 +105,11 @@ returns-in-Ok-Gen-default-false-clause-decided g c =
       );
       files = rw c.put_answer-in-Ok-Gen-default-false.ensures.status (no-cause _ _ c.put_drawn-answer.ensures.files);
       input = rw c.put_answer-in-Ok-Gen-default-false.ensures.status (no-cause _ _ c.put_drawn-answer.ensures.input);
+      output = rw c.put_answer-in-Ok-Gen-default-false.ensures.status c.put_drawn-answer.ensures.output;
     }
 
-pub returns-in-Ok-Help-clause-decided : goal.returns-in-Ok-Help-clause-decided
-returns-in-Ok-Help-clause-decided g c =
+pub returns-in-Ok-Help : goal.returns-in-Ok-Help
+returns-in-Ok-Help g c =
     let put = rw c.overview.ensures.text at c.put_text-answer.ensures.comes in
     record {
       reading = Ok help;
@@ -124,10 +122,11 @@ returns-in-Ok-Help-clause-decided g c =
       );
       files = rw c.put_answer-in-Ok-Help.ensures.status (no-cause _ _ c.put_text-answer.ensures.files);
       input = rw c.put_answer-in-Ok-Help.ensures.status (no-cause _ _ c.put_text-answer.ensures.input);
+      output = rw c.put_answer-in-Ok-Help.ensures.status c.put_text-answer.ensures.output;
     }
 
-pub returns-in-Ok-HelpOn-clause-decided : goal.returns-in-Ok-HelpOn-clause-decided
-returns-in-Ok-HelpOn-clause-decided g c =
+pub returns-in-Ok-HelpOn : goal.returns-in-Ok-HelpOn
+returns-in-Ok-HelpOn g c =
     let put = rw c.help_on.ensures.text at c.put_text-answer-in-Ok-HelpOn.ensures.comes in
     record {
       reading = Ok (help_on c.in-Ok-HelpOn.name);
@@ -140,10 +139,11 @@ returns-in-Ok-HelpOn-clause-decided g c =
       );
       files = rw c.put_answer-in-Ok-HelpOn.ensures.status (no-cause _ _ c.put_text-answer-in-Ok-HelpOn.ensures.files);
       input = rw c.put_answer-in-Ok-HelpOn.ensures.status (no-cause _ _ c.put_text-answer-in-Ok-HelpOn.ensures.input);
+      output = rw c.put_answer-in-Ok-HelpOn.ensures.status c.put_text-answer-in-Ok-HelpOn.ensures.output;
     }
 
-pub returns-in-Ok-Version-clause-decided : goal.returns-in-Ok-Version-clause-decided
-returns-in-Ok-Version-clause-decided g c =
+pub returns-in-Ok-Version : goal.returns-in-Ok-Version
+returns-in-Ok-Version g c =
     let put = rw c.version.ensures.line at c.put_text-answer-in-Ok-Version.ensures.comes in
     record {
       reading = Ok version;
@@ -156,10 +156,11 @@ returns-in-Ok-Version-clause-decided g c =
       );
       files = rw c.put_answer-in-Ok-Version.ensures.status (no-cause _ _ c.put_text-answer-in-Ok-Version.ensures.files);
       input = rw c.put_answer-in-Ok-Version.ensures.status (no-cause _ _ c.put_text-answer-in-Ok-Version.ensures.input);
+      output = rw c.put_answer-in-Ok-Version.ensures.status c.put_text-answer-in-Ok-Version.ensures.output;
     }
 
-pub returns-in-Ok-Audit-clause-decided : goal.returns-in-Ok-Audit-clause-decided
-returns-in-Ok-Audit-clause-decided g c =
+pub returns-in-Ok-Audit : goal.returns-in-Ok-Audit
+returns-in-Ok-Audit g c =
     record {
       reading = Ok (audit (layout_of c.in-Ok-Audit.layout) c.in-Ok-Audit.program.now c.in-Ok-Audit.trace.now);
       reads = rw c.in-Ok-Audit.field-0-is at c.in-Ok-Audit.ensures.answers;
@@ -171,10 +172,11 @@ returns-in-Ok-Audit-clause-decided g c =
       );
       files = rw c.put_answer-in-Ok-Audit.ensures.status c.audit_trace-answer.ensures.files;
       input = rw c.put_answer-in-Ok-Audit.ensures.status c.audit_trace-answer.ensures.input;
+      output = rw c.put_answer-in-Ok-Audit.ensures.status (no-cause _ _ c.audit_trace-answer.ensures.output);
     }
 
-pub returns-in-Err-clause-decided : goal.returns-in-Err-clause-decided
-returns-in-Err-clause-decided g c =
+pub returns-in-Err : goal.returns-in-Err
+returns-in-Err g c =
     record {
       reading = Err c.in-Err.index;
       reads = c.in-Err.ensures.answers;
@@ -186,10 +188,11 @@ returns-in-Err-clause-decided g c =
       );
       files = rw c.put_answer-in-Err.ensures.status (no-cause _ _ refl);
       input = rw c.put_answer-in-Err.ensures.status (no-cause _ _ refl);
+      output = rw c.put_answer-in-Err.ensures.status (no-cause _ _ refl);
     }
 
-pub returns-in-Ok-Gen-default-true-clause-decided : goal.returns-in-Ok-Gen-default-true-clause-decided
-returns-in-Ok-Gen-default-true-clause-decided g c =
+pub returns-in-Ok-Gen-default-true : goal.returns-in-Ok-Gen-default-true
+returns-in-Ok-Gen-default-true g c =
     let n = c.in-Ok-Gen-default-true.number in
     let told = g.R.Sink.written in
     let before = streams_of (g.S.Source.left c.args.streams.input.now) (g.K.Sink.written c.args.streams.output.now) in
@@ -204,13 +207,11 @@ returns-in-Ok-Gen-default-true-clause-decided g c =
           (g.F.Files.told c.args.files.now ≡ g.F.Files.told c.args.files.now) _ _ c.run_drawn.result refl c.run_drawn.ensures.comes;
       files = no-cause _ _ c.run_drawn.ensures.faults.files;
       input = c.run_drawn.ensures.faults.input;
+      output = c.run_drawn.ensures.faults.output;
     }
 
-pub returns-in-Ok-Gen-default-true-clause-output : goal.returns-in-Ok-Gen-default-true-clause-output
-returns-in-Ok-Gen-default-true-clause-output g c = c.run_drawn.ensures.faults.output
-
-pub returns-in-Ok-Rounds-clause-decided : goal.returns-in-Ok-Rounds-clause-decided
-returns-in-Ok-Rounds-clause-decided g c =
+pub returns-in-Ok-Rounds : goal.returns-in-Ok-Rounds
+returns-in-Ok-Rounds g c =
     record {
       reading = Ok (rounds (layout_of c.in-Ok-Rounds.layout) c.in-Ok-Rounds.program.now c.in-Ok-Rounds.limit c.in-Ok-Rounds.every
           c.in-Ok-Rounds.rule);
@@ -218,13 +219,11 @@ returns-in-Ok-Rounds-clause-decided g c =
       comes = c.run_in_rounds.ensures.comes;
       files = c.run_in_rounds.ensures.faults.files;
       input = c.run_in_rounds.ensures.faults.input;
+      output = c.run_in_rounds.ensures.faults.output;
     }
 
-pub returns-in-Ok-Rounds-clause-output : goal.returns-in-Ok-Rounds-clause-output
-returns-in-Ok-Rounds-clause-output g c = c.run_in_rounds.ensures.faults.output
-
-pub returns-in-Ok-Conform-clause-decided : goal.returns-in-Ok-Conform-clause-decided
-returns-in-Ok-Conform-clause-decided g c =
+pub returns-in-Ok-Conform : goal.returns-in-Ok-Conform
+returns-in-Ok-Conform g c =
     let told = c.conform_log.ensures.reports in
     record {
       reading = Ok (conform (layout_of c.in-Ok-Conform.layout) c.in-Ok-Conform.program.now c.in-Ok-Conform.limit);
@@ -232,26 +231,22 @@ returns-in-Ok-Conform-clause-decided g c =
       comes = ([], told.0, told.1, shows-none _ _ _ _ told.2);
       files = c.conform_log.ensures.faults.files;
       input = c.conform_log.ensures.faults.input;
+      output = c.conform_log.ensures.faults.output;
     }
 
-pub returns-in-Ok-Conform-clause-output : goal.returns-in-Ok-Conform-clause-output
-returns-in-Ok-Conform-clause-output g c = c.conform_log.ensures.faults.output
-
-pub returns-in-Ok-Debug-clause-decided : goal.returns-in-Ok-Debug-clause-decided
-returns-in-Ok-Debug-clause-decided g c =
+pub returns-in-Ok-Debug : goal.returns-in-Ok-Debug
+returns-in-Ok-Debug g c =
     record {
       reading = Ok (debug (layout_of c.in-Ok-Debug.layout) c.in-Ok-Debug.program.now);
       reads = rw c.in-Ok-Debug.field-0-is at c.in-Ok-Debug.ensures.answers;
       comes = c.debug_program.ensures.comes;
       files = c.debug_program.ensures.faults.files;
       input = c.debug_program.ensures.faults.input;
+      output = c.debug_program.ensures.faults.output;
     }
 
-pub returns-in-Ok-Debug-clause-output : goal.returns-in-Ok-Debug-clause-output
-returns-in-Ok-Debug-clause-output g c = c.debug_program.ensures.faults.output
-
-pub returns-in-Ok-Orders-clause-decided : goal.returns-in-Ok-Orders-clause-decided
-returns-in-Ok-Orders-clause-decided g c =
+pub returns-in-Ok-Orders : goal.returns-in-Ok-Orders
+returns-in-Ok-Orders g c =
     let told = c.search_program.ensures.reports in
     record {
       reading = Ok (orders (layout_of c.in-Ok-Orders.layout) c.in-Ok-Orders.program.now c.in-Ok-Orders.options);
@@ -259,13 +254,11 @@ returns-in-Ok-Orders-clause-decided g c =
       comes = ([], told.0, told.1, shows-none _ _ _ _ told.2);
       files = c.search_program.ensures.faults.files;
       input = c.search_program.ensures.faults.input;
+      output = c.search_program.ensures.faults.output;
     }
 
-pub returns-in-Ok-Orders-clause-output : goal.returns-in-Ok-Orders-clause-output
-returns-in-Ok-Orders-clause-output g c = c.search_program.ensures.faults.output
-
-pub returns-in-Ok-Time-clause-decided : goal.returns-in-Ok-Time-clause-decided
-returns-in-Ok-Time-clause-decided g c =
+pub returns-in-Ok-Time : goal.returns-in-Ok-Time
+returns-in-Ok-Time g c =
     let o = c.in-Ok-Time.options in
     let compared = c.compare_layouts in
     let layouts = map layout_in (map string_bytes c.in-Ok-Time.layouts.now) in
@@ -282,7 +275,5 @@ returns-in-Ok-Time-clause-decided g c =
           compared.result refl compared.ensures.comes;
       files = compared.ensures.files;
       input = refl;
+      output = untouched output_answered _ c.compare_layouts.result c.compare_layouts.ensures.output;
     }
-
-pub returns-in-Ok-Time-clause-output : goal.returns-in-Ok-Time-clause-output
-returns-in-Ok-Time-clause-output g c = untouched output_answered _ c.compare_layouts.result c.compare_layouts.ensures.output

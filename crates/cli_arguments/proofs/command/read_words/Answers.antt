@@ -1,14 +1,14 @@
 -- What the loop has read, the word that stops it, and what is missing at its end.
 use Rattle.std.proofs.Common.{Result, ℕ, map, string_bytes, arith, subst, sym}
 use Rattle.cli_arguments.specs.declared.command.Command.{Command}
-use Rattle.cli_arguments.specs.Views.{state_of, asked_of}
+use Rattle.cli_arguments.specs.Views.{reading_state_of, asked_of}
 use Rattle.cli_arguments.proofs.Loop.{stops, goes-on, count-few, ends, Answers, answers-bounded}
 use Rattle.cli_arguments.proofs.command.read_words.Goals as goal
 
 pub returns-in_default : goal.returns-in_default
 returns-in_default c = record {
   answers = stops string_bytes c.args.words.now c.loop-word.word-index c.loop-word.index c.word-item.result
-      (state_of c.loop-word.reading) c.as_str.result.now (omega arith) c.word-item.is
+      (reading_state_of c.loop-word.reading) c.as_str.result.now (omega arith) c.word-item.is
       c.loop-word.invariant.counted c.loop-word.invariant.read c.as_str.ensures.value c.in_default.ensures;
   bounded = tt;
 }
@@ -17,7 +17,7 @@ pub overflow_add-index : goal.overflow_add-index
 overflow_add-index c =
     omega (
       arith,
-      count-few string_bytes c.args.words.now c.loop-word.index (state_of c.loop-word.reading)
+      count-few string_bytes c.args.words.now c.loop-word.index (reading_state_of c.loop-word.reading)
           (omega arith) c.loop-word.invariant.read,
     )
 
@@ -25,14 +25,14 @@ pub loop-word-preserved : goal.loop-word-preserved
 loop-word-preserved c = record {
   counted = omega arith;
   read = goes-on string_bytes c.args.words.now c.loop-word.word-index c.loop-word.index c.word-item.result
-      (state_of c.loop-word.reading) (state_of c.in-Some.later) c.as_str.result.now (omega arith)
+      (reading_state_of c.loop-word.reading) (reading_state_of c.in-Some.later) c.as_str.result.now (omega arith)
       c.word-item.is c.loop-word.invariant.counted c.loop-word.invariant.read c.as_str.ensures.value
       c.in-Some.ensures;
 }
 
 pub returns : goal.returns
 returns c =
-    let e = ends string_bytes c.args.words.now c.loop-word.index (state_of c.loop-word.reading) asked_of
+    let e = ends string_bytes c.args.words.now c.loop-word.index (reading_state_of c.loop-word.reading) asked_of
     c.complete.result (omega arith) c.loop-word.invariant.read c.complete.ensures in
     let a : Answers (map string_bytes c.args.words.now) asked_of c.ok_or.result =
     subst (λ (r : Result Command ℕ). Answers (map string_bytes c.args.words.now) asked_of r)

@@ -6,7 +6,7 @@ pub returns-in-Ok : goal.returns-in-Ok
 returns-in-Ok g c = record {
   answers = inl (record {
     plan = c.in-Ok.layout;
-    named = c.in-Ok.ensures.ok;
+    named = c.in-Ok.ensures.gives;
     text = c.write_text.ensures.comes;
   });
   files = rw c.write_text.ensures.files c.in-Ok.ensures.faults;
@@ -16,8 +16,8 @@ returns-in-Ok g c = record {
 
 pub returns-in-Err : goal.returns-in-Err
 returns-in-Err g c = record {
-  answers = inr (record { lacks = c.in-Err.ensures.refused; output = refl });
+  answers = inr (record { lacks = c.in-Err.ensures.lacks; output = refl });
   files = c.in-Err.ensures.faults;
-  input = (lacks-layout-says _ _ _ _ _ c.in-Err.ensures.refused).input;
-  output = no-cause _ _ (lacks-layout-says _ _ _ _ _ c.in-Err.ensures.refused).output;
+  input = (lacks-layout-says _ _ _ _ _ c.in-Err.ensures.lacks).input;
+  output = no-cause _ _ (lacks-layout-says _ _ _ _ _ c.in-Err.ensures.lacks).output;
 }

@@ -8,13 +8,13 @@ use Rattle.cli_orders.proofs.command.search_images.Goals as goal
 pub put_found-requires : goal.put_found-requires
 put_found-requires g c =
     let o = c.args.options in
-    all_can_be_put (trial_of o.without c.args.layout.now c.args.images.machine o.issues) o.states c.search_orders-found.result c.stages.ensures.accepted.equipped
-    c.search_orders-found.ensures.found
+    all_can_be_put (trial_of o.without c.args.layout.now c.args.images.machine o.issues) o.states c.search_orders-found.result
+    (rw c.loose-loose.ensures at c.is_equipped.ensures) c.search_orders-found.ensures.found
 
 pub returns : goal.returns
 returns g c = record {
   reports = orders-come c.args.options c.args.layout.now c.args.images.machine _ _ _ _ _ _ c.search_orders-found.result c.put_found.result
-      c.search_orders-found.ensures.found c.search_orders-found.ensures.table refl (rw c.loose.ensures at c.put_found.ensures.comes);
+      c.search_orders-found.ensures.found c.search_orders-found.ensures.table refl (rw c.loose-loose.ensures at c.put_found.ensures.comes);
   faults = record {
     files = c.put_found.ensures.files;
     input = no-cause _ _ c.put_found.ensures.input;

@@ -8,7 +8,7 @@ use Rattle.cli_orders.proofs.command.search_images_loosely.Goals as goal
 pub put_found-requires : goal.put_found-requires
 put_found-requires g c =
     let o = c.args.options in
-    all_can_be_put (trial_of o.without c.args.layout.now c.args.images.machine o.issues) o.states c.search_loosely-found.result c.stages.ensures.equipped
+    all_can_be_put (trial_of o.without c.args.layout.now c.args.images.machine o.issues) o.states c.search_loosely-found.result c.is_equipped.ensures
     c.search_loosely-found.ensures
 
 pub returns : goal.returns

@@ -11,16 +11,16 @@ compare_ready-requires-clause-limit g c = limit-chosen _ _ c.choices_by.ensures 
 
 pub compare_ready-requires-clause-words : goal.compare_ready-requires-clause-words
 compare_ready-requires-clause-words g c =
-    words-length c.args.layouts.now c.in-Ok.ready.layouts.items _ _ c.in-Ok.ensures.ready.laid.layouts
+    words-length c.args.layouts.now c.in-Ok.ready.layouts.items _ _ c.in-Ok.ensures.reads.gives.laid.layouts
 
 pub returns-in-Err-clause-answers : goal.returns-in-Err-clause-answers
-returns-in-Err-clause-answers g c = ([], writes-nothing _, inr (inl c.in-Err.ensures.lacks))
+returns-in-Err-clause-answers g c = ([], writes-nothing _, inr (inl c.in-Err.ensures.reads.lacks))
 
 pub returns-in-Err-clause-files : goal.returns-in-Err-clause-files
-returns-in-Err-clause-files g c = counts-file _ _ _ _ _ c.in-Err.answer c.in-Err.ensures.lacks c.in-Err.ensures.faults
+returns-in-Err-clause-files g c = counts-file _ _ _ _ _ c.in-Err.answer c.in-Err.ensures.reads.lacks c.in-Err.ensures.reads.faults
 
 pub returns-in-Err-clause-output : goal.returns-in-Err-clause-output
-returns-in-Err-clause-output g c = (lacks-file-says _ _ _ _ _ c.in-Err.ensures.lacks).output
+returns-in-Err-clause-output g c = (lacks-file-says _ _ _ _ _ c.in-Err.ensures.reads.lacks).output
 
 pub returns-clause-answers : goal.returns-clause-answers
 returns-clause-answers g c = (
@@ -31,7 +31,7 @@ returns-clause-answers g c = (
     plans = c.in-Ok.ready.layouts.items;
     hart = opened c.in-Ok.ready.image.items;
     between = _;
-    read = c.in-Ok.ensures.ready;
+    read = c.in-Ok.ensures.reads.gives;
     lacks = c.in-Err-input_at.ensures.refused;
   })),
 )
