@@ -148,7 +148,7 @@ rewritten_in cs x n w olds e f = bytes_agree (rewritten cs x n w olds) (differen
     ∙ bytes_made x w olds (omega arith)
 
 -- a store into the changed memory
-store_made : (m : Memory) (k : MemoryChanges) (x n : ℕ) (w olds : List ℕ) → ShareNoByte m.areas → length w ≡ n → length olds ≡ n → 0 < n → writable_of m x n ≡ Some olds →
+pub store_made : (m : Memory) (k : MemoryChanges) (x n : ℕ) (w olds : List ℕ) → ShareNoByte m.areas → length w ≡ n → length olds ≡ n → 0 < n → writable_of m x n ≡ Some olds →
     memory_with (memory_after k m) x n w ≡ memory_after (record k { bytes = rewritten k.bytes x n w olds }) m
 store_made m k x n w olds apart e f some found = memory_written m k (record k { bytes = rewritten k.bytes x n w olds }) x n w olds apart
     (record {
@@ -177,7 +177,7 @@ none_found m x n e = go (find (writes_in x n) m.areas) e where
   go None h = refl
   go (Some a) h = absurd (cc)
 
-store_none : (m : Memory) (k : MemoryChanges) (x n : ℕ) (w : List ℕ) → writable_of m x n ≡ None → memory_with (memory_after k m) x n w ≡ memory_after k m
+pub store_none : (m : Memory) (k : MemoryChanges) (x n : ℕ) (w : List ℕ) → writable_of m x n ≡ None → memory_with (memory_after k m) x n w ≡ memory_after k m
 unfolding memory_with memory_after
 store_none m k x n w e = ap (λ (l : List Area). let p : Memory = record { areas = l; program_break = k.program_break } in p)
     (no_place (writes_in x n) (area_with x w) (area_after k) m.areas (λ a. writes_after k x n a) (none_found m x n e))
@@ -228,7 +228,7 @@ range_changes m x n w olds apart e f = go (find (writes_in x n) m.areas) refl f 
   go None h k = absurd (cc)
   go (Some a) h k = changes_of_range m x n x a w olds apart h (omega arith) (omega arith) (rw e (let b : bytes_in x n a ≡ olds = cc in b))
 
-rewritten_lists : (m : Memory) (k : MemoryChanges) (x n : ℕ) (w olds : List ℕ) → ShareNoByte m.areas → AreChanges m k → length w ≡ n → length olds ≡ n → writable_of m x n ≡ Some olds →
+pub rewritten_lists : (m : Memory) (k : MemoryChanges) (x n : ℕ) (w olds : List ℕ) → ShareNoByte m.areas → AreChanges m k → length w ≡ n → length olds ≡ n → writable_of m x n ≡ Some olds →
     AreChanges m (record k { bytes = rewritten k.bytes x n w olds })
 rewritten_lists m k x n w olds apart is e f found =
     let low : List Change = below x k.bytes in
