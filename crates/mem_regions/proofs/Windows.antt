@@ -77,7 +77,9 @@ window-last areas place last w below is writes p b s ends apart =
           position-map (permits_in addr len true) area_bounds areas
           ∙ rw p
           (position-is (writes_in addr len) areas place last below (rw (← is) (window-permitted addr len w last within writes b s))
-          (λ k before. fails-write addr len (get_or areas k last) (apart-fails addr len w (get_or areas k last) (area_bounds last) some within (sym b) (sym s) (early k before))));
+          (λ k before.
+          fails-write addr len (get_or areas k last)
+          (apart-fails addr len w (get_or areas k last) (area_bounds last) some within (sym b) (sym s) (early k before))));
     }
 
 -- in a window of no byte nothing lies

@@ -74,11 +74,12 @@ count-at end at next other m le same below = omega (arith, le, same, below)
 pub loop-spot-preserved-in-On : goal.loop-spot-preserved-in-On
 loop-spot-preserved-in-On c =
     let i = c.loop-spot.invariant in
-    let spot = c.loop-spot.spot in
+    let before = c.loop-spot in
+    let spot = before.spot in
     let goes = on-goes c.act.result c.in-On.is in record {
       goes = rw (count-on c.loop-spot.at_end spot.at c.args.from.retired i.onward, ← turned-on c.args.line.now spot i.base)
           (rw c.in-On.is at
-          (passes-on _ c.loop-spot.mem c.act.new.mem c.args.line.now spot c.loop-spot.regs c.act.new.regs (c.loop-spot.at_end + spot.at - 256) c.args.from.retired
+          (passes-on _ before.mem c.act.new.mem c.args.line.now spot before.regs c.act.new.regs (before.at_end + spot.at - 256) c.args.from.retired
           c.act.result c.op.result.now i.base i.line i.inside c.op.ensures goes c.act.ensures.goes (count-before _ _ i.onward) i.goes));
       onward = omega (arith, i.onward);
       within = i.within;
@@ -93,10 +94,11 @@ loop-spot-preserved-in-On c =
 pub returns-then-from-ge-OPS-clause-goes : goal.returns-then-from-ge-OPS-clause-goes
 returns-then-from-ge-OPS-clause-goes c =
     let i = c.loop-spot.invariant in
-    let spot = c.loop-spot.spot in
+    let before = c.loop-spot in
+    let spot = before.spot in
     rw (count-to c.loop-spot.at_end spot.at c.args.from.retired i.onward, c.pc.ensures)
     (rw c.in-To.is at
-    (passes-on _ c.loop-spot.mem c.act.new.mem c.args.line.now spot c.loop-spot.regs c.act.new.regs (c.loop-spot.at_end + spot.at - 256) c.args.from.retired
+    (passes-on _ before.mem c.act.new.mem c.args.line.now spot before.regs c.act.new.regs (before.at_end + spot.at - 256) c.args.from.retired
     c.act.result c.op.result.now i.base i.line i.inside c.op.ensures (to-goes c.act.result c.in-To.next c.in-To.is) c.act.ensures.goes
     (count-before _ _ i.onward) i.goes))
 
@@ -107,7 +109,8 @@ returns-then-from-ge-OPS-clause-code c =
 pub loop-spot-preserved : goal.loop-spot-preserved
 loop-spot-preserved c =
     let i = c.loop-spot.invariant in
-    let spot = c.loop-spot.spot in
+    let before = c.loop-spot in
+    let spot = before.spot in
     let same : c.from-in-To.result ≡ c.in-To.next = c.from-in-To.ensures in
     let inside : c.in-To.next < 256 = omega (arith, c.from.ensures, c.if-from-ge-OPS.false) in record {
       goes = rw (
@@ -115,7 +118,7 @@ loop-spot-preserved c =
         ← turned-to c.args.line.now spot c.in-To.next i.base,
       )
           (rw c.in-To.is at
-          (passes-on _ c.loop-spot.mem c.act.new.mem c.args.line.now spot c.loop-spot.regs c.act.new.regs (c.loop-spot.at_end + spot.at - 256) c.args.from.retired
+          (passes-on _ before.mem c.act.new.mem c.args.line.now spot before.regs c.act.new.regs (before.at_end + spot.at - 256) c.args.from.retired
           c.act.result c.op.result.now i.base i.line i.inside c.op.ensures (to-goes c.act.result c.in-To.next c.in-To.is) c.act.ensures.goes
           (count-before _ _ i.onward) i.goes));
       onward = omega (arith, i.onward, same, inside);
@@ -135,7 +138,8 @@ returns-clause-code c =
 pub returns-clause-goes : goal.returns-clause-goes
 returns-clause-goes c =
     let i = c.loop-spot.invariant in
-    let spot = c.loop-spot.spot in
+    let before = c.loop-spot in
+    let spot = before.spot in
     elim c.match-act.branch [
       | in-To+else-from-ge-OPS+then-at_end-last w ↦
           let inside : w.in-To.next < 256 = omega (arith, w.from.ensures, w.if-from-ge-OPS.false) in
@@ -146,7 +150,7 @@ returns-clause-goes c =
             count-at c.loop-spot.at_end spot.at w.in-To.next w.from-in-To.result c.args.from.retired i.onward w.from-in-To.ensures inside,
           )
           (rw w.in-To.is at
-          (passes-on _ c.loop-spot.mem c.act.new.mem c.args.line.now spot c.loop-spot.regs c.act.new.regs (c.loop-spot.at_end + spot.at - 256) c.args.from.retired
+          (passes-on _ before.mem c.act.new.mem c.args.line.now spot before.regs c.act.new.regs (before.at_end + spot.at - 256) c.args.from.retired
           c.act.result c.op.result.now i.base i.line i.inside c.op.ensures (to-goes c.act.result w.in-To.next w.in-To.is) c.act.ensures.goes
           (count-before _ _ i.onward) i.goes))
       | in-Stop w ↦
