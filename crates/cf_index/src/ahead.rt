@@ -8,38 +8,41 @@ ghost use Rattle.cf_core.specs.Masks.{masks_of};
 ghost use Rattle.cf_index.specs.Allowed.{all_passing, is_allowed, passing_of};
 ghost use Rattle.cf_index.specs.Allowed.{launch_on, send_on, execute_on, meet_on, fall_on, climb_on};
 ghost use Rattle.cf_index.specs.Ranks.{is_past};
+ghost use Rattle.cf_index.specs.Words.{goes_on as runs_on};
 
 use crate::bits::lowest;
 use crate::rank::{CLIMB, EXECUTE, FALL, LAUNCH, MEET, Rank, SEND};
-use crate::stages::{climbs, executes, falls, launches, meets, sends, stages};
+use crate::stages::{climbs, executes, falls, goes_on, launches, meets, sends, stages};
 use cf_bind::Move;
 use cf_core::{Core, Masks};
 
 /// The stages where a Climb comes after the rank.
 // The word is made only where one can.
 #[inline(always)]
-pub(crate) fn climbs_after(core: &Core, masks: &Masks, last: Rank) -> u32
-    requires { masks.now ≡ masks_of core.now.plan core.now.state }
+pub(crate) fn climbs_after(core: &Core, masks: &Masks, last: Rank, on: bool) -> u32
+    requires on { on ≡ runs_on core.now.state }
+    requires masks { masks.now ≡ masks_of core.now.plan core.now.state }
     ensures { (k : ℕ) → has_bit result k ≡ (has_bit (passing_of core.now.plan core.now.state).climb k && is_past last (mv.Climb (k + 1))) }
 {
     if last.kind > CLIMB {
         0
     } else {
-        last.after(CLIMB, climbs(core, masks))
+        last.after(CLIMB, climbs(core, masks, on))
     }
 }
 
 /// The stages where a Fall comes after the rank.
 // The word is made only where one can.
 #[inline(always)]
-pub(crate) fn falls_after(core: &Core, masks: &Masks, last: Rank) -> u32
-    requires { masks.now ≡ masks_of core.now.plan core.now.state }
+pub(crate) fn falls_after(core: &Core, masks: &Masks, last: Rank, on: bool) -> u32
+    requires on { on ≡ runs_on core.now.state }
+    requires masks { masks.now ≡ masks_of core.now.plan core.now.state }
     ensures { (k : ℕ) → has_bit result k ≡ (has_bit (passing_of core.now.plan core.now.state).fall k && is_past last (mv.Fall (k + 1))) }
 {
     if last.kind > FALL {
         0
     } else {
-        last.after(FALL, falls(core, masks))
+        last.after(FALL, falls(core, masks, on))
     }
 }
 
@@ -61,7 +64,7 @@ fn next_send(core: &Core, masks: &Masks, last: Rank) -> Option<Move>
     requires { masks.now ≡ masks_of core.now.plan core.now.state }
     ensures { result ≡ find (is_past last) (send_on core.now.plan core.now.state) }
 {
-    match lowest(last.after(SEND, sends(core, masks))) {
+    match lowest(last.after(SEND, sends(core, masks, goes_on(core)))) {
         Some(k) => Some(Move::Send(k + 1)),
         None => next_launch(core, masks, last),
     }
@@ -86,7 +89,7 @@ fn next_meet(core: &Core, masks: &Masks, last: Rank) -> Option<Move>
     requires { masks.now ≡ masks_of core.now.plan core.now.state }
     ensures { result ≡ find (is_past last) (meet_on core.now.plan core.now.state) }
 {
-    match lowest(last.after(MEET, meets(core, masks))) {
+    match lowest(last.after(MEET, meets(core, masks, goes_on(core)))) {
         Some(k) => Some(Move::Meet(k + 1)),
         None => next_execute(core, last),
     }
@@ -98,7 +101,7 @@ fn next_fall(core: &Core, masks: &Masks, last: Rank) -> Option<Move>
     requires { masks.now ≡ masks_of core.now.plan core.now.state }
     ensures { result ≡ find (is_past last) (fall_on core.now.plan core.now.state) }
 {
-    match lowest(falls_after(core, masks, last)) {
+    match lowest(falls_after(core, masks, last, goes_on(core))) {
         Some(k) => Some(Move::Fall(k + 1)),
         None => next_meet(core, masks, last),
     }
@@ -110,7 +113,7 @@ fn next_climb(core: &Core, masks: &Masks, last: Rank) -> Option<Move>
     requires { masks.now ≡ masks_of core.now.plan core.now.state }
     ensures { result ≡ find (is_past last) (climb_on core.now.plan core.now.state) }
 {
-    match lowest(climbs_after(core, masks, last)) {
+    match lowest(climbs_after(core, masks, last, goes_on(core))) {
         Some(k) => Some(Move::Climb(k + 1)),
         None => next_fall(core, masks, last),
     }

@@ -15,7 +15,7 @@ use crate::entering::Entering;
 use crate::guiding::guided;
 use crate::leaving::Leaving;
 use crate::passing::Passing;
-use crate::stages::{climbs, executes, falls, launches, meets, sends, stages};
+use crate::stages::{climbs, executes, falls, goes_on, launches, meets, sends, stages};
 use cf_core::{Core, Masks};
 use run_options::GuessRule;
 
@@ -78,12 +78,13 @@ pub(crate) fn passing(core: &Core, masks: &Masks) -> Passing
     ensures { passing_moves result ≡ filter (is_allowed core.now.plan core.now.state) (all_passing core.now.plan) }
 {
     let _stages = stages(core);
+    let on = goes_on(core);
     Passing {
-        climb: climbs(core, masks),
-        fall: falls(core, masks),
-        meet: meets(core, masks),
+        climb: climbs(core, masks, on),
+        fall: falls(core, masks, on),
+        meet: meets(core, masks, on),
         execute: executes(core, masks),
-        send: sends(core, masks),
+        send: sends(core, masks, on),
         launch: launches(core, masks),
     }
 }

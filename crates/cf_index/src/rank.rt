@@ -1,8 +1,8 @@
 //! Where a move stands in the order of all moves.
 
-ghost use Rattle.std.specs.Prelude.{◌≡◌, ℕ, ◌+◌, ◌<◌, ◌&&◌, nat_eq, nat_lt, not};
+ghost use Rattle.std.specs.Prelude.{◌≡◌, ℕ, ◌+◌, ◌<◌, ◌&&◌, nat_lt};
 ghost use Rattle.cf_layout.specs.Words.{has_bit};
-ghost use Rattle.cf_index.specs.Order.{below_or, slide_place};
+ghost use Rattle.cf_index.specs.Order.{below_or};
 ghost use Rattle.cf_index.specs.Ranks.{first_rank, rank_of};
 
 use crate::words::past;
@@ -131,14 +131,6 @@ impl Rank {
                 place: 0,
             },
         }
-    }
-
-    /// Whether it is neither that of an Issue nor that of a Slide.
-    #[inline(always)]
-    pub fn is_swept(self) -> bool
-        ensures { result ≡ (nat_lt 0 self.kind && not (nat_eq self.kind slide_place)) }
-    {
-        ISSUE < self.kind && self.kind != SLIDE
     }
 
     /// The stages of the word at which the move of this kind comes after the rank.

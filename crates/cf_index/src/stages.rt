@@ -17,11 +17,14 @@ pub(crate) fn goes_on(core: &Core) -> bool
 }
 
 /// The word where the processor goes on, and no stage where it does not.
+// Who knows that it goes on says so, and it is not asked again.
 #[inline(always)]
-fn where_on(core: &Core, word: u32) -> u32
+fn where_on(core: &Core, on: bool, word: u32) -> u32
+    requires { on ≡ goes_on core.now.state }
     ensures { result ≡ (if goes_on core.now.state then word else 0) }
 {
-    if goes_on(core) { word } else { 0 }
+    let _core = core;
+    if on { word } else { 0 }
 }
 
 /// How many stages there are.
@@ -35,33 +38,36 @@ pub(crate) fn stages(core: &Core) -> u32
     core.layout().stages()
 }
 
-/// Where Climb is allowed.
+/// Where Climb is allowed, given whether the processor goes on.
 #[inline(always)]
-pub(crate) fn climbs(core: &Core, masks: &Masks) -> u32
-    requires { masks.now ≡ masks_of core.now.plan core.now.state }
+pub(crate) fn climbs(core: &Core, masks: &Masks, on: bool) -> u32
+    requires on { on ≡ goes_on core.now.state }
+    requires masks { masks.now ≡ masks_of core.now.plan core.now.state }
     ensures { result ≡ (passing_of core.now.plan core.now.state).climb }
 {
-    where_on(core, climbing(masks, stages(core)))
+    where_on(core, on, climbing(masks, stages(core)))
 }
 
-/// Where Fall is allowed.
+/// Where Fall is allowed, given whether the processor goes on.
 #[inline(always)]
-pub(crate) fn falls(core: &Core, masks: &Masks) -> u32
-    requires { masks.now ≡ masks_of core.now.plan core.now.state }
+pub(crate) fn falls(core: &Core, masks: &Masks, on: bool) -> u32
+    requires on { on ≡ goes_on core.now.state }
+    requires masks { masks.now ≡ masks_of core.now.plan core.now.state }
     ensures { result ≡ (passing_of core.now.plan core.now.state).fall }
 {
     let _stages = stages(core);
-    where_on(core, falling(masks))
+    where_on(core, on, falling(masks))
 }
 
-/// Where Meet is allowed.
+/// Where Meet is allowed, given whether the processor goes on.
 #[inline(always)]
-pub(crate) fn meets(core: &Core, masks: &Masks) -> u32
-    requires { masks.now ≡ masks_of core.now.plan core.now.state }
+pub(crate) fn meets(core: &Core, masks: &Masks, on: bool) -> u32
+    requires on { on ≡ goes_on core.now.state }
+    requires masks { masks.now ≡ masks_of core.now.plan core.now.state }
     ensures { result ≡ (passing_of core.now.plan core.now.state).meet }
 {
     let _stages = stages(core);
-    where_on(core, full(masks))
+    where_on(core, on, full(masks))
 }
 
 /// Where Execute is allowed.
@@ -75,14 +81,15 @@ pub(crate) fn executes(core: &Core, masks: &Masks) -> u32
     masks.execute
 }
 
-/// Where Send is allowed.
+/// Where Send is allowed, given whether the processor goes on.
 #[inline(always)]
-pub(crate) fn sends(core: &Core, masks: &Masks) -> u32
-    requires { masks.now ≡ masks_of core.now.plan core.now.state }
+pub(crate) fn sends(core: &Core, masks: &Masks, on: bool) -> u32
+    requires on { on ≡ goes_on core.now.state }
+    requires masks { masks.now ≡ masks_of core.now.plan core.now.state }
     ensures { result ≡ (passing_of core.now.plan core.now.state).send }
 {
     let _stages = stages(core);
-    where_on(core, sending(masks))
+    where_on(core, on, sending(masks))
 }
 
 /// Where Launch is allowed.

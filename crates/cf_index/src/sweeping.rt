@@ -1,12 +1,13 @@
 //! The kinds of moves that a sweep makes: Emit, those over the stages, one stage after another, and those by which something leaves.
 
-ghost use Rattle.std.specs.Prelude.{◌≡◌, ℕ, ◌≤◌, Bool, IfSome, List, None, Some, find};
+ghost use Rattle.std.specs.Prelude.{◌≡◌, ℕ, ◌≤◌, Bool, IfSome, List, None, Some, find, true};
 ghost use Rattle.run_options.specs.declared.guess_rule.GuessRule.{GuessRule};
 ghost use Rattle.cf_bind.specs.declared.moves.Move.{Move as Step};
 ghost use Rattle.cf_bind.specs.declared.moves.Move.TheVariants as mv;
 ghost use Rattle.cf_layout.specs.Layout.{Plan};
 ghost use Rattle.cf_semantics.specs.state.State.{State};
 ghost use Rattle.cf_index.specs.Order.{kind_place};
+ghost use Rattle.cf_index.specs.Words.{goes_on};
 ghost use Rattle.cf_index.specs.Ranks.{is_past, rank_of};
 ghost use Rattle.cf_index.specs.PickedFrom.{IsPickedFrom, from_climb, from_emit, from_execute, from_fall, from_launch, from_meet, from_send, outward_on};
 
@@ -41,6 +42,7 @@ pub trait SweptKind {
 
     /// The first stage past the rank at which the move is allowed.
     fn next(core: &Core, last: Rank) -> Option<u32>
+        requires { goes_on core.now.state ≡ true }
         ensures here { IfSome result (λ i. find (is_past last) (from core.now.plan core.now.state) ≡ Some (at_stage i)) }
         ensures gone { result ≡ None → find (is_past last) (beyond core.now.plan core.now.state) ≡ find (is_past last) (from core.now.plan core.now.state) };
 }
@@ -110,7 +112,7 @@ impl SweptKind for ClimbKind {
     #[inline(always)]
     fn next(core: &Core, last: Rank) -> Option<u32> {
         let masks = core.masks();
-        match lowest(climbs_after(core, &masks, last)) {
+        match lowest(climbs_after(core, &masks, last, true)) {
             Some(k) => Some(k + 1),
             None => None,
         }
@@ -135,7 +137,7 @@ impl SweptKind for FallKind {
     #[inline(always)]
     fn next(core: &Core, last: Rank) -> Option<u32> {
         let masks = core.masks();
-        match lowest(falls_after(core, &masks, last)) {
+        match lowest(falls_after(core, &masks, last, true)) {
             Some(k) => Some(k + 1),
             None => None,
         }
@@ -160,7 +162,7 @@ impl SweptKind for MeetKind {
     #[inline(always)]
     fn next(core: &Core, last: Rank) -> Option<u32> {
         let masks = core.masks();
-        match lowest(last.after(MEET, meets(core, &masks))) {
+        match lowest(last.after(MEET, meets(core, &masks, true))) {
             Some(k) => Some(k + 1),
             None => None,
         }
@@ -210,7 +212,7 @@ impl SweptKind for SendKind {
     #[inline(always)]
     fn next(core: &Core, last: Rank) -> Option<u32> {
         let masks = core.masks();
-        match lowest(last.after(SEND, sends(core, &masks))) {
+        match lowest(last.after(SEND, sends(core, &masks, true))) {
             Some(k) => Some(k + 1),
             None => None,
         }

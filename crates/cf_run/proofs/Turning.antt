@@ -1,7 +1,6 @@
 -- Turns of the rule: what a move of a swept kind leaves as it is, and where some turns lead.
-use Rattle.std.specs.Prelude.{◌&&◌, find, not, slice_get, slice_set}
-use Rattle.std.proofs.lemmas.Bool.Decides.{nat_tests}
-use Rattle.std.proofs.Common.{◌≡◌, ◌≢◌, ◌∙◌, sym, refl, ap, subst, ℕ, zero, suc, ◌+◌, ◌-◌, ◌≤◌, ◌<◌, List, [], ◌∷◌, Bool, true, nat_eq, nat_lt, Option, Some, None, Ok, Err, arith}
+use Rattle.std.specs.Prelude.{find, slice_get, slice_set}
+use Rattle.std.proofs.Common.{◌≡◌, ◌≢◌, ◌∙◌, sym, refl, ap, subst, ℕ, zero, suc, ◌+◌, ◌-◌, ◌≤◌, ◌<◌, List, [], ◌∷◌, Bool, true, false, cond, Option, Some, None, Ok, Err, arith}
 use Rattle.run_options.specs.Limits.{most_limit}
 use Rattle.run_options.specs.declared.guess_rule.GuessRule.{GuessRule}
 use Rattle.run_options.specs.declared.reporting.Reporting.{Reporting}
@@ -17,7 +16,7 @@ use Rattle.cf_bind.specs.declared.moves.Move.{Move}
 use Rattle.cf_bind.specs.declared.moves.Move.TheVariants as mv
 use Rattle.cf_semantics.specs.declared.event.Event.{Event}
 use Rattle.cf_semantics.specs.moves.Bars.{bar, last_op, running}
-use Rattle.cf_semantics.specs.moves.Moves.{emitted, launch_trap, launched, moved, next, operation, recovered, with_passenger}
+use Rattle.cf_semantics.specs.moves.Moves.{emitted, launch_trap, launched, left, moved, next, operation, recovered, with_passenger, without_passenger, written}
 use Rattle.cf_semantics.specs.state.Layouts.{port}
 use Rattle.cf_semantics.specs.state.Options.{on}
 use Rattle.cf_semantics.specs.state.Passengers.{kind, trapped}
@@ -27,10 +26,10 @@ use Rattle.cf_core.specs.Stepping.{MakesOrFails}
 use Rattle.cf_core.specs.declared.fault.Fault.{Fault}
 use Rattle.cf_core.specs.declared.fault.Fault.TheVariants as fault
 use Rattle.cf_index.specs.Order.{kind_place, leave_place, slide_place}
-use Rattle.cf_index.specs.PickedFrom.{IsLast, IsPicked, IsPickedFrom, from_climb, from_emit}
-use Rattle.cf_index.specs.Ranks.{is_past, rank_of}
+use Rattle.cf_index.specs.PickedFrom.{IsLast, IsPicked, IsPickedFrom}
+use Rattle.cf_index.specs.Ranks.{is_past}
+use Rattle.cf_index.specs.Words.{goes_on}
 use Rattle.cf_index.specs.declared.rank.Rank.{Rank}
-use Rattle.cf_index.proofs.PickedFrom.{emit_late, picked_after, picked_on}
 use Rattle.cf_sched.specs.Paces.{offered_by, stopped}
 use Rattle.cf_sched.specs.Policies.{round_on, round_pick}
 use Rattle.cf_semantics.specs.moves.Holding.{is_held, paced}
@@ -40,7 +39,7 @@ use Rattle.cf_run.specs.Made.{CanCount, Made, counted, shown}
 use Rattle.cf_run.specs.Moving.{RunPlace, MoveDoes, place_of}
 use Rattle.cf_run.specs.Policies.{Turned, chooser, choice, most_moves}
 use Rattle.cf_run.specs.Reaching.{GoesOn}
-use Rattle.cf_run.specs.Sweeps.{HasPicked, IsUnderway, Keeps, ShowsNothing, SweepsTo, TurnsTo}
+use Rattle.cf_run.specs.Sweeps.{CanSweep, HasPicked, IsUnderway, Keeps, ShowsNothing, SweepsTo, TurnsTo}
 use Rattle.cf_run.proofs.ByRule.{ruled-allowed}
 use Rattle.cf_run.proofs.Runs.{can-count}
 use Rattle.cf_run.specs.Asking.{SomeAsks}
@@ -97,6 +96,53 @@ moved_keeps plan s mv.Exit other =
     on_keeps (cell_at s.cells 1) s _ (λ c. on_keeps c.packet s _ (λ k. record { ending = refl; retired = refl }))
 moved_keeps plan s mv.Serve other = record { ending = refl; retired = refl }
 
+-- and neither the input nor the output has failed
+left_works : (s : State) (n : ℕ) (c : Cell) (p : Passenger) → (left s n c p).failed ≡ s.failed
+left_works s n c p = by p.dead p.ending
+  where
+    by : (dead : Bool) (o : Option End) → (cond dead (with_cell s n (without_passenger c)) (on o
+        (record (with_cell s n (without_passenger c)) { regs = written s.regs p.dst; retired = s.retired + 1 })
+        (λ e. record (with_cell s n (without_passenger c)) { ending = Some e }))).failed ≡ s.failed
+    by true o = refl
+    by false None = refl
+    by false (Some e) = refl
+
+on_works : {X : Type 0} (o : Option X) (s : State) (f : X → State) → ((x : X) → (f x).failed ≡ s.failed) → (on o s f).failed ≡ s.failed
+on_works None s f all = refl
+on_works (Some x) s f all = all x
+
+emitted_works : (s : State) (n : ℕ) (lane : List ℕ) (c : Cell) → (emitted s n lane c).failed ≡ s.failed
+emitted_works s n [] c = refl
+emitted_works s n (r ∷ lane) c = refl
+
+launched_works : (plan : Plan) (s : State) (i : ℕ) (c : Cell) (p : Passenger) → (launched plan s i c p).failed ≡ s.failed
+launched_works plan s i c p = of (launch_trap s p)
+  where
+    of : (trap : Option End) → (on trap
+        (on (siding_of plan (kind p)) s (λ k.
+        with_siding (with_cell s i (with_passenger c (record p { launched = true }))) k (slice_set (siding_at s k) 0 (Some (operation p)))))
+        (λ e. with_cell s i (with_passenger c (trapped p e)))).failed ≡ s.failed
+    of None = on_works (siding_of plan (kind p)) s _ (λ k. refl)
+    of (Some e) = refl
+
+moved_works : (plan : Plan) (s : State) (m : Move) → (moved plan s m).failed ≡ s.failed
+unfolding moved
+moved_works plan s (mv.Issue g) = on_works (cell_at s.cells 1) s _ (λ c. on_works (running s.fetch) s _ (λ pc. refl))
+moved_works plan s mv.Emit = on_works (cell_at s.cells plan.stages) s _ (λ c. emitted_works s plan.stages s.lane c)
+moved_works plan s (mv.Climb i) = on_works (cell_at s.cells i) s _ (λ c. on_works (cell_at s.cells (i + 1)) s _ (λ d. refl))
+moved_works plan s (mv.Fall i) = on_works (cell_at s.cells i) s _ (λ c. on_works (cell_at s.cells (i - 1)) s _ (λ d. refl))
+moved_works plan s (mv.Meet i) = on_works (cell_at s.cells i) s _ (λ c. on_works c.passenger s _ (λ p. on_works c.packet s _ (λ k. refl)))
+moved_works plan s (mv.Execute i) = on_works (cell_at s.cells i) s _ (λ c. on_works c.passenger s _ (λ p. refl))
+moved_works plan s (mv.Send i) = on_works (cell_at s.cells i) s _ (λ c. on_works c.passenger s _ (λ p. refl))
+moved_works plan s (mv.Launch i) = on_works (cell_at s.cells i) s _ (λ c. on_works c.passenger s _ (λ p. launched_works plan s i c p))
+moved_works plan s (mv.Slide k c) = on_works (slice_get (siding_at s k) c) s _ (λ o. refl)
+moved_works plan s mv.Access = on_works (last_op (siding_at s (port plan))) s _ (λ op. refl)
+moved_works plan s (mv.Recover i) = on_works (cell_at s.cells i) s _ (λ c. on_works c.passenger s _ (λ p.
+    on_works (siding_of plan (kind p)) s _ (λ k. on_works (last_op (siding_at s k)) s _ (λ op. refl))))
+moved_works plan s mv.Leave = on_works (cell_at s.cells plan.stages) s _ (λ c. on_works c.passenger s _ (λ p. left_works s plan.stages c p))
+moved_works plan s mv.Exit = on_works (cell_at s.cells 1) s _ (λ c. on_works c.packet s _ (λ k. refl))
+moved_works plan s mv.Serve = refl
+
 next_state : (plan : Plan) (m : Moment) (v : Move) → kind_place v ≤ 12 → (next plan m v).state ≡ moved plan m.state v
 unfolding next
 next_state plan m (mv.Issue g) before = refl
@@ -122,12 +168,26 @@ makes_keeps old new m before after e early other makes =
     let state : moved old.plan old.state m ≡ new.state = sym (next_state old.plan from m early) ∙ ap (λ (t : Moment). t.state) makes.0.is in
     subst (Keeps old.state) state (moved_keeps old.plan old.state m other)
 
+pub makes_works : (old new : Processor) (m : Move) (before after : Streams) (e : Event) → kind_place m ≤ 12 →
+    MakesOrFails old new m before after (Ok e) → new.state.failed ≡ old.state.failed
+unfolding MakesOrFails
+makes_works old new m before after e early makes =
+    let from : Moment = record { state = old.state; rest = makes.0.rest; output = [] } in
+    let state : moved old.plan old.state m ≡ new.state = sym (next_state old.plan from m early) ∙ ap (λ (t : Moment). t.state) makes.0.is in
+    ap (λ (t : State). t.failed) (sym state) ∙ moved_works old.plan old.state m
+
 -- so the run goes on as before
-pub goes_kept : (limit : ℕ) (s t : State) → GoesOn limit s → Keeps s t → GoesOn limit t
-goes_kept limit s t goes keeps =
-    let below = goes.below in
+pub goes_kept : (limit : ℕ) (s t : State) → CanSweep limit s → Keeps s t → t.failed ≡ s.failed → CanSweep limit t
+goes_kept limit s t can keeps works =
+    let below = can.goes.below in
     let retired = keeps.retired in
-    record { unended = keeps.ending ∙ goes.unended; below = omega (arith, below, retired) }
+    record {
+      goes = record { unended = keeps.ending ∙ can.goes.unended; below = omega (arith, below, retired) };
+      works = works ∙ can.works;
+    }
+
+pub goes_on_so : (limit : ℕ) (s : State) → CanSweep limit s → goes_on s ≡ true
+goes_on_so limit s can = rw (can.goes.unended, can.works) refl
 
 pub all_kept : (s : State) → Keeps s s
 all_kept s = record { ending = refl; retired = refl }
@@ -305,21 +365,6 @@ underway_nearer rule limit show now new last later held count plan u t is =
 -- an accepted layout has at most 32 stages
 pub few_stages : (plan old shown : Plan) → plan ≡ old → shown ≡ old → IsAccepted shown → plan.stages ≤ 32
 few_stages plan old shown is same accepted = (subst IsAccepted (same ∙ sym is) accepted).stages.1
-
--- after a move whose rank is neither that of an Issue nor that of a Slide, the rule picks the first past its rank
-not_slide : (r : Rank) → (nat_lt 0 r.kind && not (nat_eq r.kind slide_place)) ≡ true → (1 ≤ r.kind) × (r.kind ≢ slide_place)
-not_slide r test = (grind (arith, nat_tests, test), λ e. absurd (grind (arith, nat_tests, test, e)))
-
-pub picks_past : (rule : GuessRule) (held : Bool) (plan : Plan) (s : State) (last : Move) (r : Rank) → plan.stages ≤ 32 → r ≡ rank_of last →
-    (nat_lt 0 r.kind && not (nat_eq r.kind slide_place)) ≡ true → IsPickedFrom rule held plan s (Some last) r (from_emit plan s)
-picks_past rule held plan s last r few is test =
-    let within = not_slide r test in
-    let kind : r.kind ≡ kind_place last = ap (λ (q : Rank). q.kind) is in
-    let after : 1 ≤ kind_place last = let low = within.0 in omega (arith, kind, low) in
-    let other : kind_place last ≢ slide_place = λ e. within.1 (kind ∙ e) in
-    subst (λ (q : Rank). IsPickedFrom rule held plan s (Some last) q (from_emit plan s)) (sym is)
-    (picked_on rule held plan s (Some last) (rank_of last) (from_climb plan s) (from_emit plan s) (sym (emit_late plan s (rank_of last) after))
-    (picked_after rule held plan s last few after other))
 
 -- fewer are left after a sweep and one more turn
 pub fewer_left : (most now between new : ℕ) → now ≤ between → most - new < most - between → most - new < most - now

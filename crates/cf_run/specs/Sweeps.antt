@@ -1,6 +1,6 @@
 -- Turns of a policy that lead from one place of a run to another, none of which stops it; and those of the rule, which picks
 -- one move of a kind after another.
-use Rattle.std.specs.Prelude.{◌≡◌, ℕ, zero, suc, List, None, Option, length}
+use Rattle.std.specs.Prelude.{◌≡◌, ℕ, zero, suc, List, None, Option, length, false}
 use Rattle.run_options.specs.declared.guess_rule.GuessRule.{GuessRule}
 use Rattle.run_options.specs.declared.reporting.Reporting.{Reporting}
 use Rattle.run_options.specs.declared.show.Show.TheVariants as shows
@@ -15,7 +15,7 @@ use Rattle.cf_sched.specs.Paces.{PaceCount, stopped}
 use Rattle.cf_sched.specs.Policies.{round_on, round_pick}
 use Rattle.cf_run.specs.Moving.{RunPlace}
 use Rattle.cf_run.specs.Policies.{Chooser, Picks, Turned, chooser, fresh}
-use Rattle.cf_run.specs.Reaching.{Reaches}
+use Rattle.cf_run.specs.Reaching.{GoesOn, Reaches}
 
 -- the picks so far lead from one RunPlace to another, and leave this policy, and this count, which stops where the
 -- candidates are held
@@ -53,6 +53,11 @@ pub record IsUnderway (rule : GuessRule) (limit : ℕ) (show : Reporting) (now :
 pub record Keeps (s t : State) : Type 0 where
   pub ending : t.ending ≡ s.ending
   pub retired : t.retired ≡ s.retired
+
+-- the run goes on, and neither the input nor the output has failed
+pub record CanSweep (limit : ℕ) (s : State) : Type 0 where
+  pub goes : GoesOn limit s
+  pub works : s.failed ≡ false
 
 -- nothing is shown during the run
 pub record ShowsNothing (show : Reporting) : Type 0 where

@@ -1,10 +1,11 @@
 //! The run by the rule.
 
-ghost use Rattle.std.specs.Prelude.{◌≡◌, ◌-◌, ◌≤◌, IfSome, Some};
+ghost use Rattle.std.specs.Prelude.{◌≡◌, ◌-◌, ◌≤◌, Some, true};
 ghost use Rattle.run_options.specs.Limits.{most_limit};
 ghost use Rattle.cf_io.specs.Causes.{HasCause};
 ghost use Rattle.run_finishes.specs.declared.finish.Scripted.TheVariants as scripted;
 ghost use Rattle.cf_index.specs.PickedFrom.{from_emit};
+ghost use Rattle.cf_index.specs.Ranks.{first_rank};
 ghost use Rattle.cf_sched.specs.Policies.{round_on, round_pick};
 ghost use Rattle.cf_run.specs.Ending.{EndsSequentially};
 ghost use Rattle.cf_run.specs.Moving.{place_by};
@@ -16,38 +17,29 @@ ghost use Rattle.cf_run.specs.Sweeps.{IsUnderway, PicksFrom, ShowsNothing, Sweep
 use crate::facts::known;
 use crate::finished::over;
 use crate::policy::advance;
-use crate::sweep::SweepPlace;
 use crate::turning_over::sweep_rounds;
 use cf_bind::Move;
 use cf_core::Core;
-use cf_index::{Candidates, Rank};
+use cf_index::Candidates;
 use cf_io::{Sink, Source};
 use cf_report::{ReportSink, Tally};
 use cf_sched::{Pace, Round};
 use run_finishes::Ran;
 use run_options::{GuessRule, Reporting, Show};
 
-/// The rank after which a sweep looks for what the rule picks next, if one can: that of the last pick, or the first of all where
-/// the search starts over.
+/// Whether it is known that the search after the last pick starts over, and that no Issue is offered.
 #[inline(always)]
-fn sweeps_from(core: &Core, last: Move, round: &Round, pace: &Pace) -> Option<Rank>
+fn starts_over(core: &Core, last: Move, round: &Round, pace: &Pace) -> bool
     requires last { round.now ≡ Some last }
     requires stages { pace.now.stages ≡ core.now.plan.stages }
-    ensures { IfSome result (λ rank. PicksFrom pace.now core.now (Some last) rank (from_emit core.now.plan core.now.state)) }
+    ensures { result ≡ true → PicksFrom pace.now core.now (Some last) first_rank (from_emit core.now.plan core.now.state) }
 {
     let _last = last;
     let _stages = core.layout().stages();
-    let rank = round.rank();
-    if rank.is_swept() {
-        return Some(rank);
-    }
-    if Candidates::starts_over(core, rank, pace.held()) {
-        return Some(Rank::first());
-    }
-    None
+    Candidates::starts_over(core, round.rank(), pace.held())
 }
 
-/// Makes all moves of the swept kinds that the rule picks next, one after another, where nothing is shown of them.
+/// Makes moves that the rule picks next, one after another, where the search starts over and nothing is shown of them.
 #[inline(always)]
 fn sweep_after<S: Source, K: Sink, R: Sink>(
     core: &mut Core,
@@ -78,13 +70,12 @@ fn sweep_after<S: Source, K: Sink, R: Sink>(
     ensures input { input.new ≡ input.old }
     ensures output { output.new ≡ output.old }
 {
-    let Some(rank) = sweeps_from(core, last, round, pace) else {
+    if !starts_over(core, last, round, pace) {
         return;
-    };
-    if over(core, limit).is_none() {
-        let from = SweepPlace { last, rank };
+    }
+    if over(core, limit).is_none() && !core.failed() {
         let last = sweep_rounds(
-            core, from, pace, limit, reporting, input, output, report, tally,
+            core, last, pace, limit, reporting, input, output, report, tally,
         );
         round.keep(last);
     }

@@ -1,6 +1,6 @@
 //! A sweep of the rule: Emit, then all Climbs, all Falls and so on up to all Launches that it picks one after another.
 
-ghost use Rattle.std.specs.Prelude.{◌≡◌, ◌≢◌, ℕ, ◌+◌, ◌<◌, ◌≤◌, ◌^◌, IfSome, None, Some};
+ghost use Rattle.std.specs.Prelude.{◌≡◌, ◌≢◌, ℕ, ◌+◌, ◌<◌, ◌≤◌, ◌^◌, IfSome, None, Some, false};
 ghost use Rattle.run_options.specs.Limits.{most_limit};
 ghost use Rattle.cf_layout.specs.Layout.{Plan};
 ghost use Rattle.cf_semantics.specs.moves.Bars.{bar};
@@ -8,12 +8,13 @@ ghost use Rattle.cf_semantics.specs.moves.Holding.{is_held};
 ghost use Rattle.cf_semantics.specs.state.State.{State};
 ghost use Rattle.cf_index.specs.Order.{kind_place, leave_place};
 ghost use Rattle.cf_index.specs.PickedFrom.{IsPicked, from_emit, outward_on};
+ghost use Rattle.cf_index.specs.Ranks.{first_rank};
 ghost use Rattle.cf_sched.specs.Policies.{round_on, round_pick};
 ghost use Rattle.cf_run.specs.Made.{CanCount};
 ghost use Rattle.cf_run.specs.Moving.{MoveDoes, place_by};
 ghost use Rattle.cf_run.specs.Policies.{Turned, chooser};
 ghost use Rattle.cf_run.specs.Reaching.{GoesOn};
-ghost use Rattle.cf_run.specs.Sweeps.{IsUnderway, Keeps, PicksFrom, ShowsNothing, SweepsTo};
+ghost use Rattle.cf_run.specs.Sweeps.{CanSweep, IsUnderway, Keeps, PicksFrom, ShowsNothing, SweepsTo};
 
 use crate::counting::count;
 use cf_bind::Move;
@@ -55,6 +56,7 @@ fn make_unshown<S: Source, K: Sink, R: Sink>(
         (place_by S.left K.written R.written core.new input.new output.new report.now tally.new)
         (Ok result) }
     ensures keeps { kind_place mv ≢ leave_place → Keeps core.old.state core.new.state }
+    ensures works { core.new.state.failed ≡ core.old.state.failed }
     ensures input { input.new ≡ input.old }
     ensures output { output.new ≡ output.old }
 {
@@ -94,6 +96,7 @@ pub(crate) fn make_picked<S: Source, K: Sink, R: Sink>(
         (place_by S.left K.written R.written core.new input.new output.new report.now tally.new)
         (chooser pace.old.rule (Some last) pace.old.count) (chooser pace.old.rule (Some mv) pace.new.count) }
     ensures keeps { kind_place mv ≢ leave_place → Keeps core.old.state core.new.state }
+    ensures works { core.new.state.failed ≡ core.old.state.failed }
     ensures within { core.new.state.retired ≤ limit }
     ensures rule { pace.new.rule ≡ pace.old.rule }
     ensures plan { core.new.plan ≡ core.old.plan }
@@ -120,7 +123,7 @@ fn take_turn<T: SweptKind, S: Source, K: Sink, R: Sink>(
     tally: &mut Tally,
 ) -> Option<SweepPlace>
     requires picked { PicksFrom pace.old core.old (Some from.last) from.rank (T.from core.old.plan core.old.state) }
-    requires goes { GoesOn limit core.old.state }
+    requires goes { CanSweep limit core.old.state }
     requires limit { limit ≤ most_limit }
     requires stages { pace.old.stages ≡ core.old.plan.stages }
     requires counts { CanCount tally.old }
@@ -131,6 +134,7 @@ fn take_turn<T: SweptKind, S: Source, K: Sink, R: Sink>(
         (chooser pace.old.rule (Some from.last) pace.old.count) (chooser pace.old.rule (Some next.last) pace.new.count)) }
     ensures picked { IfSome result (λ next. PicksFrom pace.new core.new (Some next.last) next.rank (T.onward core.new.plan core.new.state)) }
     ensures keeps { ((i : ℕ) → kind_place (T.at_stage i) ≢ leave_place) → Keeps core.old.state core.new.state }
+    ensures works { core.new.state.failed ≡ core.old.state.failed }
     ensures within { core.new.state.retired ≤ limit }
     ensures rule { pace.new.rule ≡ pace.old.rule }
     ensures plan { core.new.plan ≡ core.old.plan }
@@ -172,7 +176,7 @@ pub(crate) fn sweep_kind<T: SweptKind, S: Source, K: Sink, R: Sink>(
     requires again { (plan : Plan) (s : State) → T.onward plan s ≡ T.from plan s }
     requires keeps { (i : ℕ) → kind_place (T.at_stage i) ≢ leave_place }
     requires picked { PicksFrom pace.old core.old (Some from.last) from.rank (T.from core.old.plan core.old.state) }
-    requires goes { GoesOn limit core.old.state }
+    requires goes { CanSweep limit core.old.state }
     requires limit { limit ≤ most_limit }
     requires stages { pace.old.stages ≡ core.old.plan.stages }
     requires underway { IsUnderway pace.old.rule limit reporting
@@ -185,7 +189,7 @@ pub(crate) fn sweep_kind<T: SweptKind, S: Source, K: Sink, R: Sink>(
     ensures picked { PicksFrom pace.new core.new (Some result.last) result.rank (T.beyond core.new.plan core.new.state) }
     ensures underway { IsUnderway pace.new.rule limit reporting
         (place_by S.left K.written R.written core.new input.new output.new report.now tally.new) (Some result.last) pace.new.count }
-    ensures goes { GoesOn limit core.new.state }
+    ensures goes { CanSweep limit core.new.state }
     ensures rule { pace.new.rule ≡ pace.old.rule }
     ensures stages { pace.new.stages ≡ core.new.plan.stages }
     ensures plan { core.new.plan ≡ core.old.plan }
@@ -219,7 +223,7 @@ pub(crate) fn sweep_once<T: SweptKind, S: Source, K: Sink, R: Sink>(
 ) -> SweepPlace
     requires once { (plan : Plan) (s : State) → T.onward plan s ≡ T.beyond plan s }
     requires picked { PicksFrom pace.old core.old (Some from.last) from.rank (T.from core.old.plan core.old.state) }
-    requires goes { GoesOn limit core.old.state }
+    requires goes { CanSweep limit core.old.state }
     requires limit { limit ≤ most_limit }
     requires stages { pace.old.stages ≡ core.old.plan.stages }
     requires underway { IsUnderway pace.old.rule limit reporting
@@ -232,7 +236,8 @@ pub(crate) fn sweep_once<T: SweptKind, S: Source, K: Sink, R: Sink>(
     ensures picked { PicksFrom pace.new core.new (Some result.last) result.rank (T.beyond core.new.plan core.new.state) }
     ensures underway { IsUnderway pace.new.rule limit reporting
         (place_by S.left K.written R.written core.new input.new output.new report.now tally.new) (Some result.last) pace.new.count }
-    ensures goes { ((i : ℕ) → kind_place (T.at_stage i) ≢ leave_place) → GoesOn limit core.new.state }
+    ensures goes { ((i : ℕ) → kind_place (T.at_stage i) ≢ leave_place) → CanSweep limit core.new.state }
+    ensures works { core.new.state.failed ≡ false }
     ensures within { core.new.state.retired ≤ limit }
     ensures rule { pace.new.rule ≡ pace.old.rule }
     ensures stages { pace.new.stages ≡ core.new.plan.stages }
@@ -249,12 +254,13 @@ pub(crate) fn sweep_once<T: SweptKind, S: Source, K: Sink, R: Sink>(
     }
 }
 
-/// Makes the moves of Emit and of each kind over the stages that the rule picks one after another, until it picks another move.
+/// Makes the moves of Emit and of each kind over the stages that the rule picks one after another, until it picks another move,
+/// where the search starts over after the last pick.
 // A call of its own: with it the loop of a run stays small.
 #[inline(never)]
 pub(crate) fn sweep_stages<S: Source, K: Sink, R: Sink>(
     core: &mut Core,
-    from: SweepPlace,
+    last: Move,
     pace: &mut Pace,
     limit: u64,
     reporting: Reporting,
@@ -263,27 +269,31 @@ pub(crate) fn sweep_stages<S: Source, K: Sink, R: Sink>(
     report: &R,
     tally: &mut Tally,
 ) -> SweepPlace
-    requires picked { PicksFrom pace.old core.old (Some from.last) from.rank (from_emit core.old.plan core.old.state) }
-    requires goes { GoesOn limit core.old.state }
+    requires picked { PicksFrom pace.old core.old (Some last) first_rank (from_emit core.old.plan core.old.state) }
+    requires goes { CanSweep limit core.old.state }
     requires limit { limit ≤ most_limit }
     requires stages { pace.old.stages ≡ core.old.plan.stages }
     requires underway { IsUnderway pace.old.rule limit reporting
-        (place_by S.left K.written R.written core.old input.old output.old report.now tally.old) (Some from.last) pace.old.count }
+        (place_by S.left K.written R.written core.old input.old output.old report.now tally.old) (Some last) pace.old.count }
     requires shows { ShowsNothing reporting }
     ensures sweeps { SweepsTo pace.old.rule limit reporting
         (place_by S.left K.written R.written core.old input.old output.old report.now tally.old)
         (place_by S.left K.written R.written core.new input.new output.new report.now tally.new)
-        (Some from.last) (Some result.last) pace.old.count pace.new.count }
+        (Some last) (Some result.last) pace.old.count pace.new.count }
     ensures picked { PicksFrom pace.new core.new (Some result.last) result.rank (outward_on core.new.plan core.new.state) }
     ensures underway { IsUnderway pace.new.rule limit reporting
         (place_by S.left K.written R.written core.new input.new output.new report.now tally.new) (Some result.last) pace.new.count }
-    ensures goes { GoesOn limit core.new.state }
+    ensures goes { CanSweep limit core.new.state }
     ensures rule { pace.new.rule ≡ pace.old.rule }
     ensures stages { pace.new.stages ≡ core.new.plan.stages }
     ensures plan { core.new.plan ≡ core.old.plan }
     ensures input { input.new ≡ input.old }
     ensures output { output.new ≡ output.old }
 {
+    let from = SweepPlace {
+        last,
+        rank: Rank::first(),
+    };
     let emitted = sweep_once::<EmitKind, S, K, R>(
         core, from, pace, limit, reporting, input, output, report, tally,
     );

@@ -5,9 +5,9 @@ ghost use Rattle.run_options.specs.Limits.{most_limit};
 ghost use Rattle.cf_semantics.specs.moves.Holding.{is_held};
 ghost use Rattle.cf_index.specs.Order.{kind_place};
 ghost use Rattle.cf_index.specs.PickedFrom.{IsLast, IsPicked, from_access, from_emit, outward_on};
+ghost use Rattle.cf_index.specs.Ranks.{first_rank};
 ghost use Rattle.cf_run.specs.Moving.{place_by};
-ghost use Rattle.cf_run.specs.Reaching.{GoesOn};
-ghost use Rattle.cf_run.specs.Sweeps.{IsUnderway, PicksFrom, ShowsNothing, SweepsTo};
+ghost use Rattle.cf_run.specs.Sweeps.{CanSweep, IsUnderway, PicksFrom, ShowsNothing, SweepsTo};
 
 use crate::finished::over;
 use crate::sweep::{SweepPlace, make_picked, sweep_kind, sweep_once, sweep_stages};
@@ -41,7 +41,7 @@ fn take_slide<S: Source, K: Sink, R: Sink>(
     tally: &mut Tally,
 ) -> PartEnd
     requires picked { PicksFrom pace.old core.old (Some from.last) from.rank (outward_on core.old.plan core.old.state) }
-    requires goes { GoesOn limit core.old.state }
+    requires goes { CanSweep limit core.old.state }
     requires limit { limit ≤ most_limit }
     requires stages { pace.old.stages ≡ core.old.plan.stages }
     requires underway { IsUnderway pace.old.rule limit reporting
@@ -54,7 +54,7 @@ fn take_slide<S: Source, K: Sink, R: Sink>(
     ensures picked { IfSome result.rank (λ rank. PicksFrom pace.new core.new (Some result.last) rank (from_access core.new.plan core.new.state)) }
     ensures underway { IsUnderway pace.new.rule limit reporting
         (place_by S.left K.written R.written core.new input.new output.new report.now tally.new) (Some result.last) pace.new.count }
-    ensures goes { GoesOn limit core.new.state }
+    ensures goes { CanSweep limit core.new.state }
     ensures rule { pace.new.rule ≡ pace.old.rule }
     ensures stages { pace.new.stages ≡ core.new.plan.stages }
     ensures plan { core.new.plan ≡ core.old.plan }
@@ -94,7 +94,7 @@ fn take_issue<S: Source, K: Sink, R: Sink>(
 ) -> PartEnd
     requires issue { kind_place mv ≡ 0 }
     requires picked { IsPicked pace.old.rule (is_held core.old.plan pace.old.count) core.old.plan core.old.state (Some last) mv }
-    requires goes { GoesOn limit core.old.state }
+    requires goes { CanSweep limit core.old.state }
     requires limit { limit ≤ most_limit }
     requires stages { pace.old.stages ≡ core.old.plan.stages }
     requires underway { IsUnderway pace.old.rule limit reporting
@@ -104,10 +104,10 @@ fn take_issue<S: Source, K: Sink, R: Sink>(
         (place_by S.left K.written R.written core.old input.old output.old report.now tally.old)
         (place_by S.left K.written R.written core.new input.new output.new report.now tally.new)
         (Some last) (Some result.last) pace.old.count pace.new.count }
-    ensures picked { IfSome result.rank (λ rank. PicksFrom pace.new core.new (Some result.last) rank (from_emit core.new.plan core.new.state)) }
+    ensures picked { IfSome result.rank (λ rank. PicksFrom pace.new core.new (Some result.last) first_rank (from_emit core.new.plan core.new.state)) }
     ensures underway { IsUnderway pace.new.rule limit reporting
         (place_by S.left K.written R.written core.new input.new output.new report.now tally.new) (Some result.last) pace.new.count }
-    ensures goes { GoesOn limit core.new.state }
+    ensures goes { CanSweep limit core.new.state }
     ensures counted { tally.new.moves ≡ tally.old.moves + 1 }
     ensures rule { pace.new.rule ≡ pace.old.rule }
     ensures stages { pace.new.stages ≡ core.new.plan.stages }
@@ -144,7 +144,7 @@ fn start_over<S: Source, K: Sink, R: Sink>(
 ) -> PartEnd
     requires over { IsLast core.old.plan core.old.state (Some last) }
     requires made { made ≤ tally.old.moves }
-    requires goes { GoesOn limit core.old.state }
+    requires goes { CanSweep limit core.old.state }
     requires limit { limit ≤ most_limit }
     requires stages { pace.old.stages ≡ core.old.plan.stages }
     requires underway { IsUnderway pace.old.rule limit reporting
@@ -154,10 +154,10 @@ fn start_over<S: Source, K: Sink, R: Sink>(
         (place_by S.left K.written R.written core.old input.old output.old report.now tally.old)
         (place_by S.left K.written R.written core.new input.new output.new report.now tally.new)
         (Some last) (Some result.last) pace.old.count pace.new.count }
-    ensures picked { IfSome result.rank (λ rank. PicksFrom pace.new core.new (Some result.last) rank (from_emit core.new.plan core.new.state)) }
+    ensures picked { IfSome result.rank (λ rank. PicksFrom pace.new core.new (Some result.last) first_rank (from_emit core.new.plan core.new.state)) }
     ensures underway { IsUnderway pace.new.rule limit reporting
         (place_by S.left K.written R.written core.new input.new output.new report.now tally.new) (Some result.last) pace.new.count }
-    ensures goes { GoesOn limit core.new.state }
+    ensures goes { CanSweep limit core.new.state }
     ensures more { IfSome result.rank (λ rank. made < tally.new.moves) }
     ensures rule { pace.new.rule ≡ pace.old.rule }
     ensures stages { pace.new.stages ≡ core.new.plan.stages }
@@ -193,7 +193,7 @@ fn sweep_leaving<S: Source, K: Sink, R: Sink>(
     tally: &mut Tally,
 ) -> PartEnd
     requires picked { PicksFrom pace.old core.old (Some from.last) from.rank (from_access core.old.plan core.old.state) }
-    requires goes { GoesOn limit core.old.state }
+    requires goes { CanSweep limit core.old.state }
     requires limit { limit ≤ most_limit }
     requires stages { pace.old.stages ≡ core.old.plan.stages }
     requires underway { IsUnderway pace.old.rule limit reporting
@@ -206,7 +206,7 @@ fn sweep_leaving<S: Source, K: Sink, R: Sink>(
     ensures ends { IfSome result.rank (λ rank. IsLast core.new.plan core.new.state (Some result.last)) }
     ensures underway { IsUnderway pace.new.rule limit reporting
         (place_by S.left K.written R.written core.new input.new output.new report.now tally.new) (Some result.last) pace.new.count }
-    ensures goes { IfSome result.rank (λ rank. GoesOn limit core.new.state) }
+    ensures goes { IfSome result.rank (λ rank. CanSweep limit core.new.state) }
     ensures within { core.new.state.retired ≤ limit }
     ensures rule { pace.new.rule ≡ pace.old.rule }
     ensures stages { pace.new.stages ≡ core.new.plan.stages }
@@ -257,7 +257,7 @@ fn sweep_outward<S: Source, K: Sink, R: Sink>(
     tally: &mut Tally,
 ) -> PartEnd
     requires picked { PicksFrom pace.old core.old (Some from.last) from.rank (outward_on core.old.plan core.old.state) }
-    requires goes { GoesOn limit core.old.state }
+    requires goes { CanSweep limit core.old.state }
     requires limit { limit ≤ most_limit }
     requires stages { pace.old.stages ≡ core.old.plan.stages }
     requires underway { IsUnderway pace.old.rule limit reporting
@@ -270,7 +270,7 @@ fn sweep_outward<S: Source, K: Sink, R: Sink>(
     ensures ends { IfSome result.rank (λ rank. IsLast core.new.plan core.new.state (Some result.last)) }
     ensures underway { IsUnderway pace.new.rule limit reporting
         (place_by S.left K.written R.written core.new input.new output.new report.now tally.new) (Some result.last) pace.new.count }
-    ensures goes { IfSome result.rank (λ rank. GoesOn limit core.new.state) }
+    ensures goes { IfSome result.rank (λ rank. CanSweep limit core.new.state) }
     ensures within { core.new.state.retired ≤ limit }
     ensures rule { pace.new.rule ≡ pace.old.rule }
     ensures stages { pace.new.stages ≡ core.new.plan.stages }
@@ -295,11 +295,12 @@ fn sweep_outward<S: Source, K: Sink, R: Sink>(
     }
 }
 
-/// Makes moves that the rule picks one after another, round after round, until the next one is to be looked for among all moves.
+/// Makes moves that the rule picks one after another, round after round, where the search starts over after the last pick, until the
+/// next one is to be looked for among all moves.
 #[inline(always)]
 pub(crate) fn sweep_rounds<S: Source, K: Sink, R: Sink>(
     core: &mut Core,
-    from: SweepPlace,
+    last: Move,
     pace: &mut Pace,
     limit: u64,
     reporting: Reporting,
@@ -308,17 +309,17 @@ pub(crate) fn sweep_rounds<S: Source, K: Sink, R: Sink>(
     report: &R,
     tally: &mut Tally,
 ) -> Move
-    requires picked { PicksFrom pace.old core.old (Some from.last) from.rank (from_emit core.old.plan core.old.state) }
-    requires goes { GoesOn limit core.old.state }
+    requires picked { PicksFrom pace.old core.old (Some last) first_rank (from_emit core.old.plan core.old.state) }
+    requires goes { CanSweep limit core.old.state }
     requires limit { limit ≤ most_limit }
     requires stages { pace.old.stages ≡ core.old.plan.stages }
     requires underway { IsUnderway pace.old.rule limit reporting
-        (place_by S.left K.written R.written core.old input.old output.old report.now tally.old) (Some from.last) pace.old.count }
+        (place_by S.left K.written R.written core.old input.old output.old report.now tally.old) (Some last) pace.old.count }
     requires shows { ShowsNothing reporting }
     ensures sweeps { SweepsTo pace.old.rule limit reporting
         (place_by S.left K.written R.written core.old input.old output.old report.now tally.old)
         (place_by S.left K.written R.written core.new input.new output.new report.now tally.new)
-        (Some from.last) (Some result) pace.old.count pace.new.count }
+        (Some last) (Some result) pace.old.count pace.new.count }
     ensures within { core.new.state.retired ≤ limit }
     ensures rule { pace.new.rule ≡ pace.old.rule }
     ensures stages { pace.new.stages ≡ core.new.plan.stages }
@@ -326,11 +327,11 @@ pub(crate) fn sweep_rounds<S: Source, K: Sink, R: Sink>(
     ensures input { input.new ≡ input.old }
     ensures output { output.new ≡ output.old }
 {
-    let mut place = from;
+    let mut last = last;
     loop {
         let made = tally.moves;
         let swept = sweep_stages(
-            core, place, pace, limit, reporting, input, output, report, tally,
+            core, last, pace, limit, reporting, input, output, report, tally,
         );
         let gone = sweep_outward(
             core, swept, pace, limit, reporting, input, output, report, tally,
@@ -342,10 +343,7 @@ pub(crate) fn sweep_rounds<S: Source, K: Sink, R: Sink>(
             core, gone.last, made, pace, limit, reporting, input, output, report, tally,
         );
         match next.rank {
-            Some(rank) => place = SweepPlace {
-                last: next.last,
-                rank,
-            },
+            Some(_) => last = next.last,
             None => return next.last,
         }
     }

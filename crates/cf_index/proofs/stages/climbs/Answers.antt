@@ -12,5 +12,5 @@ returns c =
     let s = c.args.core.now.state in
     let m = c.args.masks.now in
     let same : length s.cells ≡ plan.stages = c.stages.ensures.cells ∙ c.stages.ensures.stages in
-    word-is plan s Climb c.where_on.result (climb-stages plan s m c.climbing.result c.where_on.result c.requires same (λ k. c.climbing.ensures k
+    word-is plan s Climb c.where_on.result (climb-stages plan s m c.climbing.result c.where_on.result c.requires.masks same (λ k. c.climbing.ensures k
     ∙ ap (λ (n : ℕ). climb_bit m n k) c.stages.ensures.stages) c.where_on.ensures)

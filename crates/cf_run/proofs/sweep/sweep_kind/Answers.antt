@@ -18,7 +18,7 @@ loop-next-init g c = record {
 
 pub take_turn-turned-requires-clause-counts : goal.take_turn-turned-requires-clause-counts
 take_turn-turned-requires-clause-counts g c =
-    underway_counts _ _ _ _ _ _ c.loop-next.invariant.underway c.loop-next.invariant.goes c.requires.limit
+    underway_counts _ _ _ _ _ _ c.loop-next.invariant.underway c.loop-next.invariant.goes.goes c.requires.limit
 
 pub loop-next-smaller : goal.loop-next-smaller
 loop-next-smaller g c =
@@ -29,7 +29,7 @@ loop-next-preserved g c = record {
   sweeps = one_more_turn _ _ _ _ _ _ _ _ _ _ _ _ c.loop-next.invariant.sweeps (rw c.loop-next.invariant.rule at c.in-Some.ensures.turned);
   underway = rw (sym c.in-Some.ensures.rule) at (underway_more _ _ _ _ _ _ _ _ _ c.loop-next.invariant.underway c.in-Some.ensures.turned);
   picked = picks_same _ _ _ _ _ _ _ _ (c.requires.again _ _) c.in-Some.ensures.picked;
-  goes = goes_kept _ _ _ c.loop-next.invariant.goes (c.in-Some.ensures.keeps c.requires.keeps);
+  goes = goes_kept _ _ _ c.loop-next.invariant.goes (c.in-Some.ensures.keeps c.requires.keeps) c.in-Some.ensures.works;
   rule = c.in-Some.ensures.rule ∙ c.loop-next.invariant.rule;
   stages = c.in-Some.ensures.stages ∙ c.loop-next.invariant.stages ∙ ap (λ (plan : Plan). plan.stages) (sym c.in-Some.ensures.plan);
   plan = c.in-Some.ensures.plan ∙ c.loop-next.invariant.plan;

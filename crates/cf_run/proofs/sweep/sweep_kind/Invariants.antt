@@ -2,8 +2,7 @@ use Rattle.std.proofs.Common.{◌≡◌, ◌-◌, Some}
 use Rattle.rv_machine.specs.Streams.{streams_of}
 use Rattle.cf_run.specs.Moving.{RunPlace, place_of}
 use Rattle.cf_run.specs.Policies.{most_moves}
-use Rattle.cf_run.specs.Reaching.{GoesOn}
-use Rattle.cf_run.specs.Sweeps.{IsUnderway, PicksFrom, SweepsTo}
+use Rattle.cf_run.specs.Sweeps.{CanSweep, IsUnderway, PicksFrom, SweepsTo}
 use Rattle.cf_run.proofs.sweep.sweep_kind.Given as goal
 
 -- turns of the rule lead here, and what it picks next is looked for from here
@@ -18,7 +17,7 @@ invariant-loop-next g l =
       sweeps : SweepsTo l.initial.pace.rule l.limit l.reporting start now (Some l.fn.from.last) (Some l.place.last) l.initial.pace.count l.pace.count;
       underway : IsUnderway l.pace.rule l.limit l.reporting now (Some l.place.last) l.pace.count;
       picked : PicksFrom l.pace l.core (Some l.place.last) l.place.rank (g.T.SweptKind.from l.core.plan l.core.state);
-      goes : GoesOn l.limit l.core.state;
+      goes : CanSweep l.limit l.core.state;
       rule : l.pace.rule ≡ l.initial.pace.rule;
       stages : l.pace.stages ≡ l.core.plan.stages;
       plan : l.core.plan ≡ l.initial.core.plan;

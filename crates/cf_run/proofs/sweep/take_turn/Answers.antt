@@ -5,7 +5,7 @@ use Rattle.cf_index.specs.Order.{kind_place}
 use Rattle.cf_index.specs.PickedFrom.{IsPickedFrom}
 use Rattle.cf_index.specs.declared.rank.Rank.{Rank}
 use Rattle.cf_index.proofs.PickedFrom.{picked_on}
-use Rattle.cf_run.proofs.Turning.{all_kept, few_stages, picked_here}
+use Rattle.cf_run.proofs.Turning.{all_kept, few_stages, goes_on_so, picked_here}
 use Rattle.cf_run.proofs.sweep.take_turn.Goals as goal
 
 pub returns-in_default-clause-gone : goal.returns-in_default-clause-gone
@@ -15,7 +15,10 @@ pub returns-in_default-clause-keeps : goal.returns-in_default-clause-keeps
 returns-in_default-clause-keeps g c = λ other. all_kept _
 
 pub returns-in_default-clause-within : goal.returns-in_default-clause-within
-returns-in_default-clause-within g c = let below = c.requires.goes.below in omega (arith, below)
+returns-in_default-clause-within g c = let below = c.requires.goes.goes.below in omega (arith, below)
+
+pub next-requires : goal.next-requires
+next-requires g c = goes_on_so _ _ c.requires.goes
 
 pub make_picked-requires-clause-picked : goal.make_picked-requires-clause-picked
 make_picked-requires-clause-picked g c =

@@ -36,7 +36,7 @@ returns-in-None-clause-sweeps g c =
 
 pub loop-reporting-smaller : goal.loop-reporting-smaller
 loop-reporting-smaller g c =
-    let below = c.start_over-next.ensures.goes.below in
+    let below = c.start_over-next.ensures.goes.goes.below in
     let plan = c.start_over-next.ensures.plan ∙ c.sweep_outward-gone.ensures.plan ∙ c.sweep_stages-swept.ensures.plan ∙ c.loop-reporting.invariant.plan in
     underway_less _ _ _ _ _ _ _ _ c.start_over-next.ensures.underway (omega (arith, below)) plan (rw c.in-Some.is at c.start_over-next.ensures.more)
 

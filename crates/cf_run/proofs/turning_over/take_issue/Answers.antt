@@ -4,13 +4,12 @@ use Rattle.cf_layout.specs.Layout.{Plan}
 use Rattle.cf_semantics.specs.moves.Holding.{is_held}
 use Rattle.cf_index.specs.PickedFrom.{IsPickedFrom, from_emit}
 use Rattle.cf_index.specs.Ranks.{first_rank}
-use Rattle.cf_index.specs.declared.rank.Rank.{Rank}
 use Rattle.cf_run.proofs.Coming.{turned-counted}
 use Rattle.cf_run.proofs.Turning.{goes_kept, one_turn, underway_counts, underway_more}
 use Rattle.cf_run.proofs.turning_over.take_issue.Goals as goal
 
 pub make_picked-requires-clause-counts : goal.make_picked-requires-clause-counts
-make_picked-requires-clause-counts g c = underway_counts _ _ _ _ _ _ c.requires.underway c.requires.goes c.requires.limit
+make_picked-requires-clause-counts g c = underway_counts _ _ _ _ _ _ c.requires.underway c.requires.goes.goes c.requires.limit
 
 pub returns-then-starts_over-clause-picked : goal.returns-then-starts_over-clause-picked
 returns-then-starts_over-clause-picked g c =
@@ -19,9 +18,8 @@ returns-then-starts_over-clause-picked g c =
     let s = c.make_picked.new.core.state in
     let stages = c.make_picked.ensures.stages ∙ c.requires.stages ∙ ap (λ (p : Plan). p.stages) (sym c.make_picked.ensures.plan) in
     let held : c.held.result ≡ is_held plan pace.count = c.held.ensures.value ∙ ap (λ (n : ℕ). nat_le (2 * n) pace.count) stages in
-    subst (λ (r : Rank). IsPickedFrom pace.rule (is_held plan pace.count) plan s (Some c.args.mv) r (from_emit plan s)) (sym c.first.ensures)
-    (subst (λ (b : Bool). IsPickedFrom pace.rule b plan s (Some c.args.mv) first_rank (from_emit plan s)) held
-    (c.starts_over.ensures pace.rule c.args.mv c.of.ensures c.if-starts_over.true))
+    subst (λ (b : Bool). IsPickedFrom pace.rule b plan s (Some c.args.mv) first_rank (from_emit plan s)) held
+    (c.starts_over.ensures pace.rule c.args.mv c.of.ensures c.if-starts_over.true)
 
 pub returns-then-starts_over-clause-sweeps : goal.returns-then-starts_over-clause-sweeps
 returns-then-starts_over-clause-sweeps g c = one_turn _ _ _ _ _ _ _ _ _ c.make_picked.ensures.turned
@@ -33,7 +31,7 @@ returns-then-starts_over-clause-underway g c =
 pub returns-then-starts_over-clause-goes : goal.returns-then-starts_over-clause-goes
 returns-then-starts_over-clause-goes g c =
     let issue = c.requires.issue in
-    goes_kept _ _ _ c.requires.goes (c.make_picked.ensures.keeps (λ is. absurd (omega (arith, issue, is))))
+    goes_kept _ _ _ c.requires.goes (c.make_picked.ensures.keeps (λ is. absurd (omega (arith, issue, is)))) c.make_picked.ensures.works
 
 pub returns-then-starts_over-clause-counted : goal.returns-then-starts_over-clause-counted
 returns-then-starts_over-clause-counted g c = turned-counted _ _ _ _ _ _ _ _ c.make_picked.ensures.turned
@@ -52,7 +50,7 @@ returns-else-starts_over-clause-underway g c =
 pub returns-else-starts_over-clause-goes : goal.returns-else-starts_over-clause-goes
 returns-else-starts_over-clause-goes g c =
     let issue = c.requires.issue in
-    goes_kept _ _ _ c.requires.goes (c.make_picked.ensures.keeps (λ is. absurd (omega (arith, issue, is))))
+    goes_kept _ _ _ c.requires.goes (c.make_picked.ensures.keeps (λ is. absurd (omega (arith, issue, is)))) c.make_picked.ensures.works
 
 pub returns-else-starts_over-clause-counted : goal.returns-else-starts_over-clause-counted
 returns-else-starts_over-clause-counted g c = turned-counted _ _ _ _ _ _ _ _ c.make_picked.ensures.turned

@@ -22,7 +22,7 @@ make_picked-requires-clause-picked g c =
     picked_here _ _ _ _ _ _ _ _ c.requires.picked (c.in-Some.ensures.here (picks_outside _ _ _ _ _ _ _ c.requires.picked))
 
 pub make_picked-requires-clause-counts : goal.make_picked-requires-clause-counts
-make_picked-requires-clause-counts g c = underway_counts _ _ _ _ _ _ c.requires.underway c.requires.goes c.requires.limit
+make_picked-requires-clause-counts g c = underway_counts _ _ _ _ _ _ c.requires.underway c.requires.goes.goes c.requires.limit
 
 pub returns-then-slides_after-clause-sweeps : goal.returns-then-slides_after-clause-sweeps
 returns-then-slides_after-clause-sweeps g c = one_turn _ _ _ _ _ _ _ _ _ c.make_picked.ensures.turned
@@ -34,7 +34,7 @@ returns-then-slides_after-clause-underway g c =
 pub returns-then-slides_after-clause-goes : goal.returns-then-slides_after-clause-goes
 returns-then-slides_after-clause-goes g c =
     let slide = c.in-Some.ensures.slide in
-    goes_kept _ _ _ c.requires.goes (c.make_picked.ensures.keeps (λ is. absurd (omega (arith, slide, is))))
+    goes_kept _ _ _ c.requires.goes (c.make_picked.ensures.keeps (λ is. absurd (omega (arith, slide, is)))) c.make_picked.ensures.works
 
 pub returns-then-slides_after-clause-stages : goal.returns-then-slides_after-clause-stages
 returns-then-slides_after-clause-stages g c =
@@ -58,7 +58,7 @@ returns-else-slides_after-clause-underway g c =
 pub returns-else-slides_after-clause-goes : goal.returns-else-slides_after-clause-goes
 returns-else-slides_after-clause-goes g c =
     let slide = c.in-Some.ensures.slide in
-    goes_kept _ _ _ c.requires.goes (c.make_picked.ensures.keeps (λ is. absurd (omega (arith, slide, is))))
+    goes_kept _ _ _ c.requires.goes (c.make_picked.ensures.keeps (λ is. absurd (omega (arith, slide, is)))) c.make_picked.ensures.works
 
 pub returns-else-slides_after-clause-stages : goal.returns-else-slides_after-clause-stages
 returns-else-slides_after-clause-stages g c =
