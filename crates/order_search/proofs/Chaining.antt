@@ -4,9 +4,8 @@ use Rattle.std.proofs.lemmas.Bool.Decides.{nat_tests}
 use Rattle.std.proofs.lemmas.List.{get_or-set_same, get_or-set_other, length-set, length-append, length-map, get_or-map, map-append}
 use Rattle.std.proofs.Math.ListN.{get_or-append}
 use Rattle.std.proofs.Math.Seq.{get_or-append_seam}
-use Rattle.order_search.specs.Chains.{AreChains, IsHighestBelow, bucket_of}
+use Rattle.order_search.specs.Chains.{AreChained, AreChains, IsHighestBelow, bucket_of, bucket_with, hash_of}
 use Rattle.order_search.specs.Numbers.{node_at}
-use Rattle.order_search.specs.Rows.{row_at}
 
 -- what is below a place is as before when one more number follows
 still : (buckets : List ℕ) (more bucket from top : ℕ) → from ≤ length buckets →
@@ -148,33 +147,65 @@ module _ (nodes : List (List ℕ)) (heads links : List ℕ) (node : List ℕ) (c
 
 pub ruleset seeking = (sought_first, sought_next, sought_last)
 
--- the buckets of one node more
-bucketed : (f : List ℕ → ℕ) (nodes : List (List ℕ)) (n : ℕ) → n < length nodes → map f (take (n + 1) nodes) ≡ map f (take n nodes) ++ f (row_at nodes n) ∷ []
+-- a node with another hash is another one
+hash_at : (nodes : List (List ℕ)) (hashes : List ℕ) (number : ℕ) → hashes ≡ map hash_of nodes → number < length nodes →
+    get_or hashes number 0 ≡ hash_of (node_at nodes number)
+hash_at nodes hashes number e within = ap (λ (l : List ℕ). get_or l number 0) e ∙ get_or-map hash_of nodes number [] 0 within
+
+pub other_hash : (nodes : List (List ℕ)) (hashes node : List ℕ) (number hash : ℕ) → hashes ≡ map hash_of nodes → number < length nodes →
+    hash ≡ hash_of node → (get_or hashes number 0 ≡ hash → ⊥) → node_at nodes number ≡ node → ⊥
+other_hash nodes hashes node number hash e within is apart same = apart (hash_at nodes hashes number e within ∙ ap hash_of same ∙ sym is)
+
+pub as_many_hashes : (nodes : List (List ℕ)) (hashes : List ℕ) → hashes ≡ map hash_of nodes → length hashes ≡ length nodes
+as_many_hashes nodes hashes e = ap length e ∙ length-map nodes hash_of
+
+pub ruleset telling = (other_hash, as_many_hashes)
+
+-- the buckets of the hashes of nodes are those of the nodes
+pub of_hashes : (count : ℕ) (nodes : List (List ℕ)) → map (bucket_with count) (map hash_of nodes) ≡ map (bucket_of count) nodes
+unfolding bucket_of
+of_hashes count [] = refl
+of_hashes count (x ∷ xs) = ap (λ (l : List ℕ). bucket_with count (hash_of x) ∷ l) (of_hashes count xs)
+
+-- the buckets of one hash more
+bucketed : (f : ℕ → ℕ) (hashes : List ℕ) (n : ℕ) → n < length hashes → map f (take (n + 1) hashes) ≡ map f (take n hashes) ++ f (get_or hashes n 0) ∷ []
 bucketed f [] n within = absurd (omega (arith, within))
 bucketed f (x ∷ xs) zero within = refl
 bucketed f (x ∷ xs) (suc n) within =
     let one : suc n + 1 ≡ suc (n + 1) = omega arith in
     ap (λ k. map f (take k (x ∷ xs))) one ∙ ap (λ l. f x ∷ l) (bucketed f xs n (omega (arith, within)))
 
-pub one_bucketed : (count n : ℕ) (nodes : List (List ℕ)) (heads links : List ℕ) → n < length nodes →
-    AreChains (map (bucket_of count) (take n nodes) ++ bucket_of count (row_at nodes n) ∷ []) heads links →
-    AreChains (map (bucket_of count) (take (n + 1) nodes)) heads links
-one_bucketed count n nodes heads links within c = subst (λ l. AreChains l heads links) (sym (bucketed (bucket_of count) nodes n within)) c
+pub one_bucketed : (count n : ℕ) (hashes heads links : List ℕ) → n < length hashes →
+    AreChains (map (bucket_with count) (take n hashes) ++ bucket_with count (get_or hashes n 0) ∷ []) heads links →
+    AreChains (map (bucket_with count) (take (n + 1) hashes)) heads links
+one_bucketed count n hashes heads links within c = subst (λ l. AreChains l heads links) (sym (bucketed (bucket_with count) hashes n within)) c
 
-pub all_bucketed : (count n : ℕ) (nodes : List (List ℕ)) (heads links : List ℕ) → length nodes ≤ n →
-    AreChains (map (bucket_of count) (take n nodes)) heads links → AreChains (map (bucket_of count) nodes) heads links
-all_bucketed count n nodes heads links past c = subst (λ l. AreChains (map (bucket_of count) l) heads links) (take_all n nodes past) c
+pub all_bucketed : (count n : ℕ) (hashes heads links : List ℕ) → length hashes ≤ n →
+    AreChains (map (bucket_with count) (take n hashes)) heads links → AreChains (map (bucket_with count) hashes) heads links
+all_bucketed count n hashes heads links past c = subst (λ l. AreChains (map (bucket_with count) l) heads links) (take_all n hashes past) c
 
 pub ruleset chaining = (one_bucketed, all_bucketed)
 
 -- as many buckets as there are chains
-pub resized : (count : ℕ) (nodes : List (List ℕ)) (heads links : List ℕ) → length heads ≡ count → AreChains (map (bucket_of count) nodes) heads links →
-    AreChains (map (bucket_of (length heads)) nodes) heads links
-resized count nodes heads links e c = subst (λ n. AreChains (map (bucket_of n) nodes) heads links) (sym e) c
+pub resized : (count : ℕ) (nodes : List (List ℕ)) (hashes heads links old_heads old_links : List ℕ) → length heads ≡ count →
+    AreChained nodes hashes old_heads old_links → AreChains (map (bucket_with count) hashes) heads links → AreChained nodes hashes heads links
+resized count nodes hashes heads links old_heads old_links e old c = record {
+  hashed = old.hashed;
+  chained = subst (λ n. AreChains (map (bucket_of n) nodes) heads links) (sym e)
+      (subst (λ l. AreChains l heads links) (ap (map (bucket_with count)) old.hashed ∙ of_hashes count nodes) c);
+}
 
 -- one node more
-pub node_chained : (old : ℕ) (nodes : List (List ℕ)) (node heads links : List ℕ) → length heads ≡ old →
-    AreChains (map (bucket_of old) nodes ++ bucket_of old node ∷ []) heads links →
-    AreChains (map (bucket_of (length heads)) (nodes ++ node ∷ [])) heads links
-node_chained old nodes node heads links e c = subst (λ n. AreChains (map (bucket_of n) (nodes ++ node ∷ [])) heads links) (sym e)
-    (subst (λ l. AreChains l heads links) (sym (map-append (bucket_of old) nodes (node ∷ []))) c)
+pub node_chained : (nodes : List (List ℕ)) (hashes node heads links old_heads old_links : List ℕ) (hash bucket : ℕ) → length heads ≡ length old_heads →
+    hash ≡ hash_of node → bucket ≡ bucket_with (length old_heads) hash → AreChained nodes hashes old_heads old_links →
+    ((buckets : List ℕ) → AreChains buckets old_heads old_links → AreChains (buckets ++ bucket ∷ []) heads links) →
+    AreChained (nodes ++ node ∷ []) (hashes ++ hash ∷ []) heads links
+unfolding bucket_of
+node_chained nodes hashes node heads links old_heads old_links hash bucket e is in_bucket old added = record {
+  hashed = ap (λ (l : List ℕ). l ++ hash ∷ []) old.hashed ∙ ap (λ (h : ℕ). map hash_of nodes ++ h ∷ []) is ∙ sym (map-append hash_of nodes (node ∷ []));
+  chained =
+      let same : bucket ≡ bucket_of (length old_heads) node = in_bucket ∙ ap (bucket_with (length old_heads)) is in
+      subst (λ n. AreChains (map (bucket_of n) (nodes ++ node ∷ [])) heads links) (sym e)
+      (subst (λ l. AreChains l heads links) (ap (λ (b : ℕ). map (bucket_of (length old_heads)) nodes ++ b ∷ []) same
+      ∙ sym (map-append (bucket_of (length old_heads)) nodes (node ∷ []))) (added (map (bucket_of (length old_heads)) nodes) old.chained));
+}

@@ -2,7 +2,7 @@
 
 ghost use Rattle.std.specs.Prelude.{◌≡◌, ◌↔◌, ◌<◌, [], ◌∷◌, length, map, slice_get, Some, IfOk, IsTrue, MatchOption};
 ghost use Rattle.std.specs.List.{Contains};
-ghost use Rattle.order_search.specs.Chains.{AreChains, bucket_of as bucket_with, hash_of as hash_by};
+ghost use Rattle.order_search.specs.Chains.{AreChained, AreChains, bucket_of as bucket_of_node, bucket_with, hash_of as hash_by};
 ghost use Rattle.order_search.specs.Numbers.{AddsNode, node_at};
 
 use crate::chains::Chains;
@@ -14,23 +14,24 @@ use std::marker::Model;
 /// How many buckets an empty list has.
 const FEWEST_BUCKETS: usize = 1024;
 
-/// Nodes in the order in which they were added. The first has the number 0. The nodes stand one behind the other, and a node is
-/// found among those whose hashes are in its bucket.
+/// Nodes in the order in which they were added, with their hashes. The first has the number 0. The nodes stand one behind the
+/// other, and a node is found among those whose hashes are in its bucket.
 #[derive(Drop)]
 pub(crate) struct NodeList {
     nodes: Rows<u8>,
+    hashes: Vec<u32>,
     chains: Chains,
 }
 
 impl Model for NodeList {
-    ghost use Rattle.std.specs.Prelude.{ℕ, List, length, map};
-    ghost use Rattle.order_search.specs.Chains.{AreChains, bucket_of};
+    ghost use Rattle.std.specs.Prelude.{ℕ, List};
+    ghost use Rattle.order_search.specs.Chains.{AreChained};
 
     ghost Value = { List (List ℕ) };
 
     ghost view = { λ list. list.nodes };
 
-    ghost invariant = { λ list. AreChains (map (bucket_of (length list.chains.heads.items)) list.nodes) list.chains.heads.items list.chains.links.items };
+    ghost invariant = { λ list. AreChained list.nodes list.hashes.items list.chains.heads.items list.chains.links.items };
 }
 
 /// Where a node is in a list, and whether it was added last.
@@ -42,22 +43,21 @@ pub(crate) struct Place {
 
 /// The hash of a node.
 #[tactic(auto, unfolding(crate::specs::Chains::hash_of))]
-fn hash_of(node: &[u8]) -> u64
+fn hash_of(node: &[u8]) -> u32
     ensures { result ≡ hash_by node.now }
 {
     let mut hasher = FoldHasher::default();
     hasher.write(node);
-    hasher.finish()
+    (hasher.finish() % 0x1_0000_0000) as u32
 }
 
-/// The bucket of a node, of so many.
-#[tactic(auto, unfolding(crate::specs::Chains::bucket_of))]
-fn bucket_of(node: &[u8], buckets: usize) -> usize
+/// The bucket of a node with this hash, of so many.
+fn bucket_of(hash: u32, buckets: usize) -> usize
     requires { 0 < buckets }
-    ensures bucket { result ≡ bucket_with buckets node.now }
+    ensures bucket { result ≡ bucket_with buckets hash }
     ensures inside { result < buckets }
 {
-    (hash_of(node) % buckets as u64) as usize
+    hash as usize % buckets
 }
 
 /// Whether the two are the same node.
@@ -67,18 +67,39 @@ fn is_same(node: &[u8], other: &[u8]) -> bool
     node == other
 }
 
-/// The number of the node, which is in this bucket, if it is one of the nodes.
+/// Whether the node with a number is this one, which has this hash. One with another hash is not, and its bytes, which are far away in
+/// memory, are not looked at.
+#[inline(always)]
+#[tactic(auto, using(crate::proofs::Chaining::telling))]
+fn is_there(nodes: &Rows<u8>, hashes: &[u32], number: usize, node: &[u8], hash: u32) -> bool
+    requires inside { number < length nodes.now }
+    requires hashes { hashes.now ≡ map hash_by nodes.now }
+    requires hash { hash ≡ hash_by node.now }
+    ensures { IsTrue result ↔ (node_at nodes.now number ≡ node.now) }
+{
+    hashes[number] == hash && is_same(nodes.row(number), node)
+}
+
+/// The number of the node, which has this hash and is in this bucket, if it is one of the nodes.
 #[tactic(auto, using(crate::proofs::Chaining::seeking))]
-fn find(nodes: &Rows<u8>, chains: &Chains, node: &[u8], bucket: usize) -> Option<usize>
-    requires chains { AreChains (map (bucket_with (length chains.now.heads.items)) nodes.now) chains.now.heads.items chains.now.links.items }
-    requires bucket { bucket ≡ bucket_with (length chains.now.heads.items) node.now }
+fn find(
+    nodes: &Rows<u8>,
+    hashes: &[u32],
+    chains: &Chains,
+    node: &[u8],
+    hash: u32,
+    bucket: usize,
+) -> Option<usize>
+    requires chains { AreChained nodes.now hashes.now chains.now.heads.items chains.now.links.items }
+    requires hash { hash ≡ hash_by node.now }
+    requires bucket { bucket ≡ bucket_of_node (length chains.now.heads.items) node.now }
     requires inside { bucket < length chains.now.heads.items }
     ensures { MatchOption result (¬ Contains nodes.now node.now) (λ number. (number < length nodes.now) × (node_at nodes.now number ≡ node.now)) }
 {
     let mut top = chains.heads[bucket];
     while top > 0 {
         let number = top - 1;
-        if is_same(nodes.row(number), node) {
+        if is_there(nodes, hashes, number, node, hash) {
             return Some(number);
         }
         top = chains.links[number];
@@ -86,17 +107,17 @@ fn find(nodes: &Rows<u8>, chains: &Chains, node: &[u8], bucket: usize) -> Option
     None
 }
 
-/// The chains of the nodes in so many buckets.
+/// The chains of nodes with these hashes in so many buckets.
 #[tactic(auto, using(crate::proofs::Chaining::chaining))]
-fn chained(alloc: Global, nodes: &Rows<u8>, buckets: usize) -> Result<Chains, AllocError>
+fn chained(alloc: Global, hashes: &[u32], buckets: usize) -> Result<Chains, AllocError>
     requires { 0 < buckets }
     ensures size { IfOk result (λ chains. length chains.heads.items ≡ buckets) }
-    ensures chains { IfOk result (λ chains. AreChains (map (bucket_with buckets) nodes.now) chains.heads.items chains.links.items) }
+    ensures chains { IfOk result (λ chains. AreChains (map (bucket_with buckets) hashes.now) chains.heads.items chains.links.items) }
 {
     let mut chains = Chains::new(alloc, buckets)?;
-    for number in 0..nodes.len() {
+    for hash in hashes {
         chains.reserve()?;
-        chains.add(bucket_of(nodes.row(number), buckets));
+        chains.add(bucket_of(*hash, buckets));
     }
     Ok(chains)
 }
@@ -108,6 +129,7 @@ impl NodeList {
     {
         Ok(NodeList {
             nodes: Rows::new(alloc),
+            hashes: Vec::new(alloc),
             chains: Chains::new(alloc, FEWEST_BUCKETS)?,
         })
     }
@@ -136,7 +158,7 @@ impl NodeList {
         if self.nodes.len() < buckets {
             return Ok(());
         }
-        self.chains = chained(alloc, &self.nodes, 2 * buckets)?;
+        self.chains = chained(alloc, &self.hashes, 2 * buckets)?;
         Ok(())
     }
 
@@ -146,8 +168,9 @@ impl NodeList {
         ensures { IfOk result (λ place. AddsNode self.old self.new node.now place.number place.is_new) }
     {
         self.spread(alloc)?;
-        let bucket = bucket_of(node, self.chains.heads.len());
-        if let Some(number) = find(&self.nodes, &self.chains, node, bucket) {
+        let hash = hash_of(node);
+        let bucket = bucket_of(hash, self.chains.heads.len());
+        if let Some(number) = find(&self.nodes, &self.hashes, &self.chains, node, hash, bucket) {
             return Ok(Place {
                 number,
                 is_new: false,
@@ -155,7 +178,9 @@ impl NodeList {
         }
         let number = self.nodes.len();
         self.chains.reserve()?;
+        self.hashes.reserve(1)?;
         self.nodes.push(node)?;
+        self.hashes.push_reserved(hash);
         self.chains.add(bucket);
         Ok(Place {
             number,

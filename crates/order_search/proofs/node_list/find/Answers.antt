@@ -12,16 +12,16 @@ loop-top-preserved c =
       arith,
       c.loop-top-test.true,
       c.loop-top.invariant.sought.below,
-      c.requires.chains.as_many,
+      c.requires.chains.chained.as_many,
       length-map c.args.nodes.now (bucket_of (length c.args.chains.now.heads.items)),
     ) in
     let at = get_or_default c.args.chains.now.links.items (c.loop-top.top - 1) c.index-top-in-loop-top.result.now 0 within in
     let next : c.index-top-in-loop-top.result.now ≡ get_or c.args.chains.now.links.items (c.loop-top.top - 1) 0 = cc (c.index-top-in-loop-top.ensures, at) in
     let other : node_at c.args.nodes.now (c.loop-top.top - 1) ≡ c.args.node.now → ⊥ =
-    λ same. true≢false (sym (c.is_same.ensures.1 (c.row.ensures ∙ same)) ∙ c.if-is_same.false) in record {
+    λ same. true≢false (sym (c.is_there.ensures.1 same) ∙ c.if-is_there.false) in record {
       sought = subst (IsSought (map (bucket_of (length c.args.chains.now.heads.items)) c.args.nodes.now)
           c.args.nodes.now c.args.node.now c.args.bucket) (sym next)
-          (sought_next c.args.nodes.now c.args.chains.now.heads.items c.args.chains.now.links.items c.args.node.now c.requires.chains c.args.bucket
+          (sought_next c.args.nodes.now c.args.chains.now.heads.items c.args.chains.now.links.items c.args.node.now c.requires.chains.chained c.args.bucket
           c.loop-top.top
           (c.loop-top.top - 1) c.requires.bucket (omega (arith, c.loop-top-test.true)) other c.loop-top.invariant.sought);
     }
