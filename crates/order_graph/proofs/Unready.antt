@@ -1,20 +1,27 @@
 -- A move whose stage does not hold what it needs is barred; and the moves that lead on, found one after another.
 use Rattle.std.proofs.Common.{◌≡◌, ℕ, zero, suc, ◌+◌, ◌-◌, ◌<◌, ◌≤◌, List, [], ◌∷◌, ◌++◌, Option, Some, None, Bool, true, false, length, get_or, take, refl, sym, ap, subst, ◌∙◌, arith, filter}
-use Rattle.std.specs.Prelude.{◌&&◌, ◌||◌, not}
-use Rattle.cf_layout.specs.Layout.{Plan}
+use Rattle.std.specs.Prelude.{◌==◌, ◌&&◌, ◌||◌, not, slice_get}
+use Rattle.std.proofs.lemmas.Bool.Decides.{nat_tests}
+use Rattle.cf_layout.specs.Layout.{Plan, unit_at}
 use Rattle.cf_bind.specs.declared.cell.Cell.{Cell}
+use Rattle.cf_bind.specs.declared.cell.Op.{Op}
+use Rattle.cf_bind.specs.declared.passenger.Guess.{Guess}
 use Rattle.cf_bind.specs.declared.passenger.Passenger.{Passenger}
 use Rattle.cf_bind.specs.declared.moves.Bar.{Bar}
-use Rattle.cf_bind.specs.declared.moves.Bar.TheVariants.{Halted, Failed, NoSuchSite, NoPassenger, NoPacket, AlreadyMet}
+use Rattle.cf_bind.specs.declared.moves.Bar.TheVariants.{Halted, Failed, NoSuchSite, NoPassenger, NoPacket, NotDone, NotMet, Occupied, Owes, AlreadyMet, FetchWaiting, OpNotThere}
 use Rattle.cf_bind.specs.declared.moves.Move.{Move}
 use Rattle.cf_bind.specs.declared.moves.Move.TheVariants as mv
-use Rattle.cf_semantics.specs.moves.Bars.{first, first_of, of_passenger, meet_bar}
+use Rattle.cf_semantics.specs.moves.Bars.{emit_bar, first, first_of, is_full, is_taken, meet_bar, of_passenger, running, stops_at}
 use Rattle.cf_semantics.specs.moves.Candidates.{all_moves}
+use Rattle.cf_semantics.specs.state.Layouts.{launches}
 use Rattle.cf_semantics.specs.state.Options.{on, is_some}
-use Rattle.cf_semantics.specs.state.State.{State, cell_at}
+use Rattle.cf_semantics.specs.state.Passengers.{kind}
+use Rattle.cf_semantics.specs.state.State.{State, cell_at, siding_at}
 use Rattle.theory_orders.specs.Wrong.{leading}
 use Rattle.order_rules.specs.declared.rule.Rule.{Rule}
-use Rattle.order_model.specs.RuleBars.{bar_without, row_bar_without, climb_bar_without, fall_bar_without}
+use Rattle.order_rules.specs.declared.rule.Rule.TheVariants.{ClimbNotDone, ClimbNotMet, ClimbOwes}
+use Rattle.order_rules.specs.Rules.{kept}
+use Rattle.order_model.specs.RuleBars.{bar_without, row_bar_without, climb_bar_without, exit_bar_without, fall_bar_without, issue_bar_without}
 use Rattle.order_keys.specs.declared.node.Node.{Node}
 use Rattle.order_graph.specs.CountsMade.{has_packet}
 use Rattle.order_graph.specs.OrderTrial.{OrderTrial}
@@ -39,11 +46,18 @@ is_still : (a : Bool) → not a ≡ false → a ≡ true
 is_still true e = refl
 is_still false e = absurd (cc)
 
-is_either : (a b : Bool) → (not a && not b) ≡ false → (a || b) ≡ true
-is_either true true e = refl
-is_either true false e = refl
-is_either false true e = refl
-is_either false false e = absurd (cc)
+-- one of these tests holds behind another
+is_executed : (done unit : Bool) (a b : Bar) (rest : Option Bar) → (not done && unit) ≡ false → is_some (first done a (first (not unit) b rest)) ≡ true
+is_executed true unit a b rest e = refl
+is_executed false false a b rest e = refl
+is_executed false true a b rest e = absurd (cc)
+
+is_sent : (done launched stage : Bool) (a b : Bar) (rest : Option Bar) → (not done && not launched && stage) ≡ false →
+    is_some (first (done || launched) a (first (not stage) b rest)) ≡ true
+is_sent true launched stage a b rest e = refl
+is_sent false true stage a b rest e = refl
+is_sent false false false a b rest e = refl
+is_sent false false true a b rest e = absurd (cc)
 
 is_past : (a b : Bool) → (a && not b) ≡ false → (not a || b) ≡ true
 is_past true true e = refl
@@ -63,21 +77,71 @@ of_stage (Some c) test f barred unready = one c.passenger (f c) (barred c) unrea
     one None g b u = refl
     one (Some p) g b u = b p u
 
-climb_barred : (away : Option Rule) (plan : Plan) (i : ℕ) (above cell : Option Cell) → is_some (on cell None (λ c. c.passenger)) ≡ false →
+-- so is one where there is no instruction
+no_rider : (cell : Option Cell) (f : Cell → Passenger → Option Bar) → is_some (on cell None (λ c. c.passenger)) ≡ false →
+    is_some (on cell (Some NoSuchSite) (λ c. of_passenger c (f c))) ≡ true
+no_rider None f unready = refl
+no_rider (Some c) f unready = no_one c.passenger (f c) unready
+  where
+    no_one : (p : Option Passenger) (g : Passenger → Option Bar) → is_some p ≡ false → is_some (on p (Some NoPassenger) g) ≡ true
+    no_one None g u = refl
+    no_one (Some p) g u = absurd (cc)
+
+issue_barred : (away : Option Rule) (plan : Plan) (s : State) (g : Guess) (cell : Option Cell) → not (is_some (on cell None (λ c. c.passenger))) ≡ false →
+    is_some (on cell (Some NoSuchSite) (issue_bar_without away plan s g)) ≡ true
+issue_barred away plan s g None unready = refl
+issue_barred away plan s g (Some c) unready = waiting (running s.fetch) _ (λ pc. hit (is_some c.passenger) Occupied _ (is_still (is_some c.passenger) unready))
+  where
+    waiting : (o : Option ℕ) (f : ℕ → Option Bar) → ((pc : ℕ) → is_some (f pc) ≡ true) → is_some (on o (Some FetchWaiting) f) ≡ true
+    waiting None f b = refl
+    waiting (Some pc) f b = b pc
+
+emit_barred : (lane : List ℕ) (cell : Option Cell) → not (length lane == 0) ≡ false → is_some (on cell (Some NoSuchSite) (emit_bar lane)) ≡ true
+emit_barred lane None unready = refl
+emit_barred [] (Some c) unready = refl
+emit_barred (r ∷ lane) (Some c) unready = absurd (grind (arith, nat_tests))
+
+behind_three : (a b c : Bool) (x y z : Bar) (rest : Option Bar) → is_some rest ≡ true → is_some (first a x (first b y (first c z rest))) ≡ true
+behind_three true b c x y z rest h = refl
+behind_three false true c x y z rest h = refl
+behind_three false false true x y z rest h = refl
+behind_three false false false x y z rest h = h
+
+climb_barred : (away : Option Rule) (plan : Plan) (i : ℕ) (above cell : Option Cell) →
+    (is_some (on cell None (λ c. c.passenger)) && not (is_some (on above None (λ d. d.passenger)))) ≡ false →
     is_some (on cell (Some NoSuchSite) (λ c. climb_bar_without away plan c i above)) ≡ true
 climb_barred away plan i above None unready = refl
 climb_barred away plan i None (Some c) unready = refl
-climb_barred away plan i (Some d) (Some c) unready = no_one c.passenger _ unready
+climb_barred away plan i (Some d) (Some c) unready = by c.passenger _ (λ p h.
+    behind_three (kept away ClimbNotMet && is_full c) (kept away ClimbOwes && is_some p.owes) (kept away ClimbNotDone && stops_at plan p i)
+    NotMet Owes NotDone (first (is_some d.passenger) Occupied None) (hit (is_some d.passenger) Occupied None h)) unready
   where
-    no_one : (p : Option Passenger) (f : Passenger → Option Bar) → is_some p ≡ false → is_some (on p (Some NoPassenger) f) ≡ true
-    no_one None f u = refl
-    no_one (Some p) f u = absurd (cc)
+    by : (p : Option Passenger) (f : Passenger → Option Bar) → ((p : Passenger) → is_some d.passenger ≡ true → is_some (f p) ≡ true) →
+        (is_some p && not (is_some d.passenger)) ≡ false → is_some (on p (Some NoPassenger) f) ≡ true
+    by None f b u = refl
+    by (Some p) f b u = b p (is_still (is_some d.passenger) u)
 
-fall_barred : (away : Option Rule) (below cell : Option Cell) → has_packet cell ≡ false →
+fall_barred : (away : Option Rule) (below cell : Option Cell) → (has_packet cell && not (has_packet below)) ≡ false →
     is_some (on cell (Some NoSuchSite) (λ c. fall_bar_without away c below)) ≡ true
 fall_barred away below None unready = refl
 fall_barred away None (Some c) unready = refl
-fall_barred away (Some d) (Some c) unready = hit (not (is_some c.packet)) NoPacket _ (is_not (is_some c.packet) unready)
+fall_barred away (Some d) (Some c) unready = by (is_some c.packet) (is_some d.packet) _ unready
+  where
+    by : (here there full : Bool) → (here && not there) ≡ false →
+        is_some (first (not here) NoPacket (first full NotMet (first there Occupied None))) ≡ true
+    by false there full u = refl
+    by true true true u = refl
+    by true true false u = refl
+    by true false full u = absurd (cc)
+
+slide_barred : (ops : List (Option Op)) (c : ℕ) (next : Option (Option Op)) → is_taken (slice_get ops c) ≡ false →
+    is_some (on next (Some NoSuchSite) (λ o. first_of ((not (is_taken (slice_get ops c)), OpNotThere) ∷ (is_some o, Occupied) ∷ []) None)) ≡ true
+slide_barred ops c None unready = refl
+slide_barred ops c (Some o) unready = hit _ _ _ (is_not (is_taken (slice_get ops c)) unready)
+
+exit_barred : (away : Option Rule) (cell : Option Cell) → has_packet cell ≡ false → is_some (on cell (Some NoSuchSite) (exit_bar_without away)) ≡ true
+exit_barred away None unready = refl
+exit_barred away (Some c) unready = hit _ _ _ (is_not (is_some c.packet) unready)
 
 meet_barred : (cell : Option Cell) → is_meeting cell ≡ false → is_some (on cell (Some NoSuchSite) meet_bar) ≡ true
 meet_barred None unready = refl
@@ -90,28 +154,29 @@ meet_barred (Some c) unready = by c.passenger (is_some c.packet) c.met unready
     by (Some p) true true u = refl
     by (Some p) true false u = absurd (cc)
 
-row_barred : (away : Option Rule) (plan : Plan) (s : State) (m : Move) → is_ready s m ≡ false → is_some (row_bar_without away plan s m) ≡ true
-row_barred away plan s (mv.Issue g) unready = absurd (cc)
-row_barred away plan s mv.Emit unready = absurd (cc)
+row_barred : (away : Option Rule) (plan : Plan) (s : State) (m : Move) → is_ready plan s m ≡ false → is_some (row_bar_without away plan s m) ≡ true
+row_barred away plan s (mv.Issue g) unready = issue_barred away plan s g (cell_at s.cells 1) unready
+row_barred away plan s mv.Emit unready = emit_barred s.lane (cell_at s.cells plan.stages) unready
 row_barred away plan s (mv.Climb i) unready = climb_barred away plan i (cell_at s.cells (i + 1)) (cell_at s.cells i) unready
 row_barred away plan s (mv.Fall i) unready = fall_barred away (cell_at s.cells (i - 1)) (cell_at s.cells i) unready
 row_barred away plan s (mv.Meet i) unready = meet_barred (cell_at s.cells i) unready
-row_barred away plan s (mv.Execute i) unready = of_stage (cell_at s.cells i) (λ p. not p.done) _
-    (λ c p u. behind _ _ _ (hit p.done _ _ (is_still p.done u))) unready
+row_barred away plan s (mv.Execute i) unready = of_stage (cell_at s.cells i) (λ p. not p.done && unit_at plan (kind p) i) _
+    (λ c p u. behind _ _ _ (is_executed p.done (unit_at plan (kind p) i) _ _ _ u)) unready
 row_barred away plan s (mv.Send i) unready = of_stage (cell_at s.cells i) (λ p. is_some p.owes) _
     (λ c p u. hit (not (is_some p.owes)) _ _ (is_not (is_some p.owes) u)) unready
-row_barred away plan s (mv.Launch i) unready = of_stage (cell_at s.cells i) (λ p. not p.done && not p.launched) _
-    (λ c p u. behind _ _ _ (hit (p.done || p.launched) _ _ (is_either p.done p.launched u))) unready
-row_barred away plan s (mv.Slide k c) unready = absurd (cc)
+row_barred away plan s (mv.Launch i) unready = of_stage (cell_at s.cells i) (λ p. not p.done && not p.launched && launches plan (kind p) i) _
+    (λ c p u. behind _ _ _ (is_sent p.done p.launched (launches plan (kind p) i) _ _ _ u)) unready
+row_barred away plan s (mv.Slide k c) unready = slide_barred (siding_at s k) c (slice_get (siding_at s k) (c + 1)) unready
 row_barred away plan s mv.Access unready = absurd (cc)
 row_barred away plan s (mv.Recover i) unready = of_stage (cell_at s.cells i) (λ p. p.launched && not p.recovered) _
     (λ c p u. behind _ _ _ (hit (not p.launched || p.recovered) _ _ (is_past p.launched p.recovered u))) unready
-row_barred away plan s mv.Leave unready = absurd (cc)
-row_barred away plan s mv.Exit unready = absurd (cc)
-row_barred away plan s mv.Serve unready = absurd (cc)
+row_barred away plan s mv.Leave unready = no_rider (cell_at s.cells plan.stages) _ unready
+row_barred away plan s mv.Exit unready = exit_barred away (cell_at s.cells 1) unready
+row_barred away plan s mv.Serve unready = of_stage (cell_at s.cells plan.stages) (λ p. not p.done) _
+    (λ c p u. behind _ _ _ (hit p.done _ _ (is_still p.done u))) unready
 
 -- so is it where the program has ended
-pub barred_unready : (t : OrderTrial) (n : Node) (m : Move) → is_ready n.situation m ≡ false → leads_from t n m ≡ false
+pub barred_unready : (t : OrderTrial) (n : Node) (m : Move) → is_ready t.plan n.situation m ≡ false → leads_from t n m ≡ false
 unfolding bar_without
 barred_unready t n m unready =
     let s : State = state_of t n in

@@ -179,7 +179,7 @@ fn leads_on(trial: &Trial, mem: &Regions, node: &Node, m: Move) -> bool
     requires { mem.now ≡ memory_after node.now.changes (memory_loaded trial.now) }
     ensures { result ≡ leads_from trial.now node.now m }
 {
-    is_ready(&node.situation, m)
+    is_ready(&trial.layout, &node.situation, m)
         && (node.issues < trial.issues || !is_issue(m))
         && is_allowed(trial, mem, node, m)
 }
