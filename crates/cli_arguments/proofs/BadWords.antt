@@ -1,5 +1,6 @@
 -- The first word that cannot be read is the first that has no place: the words before it can be completed to a command.
-use Rattle.std.proofs.Common.{◌≡◌, ◌≤◌, ◌<◌, ◌+◌, ℕ, List, [], ◌∷◌, ◌++◌, length, take, drop, get_or, min, refl, arith, inl, inr, Option, Some, None, sym, ◌∙◌, subst, ap}
+use Rattle.std.proofs.Common.{◌≡◌, ◌≤◌, ◌<◌, ◌+◌, ℕ, List, [], ◌∷◌, ◌++◌, length, take, drop, get_or, min, refl, arith, inl, inr, Option}
+use Rattle.std.proofs.Common.{Some, None, sym, ◌∙◌, subst, ap}
 use Rattle.std.proofs.lemmas.List.{length-take, length-take-le, take-append-le, take_more, take_all, take-take, take-append-drop}
 use Rattle.std.proofs.Math.Seq.{take-length}
 use Rattle.std.proofs.lemmas.Bool.{cases_order}

@@ -1,5 +1,6 @@
 -- The numbers that are asked for are within their bounds.
-use Rattle.std.proofs.Common.{◌≡◌, ◌≤◌, ℕ, List, [], ◌∷◌, length, map, Bool, true, false, refl, arith, if◌then◌else◌, Option, Some, None, IfSome, option_map, subst}
+use Rattle.std.proofs.Common.{◌≡◌, ◌≤◌, ℕ, List, [], ◌∷◌, length, map, Bool, true, false, refl, arith, if◌then◌else◌, Option, Some, None}
+use Rattle.std.proofs.Common.{IfSome, option_map, subst}
 use Rattle.std.specs.List.{list_all}
 use Rattle.std.specs.Option.{unwrap_or}
 use Rattle.std.specs.Str.Parse.{digits_value}
@@ -10,7 +11,9 @@ use Rattle.cli_arguments.specs.declared.names.CommandName.{CommandName}
 use Rattle.cli_arguments.specs.declared.names.CommandName.TheVariants as names
 use Rattle.cli_arguments.specs.Values.{count_in, is_positive, positive_in}
 use Rattle.cli_arguments.specs.Commands.{most, topic_in}
-use Rattle.cli_arguments.specs.Options.{takes_setting, takes_key, is_value, setting_key, most_limit_of, default_issues, default_limit, default_states, Setting, limit_to, say_every, show_of, script_from, seed_from, guess_by, input_from, issue_at_most, reach_at_most, do_without, with_mul, with_run, Given, given_in, by_script}
+use Rattle.cli_arguments.specs.Options.{takes_setting, takes_key, is_value, setting_key, most_limit_of, default_issues, default_limit}
+use Rattle.cli_arguments.specs.Options.{default_states, Setting, limit_to, say_every, show_of, script_from, seed_from, guess_by, input_from}
+use Rattle.cli_arguments.specs.Options.{issue_at_most, reach_at_most, do_without, with_mul, with_run, Given, given_in, by_script}
 use Rattle.cli_arguments.specs.Words.{Asked, gen, help_on, moves, layout_in, limit_of, asked_by, IsBounded, IsStep, Asks}
 use Rattle.cli_arguments.proofs.Settings.{both}
 

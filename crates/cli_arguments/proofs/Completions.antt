@@ -1,5 +1,6 @@
 -- Each state that is reached can be completed to a command.
-use Rattle.std.proofs.Common.{◌≡◌, ◌≤◌, ◌<◌, ◌+◌, ◌⊎◌, ◌&&◌, ℕ, zero, suc, List, [], ◌∷◌, ◌++◌, codes, length, map, take, drop, Bool, true, false, refl, arith, Option, Some, None, inl, inr, sym, subst, ◌∙◌, ap, append-nil, append_assoc}
+use Rattle.std.proofs.Common.{◌≡◌, ◌≤◌, ◌<◌, ◌+◌, ◌⊎◌, ◌&&◌, ℕ, zero, suc, List, [], ◌∷◌, ◌++◌, codes, length, map, take, drop, Bool, true}
+use Rattle.std.proofs.Common.{false, refl, arith, Option, Some, None, inl, inr, sym, subst, ◌∙◌, ap, append-nil, append_assoc}
 use Rattle.std.specs.List.{list_all}
 use Rattle.std.specs.Prelude.{is_some}
 use Rattle.std.proofs.lemmas.Bool.{cases_lt}
@@ -19,9 +20,12 @@ use Rattle.cli_arguments.specs.declared.shown.Shown.{Shown}
 use Rattle.cli_arguments.specs.declared.shown.Shown.TheVariants as shows
 use Rattle.cli_arguments.specs.Values.{amount_of, count_in, digits_in, is_amount, is_amount_within, positive_in, unit_of}
 use Rattle.cli_arguments.specs.Commands.{command_word, fewest, most, is_of, is_positional, name_in, place_kind, topic_in}
-use Rattle.cli_arguments.specs.Options.{key_word, setting_key, takes_key, can_show, is_value, most_limit_of, Setting, limit_to, say_every, show_of, script_from, seed_from, guess_by, input_from, issue_at_most, reach_at_most, do_without, Given, by_script}
+use Rattle.cli_arguments.specs.Options.{key_word, setting_key, takes_key, can_show, is_value, most_limit_of, Setting, limit_to, say_every}
+use Rattle.cli_arguments.specs.Options.{show_of, script_from, seed_from, guess_by, input_from, issue_at_most, reach_at_most, do_without}
+use Rattle.cli_arguments.specs.Options.{Given, by_script}
 use Rattle.cli_arguments.specs.Words.{Asked, gen, help_on, moves, layout_in, limit_of, asked_by}
-use Rattle.cli_arguments.specs.Reading.{ReadingState, start, placed, options, valued, unplaced, one_place_more, follow, has_key, nothing_given, positional_in, completed}
+use Rattle.cli_arguments.specs.Reading.{ReadingState, start, placed, options, valued, unplaced, one_place_more, follow, has_key}
+use Rattle.cli_arguments.specs.Reading.{nothing_given, positional_in, completed}
 use Rattle.cli_arguments.proofs.InTurn.{after, reads, reads-step, reads-append}
 use Rattle.cli_arguments.proofs.Grammar.{positional-read}
 use Rattle.cli_arguments.proofs.Reached.{Reached, HasPlaces, IsGuessed, Stands, reached-last, words-read, stands}

@@ -1,5 +1,6 @@
 -- Words that end with a letter.
-use Rattle.std.proofs.Common.{◌≡◌, ◌≢◌, ◌<◌, ◌-◌, ◌+◌, ℕ, List, [], ◌∷◌, ◌++◌, length, take, drop, Bool, true, false, refl, arith, sym, ap, ◌∙◌, Option, Some, None, option_map, MatchOption}
+use Rattle.std.proofs.Common.{◌≡◌, ◌≢◌, ◌<◌, ◌-◌, ◌+◌, ℕ, List, [], ◌∷◌, ◌++◌, length, take, drop, Bool, true, false, refl, arith, sym, ap}
+use Rattle.std.proofs.Common.{◌∙◌, Option, Some, None, option_map, MatchOption}
 use Rattle.std.specs.Prelude.{nat_eq}
 use Rattle.std.specs.List.{ends_with}
 use Rattle.std.specs.Str.Pattern.{FindsCharSuffix}

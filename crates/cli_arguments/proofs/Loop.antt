@@ -1,5 +1,6 @@
 -- One turn of the loop over the words, and what is answered after it.
-use Rattle.std.proofs.Common.{◌≡◌, ◌≤◌, ◌<◌, ◌+◌, ℕ, List, [], ◌∷◌, length, map, take, get_or, arith, Option, Some, None, option_map, Result, Ok, Err, MatchResult, IfOk, sym, ◌∙◌, subst, ap}
+use Rattle.std.proofs.Common.{◌≡◌, ◌≤◌, ◌<◌, ◌+◌, ℕ, List, [], ◌∷◌, length, map, take, get_or, arith, Option, Some, None, option_map}
+use Rattle.std.proofs.Common.{Result, Ok, Err, MatchResult, IfOk, sym, ◌∙◌, subst, ap}
 use Rattle.std.specs.Option.{ok_or}
 use Rattle.std.proofs.lemmas.List.{get_or-map, length-map, length-take-le, take_more, take_all}
 use Rattle.cli_arguments.specs.Words.{Asked, Asks, IsBadAt, IsBounded}

@@ -7,7 +7,8 @@ use Rattle.cli_arguments.specs.declared.options.Key.{Key}
 use Rattle.cli_arguments.specs.declared.options.Key.TheVariants as keys
 use Rattle.cli_arguments.specs.declared.reading.Subject.{Subject}
 use Rattle.cli_arguments.specs.Commands.{fewest, most}
-use Rattle.cli_arguments.specs.Options.{setting_key, takes_key, Setting, limit_to, say_every, show_of, script_from, seed_from, guess_by, input_from, issue_at_most, reach_at_most, do_without, with_mul, with_run, Given}
+use Rattle.cli_arguments.specs.Options.{setting_key, takes_key, Setting, limit_to, say_every, show_of, script_from, seed_from, guess_by}
+use Rattle.cli_arguments.specs.Options.{input_from, issue_at_most, reach_at_most, do_without, with_mul, with_run, Given}
 use Rattle.cli_arguments.specs.Reading.{ReadingState, start, placed, options, valued, follow, after_key, has_key, is_there, nothing_given}
 use Rattle.cli_arguments.proofs.Steps.{put, has_value, start-read, place-tests, placed-read, option-read, value-read}
 use Rattle.cli_arguments.proofs.InTurn.{reads, reads-split, none-left}
@@ -148,9 +149,21 @@ size-value : (setting : Setting) (subject : Subject) (given : Given) → has_val
 size-value (limit_to amount) subject given value fresh = omega (arith, not-there-size given.limit fresh)
 size-value (say_every amount) subject given value fresh = omega (arith, not-there-size given.every fresh)
 size-value (show_of shown) subject given value fresh = omega (arith, not-there-size given.show fresh)
-size-value (script_from file) subject given value fresh = omega (arith, not-there-size given.script (neither (is_there given.script) (is_there given.seed || is_there given.guess) fresh).0)
-size-value (seed_from digits) subject given value fresh = omega (arith, not-there-size given.seed (neither (is_there given.seed) (is_there given.script) fresh).0)
-size-value (guess_by rule) subject given value fresh = omega (arith, not-there-size given.guess (neither (is_there given.guess) (is_there given.script) fresh).0)
+size-value (script_from file) subject given value fresh = omega (
+  arith,
+  not-there-size given.script
+      (neither (is_there given.script) (is_there given.seed || is_there given.guess) fresh).0,
+)
+size-value (seed_from digits) subject given value fresh = omega (
+  arith,
+  not-there-size given.seed
+      (neither (is_there given.seed) (is_there given.script) fresh).0,
+)
+size-value (guess_by rule) subject given value fresh = omega (
+  arith,
+  not-there-size given.guess
+      (neither (is_there given.guess) (is_there given.script) fresh).0,
+)
 size-value (input_from file) subject given value fresh = omega (arith, not-there-size given.input fresh)
 size-value (issue_at_most digits) subject given value fresh = omega (arith, not-there-size given.issues fresh)
 size-value (reach_at_most digits) subject given value fresh = omega (arith, not-there-size given.states fresh)

@@ -5,7 +5,9 @@ use Rattle.std.specs.List.{list_all}
 use Rattle.cli_arguments.specs.declared.options.Key.{Key}
 use Rattle.cli_arguments.specs.declared.options.Key.TheVariants as keys
 use Rattle.cli_arguments.specs.declared.reading.Subject.{Subject}
-use Rattle.cli_arguments.specs.Options.{key_word, setting_key, value_words, setting_words, takes_key, is_value, takes_setting, excludes, Without, NoneTwice, Setting, limit_to, say_every, show_of, script_from, seed_from, guess_by, input_from, issue_at_most, reach_at_most, do_without, with_mul, with_run, Given, given_in}
+use Rattle.cli_arguments.specs.Options.{key_word, setting_key, value_words, setting_words, takes_key, is_value, takes_setting, excludes}
+use Rattle.cli_arguments.specs.Options.{Without, NoneTwice, Setting, limit_to, say_every, show_of, script_from, seed_from, guess_by}
+use Rattle.cli_arguments.specs.Options.{input_from, issue_at_most, reach_at_most, do_without, with_mul, with_run, Given, given_in}
 use Rattle.cli_arguments.specs.Reading.{ReadingState, start, placed, options, valued, after_key, has_key, is_there, nothing_given}
 use Rattle.cli_arguments.proofs.InTurn.{reads, reads-split, reads-step, none-left}
 use Rattle.cli_arguments.proofs.Steps.{put, has_value, value_of, option-read, value-read, option-follows, value-follows}
@@ -162,7 +164,8 @@ joined-put : (given : Given) (setting : Setting) (settings : List Setting) →
 joined-put given (limit_to amount) settings h = let e = not-there given.limit h in rw e
 joined-put given (say_every amount) settings h = let e = not-there given.every h in rw e
 joined-put given (show_of shown) settings h = let e = not-there given.show h in rw e
-joined-put given (script_from file) settings h = let e = not-there given.script (neither (is_there given.script) (is_there given.seed || is_there given.guess) h).0 in rw e
+joined-put given (script_from file) settings h = let e = not-there given.script
+    (neither (is_there given.script) (is_there given.seed || is_there given.guess) h).0 in rw e
 joined-put given (seed_from digits) settings h = let e = not-there given.seed (neither (is_there given.seed) (is_there given.script) h).0 in rw e
 joined-put given (guess_by rule) settings h = let e = not-there given.guess (neither (is_there given.guess) (is_there given.script) h).0 in rw e
 joined-put given (input_from file) settings h = let e = not-there given.input h in rw e

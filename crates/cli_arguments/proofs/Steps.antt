@@ -1,5 +1,6 @@
 -- What one more word says: which words may follow in each state, and what is known after them.
-use Rattle.std.proofs.Common.{◌≡◌, ◌≤◌, ◌<◌, ◌⊎◌, ℕ, List, [], ◌∷◌, Bool, true, false, refl, arith, if◌then◌else◌, Option, Some, None, option_map, inl, inr, not, ◌&&◌, sym, ap}
+use Rattle.std.proofs.Common.{◌≡◌, ◌≤◌, ◌<◌, ◌⊎◌, ℕ, List, [], ◌∷◌, Bool, true, false, refl, arith, if◌then◌else◌, Option, Some, None}
+use Rattle.std.proofs.Common.{option_map, inl, inr, not, ◌&&◌, sym, ap}
 use Rattle.std.specs.Prelude.{is_some, nat_le, nat_lt}
 use Rattle.std.specs.Str.Parse.{digits_value}
 use Rattle.std.proofs.lemmas.Bool.Decides.{nat_tests}
@@ -15,8 +16,12 @@ use Rattle.cli_arguments.specs.declared.reading.Subject.{Subject}
 use Rattle.cli_arguments.specs.declared.shown.Shown.{Shown}
 use Rattle.cli_arguments.specs.Values.{amount_in, amount_of, is_file_name, is_number_word, is_positive, is_amount_within, count_in, number_up_to, positive_in}
 use Rattle.cli_arguments.specs.Commands.{command_word, fewest, most, is_of, is_positional, name_in, place_kind, topic_in}
-use Rattle.cli_arguments.specs.Options.{key_word, show_word, setting_key, value_words, takes_key, can_show, is_value, most_limit_of, most_seed, Setting, limit_to, say_every, show_of, script_from, seed_from, guess_by, input_from, issue_at_most, reach_at_most, do_without, with_mul, with_run, Given, rule_word}
-use Rattle.cli_arguments.specs.Reading.{ReadingState, start, placed, options, valued, unplaced, one_place_more, follow, when, after_name, after_key, after_option, after_value, has_place, has_key, given_with_value, key_in, shown_in, showable, nothing_given, rule_in}
+use Rattle.cli_arguments.specs.Options.{key_word, show_word, setting_key, value_words, takes_key, can_show, is_value, most_limit_of}
+use Rattle.cli_arguments.specs.Options.{most_seed, Setting, limit_to, say_every, show_of, script_from, seed_from, guess_by, input_from}
+use Rattle.cli_arguments.specs.Options.{issue_at_most, reach_at_most, do_without, with_mul, with_run, Given, rule_word}
+use Rattle.cli_arguments.specs.Reading.{ReadingState, start, placed, options, valued, unplaced, one_place_more, follow, when, after_name}
+use Rattle.cli_arguments.specs.Reading.{after_key, after_option, after_value, has_place, has_key, given_with_value, key_in, shown_in}
+use Rattle.cli_arguments.specs.Reading.{showable, nothing_given, rule_in}
 use Rattle.cli_arguments.proofs.Texts.{name-read, name-written, key-read, key-written, shown-read, shown-written, rule-read, rule-written}
 
 -- what is given with one more option

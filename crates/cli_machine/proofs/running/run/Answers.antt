@@ -1,5 +1,6 @@
 use Rattle.std.proofs.Common.{◌+◌, ◌-◌, ap, refl, ◌∙◌, inl, inr, arith}
-use Rattle.cli_machine.proofs.Runs.{reached-none, reached-next, reached-alone, breaks-off, reached-passed, stops-before, runs-exit, runs-trap, runs-read-fault, runs-write-fault}
+use Rattle.cli_machine.proofs.Runs.{reached-none, reached-next, reached-alone, breaks-off, reached-passed, stops-before, runs-exit}
+use Rattle.cli_machine.proofs.Runs.{runs-trap, runs-read-fault, runs-write-fault}
 use Rattle.cli_machine.proofs.running.run.Goals as goal
 
 pub loop-options-init : goal.loop-options-init
@@ -40,7 +41,8 @@ loop-options-preserved g c =
 pub returns-in-Err-show_step-clause-runs : goal.returns-in-Err-show_step-clause-runs
 returns-in-Err-show_step-clause-runs g c =
     let r = c.loop-options.invariant.reached in
-    inl (breaks-off _ _ _ _ _ _ _ _ _ _ _ _ _ (omega (arith, r.1, c.loop-options.invariant.last, c.retired-in-loop-options.ensures, c.loop-options-test.true)) (reached-passed _ _ _ _ _ _ _ _ _ r.2 c.in_default.ensures.written)
+    inl (breaks-off _ _ _ _ _ _ _ _ _ _ _ _ _ (omega (arith, r.1, c.loop-options.invariant.last, c.retired-in-loop-options.ensures, c.loop-options-test.true))
+    (reached-passed _ _ _ _ _ _ _ _ _ r.2 c.in_default.ensures.written)
     (rw c.instruction_set-isa.ensures at c.in-Next.ensures.steps) c.retired-in-Next.ensures c.in-Err-show_step.ensures.shows
     c.in-Err-show_step.ensures.puts.front)
 

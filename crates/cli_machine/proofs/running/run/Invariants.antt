@@ -10,7 +10,8 @@ invariant-loop-options g l =
     let written = g.K.Sink.written in
     let reported = g.R.Sink.written in
     record {
-      reached : (n : ℕ) × (l.machine.retired ≡ l.fn.machine.retired + n) × Reached (chosen_of l.options.limit l.options.show_retired l.options.mul l.options.every)
+      reached : (n : ℕ) × (l.machine.retired ≡ l.fn.machine.retired + n) × Reached
+          (chosen_of l.options.limit l.options.show_retired l.options.mul l.options.every)
           l.fn.machine l.machine
           (told_of (streams_of (left l.initial.input) (written l.initial.output))
           (streams_of (left l.input) (written l.output))
