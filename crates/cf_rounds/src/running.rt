@@ -22,6 +22,7 @@ ghost use Rattle.cf_rounds.specs.Turns.{RoundTurns, finish_with, input_turned, o
 use crate::answer::{Clocked, Fired};
 use crate::choosing::choose;
 use crate::firing::fire;
+use crate::options::RoundsOptions;
 use crate::round_set::RoundSet;
 use cf_core::Core;
 use cf_index::Candidates;
@@ -29,7 +30,6 @@ use cf_io::{Failed, Sink, Source};
 use cf_report::{Tally, is_step, put_rounds_progress};
 use cf_run::{Ran, known, over};
 use cf_sched::Pace;
-use run_options::GuessRule;
 
 /// How the run finishes before a further round, if it does.
 fn finish_before(core: &Core, limit: u64) -> Option<Clocked>
@@ -129,46 +129,51 @@ fn put_progress<R: Sink>(
 pub fn run_rounds<S: Source, K: Sink, R: Sink>(
     core: &mut Core,
     candidates: &mut Candidates,
-    rule: GuessRule,
-    limit: u64,
-    every: Option<u64>,
+    options: RoundsOptions,
     input: &mut S,
     output: &mut K,
     report: &mut R,
     tally: &mut Tally,
     rounds: &mut u64,
 ) -> Clocked
-    requires limit { limit ≤ most_limit }
-    requires retired { core.old.state.retired ≤ limit }
+    requires limit { options.limit ≤ most_limit }
+    requires retired { core.old.state.retired ≤ options.limit }
     requires opened { IsOpened core.old }
     requires tally { tally.old ≡ no_tally }
     requires rounds { rounds.old ≡ 0 }
-    ensures run { RoundsRunRight rule limit every
+    ensures run { RoundsRunRight options.rule options.limit options.every
         (place_of core.old (streams_of (S.left input.old) (K.written output.old)) None tally.old)
         (place_of core.new (streams_of (S.left input.new) (K.written output.new)) None tally.new)
         (R.written report.old) (R.written report.new) rounds.new result }
-    ensures ends { EndsSequentially limit
+    ensures ends { EndsSequentially options.limit
         (place_of core.old (streams_of (S.left input.old) (K.written output.old)) None tally.old)
         (place_of core.new (streams_of (S.left input.new) (K.written output.new)) None tally.new)
         (scripted.Ran (ran_of result)) }
-    ensures bounded { tally.new.moves ≤ most_moves core.old.plan limit }
+    ensures bounded { tally.new.moves ≤ most_moves core.old.plan options.limit }
     ensures input { HasCause (S.faults input.old) (S.faults input.new) (input_turned (Some result)) }
     ensures output { HasCause (K.faults output.old) (K.faults output.new) (output_turned (Some result)) }
     ensures report { HasCause (R.faults report.old) (R.faults report.new) (report_turned (Some result)) }
 {
     known(core);
-    let mut pace = Pace::new(rule, core.layout().stages());
+    let mut pace = Pace::new(options.rule, core.layout().stages());
     let mut set = RoundSet::new();
     loop {
         let before = core.retired();
         let end = advance(
-            core, candidates, &mut set, &mut pace, limit, input, output, tally,
+            core,
+            candidates,
+            &mut set,
+            &mut pace,
+            options.limit,
+            input,
+            output,
+            tally,
         );
         if let Some(clocked) = end {
             return clocked;
         }
         *rounds += 1;
-        match put_progress(core, every, before, *rounds, tally.moves, report) {
+        match put_progress(core, options.every, before, *rounds, tally.moves, report) {
             Ok(()) => {}
             Err(_) => return Clocked::ReportFault,
         }

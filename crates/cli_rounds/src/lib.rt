@@ -4,4 +4,5 @@
 mod closing;
 mod rounds;
 
-pub use rounds::{RoundsOptions, run_in_rounds};
+pub use cf_rounds::RoundsOptions;
+pub use rounds::run_in_rounds;

@@ -11,26 +11,13 @@ ghost use Rattle.cli_rounds.specs.Rounds.{rounds_asked, RunsCoreInRounds, ComesI
 
 use crate::closing::close_in_rounds;
 use cf_io::{Failed, Files, Sink, Source};
-use cf_rounds::{Clocked, run_rounds};
+use cf_rounds::{Clocked, RoundsOptions, run_rounds};
 use cf_run::Ran;
-use cli_arguments::{GuessRule, LayoutWord};
+use cli_arguments::LayoutWord;
 use cli_files::{Loaded, load, no_memory};
 use cli_processor::{Opened, no_moves, open};
 use cli_reports::{Reported, RunStreams, put_answer};
 use std::alloc::Global;
-
-/// The options of `rounds`.
-#[derive(Clone, Copy)]
-pub struct RoundsOptions {
-    /// The number of retired instructions at which the run stops.
-    pub limit: u64,
-
-    /// After each of how many of them the report says how far the run has come, if it does.
-    pub every: Option<u64>,
-
-    /// The guess rule.
-    pub rule: GuessRule,
-}
 
 /// The finish of a run in rounds, as that of any run.
 fn ran_of(clocked: Clocked) -> Ran
@@ -50,16 +37,14 @@ fn ran_of(clocked: Clocked) -> Ran
 #[tactic(auto, using(cf_run::proofs::Opened::opened_cores))]
 fn run_core<S: Source, K: Sink, R: Sink>(
     opened: &mut Opened,
-    rule: GuessRule,
-    limit: u64,
-    every: Option<u64>,
+    options: RoundsOptions,
     streams: RunStreams<'_, S, K, R>,
 ) -> Result<Reported, Failed>
-    requires limit { limit ≤ most_limit }
-    requires retired { opened.old.core.state.retired ≤ limit }
+    requires limit { options.limit ≤ most_limit }
+    requires retired { opened.old.core.state.retired ≤ options.limit }
     requires opened { IsOpened opened.old.core }
-    ensures { CarriesOutRun (RunsCoreInRounds rule limit every opened.old.core opened.new.core)
-        (BreaksInRounds rule limit every opened.old.core)
+    ensures { CarriesOutRun (RunsCoreInRounds options.rule options.limit options.every opened.old.core opened.new.core)
+        (BreaksInRounds options.rule options.limit options.every opened.old.core)
         (run_change S.Source K.Sink R.Sink streams.entry streams.exit) result }
 {
     let RunStreams {
@@ -72,16 +57,21 @@ fn run_core<S: Source, K: Sink, R: Sink>(
     let clocked = run_rounds(
         &mut opened.core,
         &mut opened.candidates,
-        rule,
-        limit,
-        every,
+        options,
         input,
         output,
         report,
         &mut tally,
         &mut rounds,
     );
-    close_in_rounds(&opened.core, limit, ran_of(clocked), rounds, &tally, report)
+    close_in_rounds(
+        &opened.core,
+        options.limit,
+        ran_of(clocked),
+        rounds,
+        &tally,
+        report,
+    )
 }
 
 /// Opens the processor of the layout on the machine, and runs it in rounds.
@@ -89,19 +79,17 @@ fn run_core<S: Source, K: Sink, R: Sink>(
 fn run_loaded<S: Source, K: Sink, R: Sink>(
     alloc: Global,
     loaded: Loaded,
-    rule: GuessRule,
-    limit: u64,
-    every: Option<u64>,
+    options: RoundsOptions,
     streams: RunStreams<'_, S, K, R>,
 ) -> Result<Reported, Failed>
     requires count { loaded.machine.retired ≡ 0 }
-    requires limit { limit ≤ most_limit }
-    ensures { CarriesOutRun (ComesInRounds rule limit every loaded.layout loaded.machine)
-        (BreaksInRounds rule limit every (opened loaded.layout loaded.machine))
+    requires limit { options.limit ≤ most_limit }
+    ensures { CarriesOutRun (ComesInRounds options.rule options.limit options.every loaded.layout loaded.machine)
+        (BreaksInRounds options.rule options.limit options.every (opened loaded.layout loaded.machine))
         (run_change S.Source K.Sink R.Sink streams.entry streams.exit) result }
 {
     match open(alloc, loaded.layout, loaded.machine) {
-        Ok(mut opened) => run_core(&mut opened, rule, limit, every, streams),
+        Ok(mut opened) => run_core(&mut opened, options, streams),
         Err(_) => Ok(put_answer(no_memory(), streams.report)),
     }
 }
@@ -125,16 +113,7 @@ pub fn run_in_rounds<F: Files, S: Source, K: Sink, R: Sink>(
         (outside_change F.Files S.Source K.Sink R.Sink files.old files.new streams.entry streams.exit) result }
 {
     match load(alloc, layout, program, files) {
-        Ok(loaded) => {
-            run_loaded(
-                alloc,
-                loaded,
-                options.rule,
-                options.limit,
-                options.every,
-                streams,
-            )
-        }
+        Ok(loaded) => run_loaded(alloc, loaded, options, streams),
         Err(answer) => Ok(put_answer(answer, streams.report)),
     }
 }

@@ -13,11 +13,11 @@ invariant-loop-clocked g l =
     let start : RunPlace = place_of l.initial.core (streams_of (left l.initial.input) (written l.initial.output)) None l.initial.tally in
     let now : RunPlace = place_of l.core (streams_of (left l.input) (written l.output)) None l.tally in
     record {
-      said : SaidSo l.every l.fn.rule l.limit start now l.pace l.rounds (g.R.Sink.written l.initial.report) (g.R.Sink.written l.report);
+      said : SaidSo l.options.every l.options.rule l.options.limit start now l.pace l.rounds (g.R.Sink.written l.initial.report) (g.R.Sink.written l.report);
       input : g.S.Source.faults l.input ≡ g.S.Source.faults l.initial.input;
       output : g.K.Sink.faults l.output ≡ g.K.Sink.faults l.initial.output;
       report : g.R.Sink.faults l.report ≡ g.R.Sink.faults l.initial.report;
     }
 
 abbrev pub decreases-loop-clocked : goal.decreases-loop-clocked
-decreases-loop-clocked g l = most_moves l.initial.core.plan l.limit - l.tally.moves
+decreases-loop-clocked g l = most_moves l.initial.core.plan l.options.limit - l.tally.moves

@@ -3,7 +3,7 @@ use Rattle.cli_rounds.proofs.rounds.run_core.Goals as goal
 
 pub returns : goal.returns
 returns g c = record {
-  comes = rounds-closed c.args.rule _ c.args.every _ _ _ _ _ _ _ _ _ c.run_rounds-clocked.result c.ran_of.result c.close_in_rounds.result
+  comes = rounds-closed c.args.options.rule _ c.args.options.every _ _ _ _ _ _ _ _ _ c.run_rounds-clocked.result c.ran_of.result c.close_in_rounds.result
       (rw c.no_moves-tally.ensures at c.run_rounds-clocked.ensures.run)
       (rw c.no_moves-tally.ensures at c.run_rounds-clocked.ensures.ends)
       c.run_rounds-clocked.ensures.bounded c.run_rounds-clocked.ensures.report c.ran_of.ensures c.close_in_rounds.ensures;

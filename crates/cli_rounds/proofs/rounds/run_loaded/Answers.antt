@@ -9,13 +9,13 @@ run_core-requires-clause-opened g c = newly-opened _ _ _ c.in-Ok.ensures
 
 pub returns-in-Ok : goal.returns-in-Ok
 returns-in-Ok g c = record {
-  comes = rounds-come c.args.rule _ c.args.every _ _ _ _ _ _ _ _ c.run_core.result c.in-Ok.ensures c.requires.count c.run_core.ensures.comes;
+  comes = rounds-come c.args.options.rule _ c.args.options.every _ _ _ _ _ _ _ _ c.run_core.result c.in-Ok.ensures c.requires.count c.run_core.ensures.comes;
   faults = c.run_core.ensures.faults;
 }
 
 pub returns-in-Err : goal.returns-in-Err
 returns-in-Err g c = record {
-  comes = rounds-lacking c.args.rule _ c.args.every _ _ _ _ _ _ _ _ c.put_answer.result c.put_answer.ensures.status
+  comes = rounds-lacking c.args.options.rule _ c.args.options.every _ _ _ _ _ _ _ _ c.put_answer.result c.put_answer.ensures.status
       (record {
         status_is = c.no_memory.ensures.status;
         reports = c.no_memory.ensures.closing;
