@@ -27,3 +27,4 @@ pub mod OneIssue
 pub mod Others
 pub mod AnyIssue
 pub mod StartsOver
+pub mod KnownMoves

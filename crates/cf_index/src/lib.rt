@@ -9,6 +9,7 @@ mod ending_kinds;
 mod entering;
 mod fill;
 mod guiding;
+mod known;
 mod leaving;
 mod outward;
 mod passing;
@@ -24,6 +25,7 @@ mod words;
 
 pub use candidates::Candidates;
 pub use ending_kinds::{AccessKind, ExitKind, LeaveKind, RecoverKind};
+pub use known::is_known_allowed;
 pub use rank::Rank;
 pub use sharing::shares;
 pub use sweeping::{

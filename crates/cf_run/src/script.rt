@@ -4,6 +4,7 @@
 ghost use Rattle.std.specs.Prelude.{◌≡◌, ◌+◌, ◌<◌, ◌≤◌, ◌^◌, IsNone, Some, false, length};
 ghost use Rattle.run_options.specs.Limits.{most_limit};
 ghost use Rattle.cf_io.specs.Causes.{HasCause};
+ghost use Rattle.cf_semantics.specs.moves.Bars.{bar};
 ghost use Rattle.cf_core.specs.Asking.{AsksInput, AsksOutput};
 ghost use Rattle.cf_run.specs.Asking.{NextAsks, RunsUnasked};
 ghost use Rattle.cf_run.specs.Made.{CanCount};
@@ -16,12 +17,26 @@ ghost use Rattle.cf_run.specs.Scripts.{stand_of, first_moves, RunsScript, Script
 use crate::facts::known;
 use crate::finished::over;
 use crate::making::make_in_order;
+use cf_bind::{Bar, Move};
 use cf_core::Core;
+use cf_index::is_known_allowed;
 use cf_io::{Sink, Source};
 use cf_report::{ReportSink, Tally};
 use run_finishes::Scripted;
 use run_options::Reporting;
 use run_scripts::Script;
+
+/// What bars a move. Most moves of a script are known to be allowed, and then their tests are not made one by one.
+#[inline(always)]
+fn bar_of(core: &Core, mv: Move) -> Option<Bar>
+    ensures { result ≡ bar core.now.plan core.now.state mv }
+{
+    if is_known_allowed(core, mv) {
+        None
+    } else {
+        core.allowed(mv)
+    }
+}
 
 /// Makes the next move of the script, counts it and shows it; or returns why the run stops.
 #[inline(always)]
@@ -59,7 +74,7 @@ fn advance<S: Source, K: Sink, R: ReportSink>(
         Ok(None) => return Some(Scripted::ScriptEnd),
         Err(refusal) => return Some(Scripted::BadScript(refusal)),
     };
-    if let Some(bar) = core.allowed(mv) {
+    if let Some(bar) = bar_of(core, mv) {
         return Some(Scripted::BarredAt { line, bar });
     }
     match make_in_order(core, mv, reporting, input, output, report, tally) {
