@@ -28,3 +28,4 @@ pub mod Others
 pub mod AnyIssue
 pub mod StartsOver
 pub mod KnownMoves
+pub mod EmptySidings

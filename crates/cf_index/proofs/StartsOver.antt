@@ -223,7 +223,8 @@ pub issue_kind : (rule : GuessRule) (plan : Plan) (s : State) (o : Option Move) 
 unfolding AreIssues
 issue_kind rule plan s o mv first is =
     issues_first (kept_issues rule plan s) mv
-    (issues_kept (keeps rule plan s) (allowed_issues plan s) (issues_kept (is_allowed plan s) (Issue Next ∷ Issue Taken ∷ Issue Wait ∷ []) (refl, (refl, (refl, tt)))))
+    (issues_kept (keeps rule plan s) (allowed_issues plan s)
+    (issues_kept (is_allowed plan s) (Issue Next ∷ Issue Taken ∷ Issue Wait ∷ []) (refl, (refl, (refl, tt)))))
     (sym first ∙ is)
 
 -- where none is offered, the search starts over without one

@@ -10,6 +10,7 @@ mod entering;
 mod fill;
 mod guiding;
 mod known;
+mod idle;
 mod leaving;
 mod outward;
 mod passing;

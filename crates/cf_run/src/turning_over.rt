@@ -4,7 +4,7 @@ ghost use Rattle.std.specs.Prelude.{◌≡◌, ◌<◌, ◌≤◌, ◌+◌, IfSo
 ghost use Rattle.run_options.specs.Limits.{most_limit};
 ghost use Rattle.cf_semantics.specs.moves.Holding.{is_held};
 ghost use Rattle.cf_index.specs.Order.{kind_place};
-ghost use Rattle.cf_index.specs.PickedFrom.{IsLast, IsPicked, from_access, from_emit, outward_on};
+ghost use Rattle.cf_index.specs.PickedFrom.{IsLast, IsPicked, from_access, from_emit, from_leave, outward_on};
 ghost use Rattle.cf_index.specs.Ranks.{first_rank};
 ghost use Rattle.cf_run.specs.Moving.{place_by};
 ghost use Rattle.cf_run.specs.Sweeps.{CanSweep, IsUnderway, PicksFrom, ShowsNothing, SweepsTo};
@@ -179,7 +179,108 @@ fn start_over<S: Source, K: Sink, R: Sink>(
     }
 }
 
-/// Makes the moves of the kinds after Slide that the rule picks one after another, until the run is over or the rule picks Serve.
+/// Makes the moves of operations that the rule picks one after another: a Slide, Access and all Recovers.
+#[inline(always)]
+fn sweep_sidings<S: Source, K: Sink, R: Sink>(
+    core: &mut Core,
+    from: SweepPlace,
+    pace: &mut Pace,
+    limit: u64,
+    reporting: Reporting,
+    input: &mut S,
+    output: &mut K,
+    report: &R,
+    tally: &mut Tally,
+) -> PartEnd
+    requires picked { PicksFrom pace.old core.old (Some from.last) from.rank (outward_on core.old.plan core.old.state) }
+    requires goes { CanSweep limit core.old.state }
+    requires limit { limit ≤ most_limit }
+    requires stages { pace.old.stages ≡ core.old.plan.stages }
+    requires underway { IsUnderway pace.old.rule limit reporting
+        (place_by S.left K.written R.written core.old input.old output.old report.now tally.old) (Some from.last) pace.old.count }
+    requires shows { ShowsNothing reporting }
+    ensures sweeps { SweepsTo pace.old.rule limit reporting
+        (place_by S.left K.written R.written core.old input.old output.old report.now tally.old)
+        (place_by S.left K.written R.written core.new input.new output.new report.now tally.new)
+        (Some from.last) (Some result.last) pace.old.count pace.new.count }
+    ensures picked { IfSome result.rank (λ rank. PicksFrom pace.new core.new (Some result.last) rank (from_leave core.new.plan core.new.state)) }
+    ensures underway { IsUnderway pace.new.rule limit reporting
+        (place_by S.left K.written R.written core.new input.new output.new report.now tally.new) (Some result.last) pace.new.count }
+    ensures goes { CanSweep limit core.new.state }
+    ensures rule { pace.new.rule ≡ pace.old.rule }
+    ensures stages { pace.new.stages ≡ core.new.plan.stages }
+    ensures plan { core.new.plan ≡ core.old.plan }
+    ensures input { input.new ≡ input.old }
+    ensures output { output.new ≡ output.old }
+{
+    let slid = take_slide(
+        core, from, pace, limit, reporting, input, output, report, tally,
+    );
+    let Some(rank) = slid.rank else {
+        return slid;
+    };
+    let place = SweepPlace {
+        last: slid.last,
+        rank,
+    };
+    let accessed = sweep_once::<AccessKind, S, K, R>(
+        core, place, pace, limit, reporting, input, output, report, tally,
+    );
+    let recovered = sweep_kind::<RecoverKind, S, K, R>(
+        core, accessed, pace, limit, reporting, input, output, report, tally,
+    );
+    PartEnd {
+        last: recovered.last,
+        rank: Some(recovered.rank),
+    }
+}
+
+/// The same, where nothing is looked for if no siding has an operation.
+#[inline(always)]
+fn pass_sidings<S: Source, K: Sink, R: Sink>(
+    core: &mut Core,
+    from: SweepPlace,
+    pace: &mut Pace,
+    limit: u64,
+    reporting: Reporting,
+    input: &mut S,
+    output: &mut K,
+    report: &R,
+    tally: &mut Tally,
+) -> PartEnd
+    requires picked { PicksFrom pace.old core.old (Some from.last) from.rank (outward_on core.old.plan core.old.state) }
+    requires goes { CanSweep limit core.old.state }
+    requires limit { limit ≤ most_limit }
+    requires stages { pace.old.stages ≡ core.old.plan.stages }
+    requires underway { IsUnderway pace.old.rule limit reporting
+        (place_by S.left K.written R.written core.old input.old output.old report.now tally.old) (Some from.last) pace.old.count }
+    requires shows { ShowsNothing reporting }
+    ensures sweeps { SweepsTo pace.old.rule limit reporting
+        (place_by S.left K.written R.written core.old input.old output.old report.now tally.old)
+        (place_by S.left K.written R.written core.new input.new output.new report.now tally.new)
+        (Some from.last) (Some result.last) pace.old.count pace.new.count }
+    ensures picked { IfSome result.rank (λ rank. PicksFrom pace.new core.new (Some result.last) rank (from_leave core.new.plan core.new.state)) }
+    ensures underway { IsUnderway pace.new.rule limit reporting
+        (place_by S.left K.written R.written core.new input.new output.new report.now tally.new) (Some result.last) pace.new.count }
+    ensures goes { CanSweep limit core.new.state }
+    ensures rule { pace.new.rule ≡ pace.old.rule }
+    ensures stages { pace.new.stages ≡ core.new.plan.stages }
+    ensures plan { core.new.plan ≡ core.old.plan }
+    ensures input { input.new ≡ input.old }
+    ensures output { output.new ≡ output.old }
+{
+    if Candidates::sidings_empty(core, from.rank) {
+        return PartEnd {
+            last: from.last,
+            rank: Some(from.rank),
+        };
+    }
+    sweep_sidings(
+        core, from, pace, limit, reporting, input, output, report, tally,
+    )
+}
+
+/// Makes Leave and Exit, where the rule picks them, until the run is over or the rule picks Serve.
 #[inline(always)]
 fn sweep_leaving<S: Source, K: Sink, R: Sink>(
     core: &mut Core,
@@ -192,7 +293,7 @@ fn sweep_leaving<S: Source, K: Sink, R: Sink>(
     report: &R,
     tally: &mut Tally,
 ) -> PartEnd
-    requires picked { PicksFrom pace.old core.old (Some from.last) from.rank (from_access core.old.plan core.old.state) }
+    requires picked { PicksFrom pace.old core.old (Some from.last) from.rank (from_leave core.old.plan core.old.state) }
     requires goes { CanSweep limit core.old.state }
     requires limit { limit ≤ most_limit }
     requires stages { pace.old.stages ≡ core.old.plan.stages }
@@ -214,14 +315,8 @@ fn sweep_leaving<S: Source, K: Sink, R: Sink>(
     ensures input { input.new ≡ input.old }
     ensures output { output.new ≡ output.old }
 {
-    let accessed = sweep_once::<AccessKind, S, K, R>(
-        core, from, pace, limit, reporting, input, output, report, tally,
-    );
-    let recovered = sweep_kind::<RecoverKind, S, K, R>(
-        core, accessed, pace, limit, reporting, input, output, report, tally,
-    );
     let left = sweep_once::<LeaveKind, S, K, R>(
-        core, recovered, pace, limit, reporting, input, output, report, tally,
+        core, from, pace, limit, reporting, input, output, report, tally,
     );
     if over(core, limit).is_some() {
         return PartEnd {
@@ -278,20 +373,20 @@ fn sweep_outward<S: Source, K: Sink, R: Sink>(
     ensures input { input.new ≡ input.old }
     ensures output { output.new ≡ output.old }
 {
-    let slid = take_slide(
+    let passed = pass_sidings(
         core, from, pace, limit, reporting, input, output, report, tally,
     );
-    match slid.rank {
+    match passed.rank {
         Some(rank) => {
             let place = SweepPlace {
-                last: slid.last,
+                last: passed.last,
                 rank,
             };
             sweep_leaving(
                 core, place, pace, limit, reporting, input, output, report, tally,
             )
         }
-        None => slid,
+        None => passed,
     }
 }
 

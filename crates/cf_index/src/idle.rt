@@ -1,0 +1,46 @@
+//! Whether the sidings hold no operation. Then none of the moves by which an operation goes through them is allowed.
+
+ghost use Rattle.std.specs.List.{list_any};
+ghost use Rattle.std.specs.Prelude.{◌≡◌, ℕ, false, find, true};
+ghost use Rattle.cf_semantics.specs.state.Options.{is_some};
+ghost use Rattle.cf_semantics.specs.state.State.{siding_at};
+ghost use Rattle.cf_index.specs.PickedFrom.{from_leave, outward_on};
+ghost use Rattle.cf_index.specs.Ranks.{is_past};
+
+use crate::candidates::Candidates;
+use crate::rank::Rank;
+use cf_bind::Op;
+use cf_core::Core;
+
+/// Whether one of the cells has an operation.
+#[inline(always)]
+fn holds_some(cells: &[Option<Op>]) -> bool
+    ensures { result ≡ list_any is_some cells.now }
+{
+    cells.iter().any(|op| op.is_some())
+}
+
+/// Whether no siding has an operation.
+#[inline(always)]
+fn are_empty(core: &Core) -> bool
+    ensures { result ≡ true → (k : ℕ) → list_any is_some (siding_at core.now.state k) ≡ false }
+{
+    for k in 0..core.layout().siding_count() {
+        if holds_some(core.siding(k)) {
+            return false;
+        }
+    }
+    true
+}
+
+impl Candidates {
+    /// Whether no siding has an operation. Then the first move after the rank, of those after the stages, is Leave, Exit or Serve.
+    #[inline(always)]
+    #[tactic(auto, using(crate::proofs::EmptySidings::idle_outward))]
+    pub fn sidings_empty(core: &Core, last: Rank) -> bool
+        ensures { result ≡ true → find (is_past last) (from_leave core.now.plan core.now.state) ≡ find (is_past last) (outward_on core.now.plan core.now.state) }
+    {
+        let _last = last;
+        are_empty(core)
+    }
+}
