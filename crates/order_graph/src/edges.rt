@@ -24,7 +24,7 @@ use crate::trial::{Trial, note_trial};
 use cf_bind::Move;
 use mem_regions::Regions;
 use order_claims::WrongKind;
-use order_judging::{FailedTest, judge_move, judge_state};
+use order_judging::{FailedTest, ProgramSetting, StateSeen, judge_move, judge_state};
 use order_keys::Node;
 use order_model::Situation;
 use order_search::Edge;
@@ -139,19 +139,21 @@ fn fault_of_move(
     ensures fault { IfOk result (TellsFault (IsWrongFrom trial.now node.now m)) }
 {
     note_trial(trial);
-    let found = judge_move(
-        alloc,
-        trial.away,
-        &trial.layout,
-        &trial.image,
-        mem,
-        &node.changes,
-        trial.place(&node.situation),
-        &node.situation,
-        m,
-        &next.situation,
-        &next.changes,
-    )?;
+    let setting = ProgramSetting {
+        away: trial.away,
+        layout: &trial.layout,
+        image: &trial.image,
+    };
+    let from = StateSeen {
+        situation: &node.situation,
+        changes: &node.changes,
+    };
+    let after = StateSeen {
+        situation: &next.situation,
+        changes: &next.changes,
+    };
+    let place = trial.place(&node.situation);
+    let found = judge_move(alloc, setting, mem, place, from, m, after)?;
     Ok(told(found))
 }
 

@@ -42,79 +42,90 @@ pub enum FailedTest {
     Memory,
 }
 
+/// A loaded program under a layout, in the table of moves without one of its rules.
+#[derive(Clone, Copy)]
+pub struct ProgramSetting<'a> {
+    /// The rule that is taken away, if any.
+    pub away: Option<Rule>,
+
+    /// The layout.
+    pub layout: &'a LooseLayout,
+
+    /// The memory as it was loaded.
+    pub image: &'a Image,
+}
+
+/// A state.
+#[derive(Clone, Copy)]
+pub struct StateSeen<'a> {
+    /// The state, without its memory.
+    pub situation: &'a Situation,
+
+    /// How its memory differs from the loaded one.
+    pub changes: &'a Changes,
+}
+
 /// The test of a move that is the first to hold, where the machine is at this place.
 fn first_of_move(
     alloc: Global,
-    away: Option<Rule>,
-    layout: &LooseLayout,
-    image: &Image,
+    setting: ProgramSetting<'_>,
     mem: &mut Regions,
-    changes: &Changes,
     place: &Waypoint,
-    s: &Situation,
+    from: StateSeen<'_>,
     m: Move,
-    after: &Situation,
-    after_changes: &Changes,
+    after: StateSeen<'_>,
 ) -> Result<Option<FailedTest>, AllocError>
-    requires changes { AreChangesOf image.now mem.old changes.now }
-    requires place { AreChanges image.now place.now.changes }
+    requires changes { AreChangesOf setting.image.now mem.old from.changes.now }
+    requires place { AreChanges setting.image.now place.now.changes }
     ensures kept { mem.new ≡ mem.old }
-    ensures first { IfOk result (λ found. IsFirstOfMove
-        (RetiresApart (next_lines (set_of layout.now) place.now.next) (lines_without away layout.now s.now m))
-        (EndsApart place.now after.now.ending after.now.regs after_changes.now)
-        (IsServeThat m (IsServedApart (set_of layout.now) image.now place.now s.now.regs mem.old (at_top layout.now s.now)))
+    ensures first { let plan = setting.entry.layout.now in let s = from.entry.situation.now in let t = after.entry.situation.now in IfOk result (λ found. IsFirstOfMove
+        (RetiresApart (next_lines (set_of plan) place.now.next) (lines_without setting.entry.away plan s m))
+        (EndsApart place.now t.ending t.regs after.entry.changes.now)
+        (IsServeThat m (IsServedApart (set_of plan) setting.entry.image.now place.now s.regs mem.old (at_top plan s)))
         found) }
 {
-    if retires_apart(away, layout, place, s, m) {
+    let ProgramSetting {
+        away,
+        layout,
+        image,
+    } = setting;
+    if retires_apart(away, layout, place, from.situation, m) {
         return Ok(Some(FailedTest::Retired));
     }
-    if ends_apart(place, after, after_changes) {
+    if ends_apart(place, after.situation, after.changes) {
         return Ok(Some(FailedTest::Ended));
     }
-    if serves_apart(alloc, layout, image, mem, changes, place, s, m)? {
+    let s = from.situation;
+    if serves_apart(alloc, layout, image, mem, from.changes, place, s, m)? {
         return Ok(Some(FailedTest::Output));
     }
     Ok(None)
 }
 
 /// In what a list of moves is wrong by the tests of its last move, which is allowed and leads from this state to the
-/// one after; if it is. The memory is that of the state, which has these changes, and is left as it is. The place is
-/// that of the machine after as many steps as instructions have retired in the state.
+/// one after; if it is. The memory is that of the state, and is left as it is. The place is that of the machine after as
+/// many steps as instructions have retired in the state.
 pub fn judge_move(
     alloc: Global,
-    away: Option<Rule>,
-    layout: &LooseLayout,
-    image: &Image,
+    setting: ProgramSetting<'_>,
     mem: &mut Regions,
-    changes: &Changes,
     place: &Waypoint,
-    s: &Situation,
+    from: StateSeen<'_>,
     m: Move,
-    after: &Situation,
-    after_changes: &Changes,
+    after: StateSeen<'_>,
 ) -> Result<Option<FailedTest>, AllocError>
-    requires changes { AreChangesOf image.now mem.old changes.now }
-    requires place { AreChanges image.now place.now.changes }
-    requires after { in_memory after.now (reached away layout.now (in_memory s.now mem.old) m).mem ≡ reached away layout.now (in_memory s.now mem.old) m }
-    requires after_changes { AreChangesOf image.now (reached away layout.now (in_memory s.now mem.old) m).mem after_changes.now }
+    requires changes { AreChangesOf setting.image.now mem.old from.changes.now }
+    requires place { AreChanges setting.image.now place.now.changes }
+    requires after { let t = reached setting.away setting.layout.now (in_memory from.situation.now mem.old) m in in_memory after.situation.now t.mem ≡ t }
+    requires after_changes { AreChangesOf setting.image.now
+        (reached setting.away setting.layout.now (in_memory from.situation.now mem.old) m).mem after.changes.now }
     ensures kept { mem.new ≡ mem.old }
-    ensures judged { IfOk result (λ found. (x : MachineState) → IsPlaceOf (set_of layout.now) image.now x place.now →
-        IsMoveJudged away layout.now x (in_memory s.now mem.old) m found) }
+    ensures judged { IfOk result (λ found. (x : MachineState) →
+        IsPlaceOf (set_of setting.entry.layout.now) setting.entry.image.now x place.now →
+        IsMoveJudged setting.entry.away setting.entry.layout.now x (in_memory from.entry.situation.now mem.old) m found) }
 {
-    let _ = image.memory();
-    first_of_move(
-        alloc,
-        away,
-        layout,
-        image,
-        mem,
-        changes,
-        place,
-        s,
-        m,
-        after,
-        after_changes,
-    )
+    let _ = setting.image.memory();
+    first_of_move(alloc, setting, mem, place, from, m, after)
 }
 
 /// The test of a state that is the first to hold, where the machine is at this place.

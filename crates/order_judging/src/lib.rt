@@ -8,4 +8,4 @@ mod retiring;
 mod serving;
 mod states;
 
-pub use judging::{FailedTest, judge_move, judge_state};
+pub use judging::{FailedTest, ProgramSetting, StateSeen, judge_move, judge_state};

@@ -12,8 +12,8 @@ use Rattle.order_graph.proofs.EdgeFacts.{fault_told, judged_after, judged_change
 use Rattle.order_graph.proofs.Facts.{node_memory, node_place, order_node}
 use Rattle.order_graph.proofs.edges.fault_of_move.Goals as goal
 
-pub place-requires : goal.place-requires
-place-requires c = node_place c.args.trial.now c.args.node.now c.note_trial.ensures c.requires.node
+pub place-place-requires : goal.place-place-requires
+place-place-requires c = node_place c.args.trial.now c.args.node.now c.note_trial.ensures c.requires.node
 
 pub judge_move-requires-clause-changes : goal.judge_move-requires-clause-changes
 judge_move-requires-clause-changes c =
@@ -36,8 +36,8 @@ judge_move-requires-clause-after_changes c =
 
 pub returns-clause-fault : goal.returns-clause-fault
 returns-clause-fault c =
-    fault_told c.args.trial.now c.args.node.now c.args.m c.args.mem.now c.place.result.now c.in_ok-found.found c.told.result c.requires.memory
-    (node_place c.args.trial.now c.args.node.now c.note_trial.ensures c.requires.node) c.place.ensures.place
-    (subst (λ (t : OrderTrial). (x : Machine) → IsPlaceOf (isa_of t.plan) (memory_loaded t) x c.place.result.now →
+    fault_told c.args.trial.now c.args.node.now c.args.m c.args.mem.now c.place-place.result.now c.in_ok-found.found c.told.result c.requires.memory
+    (node_place c.args.trial.now c.args.node.now c.note_trial.ensures c.requires.node) c.place-place.ensures.place
+    (subst (λ (t : OrderTrial). (x : Machine) → IsPlaceOf (isa_of t.plan) (memory_loaded t) x c.place-place.result.now →
     IsMoveJudged t.away t.plan x (in_memory c.args.node.now.situation c.args.mem.now) c.args.m c.in_ok-found.found) c.trial.view_is c.in_ok-found.ensures.judged)
     c.told.ensures
