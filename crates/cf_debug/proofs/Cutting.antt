@@ -155,8 +155,8 @@ nothing_after at end piece same = empty (drop at (take end piece)) (omega (arith
 pub something_after : (at end : ℕ) (piece : List ℕ) → at < end → end ≤ length piece → 0 < length (drop at (take end piece))
 something_after at end piece low within = omega (arith, low, within, length-drop at (take end piece), length-take end piece)
 
-pub few_left : (at end : ℕ) (piece : List ℕ) → end ≤ 4096 → length (drop at (take end piece)) ≤ 4096
-few_left at end piece within = omega (arith, within, length-drop at (take end piece), length-take end piece)
+pub few_after : (at end : ℕ) (piece : List ℕ) → end ≤ 4096 → length (drop (at + 1) (take end piece)) < 4096
+few_after at end piece within = omega (arith, within, length-drop (at + 1) (take end piece), length-take end piece)
 
 pub fits_more : (n : ℕ) (line : List ℕ) (byte : ℕ) → length line < n → take n (line ++ byte ∷ []) ≡ line ++ byte ∷ []
 fits_more n line byte low = take_all n (line ++ byte ∷ []) (omega (arith, low, length-append line (byte ∷ [])))
@@ -167,11 +167,11 @@ full_before n line byte full = take-append-le n line (byte ∷ []) (omega (arith
 -- What comes next --
 
 -- a byte that was taken before
-pub feeds-used : (told : Option (List ℕ)) (now new : Feeding) (byte : ℕ) → now.rest ≡ byte ∷ new.rest → new.left ≡ now.left → length now.rest ≤ most_taken →
+pub feeds-used : (told : Option (List ℕ)) (now new : Feeding) (byte : ℕ) → now.rest ≡ byte ∷ new.rest → new.left ≡ now.left → length new.rest < most_taken →
     new.ended ≡ now.ended → now.ended ≡ false → Feeds told told now new (Byte byte)
 unfolding Feeds
 feeds-used told now new byte is left few same going =
-    ([], gives-none told, append-nil now.rest ∙ is, omega (arith, left), omega (arith, few, ap length is), same ∙ going)
+    ([], gives-none told, append-nil now.rest ∙ is, omega (arith, left), few, same ∙ going)
 
 -- a take that gave some bytes is not the end
 not_ended : (n : ℕ) (ended : Bool) → (n ≡ 0 → ⊥) → ended ≡ (n == 0) → ended ≡ false
@@ -195,6 +195,13 @@ feeds-taken before after now filled new byte none gives left few is still n some
   same ∙ not_ended n filled.ended some ended,
 )
 
+-- what is known after a take of the source alone
+same_rest : (now new : Feeding) (ended : Bool) → new.rest ≡ now.rest → new.left ≡ now.left → new.ended ≡ ended → new ≡ record now { ended = ended }
+same_rest now new ended rest left is =
+    ap (λ (r : List ℕ). record { rest = r; left = new.left; ended = new.ended }) rest
+    ∙ ap (λ (k : ℕ). record { rest = now.rest; left = k; ended = new.ended }) left
+    ∙ ap (λ (b : Bool). record { rest = now.rest; left = now.left; ended = b }) is
+
 -- nothing was taken, for the commands are at their end
 pub feeds-end : (before after : Option (List ℕ)) (now filled : Feeding) → now.rest ≡ [] → IsAtEnd before → GivesInput before after filled.rest →
     length filled.rest ≡ 0 → filled.left + length filled.rest ≡ now.left → (n : ℕ) → n ≡ 0 → filled.ended ≡ (n == 0) → Feeds before after now filled AtEnd
@@ -205,9 +212,7 @@ feeds-end before after now filled none end gives empty_rest left n none_taken en
       none,
       end,
       subst (GivesInput before after) nothing gives,
-      ap (λ (r : List ℕ). record { rest = r; left = filled.left; ended = filled.ended }) (nothing ∙ sym none)
-          ∙ ap (λ (k : ℕ). record { rest = now.rest; left = k; ended = filled.ended }) still
-          ∙ ap (λ (b : Bool). record { rest = now.rest; left = now.left; ended = b }) (is_ended n filled.ended none_taken ended),
+      same_rest now filled true (nothing ∙ sym none) still (is_ended n filled.ended none_taken ended),
     )
 
 -- or the take failed
@@ -217,12 +222,17 @@ unfolding Feeds
 feeds-fault before after now filled none same gives = (none, gives, same)
 
 -- a take of one byte
-pub one-more : {E : Type 0} (before after : Option (List ℕ)) (into new : List ℕ) (n : ℕ) (feed : Feeding) → length into ≡ 1 → length new ≡ 1 →
-    Takes {E = E} before after into new (Ok n) → (n ≡ 0 → ⊥) → feed.rest ≡ [] → feed.left ≡ 0 → Feeds before after feed feed TooMany
+pub one-more : {E : Type 0} (before after : Option (List ℕ)) (into new : List ℕ) (n : ℕ) (now later : Feeding) → length into ≡ 1 → length new ≡ 1 →
+    Takes {E = E} before after into new (Ok n) → (n ≡ 0 → ⊥) → now.rest ≡ [] → now.left ≡ 0 → now.ended ≡ false → later.rest ≡ now.rest →
+    later.left ≡ now.left - n → later.ended ≡ (n == 0) → Feeds before after now later TooMany
 unfolding Feeds
-one-more before after into new n feed one one_new takes some none spent =
-    let is_one : n ≡ 1 = omega (arith, takes.count, one, some_is n some) in
-    (none, spent, (of new one_new (subst (λ (k : ℕ). GivesFront before after new k) is_one takes.told)), refl)
+one-more before after into new n now later one one_new takes some none spent going same left ended =
+    let is_one : n ≡ 1 = omega (arith, takes.count, one, some_is n some) in (
+      none,
+      spent,
+      (of new one_new (subst (λ (k : ℕ). GivesFront before after new k) is_one takes.told)),
+      same_rest now later now.ended same (omega (arith, left, spent)) (not_ended n later.ended some ended ∙ sym going),
+    )
   where
     some_is : (n : ℕ) → (n ≡ 0 → ⊥) → 0 < n
     some_is zero some = absurd (some refl)
@@ -237,22 +247,26 @@ one-more before after into new n feed one one_new takes some none spent =
         front (Some left) after byte rest (within, same, left_is) =
             (drop 1 left, sym (take-append-drop 1 left) ∙ ap (λ (t : List ℕ). t ++ drop 1 left) (sym same), left_is)
 
-pub one-none : {E : Type 0} (before after : Option (List ℕ)) (into new : List ℕ) (n : ℕ) (feed filled : Feeding) → length into ≡ 1 →
-    Takes {E = E} before after into new (Ok n) → n ≡ 0 → feed.rest ≡ [] → filled ≡ record feed { ended = true } →
-    Feeds before after feed filled AtEnd
+pub one-none : {E : Type 0} (before after : Option (List ℕ)) (into new : List ℕ) (n : ℕ) (now later : Feeding) → length into ≡ 1 →
+    Takes {E = E} before after into new (Ok n) → n ≡ 0 → now.rest ≡ [] → later.rest ≡ now.rest → later.left ≡ now.left - n → later.ended ≡ (n == 0) →
+    Feeds before after now later AtEnd
 unfolding Feeds
-one-none before after into new n feed filled one takes zero_taken none same =
-    (none, takes.end zero_taken (omega (arith, one)), nothing before after new (subst (λ (k : ℕ). GivesFront before after new k) zero_taken takes.told), same)
+one-none before after into new n now later one takes zero_taken none same left ended = (
+  none,
+  takes.end zero_taken (omega (arith, one)),
+  nothing before after new (subst (λ (k : ℕ). GivesFront before after new k) zero_taken takes.told),
+  same_rest now later true same (omega (arith, left, zero_taken)) (is_ended n later.ended zero_taken ended),
+)
   where
     nothing : (before after : Option (List ℕ)) (new : List ℕ) → GivesFront before after new 0 → GivesInput before after []
     nothing None after new gives = tt
     nothing (Some left) after new (within, same, left_is) = (left, refl, left_is)
 
-pub one-failed : {E : Type 0} (before after : Option (List ℕ)) (into new : List ℕ) (e : E) (feed : Feeding) → Takes before after into new (Err e) →
-    feed.rest ≡ [] → Feeds before after feed feed Fault
+pub one-failed : {E : Type 0} (before after : Option (List ℕ)) (into new : List ℕ) (e : E) (now later : Feeding) → Takes before after into new (Err e) →
+    now.rest ≡ [] → later.rest ≡ now.rest → later.left ≡ now.left → later.ended ≡ now.ended → Feeds before after now later Fault
 unfolding Feeds
-one-failed before after into new e feed takes none =
-    (none, subst (λ (o : Option (List ℕ)). GivesInput before o []) (sym takes.unchanged.1) (gives-none before), refl)
+one-failed before after into new e now later takes none same left ended =
+    (none, subst (λ (o : Option (List ℕ)). GivesInput before o []) (sym takes.unchanged.1) (gives-none before), same_rest now later now.ended same left ended)
 
 -- One more byte, where a line has room for n --
 

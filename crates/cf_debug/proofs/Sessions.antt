@@ -35,12 +35,10 @@ pub record Comes (before : Session) (begin now : DebuggerState) (commands report
   pub answers : AnswersLines lines begin now before.report report
 
 -- before the first byte
-pub comes-first : (before : Session) (begin : DebuggerState) (line : List ℕ) (feed : Feeding) → line ≡ [] → feed ≡ record { rest = []; left = 16777216; ended = false } →
+pub comes-first : (before : Session) (begin : DebuggerState) (line : List ℕ) (feed : Feeding) → line ≡ [] → feed.rest ≡ [] → feed.left ≡ most_bytes →
     Comes before begin begin before.commands before.report line feed
 unfolding AnswersAll
-comes-first before begin line feed empty new =
-    let none : feed.rest ≡ [] = ap (λ (f : Feeding). f.rest) new in
-    let all : feed.left ≡ 16777216 = ap (λ (f : Feeding). f.left) new in
+comes-first before begin line feed empty none all =
     record {
       used = [];
       gives = subst (GivesInput before.commands before.commands) (sym none) (gives-none before.commands);
@@ -120,10 +118,7 @@ pub comes-nearer : (commands after : Option (List ℕ)) (feed next : Feeding) (b
 unfolding Feeds
 comes-nearer commands after feed next byte (taken, gives, is, left, few, going) = omega (arith, left, ap length is, length-append feed.rest taken)
 
--- a feed is made before the end, and a byte of it is not the end
-pub goes-first : (feed : Feeding) → feed ≡ record { rest = []; left = 16777216; ended = false } → feed.ended ≡ false
-goes-first feed new = ap (λ (f : Feeding). f.ended) new
-
+-- a byte is not the end
 pub goes-more : (commands after : Option (List ℕ)) (feed next : Feeding) (byte : ℕ) → Feeds commands after feed next (Byte byte) → next.ended ≡ false
 unfolding Feeds
 goes-more commands after feed next byte (taken, gives, is, left, few, going) = going

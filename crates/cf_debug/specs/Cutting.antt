@@ -3,6 +3,7 @@ use Rattle.std.specs.Prelude.{◌≡◌, ◌≢◌, Bool, true, false, ℕ, ◌+
 use Rattle.cf_io.specs.Takes.{IsAtEnd}
 use Rattle.rv_machine.specs.Streams.{GivesInput}
 use Rattle.rv_text.specs.Lines.{without_return}
+use Rattle.cf_debug.specs.declared.command_source.CommandSource.{CommandSource}
 use Rattle.cf_debug.specs.declared.feed.Next.{Next}
 use Rattle.cf_debug.specs.declared.feed.Next.TheVariants.{Byte, AtEnd, TooMany, Fault}
 use Rattle.cf_debug.specs.Limits.{longest_line, most_taken}
@@ -40,6 +41,10 @@ pub record Feeding : Type 0 where
   pub rest : List ℕ
   pub left : ℕ
   pub ended : Bool
+
+-- those bytes, with what is known of the source that they come from
+abbrev pub feeding : {S : Type 0} → List ℕ → CommandSource S → Feeding
+feeding rest commands = record { rest = rest; left = commands.left; ended = commands.ended }
 
 -- the next byte of the commands: where no byte that was taken is left, some are taken; or the commands are at their
 -- end, or longer than the limit, or a take failed

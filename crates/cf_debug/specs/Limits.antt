@@ -1,5 +1,5 @@
 -- The limits of a session (of this project).
-use Rattle.std.specs.Prelude.{ℕ}
+use Rattle.std.specs.Prelude.{ℕ, ◌==◌, min, if◌then◌else◌}
 
 -- the greatest number of bytes of all commands
 abbrev pub most_bytes : ℕ
@@ -12,6 +12,10 @@ longest_line = 256
 -- the greatest number of bytes that one take asks for
 abbrev pub most_taken : ℕ
 most_taken = 4096
+
+-- how many bytes a take asks for where this many may still be taken: one where none may, to see whether there are more
+abbrev pub room_for : ℕ → ℕ
+room_for left = if left == 0 then 1 else min left most_taken
 
 -- the greatest number of instructions that retire
 abbrev pub most_retired : ℕ

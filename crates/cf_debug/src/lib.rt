@@ -1,10 +1,10 @@
 //! The debugger: commands, one a line, that make moves of the processor, show it, and take moves back.
 #![tactic(auto)]
 
-mod allowance;
 mod answer;
 mod carrying;
 mod command;
+mod command_source;
 mod debugger_state;
 mod driving;
 mod feed;

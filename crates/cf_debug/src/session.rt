@@ -5,7 +5,7 @@ ghost use Rattle.cf_io.specs.Causes.{HasCause};
 ghost use Rattle.cf_core.specs.Processors.{IsOpened};
 ghost use Rattle.cf_debug.specs.declared.command.DebugCommand.TheVariants as commands;
 ghost use Rattle.cf_debug.specs.Lending.{debugger_state_left, debugger_state_lent};
-ghost use Rattle.cf_debug.specs.Limits.{most_retired};
+ghost use Rattle.cf_debug.specs.Limits.{most_bytes, most_retired};
 ghost use Rattle.cf_debug.specs.Making.{processor_state};
 ghost use Rattle.cf_debug.specs.Outcomes.{output_broken, report_broken};
 ghost use Rattle.cf_debug.specs.Sessions.{Debugs, LineLeaves, FinishesSession, UsesByte, commands_ended, ended_by, output_ended, report_ended, session_of};
@@ -14,6 +14,7 @@ ghost use Rattle.cf_debug.specs.Standing.{IsOnRun, StandsSomewhere};
 use crate::answer::{Broken, Debugged};
 use crate::carrying::{carry_out, told};
 use crate::command::DebugCommand;
+use crate::command_source::CommandSource;
 use crate::debugger_state::DebuggerState;
 use crate::feed::{Feed, Next};
 use crate::pending::PendingLine;
@@ -116,6 +117,54 @@ fn finish<K: Sink, R: Sink>(
     }
 }
 
+/// Answers the commands, one a line, until one of them is `end` or there are no more. Nothing was taken of their source.
+fn answer_commands<S: Source, K: Sink, R: Sink>(
+    core: &mut Core,
+    candidates: &mut Candidates,
+    ring: &mut Ring,
+    commands: &mut CommandSource<'_, S>,
+    output: &mut K,
+    report: &mut R,
+) -> Debugged
+    requires opened { IsOpened core.old }
+    requires retired { core.old.state.retired ≤ most_retired }
+    requires ring { ring.old ≡ [] }
+    requires left { commands.old.left ≡ most_bytes }
+    requires going { commands.old.ended ≡ false }
+    ensures same { commands.new.inner.ghost_name ≡ commands.old.inner.ghost_name }
+    ensures session { Debugs
+        (session_of (processor_state core.old ring.old (K.written output.old)) (S.left commands.old.inner.now) (R.written report.old))
+        (session_of (processor_state core.new ring.new (K.written output.new)) (S.left commands.new.inner.now) (R.written report.new))
+        result }
+    ensures on_run { IsOnRun core.old core.new (K.written output.old) (K.written output.new) result }
+    ensures commands { HasCause (S.faults commands.old.inner.now) (S.faults commands.new.inner.now) (commands_ended (Some result)) }
+    ensures output { HasCause (K.faults output.old) (K.faults output.new) (output_ended (Some result)) }
+    ensures report { HasCause (R.faults report.old) (R.faults report.new) (report_ended (Some result)) }
+{
+    known(core);
+    let mut stop = None;
+    let mut line = PendingLine::new();
+    let mut feed = Feed::new();
+    loop {
+        let debugger = DebuggerState {
+            core,
+            candidates,
+            ring,
+            stop: &mut stop,
+        };
+        match feed.next(commands) {
+            Next::Byte(byte) => {
+                if let Some(answer) = use_byte(byte, &mut line, debugger, output, report) {
+                    return answer;
+                }
+            }
+            Next::AtEnd => return finish(&line, debugger, output, report),
+            Next::TooMany => return Debugged::Limit,
+            Next::Fault => return Debugged::ReadFault,
+        }
+    }
+}
+
 /// A session of the debugger on an opened processor: answers the commands, one a line, until one of them is `end` or
 /// there are no more. The ring has to be empty. It allocates no memory.
 ///
@@ -148,26 +197,6 @@ pub fn debug<S: Source, K: Sink, R: Sink>(
     ensures output { HasCause (K.faults output.old) (K.faults output.new) (output_ended (Some result)) }
     ensures report { HasCause (R.faults report.old) (R.faults report.new) (report_ended (Some result)) }
 {
-    known(core);
-    let mut stop = None;
-    let mut line = PendingLine::new();
-    let mut feed = Feed::new();
-    loop {
-        let debugger = DebuggerState {
-            core,
-            candidates,
-            ring,
-            stop: &mut stop,
-        };
-        match feed.next(commands) {
-            Next::Byte(byte) => {
-                if let Some(answer) = use_byte(byte, &mut line, debugger, output, report) {
-                    return answer;
-                }
-            }
-            Next::AtEnd => return finish(&line, debugger, output, report),
-            Next::TooMany => return Debugged::Limit,
-            Next::Fault => return Debugged::ReadFault,
-        }
-    }
+    let mut source = CommandSource::new(commands);
+    answer_commands(core, candidates, ring, &mut source, output, report)
 }

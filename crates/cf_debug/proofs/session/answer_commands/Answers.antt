@@ -1,14 +1,15 @@
 use Rattle.std.proofs.Common.{refl, ◌∙◌}
 use Rattle.cf_debug.proofs.Answering.{finishes-fed, uses-fed}
 use Rattle.cf_debug.proofs.OnRun.{finishes-on_run, uses-on_run, uses-stand}
-use Rattle.cf_debug.proofs.Sessions.{comes-first, comes-more, comes-nearer, ends-at_line, ends-byte, ends-fault, ends-last, ends-limit, goes-first, goes-more}
+use Rattle.cf_debug.proofs.Sessions.{comes-first, comes-more, comes-nearer, ends-at_line, ends-byte, ends-fault, ends-last, ends-limit, goes-more}
 use Rattle.cf_debug.proofs.Standing.{stands-first, stands-on_run}
-use Rattle.cf_debug.proofs.session.debug.Goals as goal
+use Rattle.cf_debug.proofs.session.answer_commands.Goals as goal
 
 pub loop-byte-init : goal.loop-byte-init
 loop-byte-init g c = record {
-  comes = comes-first _ _ _ _ c.new-line.ensures c.new-feed.ensures;
-  going = goes-first _ c.new-feed.ensures;
+  same = refl;
+  comes = comes-first _ _ _ _ c.new-line.ensures c.new-feed.ensures c.requires.left;
+  going = c.requires.going;
   stands = stands-first _ _ _ c.requires.opened c.known.ensures.registers c.requires.ring;
   accepted = c.known.ensures.accepted;
   commands = refl;
@@ -33,6 +34,7 @@ loop-byte-smaller g c = comes-nearer _ _ _ _ _ c.in-Byte.ensures.feeds
 
 pub loop-byte-preserved : goal.loop-byte-preserved
 loop-byte-preserved g c = record {
+  same = c.in-Byte.ensures.same ∙ c.loop-byte.invariant.same;
   comes = comes-more _ _ _ _ _ _ _ _ _ _ _ _ _ c.loop-byte.invariant.comes c.in-Byte.ensures.feeds c.in_default.ensures.uses;
   going = goes-more _ _ _ _ _ c.in-Byte.ensures.feeds;
   stands = uses-stand _ _ _ _ _ _ _ _ _ c.loop-byte.invariant.stands c.in_default.ensures.uses;
