@@ -10,6 +10,7 @@ use Rattle.cf_layout.specs.Accepted.{IsAccepted}
 use Rattle.cf_core.specs.Processors.{Processor}
 use Rattle.cf_run.specs.Made.{Made}
 use Rattle.cf_timed.specs.declared.answer.Timed.{Timed}
+use Rattle.cf_timed.specs.declared.answer.TimedRun.{TimedRun}
 use Rattle.cf_timed.specs.declared.move_lines.MoveLines.{MoveLines}
 use Rattle.cf_timed.specs.declared.timed_move.TimedMove.{TimedMove}
 use Rattle.cf_timed.specs.Clocks.{SiteTimes}
@@ -76,10 +77,10 @@ breaks-shown r rule limit core before first blank full acc wide can fresh_is h =
 
 -- both
 pub goes-shown : (r : GuessRule) (rule : DelayRule) (limit : ℕ) (core new : Processor) (before after : Streams) (clock : SiteTimes) (first later : MoveLines)
-    (blank full : Option (List ℕ)) (moves : ℕ) (result : Result Timed Failed) → IsAccepted core.plan → length core.state.regs ≡ 32 → CanRunTimed limit core →
-    first ≡ record { count = 0 } → GoesWatched counts writes r rule limit (begins core before) new after clock first later blank full moves result →
-    GoesShown r rule limit (begins core before) new after clock blank full moves result
-goes-shown r rule limit core new before after clock first later blank full moves (Ok answer) acc wide can fresh_is h =
-    runs-shown r rule limit core new before after clock first later blank full moves answer acc wide can fresh_is h
-goes-shown r rule limit core new before after clock first later blank full moves (Err failed) acc wide can fresh_is h =
+    (blank full : Option (List ℕ)) (result : Result TimedRun Failed) → IsAccepted core.plan → length core.state.regs ≡ 32 → CanRunTimed limit core →
+    first ≡ record { count = 0 } → GoesWatched counts writes r rule limit (begins core before) new after clock first later blank full result →
+    GoesShown r rule limit (begins core before) new after clock blank full result
+goes-shown r rule limit core new before after clock first later blank full (Ok run) acc wide can fresh_is h =
+    runs-shown r rule limit core new before after clock first later blank full run.moves run.answer acc wide can fresh_is h
+goes-shown r rule limit core new before after clock first later blank full (Err failed) acc wide can fresh_is h =
     breaks-shown r rule limit core before first blank full acc wide can fresh_is h

@@ -27,6 +27,7 @@ use Rattle.cf_run.proofs.Headline.{comes_sequentially}
 use Rattle.cf_run.proofs.Stopping.{comes_here}
 use Rattle.cf_sched.specs.Paces.{stopped}
 use Rattle.cf_timed.specs.declared.answer.Timed.{Timed}
+use Rattle.cf_timed.specs.declared.answer.TimedRun.{TimedRun}
 use Rattle.cf_timed.specs.declared.step.TimedStep.{TimedStep}
 use Rattle.cf_timed.specs.declared.timed_move.TimedMove.{TimedMove}
 use Rattle.cf_timed.specs.Clocks.{SiteTimes, started}
@@ -156,8 +157,8 @@ runs-watched noted text r rule limit core new before after now tally clock last 
 
 -- it went one way or the other
 pub goes-broken : {W : Type 0} (noted : W → Made → TimedMove → W) (text : W → Made → TimedMove → List ℕ) (r : GuessRule) (rule : DelayRule) (limit : ℕ)
-    (begin : RunPlace) (core : Processor) (streams : Streams) (clock : SiteTimes) (first later : W) (blank full : Option (List ℕ)) (moves : ℕ)
-    (result : Result Timed Failed) → IsErr result → BreaksWatched noted text r rule limit begin first blank full →
-    GoesWatched noted text r rule limit begin core streams clock first later blank full moves result
-goes-broken noted text r rule limit begin core streams clock first later blank full moves (Ok answer) failed h = absurd (false≢true failed)
-goes-broken noted text r rule limit begin core streams clock first later blank full moves (Err e) failed h = h
+    (begin : RunPlace) (core : Processor) (streams : Streams) (clock : SiteTimes) (first later : W) (blank full : Option (List ℕ))
+    (result : Result TimedRun Failed) → IsErr result → BreaksWatched noted text r rule limit begin first blank full →
+    GoesWatched noted text r rule limit begin core streams clock first later blank full result
+goes-broken noted text r rule limit begin core streams clock first later blank full (Ok run) failed h = absurd (false≢true failed)
+goes-broken noted text r rule limit begin core streams clock first later blank full (Err e) failed h = h

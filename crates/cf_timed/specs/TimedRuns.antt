@@ -21,6 +21,7 @@ use Rattle.cf_run.specs.Moving.{RunPlace, place_of}
 use Rattle.cf_run.specs.Policies.{CanRun, Chooser, Picks, RunsRight, first_pick, fresh, later_picks, most_moves}
 use Rattle.cf_run.specs.Reaching.{Reaches, no_tally}
 use Rattle.cf_timed.specs.declared.answer.Timed.{Timed}
+use Rattle.cf_timed.specs.declared.answer.TimedRun.{TimedRun}
 use Rattle.cf_timed.specs.declared.answer.Timed.TheVariants.{Exit, Trap, Limit, ReadFault, WriteFault}
 use Rattle.cf_timed.specs.declared.timed_move.TimedMove.{TimedMove}
 use Rattle.cf_timed.specs.Clocks.{SiteTimes, ClockKnows, rule_of, started}
@@ -42,11 +43,10 @@ pub record CanRunTimed (limit : ℕ) (core : Processor) : Type 0 where
   pub can_run : CanRun limit core
   pub few : limit ≤ most_timed_limit
 
--- a timed run may begin: a run may, and no move has been recorded by the clock or counted
-pub record CanBegin (limit : ℕ) (core : Processor) (clock : SiteTimes) (moves : ℕ) : Type 0 where
+-- a timed run may begin: a run may, and no move has been recorded by the clock
+pub record CanBegin (limit : ℕ) (core : Processor) (clock : SiteTimes) : Type 0 where
   pub can_run : CanRunTimed limit core
   pub clock_is : clock ≡ started core.plan (rule_of clock)
-  pub none_made : moves ≡ 0
 
 -- the counts of the faults of the input and of the output, before and after: that of whichever failed the run
 -- rose
@@ -106,10 +106,10 @@ BreaksWatched noted text r rule limit begin first blank full =
 
 -- a watched run comes to its end, or its report fails
 abbrev pub GoesWatched : {W : Type 0} → (noted : W → Made → TimedMove → W) → (text : W → Made → TimedMove → List ℕ) → GuessRule → DelayRule → ℕ →
-    RunPlace → Processor → Streams → SiteTimes → (first later : W) → (blank full : Option (List ℕ)) → ℕ → Result Timed Failed → Type 0
-GoesWatched noted text r rule limit begin core streams clock first later blank full moves (Ok answer) =
-    RunsWatched noted text r rule limit begin core streams clock first later blank full moves answer
-GoesWatched noted text r rule limit begin core streams clock first later blank full moves (Err failed) =
+    RunPlace → Processor → Streams → SiteTimes → (first later : W) → (blank full : Option (List ℕ)) → Result TimedRun Failed → Type 0
+GoesWatched noted text r rule limit begin core streams clock first later blank full (Ok run) =
+    RunsWatched noted text r rule limit begin core streams clock first later blank full run.moves run.answer
+GoesWatched noted text r rule limit begin core streams clock first later blank full (Err failed) =
     BreaksWatched noted text r rule limit begin first blank full
 
 -- the lines of the moves of a run from its start
@@ -123,11 +123,11 @@ pub record RunsShown (r : GuessRule) (rule : DelayRule) (limit : ℕ) (begin : R
   pub put : Writes blank full (lines_from begin rule run.right.runs.reaches.trace)
 
 -- it comes to its end, or its report fails
-abbrev pub GoesShown : GuessRule → DelayRule → ℕ → RunPlace → Processor → Streams → SiteTimes → (blank full : Option (List ℕ)) → ℕ → Result Timed Failed → Type 0
-GoesShown r rule limit begin core streams clock blank full moves (Ok answer) = RunsShown r rule limit begin core streams clock blank full moves answer
-GoesShown r rule limit begin core streams clock blank full moves (Err failed) = BreaksTimed (lines_from begin rule) r rule limit begin blank full
+abbrev pub GoesShown : GuessRule → DelayRule → ℕ → RunPlace → Processor → Streams → SiteTimes → (blank full : Option (List ℕ)) → Result TimedRun Failed → Type 0
+GoesShown r rule limit begin core streams clock blank full (Ok run) = RunsShown r rule limit begin core streams clock blank full run.moves run.answer
+GoesShown r rule limit begin core streams clock blank full (Err failed) = BreaksTimed (lines_from begin rule) r rule limit begin blank full
 
 -- its answer, if it came to its end
-abbrev pub answered : Result Timed Failed → Option Answer
-answered (Ok answer) = Some (answer_of answer)
+abbrev pub answered : Result TimedRun Failed → Option Answer
+answered (Ok run) = Some (answer_of run.answer)
 answered (Err failed) = None

@@ -18,3 +18,13 @@ pub enum Timed {
     /// The output failed in a call of the environment.
     WriteFault,
 }
+
+/// How a timed run finished, and how many moves it made.
+#[derive(Clone, Copy)]
+pub struct TimedRun {
+    /// How it finished.
+    pub answer: Timed,
+
+    /// How many moves it made.
+    pub moves: u64,
+}

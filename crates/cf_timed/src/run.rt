@@ -13,9 +13,10 @@ ghost use Rattle.cf_timed.specs.Clocks.{rule_of};
 ghost use Rattle.cf_timed.specs.TimedRuns.{CanBegin, GoesShown, GoesWatched, HasCauses, RunsTimed, answer_of, answered, begins};
 ghost use Rattle.cf_timed.specs.Turns.{TurnsTimed, stop_of};
 
-use crate::answer::Timed;
+use crate::answer::{Timed, TimedRun};
 use crate::clock::Clock;
 use crate::move_lines::MoveLines;
+use crate::options::TimedOptions;
 use crate::step::TimedStep;
 use crate::timed_move::TimedMove;
 use crate::watcher::{Unwatched, Watcher};
@@ -25,7 +26,6 @@ use cf_io::{Failed, Nowhere, Sink, Source};
 use cf_report::Tally;
 use cf_run::{Ran, Reporting, Show, known, make_and_show, over};
 use cf_sched::Pace;
-use run_options::GuessRule;
 
 /// Makes the move that finishes earliest, or returns why the run stops.
 #[inline(always)]
@@ -110,25 +110,23 @@ pub fn run_watched<W: Watcher, S: Source, K: Sink, R: Sink>(
     candidates: &mut Candidates,
     clock: &mut Clock,
     watcher: &mut W,
-    rule: GuessRule,
-    limit: u64,
+    options: TimedOptions,
     input: &mut S,
     output: &mut K,
     report: &mut R,
-    moves: &mut u64,
-) -> Result<Timed, Failed>
-    requires begins { CanBegin limit core.old clock.old moves.old }
-    ensures run { GoesWatched W.noted W.text rule (rule_of clock.old) limit
+) -> Result<TimedRun, Failed>
+    requires begins { CanBegin options.limit core.old clock.old }
+    ensures run { GoesWatched W.noted W.text options.rule (rule_of clock.old) options.limit
         (begins core.old (streams_of (S.left input.old) (K.written output.old)))
         core.new (streams_of (S.left input.new) (K.written output.new)) clock.new watcher.old watcher.new
-        (R.written report.old) (R.written report.new) moves.new result }
-    ensures bounded { IfOk result (λ answer. moves.new ≤ most_moves core.old.plan (core.new.state.retired - core.old.state.retired)) }
+        (R.written report.old) (R.written report.new) result }
+    ensures bounded { IfOk result (λ run. run.moves ≤ most_moves core.old.plan (core.new.state.retired - core.old.state.retired)) }
     ensures causes { HasCauses (S.faults input.old) (S.faults input.new) (K.faults output.old) (K.faults output.new) (answered result) }
     ensures report { HasCause (R.faults report.old) (R.faults report.new) result }
 {
     known(core);
     clock.known();
-    let mut pace = Pace::new(rule, core.layout().stages());
+    let mut pace = Pace::new(options.rule, core.layout().stages());
     let mut tally = Tally {
         moves: 0,
         meets: 0,
@@ -137,12 +135,21 @@ pub fn run_watched<W: Watcher, S: Source, K: Sink, R: Sink>(
     };
     loop {
         let step = match advance(
-            core, candidates, clock, &mut pace, limit, input, output, &mut tally,
+            core,
+            candidates,
+            clock,
+            &mut pace,
+            options.limit,
+            input,
+            output,
+            &mut tally,
         ) {
             Ok(step) => step,
             Err(ran) => {
-                *moves = tally.moves;
-                return Ok(timed(ran));
+                return Ok(TimedRun {
+                    answer: timed(ran),
+                    moves: tally.moves,
+                });
             }
         };
         watcher.note(core, &step.event, &step.done, report)?;
@@ -154,35 +161,31 @@ pub fn run_timed<S: Source, K: Sink>(
     core: &mut Core,
     candidates: &mut Candidates,
     clock: &mut Clock,
-    rule: GuessRule,
-    limit: u64,
+    options: TimedOptions,
     input: &mut S,
     output: &mut K,
-    moves: &mut u64,
-) -> Timed
-    requires begins { CanBegin limit core.old clock.old moves.old }
-    ensures run { RunsTimed rule (rule_of clock.old) limit
+) -> TimedRun
+    requires begins { CanBegin options.limit core.old clock.old }
+    ensures run { RunsTimed options.rule (rule_of clock.old) options.limit
         (begins core.old (streams_of (S.left input.old) (K.written output.old)))
-        core.new (streams_of (S.left input.new) (K.written output.new)) clock.new moves.new result }
-    ensures bounded { moves.new ≤ most_moves core.old.plan (core.new.state.retired - core.old.state.retired) }
-    ensures causes { HasCauses (S.faults input.old) (S.faults input.new) (K.faults output.old) (K.faults output.new) (Some (answer_of result)) }
+        core.new (streams_of (S.left input.new) (K.written output.new)) clock.new result.moves result.answer }
+    ensures bounded { result.moves ≤ most_moves core.old.plan (core.new.state.retired - core.old.state.retired) }
+    ensures causes { HasCauses (S.faults input.old) (S.faults input.new) (K.faults output.old) (K.faults output.new) (Some (answer_of result.answer)) }
 {
     let ran = run_watched(
         core,
         candidates,
         clock,
         &mut Unwatched,
-        rule,
-        limit,
+        options,
         input,
         output,
         &mut Nowhere,
-        moves,
     );
     match ran {
-        Ok(answer) => answer,
+        Ok(run) => run,
         // A sink that keeps nothing never fails.
-        Err(Failed) => Timed::Limit,
+        Err(Failed) => unreachable!(),
     }
 }
 
@@ -192,19 +195,17 @@ pub fn run_shown<S: Source, K: Sink, R: Sink>(
     core: &mut Core,
     candidates: &mut Candidates,
     clock: &mut Clock,
-    rule: GuessRule,
-    limit: u64,
+    options: TimedOptions,
     input: &mut S,
     output: &mut K,
     report: &mut R,
-    moves: &mut u64,
-) -> Result<Timed, Failed>
-    requires begins { CanBegin limit core.old clock.old moves.old }
-    ensures run { GoesShown rule (rule_of clock.old) limit
+) -> Result<TimedRun, Failed>
+    requires begins { CanBegin options.limit core.old clock.old }
+    ensures run { GoesShown options.rule (rule_of clock.old) options.limit
         (begins core.old (streams_of (S.left input.old) (K.written output.old)))
         core.new (streams_of (S.left input.new) (K.written output.new)) clock.new
-        (R.written report.old) (R.written report.new) moves.new result }
-    ensures bounded { IfOk result (λ answer. moves.new ≤ most_moves core.old.plan (core.new.state.retired - core.old.state.retired)) }
+        (R.written report.old) (R.written report.new) result }
+    ensures bounded { IfOk result (λ run. run.moves ≤ most_moves core.old.plan (core.new.state.retired - core.old.state.retired)) }
     ensures causes { HasCauses (S.faults input.old) (S.faults input.new) (K.faults output.old) (K.faults output.new) (answered result) }
     ensures report { HasCause (R.faults report.old) (R.faults report.new) result }
 {
@@ -214,11 +215,9 @@ pub fn run_shown<S: Source, K: Sink, R: Sink>(
         candidates,
         clock,
         &mut MoveLines::new(),
-        rule,
-        limit,
+        options,
         input,
         output,
         report,
-        moves,
     )
 }

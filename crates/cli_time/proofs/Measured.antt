@@ -170,9 +170,8 @@ clock-started core plan hart rule clock is e =
 
 -- so a timed run may begin
 pub can-begin : (limit : ℕ) (core : Processor) (plan : Plan) (hart : Hart) (rule : DelayRule) (clock : SiteTimes) →
-    limit ≤ most_timed_limit → hart.retired ≡ 0 → core ≡ opened plan hart → clock ≡ started plan rule → CanBegin limit core clock 0
+    limit ≤ most_timed_limit → hart.retired ≡ 0 → core ≡ opened plan hart → clock ≡ started plan rule → CanBegin limit core clock
 can-begin limit core plan hart rule clock few none is begun = record {
   can_run = record { can_run = can-run limit core plan hart (omega (arith, few)) none is; few = few };
   clock_is = clock-started core plan hart rule clock is begun;
-  none_made = refl;
 }

@@ -20,7 +20,7 @@ use cf_core::Core;
 use cf_index::Candidates;
 use cf_io::{Failed, Nowhere, Sink};
 use cf_layout::Layout;
-use cf_timed::{Clock, Timed, run_shown, run_timed};
+use cf_timed::{Clock, Timed, TimedOptions, TimedRun, run_shown, run_timed};
 use cli_files::open_again;
 use run_ledger::{Breakdown, RunLedger, run_noted};
 use run_options::TimeShow;
@@ -41,22 +41,26 @@ pub struct Measured {
     pub sites: Option<Breakdown>,
 }
 
-/// What is measured of a run that ended in this way.
-fn measurement(
-    core: &Core,
-    answer: Timed,
-    clock: &Clock,
-    moves: u64,
-    sites: Option<Breakdown>,
-) -> Measured
-    ensures { result ≡ record { answer = answer; time = clock.now.latest; moves = moves; retired = core.now.state.retired; sites = sites } }
+/// What is measured of this run.
+fn measurement(core: &Core, run: TimedRun, clock: &Clock, sites: Option<Breakdown>) -> Measured
+    ensures { result ≡ record { answer = run.answer; time = clock.now.latest; moves = run.moves; retired = core.now.state.retired; sites = sites } }
 {
     Measured {
-        answer,
+        answer: run.answer,
         time: clock.greatest(),
-        moves,
+        moves: run.moves,
         retired: core.retired(),
         sites,
+    }
+}
+
+/// The options of a timed run among these.
+fn timed_options(options: RunChoices) -> TimedOptions
+    ensures { result ≡ record { rule = options.rule; limit = options.limit } }
+{
+    TimedOptions {
+        rule: options.rule,
+        limit: options.limit,
     }
 }
 
@@ -68,24 +72,21 @@ fn take_time(
     options: RunChoices,
     input: &[u8],
 ) -> Measured
-    requires begins { CanBegin options.limit core.old clock 0 }
+    requires begins { CanBegin options.limit core.old clock }
     requires shown { options.show ≡ shows.Nothing }
     ensures takes { MeasuresRun (rule_of clock) options core.old.plan core.old input.now (record { measured = result; shown = [] }) }
     ensures causes { HasCauses 0 0 0 0 (Some (answer_of result.answer)) }
 {
     let mut clock = clock;
-    let mut moves = 0;
-    let answer = run_timed(
+    let run = run_timed(
         core,
         candidates,
         &mut clock,
-        options.rule,
-        options.limit,
+        timed_options(options),
         &mut GuestInput { rest: input },
         &mut Nowhere,
-        &mut moves,
     );
-    measurement(core, answer, &clock, moves, None)
+    measurement(core, run, &clock, None)
 }
 
 /// The same with a ledger that was told of no move either, which then says what the time is made of.
@@ -96,26 +97,23 @@ fn take_sites(
     options: RunChoices,
     input: &[u8],
 ) -> Measured
-    requires begins { CanBegin options.limit core.old clock 0 }
+    requires begins { CanBegin options.limit core.old clock }
     requires shown { options.show ≡ shows.Sites }
     ensures takes { MeasuresRun (rule_of clock) options core.old.plan core.old input.now (record { measured = result; shown = [] }) }
     ensures causes { HasCauses 0 0 0 0 (Some (answer_of result.answer)) }
 {
     let mut clock = clock;
     let mut ledger = RunLedger::new(core.layout());
-    let mut moves = 0;
-    let answer = run_noted(
+    let run = run_noted(
         core,
         candidates,
         &mut clock,
         &mut ledger,
-        options.rule,
-        options.limit,
+        timed_options(options),
         &mut GuestInput { rest: input },
         &mut Nowhere,
-        &mut moves,
     );
-    measurement(core, answer, &clock, moves, Some(ledger.breakdown()))
+    measurement(core, run, &clock, Some(ledger.breakdown()))
 }
 
 /// The same without a ledger, and with a line for each move in the report.
@@ -127,7 +125,7 @@ fn take_moves<R: Sink>(
     input: &[u8],
     report: &mut R,
 ) -> Result<Measured, Failed>
-    requires begins { CanBegin options.limit core.old clock 0 }
+    requires begins { CanBegin options.limit core.old clock }
     requires shown { options.show ≡ shows.Moves }
     ensures takes { MatchResult result
         (PutsRun (rule_of clock) options core.old.plan core.old input.now (R.written report.old) (R.written report.new))
@@ -136,19 +134,16 @@ fn take_moves<R: Sink>(
     ensures report { HasCause (R.faults report.old) (R.faults report.new) result }
 {
     let mut clock = clock;
-    let mut moves = 0;
-    let answer = run_shown(
+    let run = run_shown(
         core,
         candidates,
         &mut clock,
-        options.rule,
-        options.limit,
+        timed_options(options),
         &mut GuestInput { rest: input },
         &mut Nowhere,
         report,
-        &mut moves,
     )?;
-    Ok(measurement(core, answer, &clock, moves, None))
+    Ok(measurement(core, run, &clock, None))
 }
 
 /// Runs an opened processor by a clock that was told of no move, and shows of it what the options say.
@@ -160,7 +155,7 @@ fn take_run<R: Sink>(
     input: &[u8],
     report: &mut R,
 ) -> Result<Measured, Failed>
-    requires begins { CanBegin options.limit core.old clock 0 }
+    requires begins { CanBegin options.limit core.old clock }
     ensures takes { MatchResult result
         (PutsRun (rule_of clock) options core.old.plan core.old input.now (R.written report.old) (R.written report.new))
         (λ failed. BreaksTaking (rule_of clock) options core.old input.now (R.written report.old) (R.written report.new)) }

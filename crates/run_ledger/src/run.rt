@@ -13,8 +13,7 @@ use cf_core::Core;
 use cf_index::Candidates;
 use cf_io::{Failed, Nowhere, Sink, Source};
 use cf_run::known;
-use cf_timed::{Clock, Timed, run_watched};
-use run_options::GuessRule;
+use cf_timed::{Clock, TimedOptions, TimedRun, run_watched};
 
 /// Runs an opened processor as `run_timed` of cf_timed does, by a clock and with a ledger that have recorded no move.
 /// The ledger records the same moves as the clock. It allocates no memory and always terminates.
@@ -23,19 +22,17 @@ pub fn run_noted<S: Source, K: Sink>(
     candidates: &mut Candidates,
     clock: &mut Clock,
     ledger: &mut RunLedger,
-    rule: GuessRule,
-    limit: u64,
+    options: TimedOptions,
     input: &mut S,
     output: &mut K,
-    moves: &mut u64,
-) -> Timed
+) -> TimedRun
     requires ledger { ledger.old ≡ begun core.old.plan }
-    requires begins { CanBegin limit core.old clock.old moves.old }
-    ensures run { RunsNoted rule (rule_of clock.old) limit
+    requires begins { CanBegin options.limit core.old clock.old }
+    ensures run { RunsNoted options.rule (rule_of clock.old) options.limit
         (begins core.old (streams_of (S.left input.old) (K.written output.old)))
-        core.new (streams_of (S.left input.new) (K.written output.new)) clock.new ledger.new moves.new result }
-    ensures bounded { moves.new ≤ most_moves core.old.plan (core.new.state.retired - core.old.state.retired) }
-    ensures causes { HasCauses (S.faults input.old) (S.faults input.new) (K.faults output.old) (K.faults output.new) (Some (answer_of result)) }
+        core.new (streams_of (S.left input.new) (K.written output.new)) clock.new ledger.new result.moves result.answer }
+    ensures bounded { result.moves ≤ most_moves core.old.plan (core.new.state.retired - core.old.state.retired) }
+    ensures causes { HasCauses (S.faults input.old) (S.faults input.new) (K.faults output.old) (K.faults output.new) (Some (answer_of result.answer)) }
 {
     known(core);
     clock.known();
@@ -44,16 +41,14 @@ pub fn run_noted<S: Source, K: Sink>(
         candidates,
         clock,
         ledger,
-        rule,
-        limit,
+        options,
         input,
         output,
         &mut Nowhere,
-        moves,
     );
     match ran {
-        Ok(answer) => answer,
+        Ok(run) => run,
         // A sink that keeps nothing never fails.
-        Err(Failed) => Timed::Limit,
+        Err(Failed) => unreachable!(),
     }
 }

@@ -69,7 +69,7 @@ loop-step-preserved g c =
 pub returns-in_err-note-clause-run : goal.returns-in_err-note-clause-run
 returns-in_err-note-clause-run g c =
     let turns = rw c.loop-step.invariant.rule at c.in-Ok.ensures.turns in
-    goes-broken _ _ _ _ _ _ _ _ _ _ _ _ _ _ c.from_residual.result c.from_residual.ensures.0
+    goes-broken _ _ _ _ _ _ _ _ _ _ _ _ _ c.from_residual.result c.from_residual.ensures.0
     (watched-breaks _ _ _ _ _ _ _ _ _ _ _ _ _ _ _ _ _ _
     (is-begun _ _ _ c.known.ensures.accepted c.known.ensures.registers c.requires.begins.can_run c.known-2.ensures) c.loop-step.invariant.comes
     c.loop-step.invariant.within turns c.in_err-note.ensures.text.front)

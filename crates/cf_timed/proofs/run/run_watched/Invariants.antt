@@ -15,15 +15,15 @@ invariant-loop-step g l =
     let start : RunPlace = place_of l.initial.core (streams_of (left l.initial.input) (written l.initial.output)) None l.initial.tally in
     let now : RunPlace = place_of l.core (streams_of (left l.input) (written l.output)) None l.tally in
     record {
-      comes : ComesWatched g.W.Watcher.noted g.W.Watcher.text l.fn.rule (rule_of l.initial.clock) l.limit start now l.clock l.initial.watcher l.watcher
+      comes : ComesWatched g.W.Watcher.noted g.W.Watcher.text l.options.rule (rule_of l.initial.clock) l.options.limit start now l.clock l.initial.watcher l.watcher
           (reported l.initial.report) (reported l.report) l.pace.count;
-      rule : l.pace.rule ≡ l.fn.rule;
+      rule : l.pace.rule ≡ l.options.rule;
       stages : l.pace.stages ≡ l.core.plan.stages;
-      within : l.core.state.retired ≤ l.limit;
+      within : l.core.state.retired ≤ l.options.limit;
       input : g.S.Source.faults l.input ≡ g.S.Source.faults l.initial.input;
       output : g.K.Sink.faults l.output ≡ g.K.Sink.faults l.initial.output;
       report : g.R.Sink.faults l.report ≡ g.R.Sink.faults l.initial.report;
     }
 
 abbrev pub decreases-loop-step : goal.decreases-loop-step
-decreases-loop-step g l = most_moves l.initial.core.plan l.limit - l.tally.moves
+decreases-loop-step g l = most_moves l.initial.core.plan l.options.limit - l.tally.moves

@@ -10,4 +10,4 @@ returns-clause-takes g c =
     subst (λ (m : Measured). PutsRun (rule_of c.args.clock) c.args.options c.args.core.now.plan c.args.core.now c.args.input.now (g.R.Sink.written c.args.report.now)
     (g.R.Sink.written c.run_shown.new.report) m)
     (sym c.measurement.ensures)
-    (takes-moves (rule_of c.args.clock) c.args.options c.args.core.now _ c.args.input.now _ _ _ _ _ c.requires.shown c.in_ok-answer.ensures.run refl refl c.in_ok-answer.ensures.bounded refl)
+    (takes-moves (rule_of c.args.clock) c.args.options c.args.core.now _ c.args.input.now _ _ _ _ _ c.requires.shown (rw c.timed_options.ensures at c.in_ok-run.ensures.run) refl refl c.in_ok-run.ensures.bounded refl)

@@ -10,8 +10,8 @@ pub returns-clause-takes : goal.returns-clause-takes
 returns-clause-takes c =
     subst (λ (m : Measured). MeasuresRun (rule_of c.args.clock) c.args.options c.args.core.now.plan c.args.core.now c.args.input.now (record { measured = m; shown = [] }))
     (sym c.measurement.ensures)
-    (takes-time (rule_of c.args.clock) c.args.options c.args.core.now _ c.args.input.now _ _ _ c.requires.shown c.run_timed-answer.ensures.run refl refl c.run_timed-answer.ensures.bounded refl)
+    (takes-time (rule_of c.args.clock) c.args.options c.args.core.now _ c.args.input.now _ _ _ c.requires.shown (rw c.timed_options.ensures at c.run_timed-run.ensures.run) refl refl c.run_timed-run.ensures.bounded refl)
 
 pub returns-clause-causes : goal.returns-clause-causes
 returns-clause-causes c =
-    subst (λ (m : Measured). HasCauses 0 0 0 0 (Some (answer_of m.answer))) (sym c.measurement.ensures) c.run_timed-answer.ensures.causes
+    subst (λ (m : Measured). HasCauses 0 0 0 0 (Some (answer_of m.answer))) (sym c.measurement.ensures) c.run_timed-run.ensures.causes
