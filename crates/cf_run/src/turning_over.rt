@@ -129,7 +129,7 @@ fn take_issue<S: Source, K: Sink, R: Sink>(
 
 /// Makes the Issue that the rule picks where no other move comes after its last pick, if it picks one, and answers where the next
 /// sweep begins. There is none where no move was made since so many were counted.
-#[inline(never)]
+#[inline(always)]
 fn start_over<S: Source, K: Sink, R: Sink>(
     core: &mut Core,
     last: Move,
@@ -339,7 +339,7 @@ fn sweep_leaving<S: Source, K: Sink, R: Sink>(
 }
 
 /// Makes the moves of the kinds after those over the stages that the rule picks one after another.
-#[inline(never)]
+#[inline(always)]
 fn sweep_outward<S: Source, K: Sink, R: Sink>(
     core: &mut Core,
     from: SweepPlace,
@@ -392,7 +392,8 @@ fn sweep_outward<S: Source, K: Sink, R: Sink>(
 
 /// Makes moves that the rule picks one after another, round after round, where the search starts over after the last pick, until the
 /// next one is to be looked for among all moves.
-#[inline(always)]
+// A call of its own, with all parts of a round but the sweep over the stages in it.
+#[inline(never)]
 pub(crate) fn sweep_rounds<S: Source, K: Sink, R: Sink>(
     core: &mut Core,
     last: Move,
