@@ -64,7 +64,8 @@ times-all words options delays plans start blank told full times place named ans
     )
 
 -- the report failed at that line
-pub times-break : (words : List NamedLayout) (options : RunChoices) (delays : List Span) (plans : List Plan) (start : Machine) (blank told full : Option (List ℕ))
+pub times-break : (words : List NamedLayout) (options : RunChoices) (delays : List Span) (plans : List Plan) (start : Machine)
+    (blank told full : Option (List ℕ))
     (times : List ℕ) (place : ℕ) (named : NamedLayout) → PutsAll words options delays plans start blank told times →
     IsFirstLeast times place → slice_get words place ≡ Some named → WritesFront told full (least_line named) →
     BreaksTimes words options delays plans start blank full

@@ -8,7 +8,8 @@ use Rattle.cf_layout.specs.Layout.{Plan}
 use Rattle.cli_arguments.specs.Words.{NamedLayout}
 use Rattle.cli_files.specs.Reads.{layout_files, files_of_layouts, input_files, WereRead}
 use Rattle.cli_files.specs.declared.status.Status.{Status}
-use Rattle.cli_files.proofs.Reading.{AllRead, none-read, one-read, more-read, were-all, were-before, were-after, were-lacking, layout-read, layout-lacking, program-read, program-lacking}
+use Rattle.cli_files.proofs.Reading.{AllRead, none-read, one-read, more-read, were-all, were-before, were-after, were-lacking, layout-read}
+use Rattle.cli_files.proofs.Reading.{layout-lacking, program-read, program-lacking}
 use Rattle.cli_time.specs.Asked.{TimeAsked, TimeFiles}
 use Rattle.cf_timed.specs.Limits.{most_delays}
 use Rattle.cli_time.specs.DelayFiles.{IsDelaysAt, LacksDelays}

@@ -1,5 +1,6 @@
 -- Layouts that are read one after another.
-use Rattle.std.proofs.Common.{◌≡◌, ◌∙◌, ℕ, suc, ◌+◌, List, [], ◌∷◌, ◌++◌, length, map, take, drop, ◌<◌, String, Option, Some, refl, sym, ap, subst, inl, inr, arith}
+use Rattle.std.proofs.Common.{◌≡◌, ◌∙◌, ℕ, suc, ◌+◌, List, [], ◌∷◌, ◌++◌, length, map, take, drop, ◌<◌, String, Option, Some, refl, sym, ap}
+use Rattle.std.proofs.Common.{subst, inl, inr, arith}
 use Rattle.std.specs.Prelude.{codes, slice_get, slice_index_or, string_bytes}
 use Rattle.std.specs.Global.{Global}
 use Rattle.cf_io.specs.Reads.{FilesSeen}

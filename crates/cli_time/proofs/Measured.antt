@@ -77,7 +77,8 @@ takes rule options core last bytes left clock measured shown runs time retired b
 }
 
 -- nothing was shown
-pub takes-time : (rule : DelayRule) (options : RunChoices) (core last : Processor) (bytes left : List ℕ) (clock : SiteTimes) (measured : Measured) → options.show ≡ shows.Nothing →
+pub takes-time : (rule : DelayRule) (options : RunChoices) (core last : Processor) (bytes left : List ℕ) (clock : SiteTimes) (measured : Measured) →
+    options.show ≡ shows.Nothing →
     RunsTimed options.rule rule options.limit (begins core (over bytes)) last (over left) clock measured.moves measured.answer →
     measured.time ≡ clock.latest → measured.retired ≡ last.state.retired →
     measured.moves ≤ most_moves core.plan (last.state.retired - core.state.retired) → measured.sites ≡ None →
@@ -88,7 +89,8 @@ takes-time rule options core last bytes left clock measured shown runs time reti
     (ap (λ (show : TimeShow). lines_of show rule (begins core (over bytes)) runs.right.runs.reaches.trace) (sym shown))
 
 -- the ledger tells of the same run
-pub takes-sites : (rule : DelayRule) (options : RunChoices) (core last : Processor) (bytes left : List ℕ) (clock : SiteTimes) (ledger : RunLedger) (measured : Measured)
+pub takes-sites : (rule : DelayRule) (options : RunChoices) (core last : Processor) (bytes left : List ℕ) (clock : SiteTimes) (ledger : RunLedger)
+    (measured : Measured)
     (made : Breakdown) → options.show ≡ shows.Sites →
     RunsNoted options.rule rule options.limit (begins core (over bytes)) last (over left) clock ledger measured.moves measured.answer →
     measured.time ≡ clock.latest → measured.retired ≡ last.state.retired →
@@ -101,7 +103,8 @@ takes-sites rule options core last bytes left clock ledger measured made shown n
     (ap (λ (show : TimeShow). lines_of show rule (begins core (over bytes)) noted.timed.right.runs.reaches.trace) (sym shown))
 
 -- the moves were shown
-pub takes-moves : (rule : DelayRule) (options : RunChoices) (core last : Processor) (bytes left : List ℕ) (clock : SiteTimes) (blank full : Option (List ℕ)) (measured : Measured) →
+pub takes-moves : (rule : DelayRule) (options : RunChoices) (core last : Processor) (bytes left : List ℕ) (clock : SiteTimes) (blank full : Option (List ℕ))
+    (measured : Measured) →
     options.show ≡ shows.Moves →
     RunsShown options.rule rule options.limit (begins core (over bytes)) last (over left) clock blank full measured.moves measured.answer →
     measured.time ≡ clock.latest → measured.retired ≡ last.state.retired →

@@ -1,5 +1,6 @@
 -- The runs on the first layouts and their lines, and those of the next one.
-use Rattle.std.proofs.Common.{◌≡◌, ◌∙◌, sym, ap, subst, refl, ℕ, ◌+◌, ◌<◌, List, [], ◌∷◌, ◌++◌, length, map, append-nil, append_assoc, Option, Some, inl, inr, true, false, Result, Ok, Err, Bool, arith}
+use Rattle.std.proofs.Common.{◌≡◌, ◌∙◌, sym, ap, subst, refl, ℕ, ◌+◌, ◌<◌, List, [], ◌∷◌, ◌++◌, length, map, append-nil, append_assoc}
+use Rattle.std.proofs.Common.{Option, Some, inl, inr, true, false, Result, Ok, Err, Bool, arith}
 use Rattle.cf_timed.specs.declared.span.Span.{Span}
 use Rattle.std.specs.Prelude.{slice_get, is_err}
 use Rattle.std.proofs.lemmas.List.{length-append}
@@ -22,7 +23,8 @@ use Rattle.cli_time.specs.declared.measuring.Measured.{Measured}
 use Rattle.cli_time.proofs.Lists.{map-next}
 
 -- one more run
-pub measures-next : (delays : List Span) (options : RunChoices) (start : Machine) (plans : List Plan) (earlier : List TakenRun) (plan : Plan) (next : TakenRun) →
+pub measures-next : (delays : List Span) (options : RunChoices) (start : Machine) (plans : List Plan) (earlier : List TakenRun) (plan : Plan)
+    (next : TakenRun) →
     MeasuresFirst delays options start plans earlier → slice_get plans (length earlier) ≡ Some plan → Measures delays options plan start next →
     MeasuresFirst delays options start plans (earlier ++ next ∷ [])
 measures-next delays options start [] [] plan next h e m = absurd (cc)
@@ -138,9 +140,11 @@ pub rows-break : {T E : Type 0} (words : List NamedLayout) (options : RunChoices
     slice_get words place ≡ Some word → slice_get plans place ≡ Some plan → PutsMoves delays options plan start told between next →
     PutsText between full middle later (closing_lines options.limit word next) r → failed ≡ is_err r → failed ≡ true →
     BreaksAtLayout words options delays plans start blank full
-rows-break words options delays plans start blank told between full before now middle later place times word plan next (Ok u) failed h at_word at_plan measures puts
+rows-break words options delays plans start blank told between full before now middle later place times word plan next
+    (Ok u) failed h at_word at_plan measures puts
     is some = absurd (cc)
-rows-break words options delays plans start blank told between full before now middle later place times word plan next (Err e) failed h at_word at_plan measures puts
+rows-break words options delays plans start blank told between full before now middle later place times word plan next
+    (Err e) failed h at_word at_plan measures puts
     is some = inl (record {
       measured = h.measured;
       each = h.each;

@@ -9,6 +9,7 @@ use Rattle.cli_time.proofs.comparing.time_each.Given as goal
 -- the lines of the layouts so far are put
 abbrev pub invariant-loop-place : goal.invariant-loop-place
 invariant-loop-place g l =
-    RowsPut (map layout_in (map string_bytes l.words)) l.options l.ready.delays (vec_items l.ready.layouts) (machine_on (opened (vec_items l.ready.image)) l.input)
+    RowsPut (map layout_in (map string_bytes l.words)) l.options l.ready.delays (vec_items l.ready.layouts)
+    (machine_on (opened (vec_items l.ready.image)) l.input)
     (g.R.Sink.written l.initial.report) (g.R.Sink.written l.report) (g.R.Sink.faults l.initial.report) (g.R.Sink.faults l.report)
     l.place l.times.items
