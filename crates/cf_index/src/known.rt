@@ -4,7 +4,7 @@ ghost use Rattle.std.specs.Prelude.{◌≡◌, ◌-◌, ◌<◌, true, None};
 ghost use Rattle.cf_layout.specs.Words.{has_bit as is_bit_set};
 ghost use Rattle.cf_semantics.specs.moves.Bars.{bar};
 
-use crate::stages::{climbs, executes, falls, launches, meets, sends};
+use crate::stages::{climbs, executes, falls, goes_on, launches, meets, sends};
 use cf_bind::Move;
 use cf_core::Core;
 use cf_stages::has_bit;
@@ -28,11 +28,11 @@ pub fn is_known_allowed(core: &Core, mv: Move) -> bool
 {
     let masks = core.masks();
     match mv {
-        Move::Climb(i) => has_stage(climbs(core, &masks), i),
-        Move::Fall(i) => has_stage(falls(core, &masks), i),
-        Move::Meet(i) => has_stage(meets(core, &masks), i),
+        Move::Climb(i) => has_stage(climbs(core, &masks, goes_on(core)), i),
+        Move::Fall(i) => has_stage(falls(core, &masks, goes_on(core)), i),
+        Move::Meet(i) => has_stage(meets(core, &masks, goes_on(core)), i),
         Move::Execute(i) => has_stage(executes(core, &masks), i),
-        Move::Send(i) => has_stage(sends(core, &masks), i),
+        Move::Send(i) => has_stage(sends(core, &masks, goes_on(core)), i),
         Move::Launch(i) => has_stage(launches(core, &masks), i),
         Move::Recover(i) => has_stage(masks.recover, i),
         Move::Emit => core.may_emit(),
