@@ -128,7 +128,7 @@ fn take_issue<S: Source, K: Sink, R: Sink>(
 }
 
 /// Makes the Issue that the rule picks where no other move comes after its last pick, if it picks one, and answers where the next
-/// sweep begins. There is none where no move was made since so many were counted.
+/// sweep begins. There is none where no move was made since this many were counted.
 #[inline(always)]
 fn start_over<S: Source, K: Sink, R: Sink>(
     core: &mut Core,
