@@ -28,8 +28,7 @@ fn debug_opened<S: Source, K: Sink, R: Sink>(
     requires ring { ring.old ≡ [] }
     ensures { CarriesOutRun
         (λ before after blank answer shown closing. AnswersSession opened.old.core before after answer (shown ++ closing))
-        (BreaksSession opened.old.core)
-        (run_change S.Source K.Sink R.Sink streams.entry streams.exit) result }
+        (BreaksSession opened.old.core) (run_change S.Source K.Sink R.Sink streams.entry streams.exit) result }
 {
     let RunStreams {
         input,
@@ -57,8 +56,7 @@ fn debug_loaded<S: Source, K: Sink, R: Sink>(
     requires count { loaded.machine.retired ≡ 0 }
     ensures { CarriesOutRun
         (λ before after blank answer shown closing. ComesOfCommands loaded.layout loaded.machine before after answer (shown ++ closing))
-        (BreaksSession (opened loaded.layout loaded.machine))
-        (run_change S.Source K.Sink R.Sink streams.entry streams.exit) result }
+        (BreaksSession (opened loaded.layout loaded.machine)) (run_change S.Source K.Sink R.Sink streams.entry streams.exit) result }
 {
     let Ok(mut ring) = Ring::new(alloc) else {
         return Ok(put_answer(no_memory(), streams.report));
@@ -83,8 +81,7 @@ pub fn debug_program<F: Files, S: Source, K: Sink, R: Sink>(
 ) -> Result<Reported, Failed>
     ensures { CarriesOutCommand
         (λ before after blank answer shown closing. AnswersDebug (layout_of layout.entry) program.now before after answer (shown ++ closing))
-        (BreaksDebug (layout_of layout.entry) program.now)
-        (outside_change F.Files S.Source K.Sink R.Sink files.old files.new streams.entry streams.exit) result }
+        (BreaksDebug (layout_of layout.entry) program.now) (outside_change F.Files S.Source K.Sink R.Sink files.old files.new streams.entry streams.exit) result }
 {
     match load(alloc, layout, program, files) {
         Ok(loaded) => debug_loaded(alloc, loaded, streams),
