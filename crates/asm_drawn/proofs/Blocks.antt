@@ -10,7 +10,7 @@ use Rattle.rv_text.specs.Reading.{aimed, distance_of}
 use Rattle.rv_asm.specs.declared.place.SectionPlace.{SectionPlace}
 use Rattle.rv_asm.specs.declared.item.Far.{Far}
 use Rattle.rv_asm.specs.Items.{SourceItem, Nothing, Section, Export, Single, Double, Near, Distant, Numbers, Chars, Zeros, size_of, is_code}
-use Rattle.rv_asm.specs.Places.{address_of, place_after, fits_at}
+use Rattle.rv_asm.specs.Places.{section_address, place_after, fits_at}
 use Rattle.rv_asm.specs.Labels.{LabelView, value_of_label}
 use Rattle.rv_asm.specs.Pieces.{Word, near_instr, instruction_pieces, pieces_of}
 use Rattle.rv_asm.specs.Pseudos.{reaching}
@@ -27,7 +27,7 @@ and-none false = refl
 
 -- whatever fits into the text
 pub fits_text : (t : ℕ) (item : SourceItem) → t % 4 ≡ 0 → t + size_of item ≤ 1048576 → fits_at (text_at t) item ≡ Ok tt
-unfolding fits_at address_of
+unfolding fits_at section_address
 fits_text t item even small =
     let aligned : ((65536 + t) % 4 == 0) ≡ true = grind (arith, nat_tests) in
     let short : nat_lt 1048576 (t + size_of item) ≡ false = grind (arith, nat_tests) in
@@ -137,7 +137,7 @@ total_aligned (e ∷ es) h =
 pub block_goes : (values : Values) (final : List LabelView) (es rest : List Entry) (t : ℕ) (labels : List LabelView)
     → AreCode es → t % 4 ≡ 0 → t + total es ≤ 1048576 → AllHavePieces values t es
     → Goes values final rest (text_at (t + total es)) labels → Goes values final (es ++ rest) (text_at t) labels
-unfolding address_of
+unfolding section_address
 block_goes values final [] rest t labels code even small has after =
     let same : t + 0 ≡ t = omega arith in
     subst (λ (n : ℕ). Goes values final rest (text_at n) labels) same after

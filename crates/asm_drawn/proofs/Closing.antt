@@ -8,7 +8,7 @@ use Rattle.rv_text.specs.Reading.{aimed, distance_of, is_distance}
 use Rattle.rv_asm.specs.declared.item.Far.TheVariants as far
 use Rattle.rv_asm.specs.Items.{Nothing, Section}
 use Rattle.rv_asm.specs.Labels.{LabelView, value_of_label}
-use Rattle.rv_asm.specs.Places.{address_of, place_after, fits_at}
+use Rattle.rv_asm.specs.Places.{section_address, place_after, fits_at}
 use Rattle.rv_asm.specs.Pieces.{pieces_of}
 use Rattle.cf_gen.specs.Statements.{label_text}
 use Rattle.asm_drawn.proofs.Entries.{Entry}
@@ -98,7 +98,7 @@ has_numbers b number c small k low =
 data_goes : (labels : List LabelView) (c t : ℕ) → AreNew labels → t % 4 ≡ 0 → t ≤ 1048576
     → Goes (value_of_label (with_text labels c)) (with_text labels c) (data_line ∷ buf_line ∷ space_line ∷ digits_line ∷ ascii_line ∷ [])
     (text_at t) (with_digit labels c)
-unfolding place_after fits_at address_of pieces_of
+unfolding place_after fits_at section_address pieces_of
 data_goes labels c t new even small =
     goes_on _ _ data_line _ (text_at t) (with_digit labels c) (with_digit labels c) data_line_is refl (fits_text t (Section false) even (omega arith))
     (record { pieces = []; placed = λ others same. refl })
@@ -201,7 +201,7 @@ pub ending_goes : (labels : List LabelView) (c : ℕ) → AreNew labels → c % 
     → Goes (value_of_label (with_text labels c)) (with_text labels c)
     (gathering ++ hex_line ∷ converting ++ digit_line ∷ writing ++ data_line ∷ buf_line ∷ space_line ∷ digits_line ∷ ascii_line ∷ [])
     (text_at c) labels
-unfolding address_of
+unfolding section_address
 ending_goes labels c new even small =
     let has = has_labels labels c new in
     let last = data_goes labels c (c + 116) new (omega arith) (omega arith) in

@@ -7,7 +7,7 @@ use Rattle.rv_inst.specs.declared.instruction.ImmOp.TheVariants as immop
 use Rattle.rv_inst.specs.declared.instruction.RegOp.TheVariants as regop
 use Rattle.rv_inst.specs.declared.instruction.Instr.TheVariants as instr
 use Rattle.rv_text.specs.declared.statement.Jump.TheVariants as jump
-use Rattle.rv_text.specs.Fields.{register_in, number_in}
+use Rattle.rv_text.specs.Fields.{register_in_text, number_operand}
 use Rattle.rv_text.specs.Numbers.{is_numeral, numeral, magnitude, number_of}
 use Rattle.rv_text.specs.Pieces.{without_front, without_end, trimmed, name_part, operand_part, operand_count, operand_at}
 use Rattle.rv_text.specs.Registers.{register_numbered, register_padded, register_of}
@@ -140,7 +140,7 @@ data_line_is = record { plain = refl; label = refl; item = λ pc. refl }
 
 pub space_line_is : IsEntry space_line
 unfolding said label_in statement_in has_label is_name_start is_name_byte quote_after trimmed without_front without_end name_part
-    operand_part operand_count operand_at statement_read named_read directive_named directive_read one_number count_is number_in number_of
+    operand_part operand_count operand_at statement_read named_read directive_named directive_read one_number count_is number_operand number_of
     magnitude numeral is_numeral
 space_line_is = record { plain = refl; label = refl; item = λ pc. refl }
 
@@ -152,5 +152,5 @@ ascii_line_is = record { plain = refl; label = refl; item = λ pc. refl }
 pub buffer_line_is : IsEntry buffer_line
 unfolding said label_in statement_in has_label is_name_start is_name_byte quote_after trimmed without_front without_end name_part
     operand_part operand_count operand_at statement_read named_read directive_named pseudo_named pseudo_read address_read reached count_is
-    register_in register_of register_padded register_numbered numeral is_numeral
+    register_in_text register_of register_padded register_numbered numeral is_numeral
 buffer_line_is = record { plain = refl; label = refl; item = λ pc. refl }

@@ -10,9 +10,9 @@ use Rattle.rv_text.specs.Reading.{aimed, distance_of, is_distance}
 use Rattle.rv_asm.specs.declared.place.SectionPlace.{SectionPlace}
 use Rattle.rv_asm.specs.Items.{SourceItem, Nothing, Near, size_of, is_code}
 use Rattle.rv_asm.specs.Labels.{LabelView, value_of_label}
-use Rattle.rv_asm.specs.Places.{address_of, place_after}
+use Rattle.rv_asm.specs.Places.{section_address, place_after}
 use Rattle.rv_asm.specs.Assembling.{with_label}
-use Rattle.cf_gen.specs.Draws.{state_after}
+use Rattle.cf_gen.specs.Draws.{state_after_draws}
 use Rattle.cf_gen.specs.declared.choice.Operation.{Operation}
 use Rattle.cf_gen.specs.declared.choice.Operation.TheVariants.{Add, Sub, Xor, Or, Sltu, Sll, Addi, Sw, Lw, Blt}
 use Rattle.cf_gen.specs.declared.choice.Choice.{Choice}
@@ -28,7 +28,7 @@ use Rattle.asm_drawn.proofs.Labels.{label_entry, label_is_entry}
 -- a label is new
 pub fresh_label : (labels : List LabelView) (place : SectionPlace) (name : List ℕ) → value_of_label labels name ≡ None
     → with_label labels place (Some name)
-    ≡ Ok (labels ++ record { name = name; value = address_of place; in_text = place.in_text; global = false } ∷ [])
+    ≡ Ok (labels ++ record { name = name; value = section_address place; in_text = place.in_text; global = false } ∷ [])
 fresh_label labels place name e = rw e refl
 
 abbrev pub start_label : LabelView
@@ -45,7 +45,7 @@ next_fresh b k small = numbered_fresh b k small
 -- the lines of the i-th statement
 abbrev pub statement_lines : ℕ → ℕ → List Entry
 statement_lines number i =
-    let choice = choice_of (state_after (8 + 5 * (i - 1)) number) in
+    let choice = choice_of (state_after_draws (8 + 5 * (i - 1)) number) in
     label_entry i
     ∷ indented (instruction_text choice.operation choice (branch_label number i)) (stands_for choice.operation choice (branch_label number i))
     ∷ []
@@ -124,7 +124,7 @@ statement_one Blt choice i = record { code = refl; four = refl }
 pub label_goes : (values : Values) (final : List LabelView) (b a : ℕ) (rest : List Entry) → a < 2 ^ 20 → b % 4 ≡ 0 → b + 4 * a < 2 ^ 20
     → Goes values final rest (text_at (b + 4 * a)) (labels_before b (suc a))
     → Goes values final (label_entry (suc a) ∷ rest) (text_at (b + 4 * a)) (labels_before b a)
-unfolding address_of
+unfolding section_address
 label_goes values final b a rest low even small after =
     goes_on values final (label_entry (suc a)) rest (text_at (b + 4 * a)) (labels_before b a) (labels_before b (suc a))
     (label_is_entry (suc a) (omega arith))
@@ -138,7 +138,7 @@ instruction_goes : (values : Values) (final : List LabelView) (operation : Opera
     → Goes values final
     (indented (instruction_text operation choice (branch_label number (suc a))) (stands_for operation choice (branch_label number (suc a))) ∷ rest)
     (text_at (b + 4 * a)) (labels_before b (suc a))
-unfolding address_of
+unfolding section_address
 instruction_goes values final operation choice number b a rest c has small even low after =
     let i = branch_label number (suc a) in
     let item = stands_for operation choice (branch_label number (suc a)) in
@@ -158,10 +158,11 @@ statement_goes : (values : Values) (final : List LabelView) (number b a : ℕ) (
     → Goes values final rest (text_at (b + 4 * suc a)) (labels_before b (suc a))
     → Goes values final (statement_lines number (suc a) ++ rest) (text_at (b + 4 * a)) (labels_before b a)
 statement_goes values final number b a rest has small even low after =
-    let x = state_after (8 + 5 * (suc a - 1)) number in
+    let x = state_after_draws (8 + 5 * (suc a - 1)) number in
     label_goes values final b a _ (omega arith) even (omega arith)
-    (instruction_goes values final (choice_of (state_after (8 + 5 * (suc a - 1)) number)).operation (choice_of (state_after (8 + 5 * (suc a - 1)) number))
-    number b a rest (choice_fits (state_after (8 + 5 * (suc a - 1)) number)) has small even low after)
+    (instruction_goes values final (choice_of (state_after_draws (8 + 5 * (suc a - 1)) number)).operation
+    (choice_of (state_after_draws (8 + 5 * (suc a - 1)) number))
+    number b a rest (choice_fits (state_after_draws (8 + 5 * (suc a - 1)) number)) has small even low after)
 
 -- the statements from the i-th on, and what follows them
 pub statements_go : (values : Values) (final : List LabelView) (number b m i a : ℕ) (rest : List Entry)

@@ -4,12 +4,12 @@ use Rattle.std.specs.Prelude.{codes, decimal}
 use Rattle.std.specs.Fmt.{digits}
 use Rattle.std.specs.List.{flat_map, range_with_len}
 use Rattle.std.proofs.lemmas.Fmt.{length-decimal-le}
-use Rattle.cf_gen.specs.Draws.{state_after, drawn}
+use Rattle.cf_gen.specs.Draws.{state_after_draws, drawn_below}
 use Rattle.cf_gen.specs.declared.choice.Operation.{Operation}
 use Rattle.cf_gen.specs.declared.choice.Operation.TheVariants.{Add, Sub, Xor, Or, Sltu, Sll, Addi, Sw, Lw, Blt}
 use Rattle.cf_gen.specs.declared.choice.Choice.{Choice}
 use Rattle.cf_gen.specs.Statements.{choice_of, register_operand, label_text, two_registers, three_registers, register_and_word, instruction_text}
-use Rattle.cf_gen.specs.Program.{statement, label_line, load_line, opening_text, branch_label, drawn_statement, numbered_statement, statements_text, ending_text, closing_text, program_text}
+use Rattle.cf_gen.specs.Program.{statement, label_line, load_line, opening_text, branch_label, drawn_statement, numbered_statement, statements_text, last_lines, closing_text, program_text}
 use Rattle.asm_drawn.proofs.Statements.{IsChoice, choice_fits, three_is, word_is}
 
 two_digits : (n : ℕ) → n < 100 → length (decimal n) ≤ 2
@@ -104,10 +104,10 @@ two_lines name text h k =
 statement_length : (number i : ℕ) → number ≤ 30000 → i ≤ 30000 → length (numbered_statement number i) ≤ 33
 unfolding drawn_statement
 statement_length number i most low =
-    let x = state_after (8 + 5 * (i - 1)) number in
+    let x = state_after_draws (8 + 5 * (i - 1)) number in
     two_lines (label_text i) _ (label_length i (omega arith))
-    (instruction_length (choice_of (state_after (8 + 5 * (i - 1)) number)).operation (choice_of (state_after (8 + 5 * (i - 1)) number))
-    (branch_label number i) (choice_fits (state_after (8 + 5 * (i - 1)) number)) (omega arith))
+    (instruction_length (choice_of (state_after_draws (8 + 5 * (i - 1)) number)).operation (choice_of (state_after_draws (8 + 5 * (i - 1)) number))
+    (branch_label number i) (choice_fits (state_after_draws (8 + 5 * (i - 1)) number)) (omega arith))
 
 statements_length : (number m a : ℕ) → number ≤ 30000 → a + m ≤ 30001
     → length (flat_map (numbered_statement number) (range_with_len a m)) ≤ 33 * m
@@ -130,9 +130,9 @@ load_text_length x v h k =
 load_length : (x r : ℕ) → r < 32 → length (load_line x r) ≤ 18
 unfolding load_line
 load_length x r low =
-    within (codes "    ") ((codes "li " ++ register_operand r ++ codes ", " ++ decimal (drawn 65536 (state_after (r - 8) x))) ++ 10 ∷ []) 14 18
-    (load_text_length (register_operand r) (decimal (drawn 65536 (state_after (r - 8) x))) (register_length r low)
-    (five_digits (drawn 65536 (state_after (r - 8) x)) (omega arith)))
+    within (codes "    ") ((codes "li " ++ register_operand r ++ codes ", " ++ decimal (drawn_below 65536 (state_after_draws (r - 8) x))) ++ 10 ∷ []) 14 18
+    (load_text_length (register_operand r) (decimal (drawn_below 65536 (state_after_draws (r - 8) x))) (register_length r low)
+    (five_digits (drawn_below 65536 (state_after_draws (r - 8) x)) (omega arith)))
     (lit≤ tt)
 
 loads_length : (x m a : ℕ) → a + m ≤ 32 → length (flat_map (load_line x) (range_with_len a m)) ≤ 18 * m
@@ -151,13 +151,13 @@ opening_length x =
 closing_bound : (name rest : List ℕ) → length name ≤ 6 → length rest ≤ 1900 → length ((name ++ 58 ∷ 10 ∷ []) ++ rest) ≤ 2000
 closing_bound name rest h k = omega (arith, length-append (name ++ 58 ∷ 10 ∷ []) rest, length-append name (58 ∷ 10 ∷ []))
 
-ending_length : length ending_text ≤ 1900
-unfolding ending_text digits
+ending_length : length last_lines ≤ 1900
+unfolding last_lines digits
 ending_length = lit≤ tt
 
 closing_length : (number : ℕ) → number ≤ 30000 → length (closing_text number) ≤ 2000
 unfolding closing_text
-closing_length number most = closing_bound (label_text (number + 1)) ending_text (label_length (number + 1) (omega arith)) ending_length
+closing_length number most = closing_bound (label_text (number + 1)) last_lines (label_length (number + 1) (omega arith)) ending_length
 
 pub text_fits : (number : ℕ) → number ≤ 30000 → length (program_text number) ≤ 1048576
 unfolding program_text

@@ -5,7 +5,7 @@ use Rattle.std.proofs.lemmas.Bool.Decides.{nat_tests}
 use Rattle.rv_inst.specs.Words.{word_difference}
 use Rattle.rv_inst.specs.declared.instruction.Instr.{Instr}
 use Rattle.rv_text.specs.Numbers.{number_of}
-use Rattle.rv_text.specs.Fields.{number_in}
+use Rattle.rv_text.specs.Fields.{number_operand}
 use Rattle.rv_text.specs.Writing.{register_text}
 use Rattle.rv_text.proofs.Solid.{IsSolid, IsBare, Begins-append, Begins-solid, Ends-append, Ends-cons, IsBare-of, cut_before, two_operands, two_end}
 use Rattle.rv_text.proofs.Written.{register_solid, decimal_solid, number_of-signed}
@@ -29,8 +29,8 @@ load_word = record { some = omega arith; bytes = refl }
 in_range : (v : ℕ) → v < 65536 → int_le (pos v) (pos 0xffffffff) ≡ true
 in_range v small = grind (arith, nat_tests)
 
-number_read : (v : ℕ) → v < 65536 → number_in (negsuc 0x7fffffff) (pos 0xffffffff) (decimal v) ≡ Ok (pos v)
-unfolding number_in
+number_read : (v : ℕ) → v < 65536 → number_operand (negsuc 0x7fffffff) (pos 0xffffffff) (decimal v) ≡ Ok (pos v)
+unfolding number_operand
 number_read v small =
     let found : number_of (decimal v) ≡ Some (pos v) = number_of-signed (pos v) (omega arith) in
     rw (found, in_range v small) refl

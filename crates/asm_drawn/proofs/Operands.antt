@@ -9,9 +9,9 @@ use Rattle.rv_text.specs.declared.mnemonic.Mnemonic.{Mnemonic}
 use Rattle.rv_text.specs.declared.statement.Jump.TheVariants as jump
 use Rattle.rv_text.specs.declared.text_err.TextErr.{TextErr}
 use Rattle.texts.specs.Answers.{and_then}
-use Rattle.rv_text.specs.Names.{name_of, mnemonic_named}
+use Rattle.rv_text.specs.Names.{mnemonic_name, mnemonic_named}
 use Rattle.rv_text.specs.Pieces.{operand_count}
-use Rattle.rv_text.specs.Reading.{LineReading, AimedAt, takes, address_form, immediate_form, register_form, branch_form, operands_read, statement_by}
+use Rattle.rv_text.specs.Reading.{LineReading, AimedAt, takes_operands, address_form, immediate_form, register_form, branch_form, operands_read, statement_by}
 use Rattle.rv_text.specs.Writing.{register_text}
 use Rattle.rv_text.proofs.Named.{all_named}
 use Rattle.rv_text.proofs.Solid.{IsSolid, IsBare, Begins-append, Begins-solid, Ends-append, Ends-cons, IsBare-of, cut_before, two_operands, three_operands, two_end, three_end, Ends}
@@ -31,14 +31,14 @@ three_text x y z = 32 ∷ (x ++ 44 ∷ 32 ∷ (y ++ 44 ∷ 32 ∷ (z ++ [])))
 
 -- the mnemonic is the meaning of its name
 pub record IsMnemonic (mnemonic : Mnemonic) : Type 0 where
-  pub directive : directive_named (name_of mnemonic) ≡ None
-  pub pseudo : pseudo_named (name_of mnemonic) ≡ None
+  pub directive : directive_named (mnemonic_name mnemonic) ≡ None
+  pub pseudo : pseudo_named (mnemonic_name mnemonic) ≡ None
 
 named_so : (mnemonic : Mnemonic) (pc : ℕ) (after : List ℕ) → IsMnemonic mnemonic
-    → named_read (name_of mnemonic) pc after ≡ as_text (instruction_read mnemonic pc after)
+    → named_read (mnemonic_name mnemonic) pc after ≡ as_text (instruction_read mnemonic pc after)
 unfolding named_read
 named_so mnemonic pc after h =
-    let found : mnemonic_named (name_of mnemonic) ≡ Some mnemonic = (all_named mnemonic).found in
+    let found : mnemonic_named (mnemonic_name mnemonic) ≡ Some mnemonic = (all_named mnemonic).found in
     rw (h.directive, h.pseudo, found) refl
 
 bare_before : (name rest : List ℕ) → IsSolid name → Ends rest → IsBare (name ++ 32 ∷ rest)
@@ -47,42 +47,42 @@ bare_before name rest h e =
 
 -- a mnemonic, and operands after it
 pub record Reads (mnemonic : Mnemonic) (after : List ℕ) (answer : Result LineReading TextErr) : Type 0 where
-  pub bare : IsBare (name_of mnemonic ++ after)
-  pub meaning : (pc : ℕ) → statement_read pc (name_of mnemonic ++ after) ≡ as_text (and_then answer (targeted pc))
+  pub bare : IsBare (mnemonic_name mnemonic ++ after)
+  pub meaning : (pc : ℕ) → statement_read pc (mnemonic_name mnemonic ++ after) ≡ as_text (and_then answer (targeted pc))
 
-statement_after : (mnemonic : Mnemonic) (after : List ℕ) → takes mnemonic (operand_count after) ≡ true
+statement_after : (mnemonic : Mnemonic) (after : List ℕ) → takes_operands mnemonic (operand_count after) ≡ true
     → statement_by mnemonic after ≡ operands_read mnemonic after
 unfolding statement_by
 statement_after mnemonic after right = rw right refl
 
-pub reads_two : (mnemonic : Mnemonic) (x y : List ℕ) → IsMnemonic mnemonic → IsSolid x → IsSolid y → takes mnemonic 2 ≡ true
+pub reads_two : (mnemonic : Mnemonic) (x y : List ℕ) → IsMnemonic mnemonic → IsSolid x → IsSolid y → takes_operands mnemonic 2 ≡ true
     → Reads mnemonic (two_text x y) (operands_read mnemonic (two_text x y))
 unfolding instruction_read
 reads_two mnemonic x y named hx hy right =
     let word = (all_named mnemonic).word in
     let end = two_end x y hx hy in
-    let bare = bare_before (name_of mnemonic) (x ++ 44 ∷ 32 ∷ (y ++ [])) word end in
-    let cut = cut_before (name_of mnemonic) (x ++ 44 ∷ 32 ∷ (y ++ [])) word end in
-    let counted = ap (takes mnemonic) (two_operands x y hx hy).count ∙ right in
+    let bare = bare_before (mnemonic_name mnemonic) (x ++ 44 ∷ 32 ∷ (y ++ [])) word end in
+    let cut = cut_before (mnemonic_name mnemonic) (x ++ 44 ∷ 32 ∷ (y ++ [])) word end in
+    let counted = ap (takes_operands mnemonic) (two_operands x y hx hy).count ∙ right in
     record {
       bare = bare;
-      meaning = λ pc. read_cut pc (name_of mnemonic ++ two_text x y) (name_of mnemonic) (two_text x y) bare cut
+      meaning = λ pc. read_cut pc (mnemonic_name mnemonic ++ two_text x y) (mnemonic_name mnemonic) (two_text x y) bare cut
           ∙ named_so mnemonic pc (two_text x y) named
           ∙ ap (λ (found : Result LineReading TextErr). as_text (and_then found (targeted pc))) (statement_after mnemonic (two_text x y) counted);
     }
 
-pub reads_three : (mnemonic : Mnemonic) (x y z : List ℕ) → IsMnemonic mnemonic → IsSolid x → IsSolid y → IsSolid z → takes mnemonic 3 ≡ true
+pub reads_three : (mnemonic : Mnemonic) (x y z : List ℕ) → IsMnemonic mnemonic → IsSolid x → IsSolid y → IsSolid z → takes_operands mnemonic 3 ≡ true
     → Reads mnemonic (three_text x y z) (operands_read mnemonic (three_text x y z))
 unfolding instruction_read
 reads_three mnemonic x y z named hx hy hz right =
     let word = (all_named mnemonic).word in
     let end = three_end x y z hx hy hz in
-    let bare = bare_before (name_of mnemonic) (x ++ 44 ∷ 32 ∷ (y ++ 44 ∷ 32 ∷ (z ++ []))) word end in
-    let cut = cut_before (name_of mnemonic) (x ++ 44 ∷ 32 ∷ (y ++ 44 ∷ 32 ∷ (z ++ []))) word end in
-    let counted = ap (takes mnemonic) (three_operands x y z hx hy hz).count ∙ right in
+    let bare = bare_before (mnemonic_name mnemonic) (x ++ 44 ∷ 32 ∷ (y ++ 44 ∷ 32 ∷ (z ++ []))) word end in
+    let cut = cut_before (mnemonic_name mnemonic) (x ++ 44 ∷ 32 ∷ (y ++ 44 ∷ 32 ∷ (z ++ []))) word end in
+    let counted = ap (takes_operands mnemonic) (three_operands x y z hx hy hz).count ∙ right in
     record {
       bare = bare;
-      meaning = λ pc. read_cut pc (name_of mnemonic ++ three_text x y z) (name_of mnemonic) (three_text x y z) bare cut
+      meaning = λ pc. read_cut pc (mnemonic_name mnemonic ++ three_text x y z) (mnemonic_name mnemonic) (three_text x y z) bare cut
           ∙ named_so mnemonic pc (three_text x y z) named
           ∙ ap (λ (found : Result LineReading TextErr). as_text (and_then found (targeted pc))) (statement_after mnemonic (three_text x y z) counted);
     }

@@ -5,9 +5,9 @@ use Rattle.std.proofs.lemmas.Bool.Decides.{nat_tests}
 use Rattle.rv_asm.specs.declared.item.Far.TheVariants as far
 use Rattle.rv_asm.specs.Items.{Export}
 use Rattle.rv_asm.specs.Labels.{LabelView, value_of_label}
-use Rattle.rv_asm.specs.Places.{start_of_text, address_of, place_after, fits_at}
+use Rattle.rv_asm.specs.Places.{start_of_text, section_address, place_after, fits_at}
 use Rattle.rv_asm.specs.Pieces.{pieces_of}
-use Rattle.rv_asm.specs.Assembling.{Sections, empty, sections_of, assembled}
+use Rattle.rv_asm.specs.Assembling.{Sections, empty_sections, sections_of, assembled}
 use Rattle.cf_gen.specs.Program.{program_text}
 use Rattle.asm_drawn.specs.Unrefused.{IsUnrefused}
 use Rattle.asm_drawn.proofs.Entries.{Entry, texts_of}
@@ -136,7 +136,7 @@ size_before number = opening_size number
 
 program_goes : (number : ℕ) → number ≤ 30000
     → Goes (values_of (size_before number) number) (all_labels (size_before number) number) (program_lines number) start_of_text []
-unfolding place_after fits_at address_of pieces_of value_of_label
+unfolding place_after fits_at section_address pieces_of value_of_label
 program_goes number most =
     goes_on _ _ text_line _ start_of_text [] [] text_line_is refl refl (record { pieces = []; placed = λ labels same. refl })
     (goes_on _ _ export_line _ (text_at 0) [] [] export_line_is refl refl (has_export _ _ (start_value (size_before number) number))
@@ -151,7 +151,7 @@ record AreUnrefused (lines : List (List ℕ)) : Type 0 where
 accepted_lines : (number : ℕ) → number ≤ 30000 → AreUnrefused (texts_of (program_lines number))
 accepted_lines number most =
     let goes = program_goes number most in
-    let fills = goes.second 0 (empty (all_labels (size_before number) number)) refl (λ name. refl) in
+    let fills = goes.second 0 (empty_sections (all_labels (size_before number) number)) refl (λ name. refl) in
     record {
       sections = fills.end;
       stands = rw (entries_ascii 0 (program_lines number) (program_are number most), goes.first.passes 0) fills.passes;

@@ -17,8 +17,8 @@ use Rattle.rv_inst.specs.declared.instruction.RegOp.TheVariants as regop
 use Rattle.rv_inst.specs.declared.instruction.Instr.TheVariants as instr
 use Rattle.rv_text.specs.declared.mnemonic.Mnemonic.TheVariants.{Branch, Load, Store, OpImm, Op}
 use Rattle.rv_text.specs.declared.statement.Jump.TheVariants as jump
-use Rattle.rv_text.specs.Names.{name_of}
-use Rattle.rv_text.specs.Reading.{takes, operands_read}
+use Rattle.rv_text.specs.Names.{mnemonic_name}
+use Rattle.rv_text.specs.Reading.{takes_operands, operands_read}
 use Rattle.rv_text.specs.Writing.{register_text}
 use Rattle.rv_text.proofs.Solid.{IsSolid, IsBare}
 use Rattle.rv_text.proofs.Written.{register_solid, decimal_solid}
@@ -100,15 +100,16 @@ an_entry text item plain bare none meaning =
     }
 
 -- three registers
-three_registers_entry : (op : RegOp) (choice : Choice) → IsChoice choice → IsMnemonic (Op op) → IsPlain (name_of (Op op))
-    → HasNoLabel (name_of (Op op) ++ three_text (register_text choice.first) (register_text choice.second) (register_text choice.third))
-    → IsEntry (indented (name_of (Op op) ++ three_text (register_text choice.first) (register_text choice.second) (register_text choice.third))
+three_registers_entry : (op : RegOp) (choice : Choice) → IsChoice choice → IsMnemonic (Op op) → IsPlain (mnemonic_name (Op op))
+    → HasNoLabel (mnemonic_name (Op op) ++ three_text (register_text choice.first) (register_text choice.second) (register_text choice.third))
+    → IsEntry (indented (mnemonic_name (Op op) ++ three_text (register_text choice.first) (register_text choice.second) (register_text choice.third))
     (Single (instr.Op op choice.first choice.second choice.third)))
-unfolding takes operands_read
+unfolding takes_operands operands_read
 three_registers_entry op choice c named plain none =
     let reads = reads_three (Op op) (register_text choice.first) (register_text choice.second) (register_text choice.third) named
     (register_solid choice.first c.first) (register_solid choice.second c.second) (register_solid choice.third c.third) refl in
-    an_entry _ _ (plain-append (name_of (Op op)) (three_text (register_text choice.first) (register_text choice.second) (register_text choice.third)) plain
+    an_entry _ _ (plain-append (mnemonic_name (Op op)) (three_text (register_text choice.first) (register_text choice.second) (register_text choice.third))
+    plain
     (three_plain (register_text choice.first) (register_text choice.second) (register_text choice.third) (register_plain choice.first c.first)
     (register_plain choice.second c.second) (register_plain choice.third c.third)))
     reads.bare none
@@ -119,15 +120,16 @@ small_immediate n low = (omega (arith, ints), omega (arith, ints))
 
 -- two registers and a number
 addi_entry : (choice : Choice) → IsChoice choice → IsMnemonic (OpImm immop.Add)
-    → IsEntry (indented (name_of (OpImm immop.Add) ++ three_text (register_text choice.first) (register_text choice.second) (decimal choice.offset))
+    → IsEntry (indented (mnemonic_name (OpImm immop.Add) ++ three_text (register_text choice.first) (register_text choice.second) (decimal choice.offset))
     (Single (instr.OpImm immop.Add choice.first choice.second (pos choice.offset))))
-unfolding takes operands_read label_in statement_in has_label is_name_start is_name_byte
+unfolding takes_operands operands_read label_in statement_in has_label is_name_start is_name_byte
 addi_entry choice c named =
     let offset = c.offset in
     let solid : IsSolid (decimal choice.offset) = decimal_solid choice.offset (omega arith) in
     let reads = reads_three (OpImm immop.Add) (register_text choice.first) (register_text choice.second) (decimal choice.offset) named
     (register_solid choice.first c.first) (register_solid choice.second c.second) solid refl in
-    an_entry _ _ (plain-append (name_of (OpImm immop.Add)) (three_text (register_text choice.first) (register_text choice.second) (decimal choice.offset)) refl
+    an_entry _ _ (plain-append (mnemonic_name (OpImm immop.Add)) (three_text (register_text choice.first) (register_text choice.second) (decimal choice.offset))
+    refl
     (three_plain (register_text choice.first) (register_text choice.second) (decimal choice.offset) (register_plain choice.first c.first)
     (register_plain choice.second c.second) (decimal_plain choice.offset (omega arith))))
     reads.bare (record { label = refl; statement = refl })
@@ -140,32 +142,32 @@ unfolding digits
 address_plain n low = plain-append (decimal n) (40 ∷ (register_text 7 ++ 41 ∷ [])) (decimal_plain n (omega arith)) refl
 
 sw_entry : (choice : Choice) → IsChoice choice → IsMnemonic (Store store.Word)
-    → IsEntry (indented (name_of (Store store.Word) ++ two_text (register_text choice.first) (address_text (pos (4 * choice.offset)) 7))
+    → IsEntry (indented (mnemonic_name (Store store.Word) ++ two_text (register_text choice.first) (address_text (pos (4 * choice.offset)) 7))
     (Single (instr.Store store.Word 7 choice.first (pos (4 * choice.offset)))))
-unfolding takes operands_read label_in statement_in has_label is_name_start is_name_byte
+unfolding takes_operands operands_read label_in statement_in has_label is_name_start is_name_byte
 sw_entry choice c named =
     let offset = c.offset in
     let low : 4 * choice.offset < 2048 = omega arith in
     let fits = small_immediate (4 * choice.offset) low in
     let reads = reads_two (Store store.Word) (register_text choice.first) (address_text (pos (4 * choice.offset)) 7) named
     (register_solid choice.first c.first) (address_solid (pos (4 * choice.offset)) 7 fits (lit< tt)) refl in
-    an_entry _ _ (plain-append (name_of (Store store.Word)) (two_text (register_text choice.first) (address_text (pos (4 * choice.offset)) 7)) refl
+    an_entry _ _ (plain-append (mnemonic_name (Store store.Word)) (two_text (register_text choice.first) (address_text (pos (4 * choice.offset)) 7)) refl
     (two_plain (register_text choice.first) (address_text (pos (4 * choice.offset)) 7) (register_plain choice.first c.first)
     (address_plain (4 * choice.offset) low)))
     reads.bare (record { label = refl; statement = refl })
     (λ pc. reads.meaning pc ∙ (rw (address_read choice.first 7 (pos (4 * choice.offset)) c.first (lit< tt) fits) refl))
 
 lw_entry : (choice : Choice) → IsChoice choice → IsMnemonic (Load load.Word)
-    → IsEntry (indented (name_of (Load load.Word) ++ two_text (register_text choice.first) (address_text (pos (4 * choice.offset)) 7))
+    → IsEntry (indented (mnemonic_name (Load load.Word) ++ two_text (register_text choice.first) (address_text (pos (4 * choice.offset)) 7))
     (Single (instr.Load load.Word choice.first 7 (pos (4 * choice.offset)))))
-unfolding takes operands_read label_in statement_in has_label is_name_start is_name_byte
+unfolding takes_operands operands_read label_in statement_in has_label is_name_start is_name_byte
 lw_entry choice c named =
     let offset = c.offset in
     let low : 4 * choice.offset < 2048 = omega arith in
     let fits = small_immediate (4 * choice.offset) low in
     let reads = reads_two (Load load.Word) (register_text choice.first) (address_text (pos (4 * choice.offset)) 7) named
     (register_solid choice.first c.first) (address_solid (pos (4 * choice.offset)) 7 fits (lit< tt)) refl in
-    an_entry _ _ (plain-append (name_of (Load load.Word)) (two_text (register_text choice.first) (address_text (pos (4 * choice.offset)) 7)) refl
+    an_entry _ _ (plain-append (mnemonic_name (Load load.Word)) (two_text (register_text choice.first) (address_text (pos (4 * choice.offset)) 7)) refl
     (two_plain (register_text choice.first) (address_text (pos (4 * choice.offset)) 7) (register_plain choice.first c.first)
     (address_plain (4 * choice.offset) low)))
     reads.bare (record { label = refl; statement = refl })
@@ -179,13 +181,13 @@ label_plain i small = decimal_plain i small
 
 -- two registers and a label
 blt_entry : (choice : Choice) (i : ℕ) → IsChoice choice → i < 2 ^ 64 → IsMnemonic (Branch cond.Lt)
-    → IsEntry (indented (name_of (Branch cond.Lt) ++ three_text (register_text choice.first) (register_text choice.second) (label_text i))
+    → IsEntry (indented (mnemonic_name (Branch cond.Lt) ++ three_text (register_text choice.first) (register_text choice.second) (label_text i))
     (Near (jump.Branch cond.Lt choice.first choice.second) (label_text i)))
-unfolding takes operands_read jumped label_in statement_in has_label is_name_start is_name_byte
+unfolding takes_operands operands_read jumped label_in statement_in has_label is_name_start is_name_byte
 blt_entry choice i c small named =
     let reads = reads_three (Branch cond.Lt) (register_text choice.first) (register_text choice.second) (label_text i) named
     (register_solid choice.first c.first) (register_solid choice.second c.second) (label_solid i small) refl in
-    an_entry _ _ (plain-append (name_of (Branch cond.Lt)) (three_text (register_text choice.first) (register_text choice.second) (label_text i)) refl
+    an_entry _ _ (plain-append (mnemonic_name (Branch cond.Lt)) (three_text (register_text choice.first) (register_text choice.second) (label_text i)) refl
     (three_plain (register_text choice.first) (register_text choice.second) (label_text i) (register_plain choice.first c.first)
     (register_plain choice.second c.second) (label_plain i small)))
     reads.bare (record { label = refl; statement = refl })

@@ -4,9 +4,9 @@ use Rattle.std.specs.List.{flat_map, range_with_len}
 use Rattle.std.specs.Fmt.{digits}
 use Rattle.texts.specs.Lines.{line}
 use Rattle.rv_text.specs.Lines.{text_lines}
-use Rattle.cf_gen.specs.Draws.{state_after, drawn}
+use Rattle.cf_gen.specs.Draws.{state_after_draws, drawn_below}
 use Rattle.cf_gen.specs.Statements.{choice_of, label_text}
-use Rattle.cf_gen.specs.Program.{load_line, opening_text, drawn_statement, numbered_statement, statements_text, ending_text, closing_text, program_text}
+use Rattle.cf_gen.specs.Program.{load_line, opening_text, drawn_statement, numbered_statement, statements_text, last_lines, closing_text, program_text}
 use Rattle.asm_drawn.proofs.Lines.{AreLines, no_line, one_line, more_lines}
 use Rattle.asm_drawn.proofs.Entries.{Entry, IsEntry, AreEntries, texts_of, texts-append, entries-append}
 use Rattle.asm_drawn.proofs.Statements.{choice_fits, statement_entry}
@@ -28,7 +28,7 @@ entries_lines (e ∷ es) h =
 
 -- the line that loads the register's number
 abbrev pub load_of : ℕ → ℕ → Entry
-load_of x r = load_entry r (drawn 65536 (state_after (r - 8) x))
+load_of x r = load_entry r (drawn_below 65536 (state_after_draws (r - 8) x))
 
 abbrev pub loads : ℕ → List Entry
 loads x = load_of x 8 ∷ load_of x 9 ∷ load_of x 10 ∷ load_of x 11 ∷ load_of x 12 ∷ load_of x 13 ∷ load_of x 14 ∷ load_of x 15 ∷ []
@@ -37,7 +37,7 @@ abbrev pub opening_lines : ℕ → List Entry
 opening_lines x = text_line ∷ export_line ∷ start_line ∷ buffer_line ∷ loads x
 
 pub load_of_is : (x r : ℕ) → r < 32 → IsEntry (load_of x r)
-load_of_is x r low = load_is_entry r (drawn 65536 (state_after (r - 8) x)) low (omega arith)
+load_of_is x r low = load_is_entry r (drawn_below 65536 (state_after_draws (r - 8) x)) low (omega arith)
 
 loads_are : (x : ℕ) → AreEntries (loads x)
 loads_are x = (
@@ -86,16 +86,16 @@ after_hex_are = entries-append converting (digit_line ∷ writing ++ data_lines)
 ending_are : AreEntries ending_lines
 ending_are = entries-append gathering (hex_line ∷ lines_after_hex) (code_are gathering gathering_code) (hex_line_is, after_hex_are)
 
-ending_is : ending_text ≡ joined ending_lines
-unfolding ending_text digits
+ending_is : last_lines ≡ joined ending_lines
+unfolding last_lines digits
 ending_is = refl
 
 statement_are : (number i : ℕ) → number ≤ 30000 → i ≤ 30000 → AreEntries (statement_lines number i)
 statement_are number i most low = (
   label_is_entry i (omega arith),
   (
-    statement_entry (choice_of (state_after (8 + 5 * (i - 1)) number)).operation (choice_of (state_after (8 + 5 * (i - 1)) number)) _
-        (choice_fits (state_after (8 + 5 * (i - 1)) number)) (omega arith),
+    statement_entry (choice_of (state_after_draws (8 + 5 * (i - 1)) number)).operation (choice_of (state_after_draws (8 + 5 * (i - 1)) number)) _
+        (choice_fits (state_after_draws (8 + 5 * (i - 1)) number)) (omega arith),
     tt,
   ),
 )
@@ -144,7 +144,7 @@ name_then name text = simp append_assoc
 
 closing_is : (number : ℕ) → closing_text number ≡ joined (closing_lines number)
 unfolding closing_text
-closing_is number = name_then (label_text (number + 1)) ending_text
+closing_is number = name_then (label_text (number + 1)) last_lines
     ∙ ap (λ (l : List ℕ). ((label_text (number + 1) ++ 58 ∷ []) ++ 10 ∷ []) ++ l) ending_is
 
 as_lines : (text : List ℕ) (es : List Entry) → text ≡ joined es → AreEntries es → AreLines text (texts_of es)

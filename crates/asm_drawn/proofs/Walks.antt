@@ -4,7 +4,7 @@ use Rattle.std.specs.Prelude.{Option}
 use Rattle.rv_asm.specs.declared.place.SectionPlace.{SectionPlace}
 use Rattle.rv_asm.specs.Scanning.{said, statement_in}
 use Rattle.rv_asm.specs.Items.{SourceItem, Nothing, Section, Export, Single, Double, Near, Distant, Numbers, Chars, Zeros}
-use Rattle.rv_asm.specs.Places.{address_of, place_after, fits_at, item_at}
+use Rattle.rv_asm.specs.Places.{section_address, place_after, fits_at, item_at}
 use Rattle.rv_asm.specs.Labels.{LabelView, value_of_label}
 use Rattle.rv_asm.specs.Pieces.{Piece, pieces_of}
 use Rattle.rv_asm.specs.Assembling.{are_ascii, with_label, drafted, draft_from, Sections, with_export, sections_after_item, sections_after_line, sections_from}
@@ -51,7 +51,7 @@ IsItem place e = item_at place (statement_in (said e.text)) ≡ Ok e.item
 
 pub is_item : (place : SectionPlace) (e : Entry) → IsEntry e → fits_at place e.item ≡ Ok tt → IsItem place e
 unfolding item_at
-is_item place e h fits = rw (h.item (address_of place), fits) refl
+is_item place e h fits = rw (h.item (section_address place), fits) refl
 
 draft_line : (place : SectionPlace) (labels next : List LabelView) (e : Entry) → IsEntry e → with_label labels place e.label ≡ Ok next
     → IsItem place e → drafted (record { place = place; labels = labels }) (said e.text) ≡ Ok (record { place = place_after place e.item; labels = next })
@@ -79,25 +79,25 @@ exported_values values labels (Chars b z) h = h
 exported_values values labels (Zeros n) h = h
 
 fill_line : (sections : Sections) (e : Entry) (pieces : List Piece) → IsItem sections.place e
-    → pieces_of sections.labels (address_of sections.place) e.item ≡ Ok pieces
+    → pieces_of sections.labels (section_address sections.place) e.item ≡ Ok pieces
     → sections_after_line sections (said e.text) ≡ Ok (sections_after_item sections e.item pieces)
 unfolding sections_after_line
 fill_line sections e pieces item placed = rw (item, placed) refl
 
-second_step : (values : Values) (e : Entry) (es : List Entry) (place : SectionPlace) → IsItem place e → HasPieces values (address_of place) e.item
+second_step : (values : Values) (e : Entry) (es : List Entry) (place : SectionPlace) → IsItem place e → HasPieces values (section_address place) e.item
     → ((above : ℕ) (sections : Sections) → sections.place ≡ place_after place e.item → HaveValues values sections.labels → Fills es above sections)
     → (above : ℕ) (sections : Sections) → sections.place ≡ place → HaveValues values sections.labels → Fills (e ∷ es) above sections
 second_step values e es place item has rest above sections at same =
     let here : IsItem sections.place e = rw at item in
-    let placed : pieces_of sections.labels (address_of sections.place) e.item ≡ Ok has.pieces =
-    ap (λ (p : SectionPlace). pieces_of sections.labels (address_of p) e.item) at ∙ has.placed sections.labels same in
+    let placed : pieces_of sections.labels (section_address sections.place) e.item ≡ Ok has.pieces =
+    ap (λ (p : SectionPlace). pieces_of sections.labels (section_address p) e.item) at ∙ has.placed sections.labels same in
     let next : Sections = sections_after_item sections e.item has.pieces in
     let after = rest (above + 1) next (ap (λ (p : SectionPlace). place_after p e.item) at) (exported_values values sections.labels e.item same) in
     record { end = after.end; passes = rw (fill_line sections e has.pieces here placed) after.passes }
 
 -- one line, and those after it
 pub goes_on : (values : Values) (final : List LabelView) (e : Entry) (es : List Entry) (place : SectionPlace) (labels next : List LabelView)
-    → IsEntry e → with_label labels place e.label ≡ Ok next → fits_at place e.item ≡ Ok tt → HasPieces values (address_of place) e.item
+    → IsEntry e → with_label labels place e.label ≡ Ok next → fits_at place e.item ≡ Ok tt → HasPieces values (section_address place) e.item
     → Goes values final es (place_after place e.item) next → Goes values final (e ∷ es) place labels
 goes_on values final e es place labels next h named fits has rest =
     let item = is_item place e h fits in

@@ -6,7 +6,7 @@ use Rattle.rv_asm.specs.declared.object.Object.{Object}
 use Rattle.rv_asm.specs.declared.place.SectionPlace.{SectionPlace}
 use Rattle.rv_asm.specs.Items.{SourceItem, size_of}
 use Rattle.rv_asm.specs.Labels.{LabelView}
-use Rattle.rv_asm.specs.Places.{address_of, length_at, place_after, item_at}
+use Rattle.rv_asm.specs.Places.{section_address, length_at, place_after, item_at}
 use Rattle.rv_asm.specs.Pieces.{Piece, pieces_of}
 use Rattle.rv_asm.specs.Scanning.{said, statement_in}
 use Rattle.rv_asm.specs.Spelling.{Spells, Begins}
@@ -75,7 +75,7 @@ pub above-next : (labels : List LabelView) (line : List ℕ) (p : Placed) (text_
     LineStandsFor labels place line p → AreAbove place text_front data_front
     → AreAbove (place_after place p.item) (text_front ++ cond p.place.in_text p.pieces []) (data_front ++ cond p.place.in_text [] p.pieces)
 above-next labels line p text_front data_front place s a =
-    let size : pieces_size p.pieces ≡ size_of p.item = item-sized labels (address_of place) p.item p.pieces s.pieces in
+    let size : pieces_size p.pieces ≡ size_of p.item = item-sized labels (section_address place) p.item p.pieces s.pieces in
     let same : p.place.in_text ≡ place.in_text = ap (λ (q : SectionPlace). q.in_text) s.place in
     let text : cond p.place.in_text (pieces_size p.pieces) 0 ≡ cond place.in_text (size_of p.item) 0 = rw (same, size) refl in
     let others : cond p.place.in_text 0 (pieces_size p.pieces) ≡ cond place.in_text 0 (size_of p.item) = rw (same, size) refl in

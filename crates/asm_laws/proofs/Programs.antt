@@ -13,10 +13,10 @@ use Rattle.rv_text.specs.Lines.{text_lines}
 use Rattle.rv_asm.specs.Scanning.{said, label_in, statement_in}
 use Rattle.rv_asm.specs.Items.{SourceItem}
 use Rattle.rv_asm.specs.Labels.{LabelView, value_of_label}
-use Rattle.rv_asm.specs.Places.{start_of_text, address_of, length_at, place_after, item_at}
+use Rattle.rv_asm.specs.Places.{start_of_text, section_address, length_at, place_after, item_at}
 use Rattle.rv_asm.specs.Pieces.{Piece, pieces_of}
 use Rattle.rv_asm.specs.Spelling.{Spells}
-use Rattle.rv_asm.specs.Assembling.{Sections, at_line, with_label, drafted, draft_from, with_export, sections_after_item as placed_at, sections_after_line, sections_from, empty, sections_of, assembled}
+use Rattle.rv_asm.specs.Assembling.{Sections, at_line, with_label, drafted, draft_from, with_export, sections_after_item as placed_at, sections_after_line, sections_from, empty_sections, sections_of, assembled}
 use Rattle.rv_asm.specs.Objects.{IsObject, Objects}
 use Rattle.rv_asm.proofs.Passing.{Passes, passes, passes_line}
 use Rattle.rv_asm.proofs.Sized.{Looks, looks, spelt-length, sections-sized}
@@ -55,15 +55,15 @@ items-of above s t (line ∷ lines) e =
     let text = said line in
     let r = passes (at_line (above + 1) (sections_after_line s text)) (λ (next : Sections). sections_from (above + 1) next lines) t e in
     let f = passes_line (above + 1) (sections_after_line s text) r.first r.is in
-    let i = passes (item_at s.place (statement_in text)) (λ (item : SourceItem). and_then (pieces_of s.labels (address_of s.place) item)
+    let i = passes (item_at s.place (statement_in text)) (λ (item : SourceItem). and_then (pieces_of s.labels (section_address s.place) item)
     (λ ps. Ok (placed_at s item ps))) r.first f in
-    let p = passes (pieces_of s.labels (address_of s.place) i.first) (λ (ps : List Piece). Ok (placed_at s i.first ps)) r.first i.goes in
+    let p = passes (pieces_of s.labels (section_address s.place) i.first) (λ (ps : List Piece). Ok (placed_at s i.first ps)) r.first i.goes in
     let next : placed_at s i.first p.first ≡ r.first = cc p.goes in
     let rest = subst (λ (u : Sections). ItemsOf u t lines) (sym next) (items-of (above + 1) r.first t lines r.goes) in
     let labels = then-same t.labels (with_export s.labels i.first) s.labels rest.labels (marked-same s.labels i.first) in
     record {
       items = record { place = s.place; item = i.first; pieces = p.first } ∷ rest.items;
-      stand = (record { place = refl; item = i.is; pieces = pieces-same t.labels s.labels (address_of s.place) i.first labels ∙ p.is }, rest.stand);
+      stand = (record { place = refl; item = i.is; pieces = pieces-same t.labels s.labels (section_address s.place) i.first labels ∙ p.is }, rest.stand);
       text = rest.text ∙ text-by s.place.in_text s.text p.first (text_pieces rest.items);
       data_section = rest.data_section ∙ data-by s.place.in_text s.data_pieces p.first (data_pieces rest.items);
       labels = labels;
@@ -130,7 +130,7 @@ program-of : (lines : List (List ℕ)) (sections : Sections) (object : Object) �
     IsProgram lines object
 program-of lines sections object e is =
     let l = looks lines sections e in
-    let o = items-of 0 (empty l.labels) sections lines l.filled in
+    let o = items-of 0 (empty_sections l.labels) sections lines l.filled in
     let sized = sections-sized lines sections e in
     let stand = subst (λ (labels : List LabelView). AllStand labels start_of_text lines o.items sections.place) (sym is.labels) o.stand in
     let text = subst (λ (ps : List Piece). Spells ps object.text_bytes) o.text is.text_bytes in

@@ -5,7 +5,7 @@ use Rattle.rv_asm.specs.declared.object.Object.{Object}
 use Rattle.rv_asm.specs.declared.place.SectionPlace.{SectionPlace}
 use Rattle.rv_asm.specs.Scanning.{said, label_in, statement_in}
 use Rattle.rv_asm.specs.Items.{SourceItem}
-use Rattle.rv_asm.specs.Places.{start_of_text, address_of, length_at, place_after, item_at}
+use Rattle.rv_asm.specs.Places.{start_of_text, section_address, length_at, place_after, item_at}
 use Rattle.rv_asm.specs.Labels.{LabelView}
 use Rattle.rv_asm.specs.Pieces.{Piece, pieces_of}
 use Rattle.rv_asm.specs.Sized.{pieces_size}
@@ -21,7 +21,7 @@ pub record Placed : Type 0 where
 pub record LineStandsFor (labels : List LabelView) (here : SectionPlace) (line : List ℕ) (placed : Placed) : Type 0 where
   pub place : placed.place ≡ here
   pub item : item_at here (statement_in (said line)) ≡ Ok placed.item
-  pub pieces : pieces_of labels (address_of here) placed.item ≡ Ok placed.pieces
+  pub pieces : pieces_of labels (section_address here) placed.item ≡ Ok placed.pieces
 
 -- each line stands for its item, which is placed after the item before it; the last item ends at this position
 abbrev pub AllStand : List LabelView → SectionPlace → List (List ℕ) → List Placed → SectionPlace → Type 0
@@ -49,7 +49,7 @@ AreThere object (p ∷ ps) = IsThere object p × AreThere object ps
 abbrev pub label_of : Option (List ℕ) → SectionPlace → List LabelView
 label_of None place = []
 label_of (Some name) place =
-    record { name = name; value = address_of place; in_text = place.in_text; global = false } ∷ []
+    record { name = name; value = section_address place; in_text = place.in_text; global = false } ∷ []
 
 -- the labels of lines, each at the position of its line's item
 abbrev pub labels_of : List (List ℕ) → List Placed → List LabelView

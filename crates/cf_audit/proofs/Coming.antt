@@ -13,12 +13,12 @@ use Rattle.cf_report.specs.declared.tally.Tally.{Tally}
 use Rattle.cf_report.specs.Lines.{numbered_move}
 use Rattle.cf_run.specs.Going.{moment_of, Leads}
 use Rattle.cf_run.specs.Made.{Made, shown, all_shown, tally_of}
-use Rattle.cf_run.specs.Moving.{RunPlace, place_of}
+use Rattle.cf_run.specs.Moving.{RunPlace, run_place_of}
 use Rattle.cf_run.specs.Reaching.{Reaches, no_tally}
 use Rattle.cf_run.proofs.Runs.{reached-none, none-trace, reached-more, reached-trace, made-within, counts-within}
-use Rattle.cf_audit.specs.Compared.{Comparison, alone, put_of, fresh, told_by}
+use Rattle.cf_audit.specs.Compared.{Comparison, byte_list, put_of, fresh_comparison, exposed_by_sink}
 use Rattle.cf_audit.specs.Traces.{most_retired, AreReadBack, IsReadBack, IsTrace, ReachesMoment, AgreesSoFar}
-use Rattle.cf_audit.specs.Turns.{AuditRun, stand_of, left_of, NextIs, Advances, AuditTries, Tests}
+use Rattle.cf_audit.specs.Turns.{AuditRun, audit_run_of, left_of, NextIs, Advances, AuditTries, Tests}
 use Rattle.cf_audit.specs.Limits.{most_trace}
 use Rattle.cf_audit.proofs.Comparing.{told-more}
 use Rattle.cf_audit.proofs.Parting.{goes_on}
@@ -27,8 +27,8 @@ use Rattle.cf_audit.proofs.Parting.{goes_on}
 pub record Comes (text : List ℕ) (start : RunPlace) (now : AuditRun) : Type 0 where
   pub reached : Reaches most_retired show.moves start now.place
   pub read_back : AreReadBack reached.trace
-  pub begins : start.report ≡ Some (told_by (fresh text))
-  pub tells : now.place.report ≡ Some (told_by now.seen)
+  pub begins : start.report ≡ Some (exposed_by_sink (fresh_comparison text))
+  pub tells : now.place.report ≡ Some (exposed_by_sink now.seen)
   pub none : now.seen.other ≡ None
   pub within : now.seen.agreed ≤ length now.seen.text
   pub retired : now.place.core.state.retired ≤ now.place.tally.moves
@@ -36,10 +36,11 @@ pub record Comes (text : List ℕ) (start : RunPlace) (now : AuditRun) : Type 0 
 
 -- before the first group
 first_comes : (text : List ℕ) (core : Processor) (streams : Streams) → core.state.retired ≡ 0
-    → Comes text (place_of core streams (Some (told_by (fresh text))) no_tally) (stand_of (place_of core streams (Some (told_by (fresh text))) no_tally)
-    (fresh text))
+    → Comes text (run_place_of core streams (Some (exposed_by_sink (fresh_comparison text))) no_tally)
+    (audit_run_of (run_place_of core streams (Some (exposed_by_sink (fresh_comparison text))) no_tally)
+    (fresh_comparison text))
 first_comes text core streams none =
-    let start : RunPlace = place_of core streams (Some (told_by (fresh text))) no_tally in
+    let start : RunPlace = run_place_of core streams (Some (exposed_by_sink (fresh_comparison text))) no_tally in
     record {
       reached = reached-none most_retired show.moves start refl;
       read_back = subst AreReadBack (sym (none-trace most_retired show.moves start refl)) tt;
@@ -51,11 +52,12 @@ first_comes text core streams none =
       few = omega arith;
     }
 
-pub comes-first : (text : List ℕ) (core : Processor) (streams : Streams) (seen : Comparison) → seen ≡ fresh text → core.state.retired ≡ 0
-    → Comes text (place_of core streams (Some (told_by (fresh text))) no_tally) (stand_of (place_of core streams (Some (told_by seen)) no_tally) seen)
+pub comes-first : (text : List ℕ) (core : Processor) (streams : Streams) (seen : Comparison) → seen ≡ fresh_comparison text → core.state.retired ≡ 0
+    → Comes text (run_place_of core streams (Some (exposed_by_sink (fresh_comparison text))) no_tally)
+    (audit_run_of (run_place_of core streams (Some (exposed_by_sink seen)) no_tally) seen)
 comes-first text core streams seen is none =
-    subst (λ (c : Comparison). Comes text (place_of core streams (Some (told_by (fresh text))) no_tally)
-    (stand_of (place_of core streams (Some (told_by c)) no_tally) c)) (sym is) (first_comes text core streams none)
+    subst (λ (c : Comparison). Comes text (run_place_of core streams (Some (exposed_by_sink (fresh_comparison text))) no_tally)
+    (audit_run_of (run_place_of core streams (Some (exposed_by_sink c)) no_tally) c)) (sym is) (first_comes text core streams none)
 
 -- the text, and the run's groups as far as they agree
 pub record SoFar (text : List ℕ) (start : RunPlace) (now : AuditRun) (trace : List Made) : Type 0 where
@@ -63,15 +65,15 @@ pub record SoFar (text : List ℕ) (start : RunPlace) (now : AuditRun) (trace : 
   pub groups : take now.seen.agreed text ≡ all_shown show.moves start.core.plan 1 trace
 
 put_all_agreed : (seen : Comparison) → seen.other ≡ None → put_of seen ≡ take seen.agreed seen.text
-put_all_agreed seen none = ap (λ (o : Option ℕ). take seen.agreed seen.text ++ alone o) none ∙ append-nil (take seen.agreed seen.text)
+put_all_agreed seen none = ap (λ (o : Option ℕ). take seen.agreed seen.text ++ byte_list o) none ∙ append-nil (take seen.agreed seen.text)
 
 pub so-far : (text : List ℕ) (start : RunPlace) (now : AuditRun) (h : Comes text start now) → SoFar text start now h.reached.trace
 so-far text start now h =
     let groups : List ℕ = all_shown show.moves start.core.plan 1 h.reached.trace in
     let P : Option (List ℕ) → Type 0 = λ o. Writes o now.place.report groups in
-    let written : now.place.report ≡ Some (told_by (fresh text) ++ groups) = subst P h.begins h.reached.report in
-    let told : told_by now.seen ≡ told_by (fresh text) ++ groups = same_Some _ _ (sym h.tells ∙ written) in
-    let both = told-more (fresh text) now.seen groups told in
+    let written : now.place.report ≡ Some (exposed_by_sink (fresh_comparison text) ++ groups) = subst P h.begins h.reached.report in
+    let told : exposed_by_sink now.seen ≡ exposed_by_sink (fresh_comparison text) ++ groups = same_Some _ _ (sym h.tells ∙ written) in
+    let both = told-more (fresh_comparison text) now.seen groups told in
     record {
       text_is = both.0;
       groups = ap (take now.seen.agreed) (sym both.0) ∙ sym (put_all_agreed now.seen h.none) ∙ both.1;
@@ -88,7 +90,7 @@ unfolding shown numbered_move
 shown-some plan n made = omega arith
 
 -- what was written after what agreed
-pub put-after : (now new : Comparison) (piece : List ℕ) → now.other ≡ None → told_by new ≡ told_by now ++ piece →
+pub put-after : (now new : Comparison) (piece : List ℕ) → now.other ≡ None → exposed_by_sink new ≡ exposed_by_sink now ++ piece →
     (new.text ≡ now.text) × (put_of new ≡ take now.agreed now.text ++ piece)
 put-after now new piece none told =
     let both = told-more now new piece told in
@@ -103,7 +105,8 @@ retires-below text start now h small =
     omega (arith, h.retired, h.few, h.within, size)
 
 -- the next group agrees
-pub comes-more : (text : List ℕ) (start : RunPlace) (now new : AuditRun) (mv : Move) → length text ≤ most_trace → new.place.report ≡ Some (told_by new.seen) →
+pub comes-more : (text : List ℕ) (start : RunPlace) (now new : AuditRun) (mv : Move) → length text ≤ most_trace →
+    new.place.report ≡ Some (exposed_by_sink new.seen) →
     Comes text start now → NextIs now mv → Advances mv now new
     → Comes text start new × (now.seen.agreed < new.seen.agreed)
 comes-more text start now new mv small tells h next a =
@@ -114,8 +117,8 @@ comes-more text start now new mv small tells h next a =
     let trace : more.trace ≡ h.reached.trace ++ made ∷ [] = reached-trace most_retired show.moves start now.place new.place mv a.event h.reached low a.makes in
     let group : List ℕ = shown show.moves now.place.core.plan new.place.tally.moves made in
     let P : Option (List ℕ) → Type 0 = λ o. Writes o new.place.report group in
-    let written : new.place.report ≡ Some (told_by now.seen ++ group) = subst P h.tells a.makes.report in
-    let told : told_by new.seen ≡ told_by now.seen ++ group = same_Some _ _ (sym tells ∙ written) in
+    let written : new.place.report ≡ Some (exposed_by_sink now.seen ++ group) = subst P h.tells a.makes.report in
+    let told : exposed_by_sink new.seen ≡ exposed_by_sink now.seen ++ group = same_Some _ _ (sym tells ∙ written) in
     let both = put-after now.seen new.seen group h.none told in
     let agreed : take new.seen.agreed now.seen.text ≡ take now.seen.agreed now.seen.text ++ group =
     ap (take new.seen.agreed) (sym both.0) ∙ sym (put_all_agreed new.seen a.same.none) ∙ both.1 in
@@ -139,7 +142,7 @@ comes-more text start now new mv small tells h next a =
       rises,
     )
 
-pub comes-on : (text : List ℕ) (start : RunPlace) (now new : AuditRun) → length text ≤ most_trace → new.place.report ≡ Some (told_by new.seen) →
+pub comes-on : (text : List ℕ) (start : RunPlace) (now new : AuditRun) → length text ≤ most_trace → new.place.report ≡ Some (exposed_by_sink new.seen) →
     Comes text start now → Tests now new None → Comes text start new × (now.seen.agreed < new.seen.agreed)
 unfolding Tests AuditTries
 comes-on text start now new small tells h (mv, next, a) = comes-more text start now new mv small tells h next a

@@ -3,10 +3,10 @@ use Rattle.std.proofs.Common.{◌≡◌, ℕ, zero, suc, ◌+◌, ◌<◌, ◌�
 use Rattle.std.specs.Prelude.{slice_get, is_some, IfSome, IsSome}
 use Rattle.std.proofs.Math.Seq.{take-add}
 use Rattle.cf_io.specs.Puts.{Puts}
-use Rattle.cf_audit.specs.Compared.{Comparison, IsComparison, HasOther, IsOther, DifferAt, alone, put_of, told_by}
+use Rattle.cf_audit.specs.Compared.{Comparison, IsComparison, HasOther, IsOther, DifferAt, byte_list, put_of, exposed_by_sink}
 
 -- the bytes up to an index and the one there
-one_more : (bytes : List ℕ) (same : ℕ) → same ≤ length bytes → take (min (length bytes) (same + 1)) bytes ≡ take same bytes ++ alone (slice_get bytes same)
+one_more : (bytes : List ℕ) (same : ℕ) → same ≤ length bytes → take (min (length bytes) (same + 1)) bytes ≡ take same bytes ++ byte_list (slice_get bytes same)
 one_more [] same within = let none : min 0 (same + 1) ≡ zero = omega arith in let start : same ≡ zero = omega arith in rw (none, start) refl
 one_more (x ∷ bytes) zero within = let one : min (suc (length bytes)) (0 + 1) ≡ suc zero = omega arith in rw one refl
 one_more (x ∷ bytes) (suc same) within =
@@ -15,17 +15,18 @@ one_more (x ∷ bytes) (suc same) within =
 
 -- what was written, with a prefix of more bytes that agree, and the byte after it
 put_more : (text bytes : List ℕ) (agreed same : ℕ) → same ≤ length bytes → take same (drop agreed text) ≡ take same bytes
-    → take (agreed + same) text ++ alone (slice_get bytes same) ≡ (take agreed text ++ []) ++ take (min (length bytes) (same + 1)) bytes
+    → take (agreed + same) text ++ byte_list (slice_get bytes same) ≡ (take agreed text ++ []) ++ take (min (length bytes) (same + 1)) bytes
 put_more text bytes agreed same within agrees =
     rw (one_more bytes same within, append-nil, take-add agreed same text, agrees) (append_assoc (take agreed text) (take same bytes)
-    (alone (slice_get bytes same)))
+    (byte_list (slice_get bytes same)))
 
 -- a put of bytes that agree so far
 put_taken : {E : Type 0} (text bytes : List ℕ) (agreed same faults : ℕ) → 0 < length bytes → same ≤ length bytes →
     take same (drop agreed text) ≡ take same bytes
-    → Puts {E = E} (Some (told_by (record { text = text; agreed = agreed; other = None; faults = faults })))
-    (Some (told_by (record { text = text; agreed = agreed + same; other = slice_get bytes same; faults = faults }))) bytes (Ok (min (length bytes) (same + 1)))
-unfolding told_by
+    → Puts {E = E} (Some (exposed_by_sink (record { text = text; agreed = agreed; other = None; faults = faults })))
+    (Some (exposed_by_sink (record { text = text; agreed = agreed + same; other = slice_get bytes same; faults = faults }))) bytes
+    (Ok (min (length bytes) (same + 1)))
+unfolding exposed_by_sink
 put_taken text bytes agreed same faults some within agrees = record {
   count = omega arith;
   some = λ h. omega arith;
@@ -44,33 +45,34 @@ none_other (Some byte) h = absurd (cc)
 pub taken : {E : Type 0} (text rest bytes : List ℕ) (agreed same faults count : ℕ) (other next : Option ℕ) (old : Comparison)
     → record { text = text; agreed = agreed; other = other; faults = faults } ≡ old → is_some other ≡ false → rest ≡ drop old.agreed old.text
     → 0 < length bytes → same ≤ length bytes → take same rest ≡ take same bytes → next ≡ slice_get bytes same → count ≡ min (length bytes) (same + 1)
-    → Puts {E = E} (Some (told_by old)) (Some (told_by (record { text = text; agreed = agreed + same; other = next; faults = faults }))) bytes (Ok count)
+    → Puts {E = E} (Some (exposed_by_sink old)) (Some (exposed_by_sink (record { text = text; agreed = agreed + same; other = next; faults = faults }))) bytes
+    (Ok count)
 taken {E} text rest bytes agreed same faults count other next old is none after some within agrees next_is count_is =
     let blank : record { text = text; agreed = agreed; other = None; faults = faults } ≡ old =
     ap (λ (o : Option ℕ). record { text = text; agreed = agreed; other = o; faults = faults }) (sym (none_other other none)) ∙ is in
     let place : drop old.agreed old.text ≡ drop agreed text = ap (λ (c : Comparison). drop c.agreed c.text) (sym is) in
     let front : take same (drop agreed text) ≡ take same bytes = ap (take same) (sym (after ∙ place)) ∙ agrees in
-    let put : Puts {E = E} (Some (told_by (record { text = text; agreed = agreed; other = None; faults = faults })))
-    (Some (told_by (record { text = text; agreed = agreed + same; other = slice_get bytes same; faults = faults }))) bytes
+    let put : Puts {E = E} (Some (exposed_by_sink (record { text = text; agreed = agreed; other = None; faults = faults })))
+    (Some (exposed_by_sink (record { text = text; agreed = agreed + same; other = slice_get bytes same; faults = faults }))) bytes
     (Ok (min (length bytes) (same + 1))) = put_taken {E = E} text bytes agreed same faults some within front in
-    let started : Puts {E = E} (Some (told_by old)) (Some (told_by
+    let started : Puts {E = E} (Some (exposed_by_sink old)) (Some (exposed_by_sink
     (record { text = text; agreed = agreed + same; other = slice_get bytes same; faults = faults }))) bytes (Ok (min (length bytes) (same + 1))) =
-    subst (λ (c : Comparison). Puts {E = E} (Some (told_by c))
-    (Some (told_by (record { text = text; agreed = agreed + same; other = slice_get bytes same; faults = faults }))) bytes
+    subst (λ (c : Comparison). Puts {E = E} (Some (exposed_by_sink c))
+    (Some (exposed_by_sink (record { text = text; agreed = agreed + same; other = slice_get bytes same; faults = faults }))) bytes
     (Ok (min (length bytes) (same + 1)))) blank put in
     rw (next_is, count_is) started
 
 -- a put that fails
 pub refused : (text bytes : List ℕ) (agreed faults more : ℕ) (other : Option ℕ) (old : Comparison) {E : Type 0} (e : E) →
     record { text = text; agreed = agreed; other = other; faults = faults } ≡ old → 0 < length bytes
-    → Puts {E = E} (Some (told_by old)) (Some (told_by (record { text = text; agreed = agreed; other = other; faults = more }))) bytes (Err e)
-unfolding told_by
+    → Puts {E = E} (Some (exposed_by_sink old)) (Some (exposed_by_sink (record { text = text; agreed = agreed; other = other; faults = more }))) bytes (Err e)
+unfolding exposed_by_sink
 refused text bytes agreed faults more other old e is some = record {
   count = tt;
   some = tt;
   told = tt;
   empty = λ none. absurd (omega arith);
-  unchanged = ap (λ (c : Comparison). Some (told_by c)) is;
+  unchanged = ap (λ (c : Comparison). Some (exposed_by_sink c)) is;
 }
 
 -- a byte after a prefix
@@ -127,6 +129,7 @@ raised_same (x ∷ one) (y ∷ other) put more e =
     (cc, both.1)
 
 -- a comparison to which a piece was written has the same text, and the piece follows what was written before
-pub told-more : (now new : Comparison) (piece : List ℕ) → told_by new ≡ told_by now ++ piece → (new.text ≡ now.text) × (put_of new ≡ put_of now ++ piece)
-unfolding told_by
+pub told-more : (now new : Comparison) (piece : List ℕ) → exposed_by_sink new ≡ exposed_by_sink now ++ piece → (new.text ≡ now.text) ×
+    (put_of new ≡ put_of now ++ piece)
+unfolding exposed_by_sink
 told-more now new piece told = raised_same new.text now.text (put_of new) (put_of now ++ piece) (told ∙ append_assoc (map suc now.text) (0 ∷ put_of now) piece)

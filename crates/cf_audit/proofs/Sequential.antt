@@ -14,7 +14,7 @@ use Rattle.theory_refinement.proofs.claims.Runs.{opened_retired}
 use Rattle.theory_unknown_input.specs.UnknownInput.{LeadsTo}
 use Rattle.theory_unknown_input.proofs.Invariant.{HoldsAnew}
 use Rattle.theory_unknown_input.proofs.Theorems.{holds_anew}
-use Rattle.cf_core.specs.Processors.{Processor, opened}
+use Rattle.cf_core.specs.Processors.{Processor, opened_processor}
 use Rattle.cf_run.specs.Going.{moment_of, Leads}
 use Rattle.cf_run.specs.Headline.{machine_on, moment_after, AreTexts, IsRight}
 use Rattle.cf_run.specs.Made.{moves_of, all_shown}
@@ -28,18 +28,18 @@ use Rattle.cf_audit.specs.declared.answer.Audit.TheVariants.{Agrees, Wrong, Read
 use Rattle.cf_audit.specs.Audits.{AgreesSequentially, Audits, TracesMachine}
 use Rattle.cf_audit.specs.Traces.{most_retired, IsTrace}
 
-opened_regs : (plan : Plan) (hart : Hart) → (opened plan hart).state.regs ≡ hart.regs
-unfolding opened opened_on
+opened_regs : (plan : Plan) (hart : Hart) → (opened_processor plan hart).state.regs ≡ hart.regs
+unfolding opened_processor opened_on
 opened_regs plan hart = refl
 
 -- so the hart has as many
-opened_wide : (core : Processor) (hart : Hart) → core ≡ opened core.plan hart → length core.state.regs ≡ 32 → length hart.regs ≡ 32
+opened_wide : (core : Processor) (hart : Hart) → core ≡ opened_processor core.plan hart → length core.state.regs ≡ 32 → length hart.regs ≡ 32
 opened_wide core hart opens wide =
     subst (λ (r : List ℕ). length r ≡ 32) (ap (λ (p : Processor). p.state.regs) opens ∙ opened_regs core.plan hart) wide
 
 -- over an input whose remaining bytes are known
 traces_told : (core : Processor) (hart : Hart) (rest text : List ℕ) (n : ℕ) (last : Moment) → IsAccepted core.plan → length core.state.regs ≡ 32 →
-    core ≡ opened core.plan hart → (t : IsTrace core (Some rest) text n last) → TracesMachine core hart (Some rest) text n last t
+    core ≡ opened_processor core.plan hart → (t : IsTrace core (Some rest) text n last) → TracesMachine core hart (Some rest) text n last t
 traces_told core hart rest text n last accepted wide opens t =
     let plan : Plan = core.plan in
     let x : Machine = machine_on hart rest in
@@ -60,7 +60,7 @@ traces_told core hart rest text n last accepted wide opens t =
 
 -- and over one whose remaining bytes are unknown
 traces_untold : (core : Processor) (hart : Hart) (text : List ℕ) (n : ℕ) (last : Moment) → IsAccepted core.plan → length core.state.regs ≡ 32 →
-    core ≡ opened core.plan hart → (t : IsTrace core None text n last) → TracesMachine core hart None text n last t
+    core ≡ opened_processor core.plan hart → (t : IsTrace core None text n last) → TracesMachine core hart None text n last t
 traces_untold core hart text n last accepted wide opens t =
     let plan : Plan = core.plan in
     let x : Machine = machine_on hart t.rest in
@@ -80,7 +80,7 @@ traces_untold core hart text n last accepted wide opens t =
 
 -- so it is for each trace that agrees
 traces_machine : (core : Processor) (hart : Hart) (told : Option (List ℕ)) (text : List ℕ) (n : ℕ) (last : Moment) → IsAccepted core.plan →
-    length core.state.regs ≡ 32 → core ≡ opened core.plan hart → (t : IsTrace core told text n last) → TracesMachine core hart told text n last t
+    length core.state.regs ≡ 32 → core ≡ opened_processor core.plan hart → (t : IsTrace core told text n last) → TracesMachine core hart told text n last t
 traces_machine core hart (Some rest) text n last accepted wide opens t = traces_told core hart rest text n last accepted wide opens t
 traces_machine core hart None text n last accepted wide opens t = traces_untold core hart text n last accepted wide opens t
 

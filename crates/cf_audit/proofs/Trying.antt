@@ -12,7 +12,7 @@ use Rattle.cf_audit.specs.declared.stop.AuditStop.{AuditStop}
 use Rattle.cf_audit.specs.declared.stop.AuditStop.TheVariants.{Agrees, Wrong, ReadFault}
 use Rattle.run_scripts.specs.declared.trace_refusal.TraceKind.TheVariants.{NotAMove, Barred, Differs, Cut}
 use Rattle.cf_audit.specs.Compared.{Comparison, HasOther}
-use Rattle.cf_audit.specs.Turns.{AuditRun, ComparisonAnswers, ShownDiffers, PutsSome, AuditTries, input_stopped}
+use Rattle.cf_audit.specs.Turns.{AuditRun, ComparisonAnswers, ShownDiffers, PutsSome, AuditTries, audit_input_stopped}
 
 -- all of a text was written
 puts_all : (a b : Option (List ℕ)) (text : List ℕ) → Writes a b text → PutsSome a b text
@@ -69,7 +69,7 @@ tried-unshown mv now new before (Some ReadFault) d rose h = absurd h
 
 -- the input did not fail then
 pub tried-still : (seen : Comparison) (before now : ℕ) (answer : Option AuditStop) → ComparisonAnswers seen answer → now ≡ before →
-    HasCause before now (input_stopped answer)
+    HasCause before now (audit_input_stopped answer)
 unfolding ComparisonAnswers
 tried-still seen before now None h still = record { never_falls = omega (arith, still); rose = tt; still = still }
 tried-still seen before now (Some (Agrees n)) h still = absurd h

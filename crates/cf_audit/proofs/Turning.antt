@@ -28,9 +28,9 @@ use Rattle.cf_audit.specs.declared.stop.AuditStop.TheVariants as stopped
 use Rattle.run_scripts.specs.declared.trace_refusal.TraceKind.{TraceKind}
 use Rattle.run_scripts.specs.declared.trace_refusal.TraceKind.TheVariants.{NotAMove, Barred, Differs, Cut}
 use Rattle.cf_audit.specs.Audits.{Audits}
-use Rattle.cf_audit.specs.Compared.{Comparison, alone, fresh, told_by}
-use Rattle.cf_audit.specs.Traces.{most_retired, line_of, has_line, BeginsWithMove, IsTrace, ReachesMoment, PartsAt, TraceFails, GoesWrong}
-use Rattle.cf_audit.specs.Turns.{AuditRun, left_of, NextIs, ShownDiffers, PutsSome, AuditTries, Tests, input_stopped, input_tested, outcome_of}
+use Rattle.cf_audit.specs.Compared.{Comparison, byte_list, fresh_comparison, exposed_by_sink}
+use Rattle.cf_audit.specs.Traces.{most_retired, line_of_byte, has_line, BeginsWithMove, IsTrace, ReachesMoment, PartsAt, TraceFails, GoesWrong}
+use Rattle.cf_audit.specs.Turns.{AuditRun, left_of, NextIs, ShownDiffers, PutsSome, AuditTries, Tests, audit_input_stopped, input_tested, outcome_of}
 use Rattle.cf_audit.specs.Limits.{most_trace}
 use Rattle.cf_audit.proofs.Coming.{Comes, so-far, put-after, retires-below, trace-so-far, agrees-so-far, agreed-length, stands-here}
 use Rattle.cf_audit.proofs.Parting.{parted, byte_after}
@@ -64,7 +64,8 @@ record PartsThere (text : List ℕ) (start : RunPlace) (now new : AuditRun) (rea
   text_is : new.seen.text ≡ text
   within : new.seen.agreed ≤ length text
 
-parts_there : (text : List ℕ) (start : RunPlace) (now new : AuditRun) (mv : Move) → length text ≤ most_trace → new.place.report ≡ Some (told_by new.seen) →
+parts_there : (text : List ℕ) (start : RunPlace) (now new : AuditRun) (mv : Move) → length text ≤ most_trace →
+    new.place.report ≡ Some (exposed_by_sink new.seen) →
     (h : Comes text start now) → NextIs now mv → ShownDiffers mv now new → PartsThere text start now new h.reached
 parts_there text start now new mv small tells h next p =
     let group : List ℕ = shown_of show.moves mv p.event now.place new.place in
@@ -81,11 +82,11 @@ parts_there text start now new mv small tells h next p =
     let l : LastMade start.core.plan most_retired start.streams.input (moment_of start.core h.reached.rest) h.reached.trace made more.last =
     last_made start.core.plan most_retired start.streams.input (moment_of start.core h.reached.rest) h.reached.trace made more.last leads in
     let P : Option (List ℕ) → Type 0 = λ o. PutsSome o new.place.report group in
-    let front : PutsSome (Some (told_by now.seen)) new.place.report group = subst P h.tells p.report in
-    let told : told_by new.seen ≡ told_by now.seen ++ take front.0 group = same_Some _ _ (sym tells ∙ front.2) in
+    let front : PutsSome (Some (exposed_by_sink now.seen)) new.place.report group = subst P h.tells p.report in
+    let told : exposed_by_sink new.seen ≡ exposed_by_sink now.seen ++ take front.0 group = same_Some _ _ (sym tells ∙ front.2) in
     let both = put-after now.seen new.seen (take front.0 group) h.none told in
     let put : take new.seen.agreed now.seen.text ++ p.differs.other ∷ [] ≡ take now.seen.agreed now.seen.text ++ take front.0 group =
-    ap (λ (t : List ℕ). take new.seen.agreed t ++ p.differs.other ∷ []) (sym both.0) ∙ ap (λ (o : Option ℕ). take new.seen.agreed new.seen.text ++ alone o)
+    ap (λ (t : List ℕ). take new.seen.agreed t ++ p.differs.other ∷ []) (sym both.0) ∙ ap (λ (o : Option ℕ). take new.seen.agreed new.seen.text ++ byte_list o)
     (sym p.differs.is) ∙ both.1 in
     let high : new.seen.agreed ≤ length now.seen.text = subst (λ (t : List ℕ). new.seen.agreed ≤ length t) both.0 p.differs.within in
     let other : slice_get now.seen.text new.seen.agreed ≡ Some p.differs.other → ⊥ = λ e. p.differs.differs
@@ -133,7 +134,7 @@ still_there text start now new h same =
 wrong_at : (text : List ℕ) (start : RunPlace) (now : AuditRun) (h : Comes text start now) (last stop : Moment) (line place : ℕ) (kind : TraceKind) →
     Leads start.core.plan most_retired start.streams.input (moment_of start.core h.reached.rest) h.reached.trace last → 0 < length (left_of now.seen)
     → TraceFails start.core.plan start.streams.input last (now.place.tally.moves + 1) (left_of now.seen) place kind stop →
-    line ≡ line_of text (now.seen.agreed + place) → GoesWrong start.core start.streams.input text line kind stop
+    line ≡ line_of_byte text (now.seen.agreed + place) → GoesWrong start.core start.streams.input text line kind stop
 wrong_at text start now h last stop line place kind leads some fails line_is = record {
   front = take now.seen.agreed text;
   left = left_of now.seen;
@@ -142,19 +143,19 @@ wrong_at text start now h last stop line place kind leads some fails line_is = r
   agrees = agrees-so-far text start now h last leads some;
   place = place;
   fails = fails;
-  line_is = line_is ∙ ap (λ (n : ℕ). line_of text (n + place)) (sym (agreed-length text start now h));
+  line_is = line_is ∙ ap (λ (n : ℕ). line_of_byte text (n + place)) (sym (agreed-length text start now h));
 }
 
 -- at the first line of the next group, where no more moves are made
 wrong_first : (text : List ℕ) (start : RunPlace) (now new : AuditRun) (h : Comes text start now) (line : ℕ) (kind : TraceKind) → 0 < length (left_of now.seen)
     → TraceFails start.core.plan start.streams.input h.reached.last (now.place.tally.moves + 1) (left_of now.seen) 0 kind h.reached.last →
-    line ≡ line_of text now.seen.agreed → new ≡ now
+    line ≡ line_of_byte text now.seen.agreed → new ≡ now
     → Audits start.core new.place.core start.streams.input new.place.streams.input text (Wrong line kind)
 unfolding Audits
 wrong_first text start now new h line kind some fails line_is same =
     let here : now.seen.agreed ≡ now.seen.agreed + 0 = omega arith in (
       h.reached.last,
-      wrong_at text start now h h.reached.last h.reached.last line 0 kind h.reached.leads some fails (line_is ∙ ap (line_of text) here),
+      wrong_at text start now h h.reached.last h.reached.last line 0 kind h.reached.leads some fails (line_is ∙ ap (line_of_byte text) here),
       still_there text start now new h same,
     )
 
@@ -189,10 +190,10 @@ agrees_all text start now new n h none count same =
 
 -- the index where the group of a move and the text differ first, among all bytes
 parted_place : (text : List ℕ) (start : RunPlace) (now new : AuditRun) (h : Comes text start now) (line : ℕ) → PartsThere text start now new h.reached →
-    line ≡ line_of text new.seen.agreed → line ≡ line_of text (now.seen.agreed + (new.seen.agreed - now.seen.agreed))
+    line ≡ line_of_byte text new.seen.agreed → line ≡ line_of_byte text (now.seen.agreed + (new.seen.agreed - now.seen.agreed))
 parted_place text start now new h line p line_is =
     let place : new.seen.agreed ≡ now.seen.agreed + (new.seen.agreed - now.seen.agreed) = omega (arith, p.low) in
-    line_is ∙ ap (line_of text) place
+    line_is ∙ ap (line_of_byte text) place
 
 -- an audit's output exposes nothing
 abbrev IsQuiet : (now new : AuditRun) → Type 0
@@ -211,31 +212,33 @@ fails_there text start now new h quiet fails =
 
 -- what the move of the next line leads to, where the audit ends with it
 tried : (text : List ℕ) (start : RunPlace) (now new : AuditRun) (mv : Move) (stop : AuditStop) → length text ≤ most_trace →
-    new.place.report ≡ Some (told_by new.seen) → IsQuiet now new → Comes text start now → NextIs now mv → AuditTries mv now new (Some stop)
+    new.place.report ≡ Some (exposed_by_sink new.seen) → IsQuiet now new → Comes text start now → NextIs now mv → AuditTries mv now new (Some stop)
     → Audits start.core new.place.core start.streams.input new.place.streams.input text (outcome_of text stop)
 unfolding Audits AuditTries TraceFails MoveDoes
 tried text start now new mv (stopped.Agrees n) small tells quiet h next t = absurd t
 tried text start now new mv (stopped.Wrong place NotAMove) small tells quiet h next t = absurd t
 tried text start now new mv (stopped.Wrong place (Barred b)) small tells quiet h next t =
     let barred : bar start.core.plan h.reached.last.state mv ≡ Some b = subst (λ (c : Processor). bar c.plan c.state mv ≡ Some b) h.reached.core t.0 in
-    wrong_first text start now new h (line_of text place) (Barred b) (begins_some (left_of now.seen) (now.place.tally.moves + 1) mv next)
-    (mv, next, barred, refl, refl) (ap (line_of text) t.1) t.2
+    wrong_first text start now new h (line_of_byte text place) (Barred b) (begins_some (left_of now.seen) (now.place.tally.moves + 1) mv next)
+    (mv, next, barred, refl, refl) (ap (line_of_byte text) t.1) t.2
 tried text start now new mv (stopped.Wrong place Differs) small tells quiet h next t =
     let p = parts_there text start now new mv small tells h next t.0 in
     let size : length new.seen.text ≡ length text = ap length p.text_is in (
       p.stop,
-      wrong_at text start now h p.last p.stop (line_of text place) (new.seen.agreed - now.seen.agreed) Differs p.leads
+      wrong_at text start now h p.last p.stop (line_of_byte text place) (new.seen.agreed - now.seen.agreed) Differs p.leads
           (begins_some (left_of now.seen) (now.place.tally.moves + 1) mv next)
-          (p.parts, omega (arith, size, t.1, p.low, left_length text start now h)) (parted_place text start now new h (line_of text place) p (ap (line_of text) t.2)),
+          (p.parts, omega (arith, size, t.1, p.low, left_length text start now h))
+          (parted_place text start now new h (line_of_byte text place) p (ap (line_of_byte text) t.2)),
       p.stands,
     )
 tried text start now new mv (stopped.Wrong place Cut) small tells quiet h next t =
     let p = parts_there text start now new mv small tells h next t.0 in
     let size : length new.seen.text ≡ length text = ap length p.text_is in (
       p.stop,
-      wrong_at text start now h p.last p.stop (line_of text place) (new.seen.agreed - now.seen.agreed) Cut p.leads
+      wrong_at text start now h p.last p.stop (line_of_byte text place) (new.seen.agreed - now.seen.agreed) Cut p.leads
           (begins_some (left_of now.seen) (now.place.tally.moves + 1) mv next)
-          (inr (p.parts, omega (arith, size, t.1, p.low, left_length text start now h))) (parted_place text start now new h (line_of text place) p (ap (line_of text) t.2)),
+          (inr (p.parts, omega (arith, size, t.1, p.low, left_length text start now h)))
+          (parted_place text start now new h (line_of_byte text place) p (ap (line_of_byte text) t.2)),
       p.stands,
     )
 tried text start now new mv stopped.ReadFault small tells quiet h next t =
@@ -284,18 +287,19 @@ tests-tried left now new mv stop after begins tries = of stop (subst (λ (t : Li
 
 -- how the audit ends with a turn
 pub audited : (text : List ℕ) (start : RunPlace) (now new : AuditRun) (stop : AuditStop) → length text ≤ most_trace →
-    new.place.report ≡ Some (told_by new.seen) → IsQuiet now new → Comes text start now → Tests now new (Some stop)
+    new.place.report ≡ Some (exposed_by_sink new.seen) → IsQuiet now new → Comes text start now → Tests now new (Some stop)
     → Audits start.core new.place.core start.streams.input new.place.streams.input text (outcome_of text stop)
 unfolding Tests Audits TraceFails
 audited text start now new (stopped.Agrees n) small tells quiet h t = agrees_all text start now new n h t.0 t.1 t.2
 audited text start now new (stopped.Wrong place NotAMove) small tells quiet h t =
-    wrong_first text start now new h (line_of text place) NotAMove (line_some (left_of now.seen) t.0) (t.0, t.1, refl, refl) (ap (line_of text) t.2) t.3
+    wrong_first text start now new h (line_of_byte text place) NotAMove (line_some (left_of now.seen) t.0) (t.0, t.1, refl, refl) (ap (line_of_byte text) t.2)
+    t.3
 audited text start now new (stopped.Wrong place (Barred b)) small tells quiet h (mv, next, t) =
     tried text start now new mv (stopped.Wrong place (Barred b)) small tells quiet h next t
 audited text start now new (stopped.Wrong place Differs) small tells quiet h (mv, next, t) =
     tried text start now new mv (stopped.Wrong place Differs) small tells quiet h next t
 audited text start now new (stopped.Wrong place Cut) small tells quiet h (inl t) =
-    wrong_first text start now new h (line_of text place) Cut t.0 (inl (t.1, refl, refl)) (ap (line_of text) t.2) t.3
+    wrong_first text start now new h (line_of_byte text place) Cut t.0 (inl (t.1, refl, refl)) (ap (line_of_byte text) t.2) t.3
 audited text start now new (stopped.Wrong place Cut) small tells quiet h (inr (mv, next, t)) =
     tried text start now new mv (stopped.Wrong place Cut) small tells quiet h next t
 audited text start now new stopped.ReadFault small tells quiet h (mv, next, t) =
@@ -303,12 +307,13 @@ audited text start now new stopped.ReadFault small tells quiet h (mv, next, t) =
 
 -- it is the outcome of an audit of the text with which the comparison began
 pub audited-text : (core new : Processor) (told now : Option (List ℕ)) (seen : Comparison) (text : List ℕ) (stop : AuditStop) (answer : Audit) →
-    seen ≡ fresh text → Audits core new told now seen.text (outcome_of seen.text stop) → answer ≡ outcome_of text stop → Audits core new told now text answer
+    seen ≡ fresh_comparison text → Audits core new told now seen.text (outcome_of seen.text stop) → answer ≡ outcome_of text stop →
+    Audits core new told now text answer
 audited-text core new told now seen text stop answer begins audits is =
     subst (Audits core new told now text) (sym is) (subst (λ (c : Comparison). Audits core new told now c.text (outcome_of c.text stop)) begins audits)
 
 -- and the input failed it where it stopped so
-pub stopped-tested : (text : List ℕ) (stop : AuditStop) → input_tested (Some (outcome_of text stop)) ≡ input_stopped (Some stop)
+pub stopped-tested : (text : List ℕ) (stop : AuditStop) → input_tested (Some (outcome_of text stop)) ≡ audit_input_stopped (Some stop)
 stopped-tested text (stopped.Agrees n) = refl
 stopped-tested text (stopped.Wrong place kind) = refl
 stopped-tested text stopped.ReadFault = refl

@@ -9,7 +9,7 @@ use Rattle.cf_semantics.specs.state.Layouts.{isa_of}
 use Rattle.cf_semantics.specs.runs.Lines.{Line, sequence}
 use Rattle.cf_semantics.specs.state.State.{Moment}
 use Rattle.theory_unknown_input.specs.UnknownInput.{GoesTo}
-use Rattle.cf_core.specs.Processors.{Processor, in_state, opened}
+use Rattle.cf_core.specs.Processors.{Processor, in_state, opened_processor}
 use Rattle.cf_run.specs.Headline.{machine_on, AreTexts, IsRight, IsRightOnTheWay}
 use Rattle.cf_run.specs.Made.{all_shown, moves_of}
 use Rattle.cf_audit.specs.declared.answer.Audit.{Audit}
@@ -81,7 +81,7 @@ pub record EndsTrace (core new : Processor) (told now : Option (List ℕ)) (text
   pub last : Moment
   pub is : IsTrace core told text n last
   pub reaches : ReachesMoment core new told now last
-  pub machine : (hart : Hart) → core ≡ opened core.plan hart → TracesMachine core hart told text n last is
+  pub machine : (hart : Hart) → core ≡ opened_processor core.plan hart → TracesMachine core hart told text n last is
 
 -- This holds of each trace that agrees.
 unfoldable pub AgreesSequentially : (core new : Processor) → (told now : Option (List ℕ)) → List ℕ → Audit → Type 0

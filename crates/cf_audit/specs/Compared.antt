@@ -10,8 +10,8 @@ pub record Comparison : Type 0 where
   pub faults : ℕ
 
 -- before the first byte
-abbrev pub fresh : List ℕ → Comparison
-fresh text = record { text = text; agreed = 0; other = None; faults = 0 }
+abbrev pub fresh_comparison : List ℕ → Comparison
+fresh_comparison text = record { text = text; agreed = 0; other = None; faults = 0 }
 
 -- the text does not have the byte at this index
 abbrev pub IsOther : List ℕ → ℕ → ℕ → Type 0
@@ -41,15 +41,15 @@ pub record AllAgrees (seen : Comparison) : Type 0 where
   pub within : seen.agreed ≤ length seen.text
 
 -- the byte as a list, empty where there is none
-abbrev pub alone : Option ℕ → List ℕ
-alone None = []
-alone (Some byte) = byte ∷ []
+abbrev pub byte_list : Option ℕ → List ℕ
+byte_list None = []
+byte_list (Some byte) = byte ∷ []
 
 -- what was written
 abbrev pub put_of : Comparison → List ℕ
-put_of c = take c.agreed c.text ++ alone c.other
+put_of c = take c.agreed c.text ++ byte_list c.other
 
 -- what the sink exposes: the text, each byte raised by one, then a 0 that ends it, and after that what was written. So
 -- whoever writes to the sink is known to leave its text unchanged
-unfoldable pub told_by : Comparison → List ℕ
-told_by c = map suc c.text ++ 0 ∷ put_of c
+unfoldable pub exposed_by_sink : Comparison → List ℕ
+exposed_by_sink c = map suc c.text ++ 0 ∷ put_of c

@@ -9,7 +9,7 @@ use Rattle.cf_core.specs.Processors.{Processor}
 use Rattle.cf_run.specs.Going.{moment_of, IsMade}
 use Rattle.cf_run.specs.Made.{Made, all_shown}
 use Rattle.run_scripts.specs.declared.trace_refusal.TraceKind.{TraceKind}
-use Rattle.cf_audit.specs.Traces.{most_retired, line_of, AreReadBack, TraceFails}
+use Rattle.cf_audit.specs.Traces.{most_retired, line_of_byte, AreReadBack, TraceFails}
 
 -- what the move of each number finds of the input
 abbrev pub Findings : Type 0
@@ -46,4 +46,4 @@ pub record GoesWrongFinding (found : Findings) (core : Processor) (text : List �
   pub is : IsTraceFinding found core front n last
   pub place : ℕ
   pub fails : TraceFails core.plan (Some (found (n + 1))) (finding_at found (n + 1) last) (n + 1) left place kind stop
-  pub line_is : line ≡ line_of text (length front + place)
+  pub line_is : line ≡ line_of_byte text (length front + place)

@@ -60,8 +60,8 @@ abbrev pub has_line : List ℕ → Bool
 has_line text = list_any is_line_feed text
 
 -- the line of the byte at an index, counted from 1
-unfoldable pub line_of : List ℕ → ℕ → ℕ
-line_of text place = 1 + count_by is_line_feed (take place text)
+unfoldable pub line_of_byte : List ℕ → ℕ → ℕ
+line_of_byte text place = 1 + count_by is_line_feed (take place text)
 
 -- a prefix of the text is the trace of a run of n moves that leads to this moment; this is left of the text, and it is
 -- not empty
@@ -117,7 +117,7 @@ pub record GoesWrong (core : Processor) (told : Option (List ℕ)) (text : List 
   pub agrees : AgreesSoFar core told text front left n last
   pub place : ℕ
   pub fails : TraceFails core.plan told last (n + 1) left place kind stop
-  pub line_is : line ≡ line_of text (length front + place)
+  pub line_is : line ≡ line_of_byte text (length front + place)
 
 -- After the groups of a run comes the line of Serve, which nothing bars: this call failed, and the processor and the
 -- input are as it leaves them.

@@ -9,14 +9,14 @@ use Rattle.cf_semantics.specs.moves.Bars.{bar as first_bar}
 use Rattle.cf_core.specs.Processors.{Processor}
 use Rattle.cf_report.specs.declared.tally.Tally.{Tally}
 use Rattle.run_finishes.specs.declared.finish.Ran.TheVariants as ran
-use Rattle.cf_run.specs.Moving.{RunPlace, place_of, MakesMove, MakesAndShows, MoveDoes, shown_of}
+use Rattle.cf_run.specs.Moving.{RunPlace, run_place_of, MakesMove, MakesAndShows, MoveDoes, shown_of}
 use Rattle.cf_audit.specs.declared.answer.Audit.{Audit}
 use Rattle.cf_audit.specs.declared.answer.Audit.TheVariants as outcome
 use Rattle.cf_audit.specs.declared.stop.AuditStop.{AuditStop}
 use Rattle.cf_audit.specs.declared.stop.AuditStop.TheVariants.{Agrees, Wrong, ReadFault}
 use Rattle.run_scripts.specs.declared.trace_refusal.TraceKind.TheVariants.{NotAMove, Barred, Differs, Cut}
-use Rattle.cf_audit.specs.Compared.{Comparison, told_by, HasOther, AllAgrees}
-use Rattle.cf_audit.specs.Traces.{BeginsWithMove, has_line, line_of}
+use Rattle.cf_audit.specs.Compared.{Comparison, exposed_by_sink, HasOther, AllAgrees}
+use Rattle.cf_audit.specs.Traces.{BeginsWithMove, has_line, line_of_byte}
 
 -- where an audit has arrived: the RunPlace of its run, and the comparison that is its report
 pub record AuditRun : Type 0 where
@@ -24,12 +24,12 @@ pub record AuditRun : Type 0 where
   pub seen : Comparison
 
 -- the AuditRun with these parts
-abbrev pub stand_of : RunPlace → Comparison → AuditRun
-stand_of place seen = record { place = place; seen = seen }
+abbrev pub audit_run_of : RunPlace → Comparison → AuditRun
+audit_run_of place seen = record { place = place; seen = seen }
 
 -- the AuditRun with these parts, given how a source exposes its bytes; the program's output is discarded
 abbrev pub stand_by : {S : Type 0} → (S → Option (List ℕ)) → Processor → S → Comparison → Tally → AuditRun
-stand_by unread core input seen tally = stand_of (place_of core (streams_of (unread input) None) (Some (told_by seen)) tally) seen
+stand_by unread core input seen tally = audit_run_of (run_place_of core (streams_of (unread input) None) (Some (exposed_by_sink seen)) tally) seen
 
 -- the text that is left
 abbrev pub left_of : Comparison → List ℕ
@@ -94,15 +94,15 @@ Tests now new stop = (mv : Move) × NextIs now mv × AuditTries mv now new stop
 -- the outcome of an audit of the text that stops so: the line is that of the byte at the index
 abbrev pub outcome_of : List ℕ → AuditStop → Audit
 outcome_of text (Agrees n) = outcome.Agrees n
-outcome_of text (Wrong place kind) = outcome.Wrong (line_of text place) kind
+outcome_of text (Wrong place kind) = outcome.Wrong (line_of_byte text place) kind
 outcome_of text ReadFault = outcome.ReadFault
 
 -- an error where the input failed the audit
-abbrev pub input_stopped : Option AuditStop → Result (Unit {0}) (Unit {0})
-input_stopped (Some ReadFault) = Err tt
-input_stopped (Some (Agrees n)) = Ok tt
-input_stopped (Some (Wrong place kind)) = Ok tt
-input_stopped None = Ok tt
+abbrev pub audit_input_stopped : Option AuditStop → Result (Unit {0}) (Unit {0})
+audit_input_stopped (Some ReadFault) = Err tt
+audit_input_stopped (Some (Agrees n)) = Ok tt
+audit_input_stopped (Some (Wrong place kind)) = Ok tt
+audit_input_stopped None = Ok tt
 
 -- the same, by the outcome
 abbrev pub input_tested : Option Audit → Result (Unit {0}) (Unit {0})

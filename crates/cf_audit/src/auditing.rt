@@ -5,10 +5,10 @@ ghost use Rattle.std.specs.Prelude.{◌≡◌, ◌+◌, ◌<◌, ◌≤◌, ◌^
 ghost use Rattle.cf_io.specs.Causes.{HasCause};
 ghost use Rattle.cf_run.specs.Made.{CanCount};
 ghost use Rattle.cf_core.specs.Processors.{IsOpened};
-ghost use Rattle.cf_audit.specs.Compared.{fresh};
+ghost use Rattle.cf_audit.specs.Compared.{fresh_comparison};
 ghost use Rattle.cf_audit.specs.Limits.{most_trace};
 ghost use Rattle.cf_audit.specs.Traces.{has_line};
-ghost use Rattle.cf_audit.specs.Turns.{stand_by, ComparisonAnswers, Tests, input_stopped, input_tested, outcome_of};
+ghost use Rattle.cf_audit.specs.Turns.{stand_by, ComparisonAnswers, Tests, audit_input_stopped, input_tested, outcome_of};
 ghost use Rattle.cf_audit.specs.Audits.{Audits, AgreesSequentially, AgreesWithAll};
 
 use crate::answer::Audit;
@@ -66,7 +66,7 @@ fn advance<S: Source>(
     requires counts { CanCount tally.old }
     ensures tests { Tests (stand_by S.left core.old input.old report.old tally.old)
         (stand_by S.left core.new input.new report.new tally.new) result }
-    ensures input { HasCause (S.faults input.old) (S.faults input.new) (input_stopped result) }
+    ensures input { HasCause (S.faults input.old) (S.faults input.new) (audit_input_stopped result) }
 {
     let left = report.rest();
     if left.is_empty() {
@@ -107,11 +107,11 @@ fn advance<S: Source>(
 fn audit_groups<S: Source>(core: &mut Core, input: &mut S, report: &mut Compared<'_>) -> AuditStop
     requires opened { IsOpened core.old }
     requires retired { core.old.state.retired ≡ 0 }
-    requires fresh { report.old ≡ fresh report.old.text }
+    requires fresh { report.old ≡ fresh_comparison report.old.text }
     requires size { length report.old.text ≤ most_trace }
     ensures audits { Audits core.old core.new (S.left input.old) (S.left input.new) report.old.text
         (outcome_of report.old.text result) }
-    ensures input { HasCause (S.faults input.old) (S.faults input.new) (input_stopped (Some result)) }
+    ensures input { HasCause (S.faults input.old) (S.faults input.new) (audit_input_stopped (Some result)) }
 {
     let mut tally = Tally {
         moves: 0,

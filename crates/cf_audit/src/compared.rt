@@ -3,7 +3,7 @@
 ghost use Rattle.std.specs.Prelude.{◌≡◌, ◌≤◌, ◌↔◌, IsTrue, None, Some, drop, false, true, length};
 ghost use Rattle.cf_io.specs.Causes.{HasCause};
 ghost use Rattle.cf_io.specs.Puts.{Puts};
-ghost use Rattle.cf_audit.specs.Compared.{fresh, told_by, HasOther, AllAgrees};
+ghost use Rattle.cf_audit.specs.Compared.{fresh_comparison, exposed_by_sink, HasOther, AllAgrees};
 
 use crate::common::{byte_at, common};
 use cf_io::{Failed, Sink};
@@ -32,7 +32,7 @@ impl<'a> Model for Compared<'a> {
 impl<'a> Compared<'a> {
     /// A comparison with a text, before the first byte.
     pub(crate) fn with(text: &'a [u8]) -> Compared<'a>
-        ensures { result ≡ fresh text.now }
+        ensures { result ≡ fresh_comparison text.now }
     {
         Compared {
             text,
@@ -75,14 +75,14 @@ impl<'a> Compared<'a> {
 
 impl<'a> Sink for Compared<'a> {
     ghost use Rattle.std.specs.Prelude.{Some};
-    ghost use Rattle.cf_audit.specs.Compared.{told_by};
+    ghost use Rattle.cf_audit.specs.Compared.{exposed_by_sink};
 
-    ghost written = { λ c. Some (told_by c) };
+    ghost written = { λ c. Some (exposed_by_sink c) };
 
     ghost faults = { λ c. c.faults };
 
     fn put(&mut self, bytes: &[u8]) -> Result<usize, Failed>
-        ensures bytes { Puts (Some (told_by self.old)) (Some (told_by self.new)) bytes.now result }
+        ensures bytes { Puts (Some (exposed_by_sink self.old)) (Some (exposed_by_sink self.new)) bytes.now result }
         ensures cause { HasCause self.old.faults self.new.faults result }
     {
         if bytes.is_empty() {

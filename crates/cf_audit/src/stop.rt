@@ -3,7 +3,7 @@
 ghost use Rattle.std.specs.Prelude.{◌≡◌, ◌≤◌, count_by, length};
 ghost use Rattle.rv_text.specs.Lines.{is_line_feed};
 ghost use Rattle.cf_audit.specs.Limits.{most_trace};
-ghost use Rattle.cf_audit.specs.Traces.{line_of};
+ghost use Rattle.cf_audit.specs.Traces.{line_of_byte};
 ghost use Rattle.cf_audit.specs.Turns.{outcome_of};
 
 use crate::answer::Audit;
@@ -38,10 +38,10 @@ fn count_lines(text: &[u8]) -> usize
 }
 
 /// The line of the byte at an index, counted from 1.
-#[tactic(auto, using(crate::proofs::Parting::fronts), unfolding(crate::specs::Traces::line_of))]
+#[tactic(auto, using(crate::proofs::Parting::fronts), unfolding(crate::specs::Traces::line_of_byte))]
 fn line_of(text: &[u8], place: usize) -> u32
     requires { length text.now ≤ most_trace }
-    ensures { result ≡ line_of text.now place }
+    ensures { result ≡ line_of_byte text.now place }
 {
     let end = place.min(text.len());
     count_lines(&text[..end]) as u32 + 1

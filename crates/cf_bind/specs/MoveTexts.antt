@@ -14,23 +14,23 @@ guess_text guess.Wait = codes "wait"
 guess_text (guess.To t) = codes "to " ++ hex8 t
 
 -- a kind of move and the number of its stage
-abbrev pub at_stage : List ℕ → ℕ → List ℕ
-at_stage kind i = kind ++ codes " " ++ decimal i
+abbrev pub text_at_stage : List ℕ → ℕ → List ℕ
+text_at_stage kind i = kind ++ codes " " ++ decimal i
 
 -- the line of a move, without its line feed: one space between words, numbers without leading zeros, addresses in eight
 -- digits
 unfoldable pub move_line : Move → List ℕ
 move_line (Issue g) = codes "issue " ++ guess_text g
 move_line Emit = codes "emit"
-move_line (Climb i) = at_stage (codes "climb") i
-move_line (Fall i) = at_stage (codes "fall") i
-move_line (Meet i) = at_stage (codes "meet") i
-move_line (Execute i) = at_stage (codes "execute") i
-move_line (Send i) = at_stage (codes "send") i
-move_line (Launch i) = at_stage (codes "launch") i
+move_line (Climb i) = text_at_stage (codes "climb") i
+move_line (Fall i) = text_at_stage (codes "fall") i
+move_line (Meet i) = text_at_stage (codes "meet") i
+move_line (Execute i) = text_at_stage (codes "execute") i
+move_line (Send i) = text_at_stage (codes "send") i
+move_line (Launch i) = text_at_stage (codes "launch") i
 move_line (Slide k c) = codes "slide " ++ decimal k ++ codes " " ++ decimal c
 move_line Access = codes "access"
-move_line (Recover i) = at_stage (codes "recover") i
+move_line (Recover i) = text_at_stage (codes "recover") i
 move_line Leave = codes "leave"
 move_line Exit = codes "exit"
 move_line Serve = codes "serve"

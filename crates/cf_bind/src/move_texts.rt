@@ -2,7 +2,7 @@
 #![tactic(auto, unfolding(crate::specs::MoveTexts::move_line))]
 
 ghost use Rattle.std.specs.Prelude.{◌≡◌, ◌+◌, ◌≤◌, ◌++◌, length};
-ghost use Rattle.cf_bind.specs.MoveTexts.{guess_text as text_of, at_stage, move_line};
+ghost use Rattle.cf_bind.specs.MoveTexts.{guess_text as text_of, text_at_stage, move_line};
 
 use crate::move_line::MoveLine;
 use crate::moves::Move;
@@ -27,7 +27,7 @@ fn push_guess(guess: Guess, line: &mut MoveLine)
 /// Makes the line hold a kind of move and a number.
 fn numbered(kind: &[u8], number: u32, line: &mut MoveLine)
     requires { length kind.now + 11 ≤ 32 }
-    ensures text { line.new ≡ at_stage kind.now number }
+    ensures text { line.new ≡ text_at_stage kind.now number }
     ensures size { length line.new ≤ length kind.now + 11 }
 {
     line.set(kind);

@@ -10,10 +10,10 @@ use Rattle.cf_semantics.specs.declared.event.Event.{Event}
 use Rattle.cf_semantics.specs.moves.Bars.{bar}
 use Rattle.cf_semantics.specs.state.State.{State}
 use Rattle.theory_refinement.proofs.claims.Runs.{going}
-use Rattle.cf_core.specs.Processors.{Processor, opened}
+use Rattle.cf_core.specs.Processors.{Processor, opened_processor}
 use Rattle.cf_report.specs.declared.tally.Tally.{Tally}
 use Rattle.run_finishes.specs.declared.finish.Ran.TheVariants as ran
-use Rattle.cf_run.specs.Made.{Made, moves_of, counted}
+use Rattle.cf_run.specs.Made.{Made, moves_of, counted_event}
 use Rattle.cf_run.specs.Moving.{RunPlace, MakesAndShows}
 use Rattle.cf_run.specs.Reaching.{Reaches, no_tally}
 use Rattle.cf_run.proofs.Runs.{reached-none, none-trace, reached-more, reached-trace, moves-more, made-within}
@@ -23,12 +23,12 @@ use Rattle.cf_log.specs.declared.said.ObservedPart.TheVariants.{Retire}
 use Rattle.cf_log.specs.declared.said.Said.{Said}
 use Rattle.cf_log.specs.declared.said.Said.TheVariants.{Makes, Observes}
 use Rattle.cf_log.specs.declared.said.TimedLine.{TimedLine}
-use Rattle.cf_log.specs.Lines.{after_time, line_read}
+use Rattle.cf_log.specs.Lines.{after_time, log_line_read}
 use Rattle.cf_conform.specs.declared.progress.LatestRetired.{LatestRetired}
 use Rattle.cf_conform.specs.declared.progress.LogProgress.{LogProgress}
 use Rattle.cf_conform.specs.declared.answer.LineStop.{LineStop}
 use Rattle.cf_conform.specs.declared.answer.LineStop.TheVariants.{Refused}
-use Rattle.cf_conform.specs.Conforming.{GoesThrough, IsLimited, IsMachineLine, IsRetireLine, RetireAsMachine, logged_moves, moves_read, moves_said, time_after}
+use Rattle.cf_conform.specs.Conforming.{GoesThrough, IsLimited, IsMachineLine, IsRetireLine, RetireAsMachine, logged_moves, moves_read, moves_said, latest_time}
 use Rattle.cf_conform.specs.Judging.{AgreesWith, JudgesPart, JudgesPartAt, JudgesLine, JudgesReading, JudgesSaid, MakesLogged, TriesMove}
 use Rattle.cf_conform.specs.LogPlaces.{LogPlace, as_run, at_time, no_progress, latest_after}
 use Rattle.cf_conform.specs.Wanted.{wanted_line}
@@ -90,35 +90,35 @@ below limit retired low other = elim (cases_lt retired limit) [
 lines_on : (lines more : List (List ℕ)) (line : List ℕ) → logged_moves 0 1 ((lines ++ line ∷ []) ++ more) ≡ logged_moves 0 1 (lines ++ line ∷ more)
 lines_on lines more line = ap (logged_moves 0 1) (append_assoc lines (line ∷ []) more)
 
-logged_line : (time next : ℕ) (line : List ℕ) (more : List (List ℕ)) (read : Result (Option TimedLine) LogKind) → line_read time next line ≡ read →
-    logged_moves time next (line ∷ more) ≡ moves_read read ++ logged_moves (time_after time read) (next + length (moves_read read)) more
+logged_line : (time next : ℕ) (line : List ℕ) (more : List (List ℕ)) (read : Result (Option TimedLine) LogKind) → log_line_read time next line ≡ read →
+    logged_moves time next (line ∷ more) ≡ moves_read read ++ logged_moves (latest_time time read) (next + length (moves_read read)) more
 unfolding logged_moves
 logged_line time next line more read is =
-    ap (λ (r : Result (Option TimedLine) LogKind). moves_read r ++ logged_moves (time_after time r) (next + length (moves_read r)) more) is
+    ap (λ (r : Result (Option TimedLine) LogKind). moves_read r ++ logged_moves (latest_time time r) (next + length (moves_read r)) more) is
 
 -- a line that makes no move
 still_logged : (lines more : List (List ℕ)) (line : List ℕ) (moves : List Move) (time next later : ℕ) (read : Result (Option TimedLine) LogKind) →
-    ((more : List (List ℕ)) → logged_moves 0 1 (lines ++ more) ≡ moves ++ logged_moves time next more) → line_read time next line ≡ read →
-    moves_read read ≡ [] → time_after time read ≡ later → logged_moves 0 1 ((lines ++ line ∷ []) ++ more) ≡ moves ++ logged_moves later next more
+    ((more : List (List ℕ)) → logged_moves 0 1 (lines ++ more) ≡ moves ++ logged_moves time next more) → log_line_read time next line ≡ read →
+    moves_read read ≡ [] → latest_time time read ≡ later → logged_moves 0 1 ((lines ++ line ∷ []) ++ more) ≡ moves ++ logged_moves later next more
 still_logged lines more line moves time next later read h is none after =
     let count : next + length (moves_read read) ≡ next = omega (arith, ap length none) in
     lines_on lines more line ∙ h (line ∷ more)
     ∙ ap (λ (rest : List Move). moves ++ rest) (logged_line time next line more read is
-    ∙ ap (λ (m : List Move). m ++ logged_moves (time_after time read) (next + length (moves_read read)) more) none
-    ∙ ap (λ (n : ℕ). logged_moves (time_after time read) n more) count
+    ∙ ap (λ (m : List Move). m ++ logged_moves (latest_time time read) (next + length (moves_read read)) more) none
+    ∙ ap (λ (n : ℕ). logged_moves (latest_time time read) n more) count
     ∙ ap (λ (t : ℕ). logged_moves t next more) after)
 
 -- a line that makes one
 move_logged : (lines more : List (List ℕ)) (line : List ℕ) (moves : List Move) (time next later : ℕ) (mv : Move) (read : Result (Option TimedLine) LogKind) →
-    ((more : List (List ℕ)) → logged_moves 0 1 (lines ++ more) ≡ moves ++ logged_moves time next more) → line_read time next line ≡ read →
-    moves_read read ≡ mv ∷ [] → time_after time read ≡ later →
+    ((more : List (List ℕ)) → logged_moves 0 1 (lines ++ more) ≡ moves ++ logged_moves time next more) → log_line_read time next line ≡ read →
+    moves_read read ≡ mv ∷ [] → latest_time time read ≡ later →
     logged_moves 0 1 ((lines ++ line ∷ []) ++ more) ≡ (moves ++ mv ∷ []) ++ logged_moves later (next + 1) more
 move_logged lines more line moves time next later mv read h is one after =
     let count : next + length (moves_read read) ≡ next + 1 = ap (λ (m : List Move). next + length m) one in
     lines_on lines more line ∙ h (line ∷ more)
     ∙ ap (λ (rest : List Move). moves ++ rest) (logged_line time next line more read is
-    ∙ ap (λ (m : List Move). m ++ logged_moves (time_after time read) (next + length (moves_read read)) more) one
-    ∙ ap (λ (n : ℕ). mv ∷ logged_moves (time_after time read) n more) count
+    ∙ ap (λ (m : List Move). m ++ logged_moves (latest_time time read) (next + length (moves_read read)) more) one
+    ∙ ap (λ (n : ℕ). mv ∷ logged_moves (latest_time time read) n more) count
     ∙ ap (λ (t : ℕ). mv ∷ logged_moves t (next + 1) more) after)
     ∙ sym (append_assoc moves (mv ∷ []) (logged_moves later (next + 1) more))
 
@@ -136,7 +136,7 @@ record Onward (limit : ℕ) (start : LogPlace) (lines : List (List ℕ)) (now : 
 
 -- a line that says nothing
 more_skipped : (limit : ℕ) (start : LogPlace) (lines : List (List ℕ)) (now new : LogPlace) (line : List ℕ) → Onward limit start lines now line →
-    line_read now.progress.time (now.progress.tally.moves + 1) line ≡ Ok None → new ≡ now → GoesThrough limit start (lines ++ line ∷ []) new →
+    log_line_read now.progress.time (now.progress.tally.moves + 1) line ≡ Ok None → new ≡ now → GoesThrough limit start (lines ++ line ∷ []) new →
     LogArrives limit start (lines ++ line ∷ []) new
 more_skipped limit start lines now new line o is same goes =
     let h = o.h in
@@ -150,13 +150,14 @@ more_skipped limit start lines now new line o is same goes =
       within = h.within;
       few = omega (arith, h.few, size);
       observed = omega (arith, h.observed, size);
-      retire = retire-more start.core lines line h.retire (λ hart opens retires. absurd (retire-read now.progress.time (now.progress.tally.moves + 1) line retires is));
+      retire = retire-more start.core lines line h.retire (λ hart opens retires. absurd
+          (retire-read now.progress.time (now.progress.tally.moves + 1) line retires is));
     } in
     subst (LogArrives limit start (lines ++ line ∷ [])) (sym same) here
 
 -- a line that makes a move
 more_made : (limit : ℕ) (start : LogPlace) (lines : List (List ℕ)) (now new : LogPlace) (line : List ℕ) (t : TimedLine) (mv : Move) →
-    Onward limit start lines now line → line_read now.progress.time (now.progress.tally.moves + 1) line ≡ Ok (Some t) → t.said ≡ Makes mv →
+    Onward limit start lines now line → log_line_read now.progress.time (now.progress.tally.moves + 1) line ≡ Ok (Some t) → t.said ≡ Makes mv →
     MakesLogged mv (at_time now t.time) new → GoesThrough limit start (lines ++ line ∷ []) new → LogArrives limit start (lines ++ line ∷ []) new
 more_made limit start lines now new line t mv o is said m goes =
     let h = o.h in
@@ -195,7 +196,7 @@ more_made limit start lines now new line t mv o is said m goes =
 
 -- the latest retirement is as it was observed
 observed_retire : (limit : ℕ) (start : LogPlace) (lines : List (List ℕ)) (now : LogPlace) (line : List ℕ) (t : TimedLine) (part : ObservedPart) (hart : Hart) →
-    Onward limit start lines now line → start.core ≡ opened start.core.plan hart → t.said ≡ Observes part → t.said ≡ Observes Retire →
+    Onward limit start lines now line → start.core ≡ opened_processor start.core.plan hart → t.said ≡ Observes part → t.said ≡ Observes Retire →
     AgreesWith (after_time line) (wanted_line now.core.plan now.core.state now.progress.latest part) → IsMachineLine start.core.plan hart line
 unfolding wanted_line
 observed_retire limit start lines now line t part hart o opens said other agrees =
@@ -215,7 +216,7 @@ observed_retire limit start lines now line t part hart o opens said other agrees
 
 -- a line whose observation agrees
 more_observed : (limit : ℕ) (start : LogPlace) (lines : List (List ℕ)) (now new : LogPlace) (line : List ℕ) (t : TimedLine) (part : ObservedPart) →
-    Onward limit start lines now line → line_read now.progress.time (now.progress.tally.moves + 1) line ≡ Ok (Some t) → t.said ≡ Observes part →
+    Onward limit start lines now line → log_line_read now.progress.time (now.progress.tally.moves + 1) line ≡ Ok (Some t) → t.said ≡ Observes part →
     JudgesPartAt line part (at_time now t.time) new (Ok tt) → GoesThrough limit start (lines ++ line ∷ []) new → LogArrives limit start (lines ++ line ∷ []) new
 unfolding JudgesPart
 more_observed limit start lines now new line t part o is said compared goes =
@@ -247,7 +248,7 @@ pub arrives-more : (limit : ℕ) (start : LogPlace) (lines : List (List ℕ)) (n
     LogArrives limit start (lines ++ line ∷ []) new
 unfolding JudgesLine JudgesReading JudgesSaid TriesMove
 arrives-more limit start lines now new line accepted wide h free does =
-    of (line_read now.progress.time (now.progress.tally.moves + 1) line) refl does
+    of (log_line_read now.progress.time (now.progress.tally.moves + 1) line) refl does
   where
     goes : GoesThrough limit start (lines ++ line ∷ []) new
     goes = goes_more limit start lines now line new h.through free does
@@ -255,14 +256,16 @@ arrives-more limit start lines now new line accepted wide h free does =
     o : Onward limit start lines now line
     o = record { accepted = accepted; wide = wide; h = h; free = free }
 
-    said_on : (t : TimedLine) (said : Said) → t.said ≡ said → line_read now.progress.time (now.progress.tally.moves + 1) line ≡ Ok (Some t) →
+    said_on : (t : TimedLine) (said : Said) → t.said ≡ said → log_line_read now.progress.time (now.progress.tally.moves + 1) line ≡ Ok (Some t) →
         JudgesSaid line t.said (at_time now t.time) new (Ok tt) → LogArrives limit start (lines ++ line ∷ []) new
     said_on t (Makes mv) said is done =
         more_made limit start lines now new line t mv o is said (subst (λ (said : Said). JudgesSaid line said (at_time now t.time) new (Ok tt)) said done) goes
     said_on t (Observes part) said is done =
-        more_observed limit start lines now new line t part o is said (subst (λ (said : Said). JudgesSaid line said (at_time now t.time) new (Ok tt)) said done) goes
+        more_observed limit start lines now new line t part o is said (subst (λ (said : Said). JudgesSaid line said (at_time now t.time) new (Ok tt)) said done)
+        goes
 
-    of : (read : Result (Option TimedLine) LogKind) → line_read now.progress.time (now.progress.tally.moves + 1) line ≡ read → JudgesReading line read now new (Ok tt) →
+    of : (read : Result (Option TimedLine) LogKind) → log_line_read now.progress.time (now.progress.tally.moves + 1) line ≡ read →
+        JudgesReading line read now new (Ok tt) →
         LogArrives limit start (lines ++ line ∷ []) new
     of (Ok None) is done = more_skipped limit start lines now new line o is done.1 goes
     of (Ok (Some t)) is done = said_on t t.said refl is done
@@ -272,7 +275,7 @@ arrives-more limit start lines now new line accepted wide h free does =
 pub line-within : (limit : ℕ) (line : List ℕ) (now new : LogPlace) → now.core.state.retired ≤ limit → (IsLimited limit now → ⊥) →
     JudgesLine line now new (Ok tt) → new.core.state.retired ≤ limit
 unfolding JudgesLine JudgesReading JudgesSaid TriesMove
-line-within limit line now new low free judges = of (line_read now.progress.time (now.progress.tally.moves + 1) line) judges
+line-within limit line now new low free judges = of (log_line_read now.progress.time (now.progress.tally.moves + 1) line) judges
   where
     same : (at : LogPlace) → at.core ≡ now.core → at.core.state.retired ≤ limit
     same at is = subst (λ (p : Processor). p.state.retired ≤ limit) (sym is) low

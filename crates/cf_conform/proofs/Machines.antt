@@ -21,7 +21,7 @@ use Rattle.cf_semantics.specs.runs.Runs.{start as start_on}
 use Rattle.cf_semantics.specs.state.State.{Moment}
 use Rattle.theory_refinement.proofs.claims.Runs.{opened_retired}
 use Rattle.theory_refinement.proofs.Theorems.{run_refines}
-use Rattle.cf_core.specs.Processors.{Processor, opened}
+use Rattle.cf_core.specs.Processors.{Processor, opened_processor}
 use Rattle.cf_report.specs.Lines.{retired_line}
 use Rattle.run_scripts.specs.Scripts.{is_skipped}
 use Rattle.run_scripts.specs.Words.{words_of}
@@ -40,7 +40,7 @@ use Rattle.cf_log.specs.declared.said.ObservedPart.TheVariants.{Retire}
 use Rattle.cf_log.specs.declared.said.Said.{Said}
 use Rattle.cf_log.specs.declared.said.Said.TheVariants.{Makes, Observes}
 use Rattle.cf_log.specs.declared.said.TimedLine.{TimedLine}
-use Rattle.cf_log.specs.Lines.{after_time, line_read, longest_line, said_in, subject_in, subject_named, time_read, timed, words_read}
+use Rattle.cf_log.specs.Lines.{after_time, log_line_read, longest_line, said_in, subject_in, subject_named, time_read, line_with_time, said_words}
 use Rattle.cf_conform.specs.declared.progress.LatestRetired.{LatestRetired}
 use Rattle.cf_conform.specs.Conforming.{IsMachineLine, IsRetireLine, RetireAsMachine}
 use Rattle.cf_conform.specs.LogPlaces.{LogPlace, as_run, latest_after}
@@ -125,7 +125,8 @@ shown_latest plan n (made ∷ trace) before earlier latest ends is =
 
 -- an observation of the latest retirement is a line of the machine
 pub machine-line : (limit : ℕ) (start now : RunPlace) (hart : Hart) (line : List ℕ) (latest : LatestRetired) → IsAccepted start.core.plan →
-    length start.core.state.regs ≡ 32 → start.streams.input ≡ Some [] → start.core ≡ opened start.core.plan hart → (h : Reaches limit show.report start now) →
+    length start.core.state.regs ≡ 32 → start.streams.input ≡ Some [] → start.core ≡ opened_processor start.core.plan hart →
+    (h : Reaches limit show.report start now) →
     latest_of h.trace ≡ Some latest → words_of (after_time line) ≡ words_of (without_feed (retired_line latest.number latest.retired)) →
     IsMachineLine start.core.plan hart line
 unfolding latest_of
@@ -168,7 +169,8 @@ alone P x h (suc i) y low = absurd (omega (arith, low))
 
 -- one more line
 pub retire-more : (core : Processor) (before : List (List ℕ)) (line : List ℕ) → RetireAsMachine core before →
-    ((hart : Hart) → core ≡ opened core.plan hart → IsRetireLine line → IsMachineLine core.plan hart line) → RetireAsMachine core (before ++ line ∷ [])
+    ((hart : Hart) → core ≡ opened_processor core.plan hart → IsRetireLine line → IsMachineLine core.plan hart line) →
+    RetireAsMachine core (before ++ line ∷ [])
 unfolding RetireAsMachine
 retire-more core before line h one hart opens =
     All-append (λ line. IsRetireLine line → IsMachineLine core.plan hart line) before (line ∷ []) (h hart opens)
@@ -179,7 +181,7 @@ retire-more core before line h one hart opens =
 abbrev reading : (long skipped ascii : Bool) → Result ℕ LogKind → Result Said LogKind → Result (Option TimedLine) LogKind
 reading long skipped ascii time said =
     if long then Err TooLong else if skipped then Ok None else if not ascii then Err NotAscii
-    else and_then time (λ time. and_then said (λ said. Ok (Some (timed time said))))
+    else and_then time (λ time. and_then said (λ said. Ok (Some (line_with_time time said))))
 
 -- a line that says something says what its words do
 reads_said : (long skipped ascii : Bool) (time : Result ℕ LogKind) (said : Result Said LogKind) (t : TimedLine) →
@@ -190,7 +192,7 @@ reads_said false false false time said t is = absurd (cc)
 reads_said false false true (Err kind) said t is = absurd (cc)
 reads_said false false true (Ok time) (Err kind) t is = absurd (cc)
 reads_said false false true (Ok time) (Ok said) t is =
-    let same : timed time said ≡ t = cc in
+    let same : line_with_time time said ≡ t = cc in
     let says : TimedLine → Result Said LogKind = λ t. Ok t.said in
     ap says same
 
@@ -212,16 +214,17 @@ one_said : (x : Result Said LogKind) (a b : Said) → x ≡ Ok a → x ≡ Ok b 
 one_said x a b h k = cc
 
 -- a retirement line is read as an observation of the latest retirement
-pub retire-said : (earlier next : ℕ) (line : List ℕ) (t : TimedLine) → IsRetireLine line → line_read earlier next line ≡ Ok (Some t) → t.said ≡ Observes Retire
-unfolding line_read
+pub retire-said : (earlier next : ℕ) (line : List ℕ) (t : TimedLine) → IsRetireLine line → log_line_read earlier next line ≡ Ok (Some t) →
+    t.said ≡ Observes Retire
+unfolding log_line_read
 retire-said earlier next line t retires is =
     let said : said_in next (after_time line) ≡ Ok t.said =
     reads_said (nat_lt longest_line (length line)) (is_skipped line) (is_ascii line) (time_read earlier line) (said_in next (after_time line)) t is in
     let retire : said_in next (after_time line) ≡ Ok (Observes Retire) = said_retire next (after_time line) retires.1 in
     one_said (said_in next (after_time line)) t.said (Observes Retire) said retire
 
-pub retire-read : (earlier next : ℕ) (line : List ℕ) → IsRetireLine line → line_read earlier next line ≡ Ok None → ⊥
-unfolding line_read
+pub retire-read : (earlier next : ℕ) (line : List ℕ) → IsRetireLine line → log_line_read earlier next line ≡ Ok None → ⊥
+unfolding log_line_read
 retire-read earlier next line retires is =
     let skipped : is_skipped line ≡ true =
     reads_none (nat_lt longest_line (length line)) (is_skipped line) (is_ascii line) (time_read earlier line) (said_in next (after_time line)) is in

@@ -17,7 +17,7 @@ use Rattle.cf_log.specs.declared.said.Said.{Said}
 use Rattle.cf_log.specs.declared.said.Said.TheVariants.{Makes, Observes}
 use Rattle.cf_log.specs.declared.said.TimedLine.{TimedLine}
 use Rattle.cf_log.specs.Cutting.{LogFeeding, HasLogLines, IsCut, IsLogPiece, FeedsLog, ended}
-use Rattle.cf_log.specs.Lines.{line_read}
+use Rattle.cf_log.specs.Lines.{log_line_read}
 use Rattle.cf_log.proofs.Holding.{gives-again}
 use Rattle.run_finishes.specs.declared.finish.Ran.{Ran as Answer}
 use Rattle.run_finishes.specs.declared.finish.Ran.TheVariants as ran
@@ -171,7 +171,8 @@ same_run now new time core output progress =
     ∙ ap (λ (o : Option (List ℕ)). as_run (record now { output = o; progress = new.progress })) output
     ∙ ap (λ (p : LogProgress). as_run (record now { progress = p })) progress
 
-part_leaves : (line : List ℕ) (part : ObservedPart) (now new : LogPlace) (time : ℕ) (stop : LineStop) → JudgesPartAt line part (at_time now time) new (Err stop) →
+part_leaves : (line : List ℕ) (part : ObservedPart) (now new : LogPlace) (time : ℕ) (stop : LineStop) →
+    JudgesPartAt line part (at_time now time) new (Err stop) →
     LineLeaves now new stop
 unfolding JudgesPart
 part_leaves line part now new time (Refused why) h = absurd h.compares
@@ -186,7 +187,7 @@ one_stop a b result h k = cc
 
 line_leaves : (line : List ℕ) (now new : LogPlace) (stop : LineStop) → JudgesLine line now new (Err stop) → LineLeaves now new stop
 unfolding JudgesLine JudgesSaid JudgesReading
-line_leaves line now new stop does = of (line_read now.progress.time (now.progress.tally.moves + 1) line) stop does
+line_leaves line now new stop does = of (log_line_read now.progress.time (now.progress.tally.moves + 1) line) stop does
   where
     said_leaves : (said : Said) (time : ℕ) (stop : LineStop) → JudgesSaid line said (at_time now time) new (Err stop) → LineLeaves now new stop
     said_leaves (Makes mv) time stop h = move_leaves mv now new time stop h
@@ -209,7 +210,8 @@ RunStops limit now new answer =
     ⊎ ((mv : Move) × MoveDoes show.report mv (as_run now) (as_run new) (Err ran.WriteFault) × (answer ≡ scripted.Ran ran.WriteFault))
 
 -- it is a run that reached a place and stopped there
-run_comes : (limit : ℕ) (start now new : LogPlace) (answer : Scripted) → IsAccepted start.core.plan → (h : Reaches limit show.report (as_run start) (as_run now)) →
+run_comes : (limit : ℕ) (start now new : LogPlace) (answer : Scripted) → IsAccepted start.core.plan →
+    (h : Reaches limit show.report (as_run start) (as_run now)) →
     RunStops limit now new answer → ComesTo limit show.report (as_run start) (moves_of h.trace) (as_run new) answer
 unfolding StopsAt Gets
 run_comes limit start now new answer accepted h (inl (same, is)) =
@@ -248,7 +250,8 @@ run_ends limit start now new answer accepted wide h (inr (inr (mv, does, is))) p
     subst (λ (a : Scripted). EndsAlike limit hart (as_run start) (as_run new) a) (sym is) tt
 
 -- at the end of a log
-ends_stops : (limit : ℕ) (now new : LogPlace) (answer : Conformed) → new ≡ now → EndsLogAt limit now.core.state answer → RunStops limit now new (as_script answer)
+ends_stops : (limit : ℕ) (now new : LogPlace) (answer : Conformed) → new ≡ now → EndsLogAt limit now.core.state answer →
+    RunStops limit now new (as_script answer)
 unfolding EndsLogAt
 ends_stops limit now new (Ran (ran.Exit status)) same ends = inr (inl (ran.Exit status, ap as_run same, ends, refl))
 ends_stops limit now new (Ran (ran.Trap cause pc detail)) same ends = inr (inl (ran.Trap cause pc detail, ap as_run same, ends, refl))
@@ -375,7 +378,8 @@ unfolding LogTurns FeedsLog
 turns-line limit lines a b feed next now new line free (taken, takes, cut, few) is does =
     (taken, takes.0, record { free = free; cut = cut; does = subst (λ (l : List ℕ). JudgesLine l now new (Ok tt)) is does })
 
-pub turns-stop : (limit lines : ℕ) (a b : Option (List ℕ)) (feed next : LogFeeding) (now new : LogPlace) (line : List ℕ) (stop : LineStop) (answer : Conformed) →
+pub turns-stop : (limit lines : ℕ) (a b : Option (List ℕ)) (feed next : LogFeeding) (now new : LogPlace) (line : List ℕ) (stop : LineStop)
+    (answer : Conformed) →
     (IsLimited limit now → ⊥) → FeedsLog a b feed next Line → line ≡ next.line → JudgesLine line now new (Err stop) → answer ≡ answer_at lines stop →
     LogTurns limit lines a b feed next now new (Some answer)
 unfolding LogTurns FeedsLog

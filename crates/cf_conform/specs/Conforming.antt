@@ -9,7 +9,7 @@ use Rattle.cf_bind.specs.declared.moves.Move.{Move}
 use Rattle.cf_semantics.specs.runs.Lines.{sequence}
 use Rattle.cf_semantics.specs.state.Layouts.{isa_of}
 use Rattle.cf_semantics.specs.state.State.{State}
-use Rattle.cf_core.specs.Processors.{Processor, opened}
+use Rattle.cf_core.specs.Processors.{Processor, opened_processor}
 use Rattle.cf_report.specs.Lines.{retired_line}
 use Rattle.rv_text.specs.Pieces.{name_part}
 use Rattle.run_scripts.specs.Scripts.{is_skipped}
@@ -21,7 +21,7 @@ use Rattle.cf_log.specs.declared.said.Said.{Said}
 use Rattle.cf_log.specs.declared.said.Said.TheVariants.{Makes, Observes}
 use Rattle.cf_log.specs.declared.said.TimedLine.{TimedLine}
 use Rattle.cf_log.specs.Cutting.{LogFeeding, HasLogLines, IsCut, IsLogPiece, longest_held}
-use Rattle.cf_log.specs.Lines.{after_time, line_read}
+use Rattle.cf_log.specs.Lines.{after_time, log_line_read}
 use Rattle.run_finishes.specs.declared.finish.Ran.{Ran as Answer}
 use Rattle.run_finishes.specs.declared.finish.Ran.TheVariants as ran
 use Rattle.run_finishes.specs.declared.finish.Scripted.{Scripted}
@@ -62,17 +62,17 @@ moves_read (Ok (Some timed)) = moves_said timed.said
 moves_read (Err kind) = []
 
 -- the latest time after a line, where it was this one before
-abbrev pub time_after : ℕ → Result (Option TimedLine) LogKind → ℕ
-time_after earlier (Ok None) = earlier
-time_after earlier (Ok (Some timed)) = timed.time
-time_after earlier (Err kind) = earlier
+abbrev pub latest_time : ℕ → Result (Option TimedLine) LogKind → ℕ
+latest_time earlier (Ok None) = earlier
+latest_time earlier (Ok (Some timed)) = timed.time
+latest_time earlier (Err kind) = earlier
 
 -- the moves that these lines say, in their order, where this is the latest time before them and the next move has this number
 unfoldable pub logged_moves : (earlier next : ℕ) → List (List ℕ) → List Move
 logged_moves earlier next [] = []
 logged_moves earlier next (line ∷ lines) =
-    moves_read (line_read earlier next line)
-    ++ logged_moves (time_after earlier (line_read earlier next line)) (next + length (moves_read (line_read earlier next line))) lines
+    moves_read (log_line_read earlier next line)
+    ++ logged_moves (latest_time earlier (log_line_read earlier next line)) (next + length (moves_read (log_line_read earlier next line))) lines
 
 -- Lines of the sequential machine --
 
@@ -96,7 +96,7 @@ pub record IsMachineLine (plan : Plan) (hart : Hart) (line : List ℕ) : Type 0 
 -- on whatever hart the processor was opened, the retirement lines among these are lines of that machine
 unfoldable pub RetireAsMachine : Processor → List (List ℕ) → Type 0
 RetireAsMachine core lines =
-    (hart : Hart) → core ≡ opened core.plan hart → All (λ line. IsRetireLine line → IsMachineLine core.plan hart line) lines
+    (hart : Hart) → core ≡ opened_processor core.plan hart → All (λ line. IsRetireLine line → IsMachineLine core.plan hart line) lines
 
 -- Where it stops --
 

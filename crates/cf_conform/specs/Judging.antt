@@ -13,16 +13,16 @@ use Rattle.cf_log.specs.declared.said.ObservedPart.{ObservedPart}
 use Rattle.cf_log.specs.declared.said.Said.{Said}
 use Rattle.cf_log.specs.declared.said.Said.TheVariants.{Makes, Observes}
 use Rattle.cf_log.specs.declared.said.TimedLine.{TimedLine}
-use Rattle.cf_log.specs.Lines.{after_time, line_read}
+use Rattle.cf_log.specs.Lines.{after_time, log_line_read}
 use Rattle.run_finishes.specs.declared.finish.Ran.TheVariants as ran
-use Rattle.cf_run.specs.Made.{counted}
+use Rattle.cf_run.specs.Made.{counted_event}
 use Rattle.cf_run.specs.Moving.{MakesAndShows, MoveDoes}
 use Rattle.cf_conform.specs.declared.answer.Conformed.{Conformed}
 use Rattle.cf_conform.specs.declared.answer.Conformed.TheVariants as answer
 use Rattle.cf_conform.specs.declared.answer.LineStop.{LineStop}
 use Rattle.cf_conform.specs.declared.answer.LineStop.TheVariants.{Refused, Differs, WriteFault}
 use Rattle.cf_conform.specs.declared.progress.LogProgress.{LogProgress}
-use Rattle.cf_conform.specs.LogPlaces.{LogPlace, as_run, at_time, noted}
+use Rattle.cf_conform.specs.LogPlaces.{LogPlace, as_run, at_time, noted_event}
 use Rattle.cf_conform.specs.Wanted.{without_feed, wanted_line}
 
 -- the words of a text are those of the line that it should be, if there is one
@@ -34,7 +34,7 @@ AgreesWith text (Some wanted) = words_of text ≡ words_of (without_feed wanted)
 pub record MakesLogged (mv : Move) (now new : LogPlace) : Type 0 where
   pub event : Event
   pub makes : MakesAndShows show.report mv event (as_run now) (as_run new)
-  pub progress : new.progress ≡ noted (record now.progress { tally = counted now.progress.tally mv event }) event new.core.state.retired
+  pub progress : new.progress ≡ noted_event (record now.progress { tally = counted_event now.progress.tally mv event }) event new.core.state.retired
 
 -- nothing bars the move, and the output failed its call
 pub record FailsLogged (mv : Move) (now new : LogPlace) : Type 0 where
@@ -84,7 +84,7 @@ JudgesReading line (Err why) now new result = (result ≡ Err (Refused why)) × 
 
 -- what a line leads to
 unfoldable pub JudgesLine : List ℕ → (now new : LogPlace) → Result (Unit {0}) LineStop → Type 0
-JudgesLine line now new result = JudgesReading line (line_read now.progress.time (now.progress.tally.moves + 1) line) now new result
+JudgesLine line now new result = JudgesReading line (log_line_read now.progress.time (now.progress.tally.moves + 1) line) now new result
 
 -- an error if the output failed the line
 abbrev pub output_judged : Result (Unit {0}) LineStop → Result (Unit {0}) (Unit {0})

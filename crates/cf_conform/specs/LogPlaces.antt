@@ -4,7 +4,7 @@ use Rattle.rv_machine.specs.Streams.{streams_of}
 use Rattle.cf_semantics.specs.declared.event.Event.{Event}
 use Rattle.cf_semantics.specs.declared.event.Event.TheVariants as event
 use Rattle.cf_core.specs.Processors.{Processor}
-use Rattle.cf_run.specs.Moving.{RunPlace, place_of}
+use Rattle.cf_run.specs.Moving.{RunPlace, run_place_of}
 use Rattle.cf_run.specs.Reaching.{no_tally}
 use Rattle.cf_conform.specs.declared.progress.LatestRetired.{LatestRetired}
 use Rattle.cf_conform.specs.declared.progress.LogProgress.{LogProgress}
@@ -20,7 +20,7 @@ log_place core output progress = record { core = core; output = output; progress
 
 -- the same as the place of a run, whose input is empty and which shows nothing
 abbrev pub as_run : LogPlace → RunPlace
-as_run at = place_of at.core (streams_of (Some []) at.output) None at.progress.tally
+as_run at = run_place_of at.core (streams_of (Some []) at.output) None at.progress.tally
 
 -- nothing is noted yet
 abbrev pub no_progress : LogProgress
@@ -39,5 +39,5 @@ latest_after earlier event.Died retired = earlier
 latest_after earlier (event.Ended e) retired = earlier
 
 -- the event is noted
-abbrev pub noted : LogProgress → Event → ℕ → LogProgress
-noted progress e retired = record progress { latest = latest_after progress.latest e retired }
+abbrev pub noted_event : LogProgress → Event → ℕ → LogProgress
+noted_event progress e retired = record progress { latest = latest_after progress.latest e retired }

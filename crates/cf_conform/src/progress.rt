@@ -1,7 +1,7 @@
 //! What is noted while a log is gone through.
 
 ghost use Rattle.std.specs.Prelude.{◌≡◌};
-ghost use Rattle.cf_conform.specs.LogPlaces.{no_progress, noted};
+ghost use Rattle.cf_conform.specs.LogPlaces.{no_progress, noted_event};
 
 use cf_core::Event;
 use cf_report::Tally;
@@ -54,7 +54,7 @@ impl LogProgress {
     /// Notes the event of a move, after which this many instructions have retired.
     #[inline(always)]
     pub(crate) fn note(&mut self, event: &Event, retired: u64)
-        ensures { self.new ≡ noted self.old event.now retired }
+        ensures { self.new ≡ noted_event self.old event.now retired }
     {
         match event {
             Event::Retired(line) => {

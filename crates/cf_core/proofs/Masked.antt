@@ -11,23 +11,24 @@ use Rattle.cf_semantics.specs.state.State.{State}
 use Rattle.cf_stages.specs.Words.{met_word, packet_word, passenger_word, word_of}
 use Rattle.cf_stages.proofs.Bits.{word-agrees}
 use Rattle.cf_stages.proofs.Empty.{word-none}
-use Rattle.cf_core.specs.Marks.{is_free, marks_of, mark_at}
+use Rattle.cf_core.specs.Marks.{row_allows, marks_of, mark_at}
 use Rattle.cf_core.specs.Masks.{is_allowed, masks_of}
 use Rattle.cf_core.specs.Processors.{Processor}
 use Rattle.cf_core.specs.declared.marks.Marks.{Marks}
 
 -- a move is allowed where the processor goes on and its row is free
 pub allowed-as : (plan : Plan) (s : State) (mv : Move) (ended failed : Bool) → is_some s.ending ≡ ended → s.failed ≡ failed →
-    is_allowed plan s mv ≡ ((not ended && not failed) && is_free plan s mv)
+    is_allowed plan s mv ≡ ((not ended && not failed) && row_allows plan s mv)
 unfolding bar
 allowed-as plan s mv true f e g = rw e refl
 allowed-as plan s mv false true e g = rw (e, g) refl
 allowed-as plan s mv false false e g = rw (e, g) refl
 
 -- the word of a test where the processor goes on
-chosen : (plan : Plan) (s : State) (kind : ℕ → Move) (n : ℕ) (goes_on : Bool) → ((i : ℕ) → is_allowed plan s (kind i) ≡ (goes_on && is_free plan s (kind i))) →
-    word_of (λ i. is_allowed plan s (kind i)) n ≡ (if goes_on then word_of (λ i. is_free plan s (kind i)) n else 0)
-chosen plan s kind n true same = word-agrees (λ i. is_allowed plan s (kind i)) (λ i. is_free plan s (kind i)) n (λ i low high. same i)
+chosen : (plan : Plan) (s : State) (kind : ℕ → Move) (n : ℕ) (goes_on : Bool) →
+    ((i : ℕ) → is_allowed plan s (kind i) ≡ (goes_on && row_allows plan s (kind i))) →
+    word_of (λ i. is_allowed plan s (kind i)) n ≡ (if goes_on then word_of (λ i. row_allows plan s (kind i)) n else 0)
+chosen plan s kind n true same = word-agrees (λ i. is_allowed plan s (kind i)) (λ i. row_allows plan s (kind i)) n (λ i low high. same i)
 chosen plan s kind n false same = word-agrees (λ i. is_allowed plan s (kind i)) (λ i. false) n (λ i low high. same i) ∙ word-none n
 
 -- the words of the kept marks

@@ -20,7 +20,7 @@ use Rattle.cf_semantics.specs.runs.Runs.{empty_cell, empty_siding, opened as ope
 use Rattle.cf_semantics.specs.state.Drained.{is_drained, is_empty, is_occupied}
 use Rattle.cf_semantics.specs.state.Layouts.{isa_of}
 use Rattle.cf_semantics.specs.state.Options.{is_some}
-use Rattle.cf_core.specs.Processors.{IsCellOfSet, IsOpened, IsProcessor, Processor, opened}
+use Rattle.cf_core.specs.Processors.{IsCellOfSet, IsOpened, IsProcessor, Processor, opened_processor}
 
 -- a cell without an operation
 no_op : Option Op
@@ -78,7 +78,7 @@ all_three false true false e = (refl, refl, refl)
 
 opened_at : (p : Processor) (pc : ℕ) → p.state.cells ≡ replicate p.plan.stages empty_cell → p.state.sidings ≡ map empty_siding p.plan.sidings →
     p.state.lane ≡ [] → p.state.fetch ≡ Running pc → p.state.cache ≡ replicate 32 None → p.state.ending ≡ None → p.state.failed ≡ false → IsOpened p
-unfolding opened opened_on
+unfolding opened_processor opened_on
 opened_at p pc cells sidings lane fetch cache ending failed = record {
   hart = record { pc = pc; regs = p.state.regs; mem = p.state.mem; retired = p.state.retired };
   is = λ x. record {
@@ -138,23 +138,23 @@ none_held [] = refl
 none_held (plan ∷ plans) = neither_so (list_any is_some (empty_siding plan)) (list_any (list_any is_some) (map empty_siding plans)) (no_ops plan.cells)
     (none_held plans)
 
-drained_on : (plan : Plan) (hart : Hart) → is_drained (opened plan hart).state ≡ true
-unfolding is_drained opened opened_on
+drained_on : (plan : Plan) (hart : Hart) → is_drained (opened_processor plan hart).state ≡ true
+unfolding is_drained opened_processor opened_on
 drained_on plan hart = rw (none_there plan.stages, none_held plan.sidings) refl
 
 pub opened-drained : (p : Processor) → IsOpened p → is_drained p.state ≡ true
 opened-drained p o = ap (λ (q : Processor). is_drained q.state) o.is ∙ drained_on p.plan o.hart
 
 pub opened-runs : (p : Processor) → IsOpened p → is_some (running p.state.fetch) ≡ true
-unfolding opened opened_on
+unfolding opened_processor opened_on
 opened-runs p o = ap (λ (q : Processor). is_some (running q.state.fetch)) o.is
 
 pub opened-cache : (p : Processor) → IsOpened p → list_any is_some p.state.cache ≡ false
-unfolding opened opened_on
+unfolding opened_processor opened_on
 opened-cache p o = ap (λ (q : Processor). list_any is_some q.state.cache) o.is
 
 pub opened-goes-on : (p : Processor) → IsOpened p → (not (is_some p.state.ending) && not p.state.failed) ≡ true
-unfolding opened opened_on
+unfolding opened_processor opened_on
 opened-goes-on p o = ap (λ (q : Processor). not (is_some q.state.ending) && not q.state.failed) o.is
 
 pub ruleset openings = (opened-if, opened-drained, opened-runs, opened-cache, opened-goes-on)

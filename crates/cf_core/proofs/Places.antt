@@ -21,7 +21,7 @@ use Rattle.cf_stages.proofs.Parts.{stage-high, stage-low}
 use Rattle.theory_confluence.proofs.back.TakenBack.{state_back}
 use Rattle.cf_core.specs.Places.{CanReturn, Each, FitsLane, IsOldCell, IsOldOp}
 use Rattle.cf_core.specs.Processors.{Processor, IsProcessor, IsCellOfSet}
-use Rattle.cf_core.specs.Undo.{CanStand, HasJustMade, cell_kept, kept_by, lane_kept, listed, op_kept, register_kept}
+use Rattle.cf_core.specs.Undo.{CanStand, HasJustMade, cell_kept, kept_by, lane_kept, list_of_few, op_kept, register_kept}
 use Rattle.cf_core.specs.declared.undo.Few.{Few}
 use Rattle.cf_core.specs.declared.undo.Few.TheVariants.{Nothing, One, Two}
 use Rattle.cf_core.specs.declared.undo.OldCell.{OldCell}
@@ -47,7 +47,7 @@ abbrev Holds : {A : Type 0} → (A → Type 0) → List A → Type 0
 Holds P [] = Unit {0}
 Holds P (x ∷ xs) = P x × Holds P xs
 
-each_held : {A B : Type 0} (f : A → B) (P : B → Type 0) (few : Few A) → Holds P (map f (listed few)) → Each (λ a. P (f a)) few
+each_held : {A B : Type 0} (f : A → B) (P : B → Type 0) (few : Few A) → Holds P (map f (list_of_few few)) → Each (λ a. P (f a)) few
 each_held f P Nothing h = tt
 each_held f P (One a) h = h.0
 each_held f P (Two a b) h = (h.0, h.1.0)
@@ -99,7 +99,7 @@ old_cell plan s c h e =
       met = (cell-stage (isa_of plan) s.cells c.stage c.cell h.cells (sym e)).met;
     }
 
-old_cells : (plan : Plan) (s : State) (mv : Move) (few : Few OldCell) → IsProcessor plan s → map cell_kept (listed few) ≡ kept_cells plan s mv →
+old_cells : (plan : Plan) (s : State) (mv : Move) (few : Few OldCell) → IsProcessor plan s → map cell_kept (list_of_few few) ≡ kept_cells plan s mv →
     Each (IsOldCell plan.stages) few
 old_cells plan s mv few h e =
     each_weaker (λ c. StandsIn s (cell_kept c)) (IsOldCell plan.stages) few (λ c stands. old_cell plan s c h stands)
@@ -148,7 +148,8 @@ has_place (q ∷ ss) (suc k) c o e = let h = has_place ss k c o e in let w = h.s
 old_op : (s : State) (o : OldOp) → StandsBeside s (op_kept o) → IsOldOp (map length s.sidings) o
 old_op s o e = let h = has_place s.sidings o.siding o.place o.op e in record { siding = h.siding; place = h.place }
 
-old_ops : (plan : Plan) (s : State) (mv : Move) (few : Few OldOp) → map op_kept (listed few) ≡ kept_ops plan s mv → Each (IsOldOp (map length s.sidings)) few
+old_ops : (plan : Plan) (s : State) (mv : Move) (few : Few OldOp) → map op_kept (list_of_few few) ≡ kept_ops plan s mv →
+    Each (IsOldOp (map length s.sidings)) few
 old_ops plan s mv few e =
     each_weaker (λ o. StandsBeside s (op_kept o)) (IsOldOp (map length s.sidings)) few (λ o stands. old_op s o stands)
     (each_held op_kept (StandsBeside s) few (subst (Holds (StandsBeside s)) (sym e) (ops_stand plan s mv)))

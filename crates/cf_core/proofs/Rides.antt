@@ -15,7 +15,7 @@ use Rattle.cf_semantics.specs.state.Passengers.{kind, missing}
 use Rattle.cf_semantics.specs.state.State.{State, cell_at}
 use Rattle.cf_stages.specs.Changes.{is_full_at, passenger_at}
 use Rattle.cf_passengers.specs.Waiting.{first_unknown}
-use Rattle.cf_core.specs.Marks.{is_free, mark_at, no_mark}
+use Rattle.cf_core.specs.Marks.{row_allows, mark_at, no_mark}
 use Rattle.cf_core.specs.Masks.{owes_at, stops_there}
 use Rattle.cf_core.specs.Riders.{has_sources, is_idle, is_out, is_undone}
 
@@ -65,13 +65,13 @@ always true = refl
 always false = refl
 
 pub execute-free : (plan : Plan) (s : State) (i : ℕ) (p : Passenger) → passenger_at s.cells i ≡ Some p →
-    is_free plan s (Execute i) ≡ (is_undone p && (unit_at plan (kind p) i && has_sources p))
+    row_allows plan s (Execute i) ≡ (is_undone p && (unit_at plan (kind p) i && has_sources p))
 execute-free plan s i p e =
     let h = here-by (cell_at s.cells i) p e in
     rw (h.1, h.2) (execute_row p.dead p.done (unit_at plan (kind p) i) (source_bar p None) (has_sources p) (sources_row p None ∙ sym (always (has_sources p))))
 
 pub launch-free : (plan : Plan) (s : State) (i k : ℕ) (p : Passenger) → passenger_at s.cells i ≡ Some p → siding_of plan (kind p) ≡ Some k →
-    is_free plan s (Launch i) ≡ ((is_undone p && (not p.launched && (launch_stage plan k == i)))
+    row_allows plan s (Launch i) ≡ ((is_undone p && (not p.launched && (launch_stage plan k == i)))
     && (not (is_memory (kind p) && is_full_at s.cells i) && (has_sources p && not (is_some (entry_bar plan s p)))))
 launch-free plan s i k p e at =
     let h = here-by (cell_at s.cells i) p e in
@@ -80,7 +80,7 @@ launch-free plan s i k p e at =
     (source_bar p (entry_bar plan s p)) (has_sources p && not (is_some (entry_bar plan s p))) (sources_row p (entry_bar plan s p)))
 
 pub recover-free : (plan : Plan) (s : State) (i k : ℕ) (p : Passenger) → passenger_at s.cells i ≡ Some p → siding_of plan (kind p) ≡ Some k →
-    is_free plan s (Recover i) ≡ ((is_out p && (recover_stage plan k == i)) && not (is_some (exit_op_bar plan s p)))
+    row_allows plan s (Recover i) ≡ ((is_out p && (recover_stage plan k == i)) && not (is_some (exit_op_bar plan s p)))
 recover-free plan s i k p e at =
     let h = here-by (cell_at s.cells i) p e in
     let site : recovers plan (kind p) i ≡ (recover_stage plan k == i) = rw at refl in
@@ -122,7 +122,7 @@ no_launch false false true full rest = refl
 no_launch false false false full rest = refl
 
 pub launch-none : (plan : Plan) (s : State) (i : ℕ) (p : Passenger) → passenger_at s.cells i ≡ Some p → siding_of plan (kind p) ≡ None →
-    false ≡ is_free plan s (Launch i)
+    false ≡ row_allows plan s (Launch i)
 launch-none plan s i p e at =
     let h = here-by (cell_at s.cells i) p e in
     let site : launches plan (kind p) i ≡ false = rw at refl in
@@ -130,7 +130,7 @@ launch-none plan s i p e at =
     (source_bar p (entry_bar plan s p))))
 
 pub recover-none : (plan : Plan) (s : State) (i : ℕ) (p : Passenger) → passenger_at s.cells i ≡ Some p → siding_of plan (kind p) ≡ None →
-    false ≡ is_free plan s (Recover i)
+    false ≡ row_allows plan s (Recover i)
 recover-none plan s i p e at =
     let h = here-by (cell_at s.cells i) p e in
     let site : recovers plan (kind p) i ≡ false = rw at refl in
@@ -198,10 +198,11 @@ mark-idle plan s i p e idle =
     let parts = idle_parts p.dead p.done p.launched p.recovered idle in
     let owes = owes-here s i p e in
     let stops : false ≡ stops_there plan s i = rw (h.1, h.2) (no_stop (is_out p) (recovers plan (kind p) i) (is_undone p) p.launched _ parts.1 parts.0) in
-    let execute : false ≡ is_free plan s (Execute i) = rw (h.1, h.2) (no_unit p.dead p.done (unit_at plan (kind p) i) (source_bar p None) parts.0) in
-    let launch : false ≡ is_free plan s (Launch i) = rw (h.1, h.2) (no_entry p.dead p.done p.launched (launches plan (kind p) i) (is_memory (kind p)
+    let execute : false ≡ row_allows plan s (Execute i) = rw (h.1, h.2) (no_unit p.dead p.done (unit_at plan (kind p) i) (source_bar p None) parts.0) in
+    let launch : false ≡ row_allows plan s (Launch i) = rw (h.1, h.2) (no_entry p.dead p.done p.launched (launches plan (kind p) i) (is_memory (kind p)
     && is_full (record h.0 { passenger = Some p })) (source_bar p (entry_bar plan s p)) parts.0) in
-    let recover : false ≡ is_free plan s (Recover i) = rw (h.1, h.2) (no_exit (recovers plan (kind p) i) p.launched p.recovered (exit_op_bar plan s p) parts.1)
+    let recover : false ≡ row_allows plan s (Recover i) = rw (h.1, h.2)
+    (no_exit (recovers plan (kind p) i) p.launched p.recovered (exit_op_bar plan s p) parts.1)
     in
     λ x. record { owes = (sym owes) x; stops = stops x; execute = execute x; launch = launch x; recover = recover x }
 

@@ -9,7 +9,7 @@ use Rattle.cf_bind.specs.declared.moves.Bar.TheVariants.{Dead, AlreadyDone, NoUn
 use Rattle.cf_bind.specs.declared.passenger.Passenger.{Passenger}
 use Rattle.cf_layout.specs.Layout.{Plan, launch_stage, recover_stage, siding_of}
 use Rattle.theory_refinement.proofs.column.Sidings.{put_other}
-use Rattle.cf_semantics.specs.moves.Bars.{entry_bar, execute_bar, exit_op_bar, first_of, is_full, launch_bar, recover_bar, source_bar, stops_at}
+use Rattle.cf_semantics.specs.moves.Bars.{entry_bar, execute_bar, exit_op_bar, first_bar_of, is_full, launch_bar, recover_bar, source_bar, stops_at}
 use Rattle.cf_semantics.specs.moves.Instructions.{is_memory}
 use Rattle.cf_semantics.specs.state.Layouts.{launches, recovers}
 use Rattle.cf_semantics.specs.state.Options.{on, is_some}
@@ -52,27 +52,27 @@ on_same None d f g same = refl
 on_same (Some a) d f g same = same a
 
 -- where no siding of the class launches, the first cell does not matter
-no_launch : (a b l m : Bool) (r q : Option Bar) → l ≡ false → first_of ((a, Dead) ∷ (b, AlreadyDone) ∷ (not l, NoUnit) ∷ (m, NotMet) ∷ []) r
-    ≡ first_of ((a, Dead) ∷ (b, AlreadyDone) ∷ (not l, NoUnit) ∷ (m, NotMet) ∷ []) q
+no_launch : (a b l m : Bool) (r q : Option Bar) → l ≡ false → first_bar_of ((a, Dead) ∷ (b, AlreadyDone) ∷ (not l, NoUnit) ∷ (m, NotMet) ∷ []) r
+    ≡ first_bar_of ((a, Dead) ∷ (b, AlreadyDone) ∷ (not l, NoUnit) ∷ (m, NotMet) ∷ []) q
 no_launch true b l m r q e = refl
 no_launch false true l m r q e = refl
 no_launch false false l m r q e = rw e refl
 
 -- where none recovers, the last does not
-no_return : (l b : Bool) (r q : Option Bar) → l ≡ false → first_of ((not l, NoUnit) ∷ (b, AlreadyDone) ∷ []) r
-    ≡ first_of ((not l, NoUnit) ∷ (b, AlreadyDone) ∷ []) q
+no_return : (l b : Bool) (r q : Option Bar) → l ≡ false → first_bar_of ((not l, NoUnit) ∷ (b, AlreadyDone) ∷ []) r
+    ≡ first_bar_of ((not l, NoUnit) ∷ (b, AlreadyDone) ∷ []) q
 no_return l b r q e = rw e refl
 
 -- the rows of Launch and Recover for a passenger
 launch_row : Plan → State → Cell → ℕ → Passenger → Option Bar
-launch_row plan s c i p = first_of (
+launch_row plan s c i p = first_bar_of (
     (p.dead, Dead) ∷
     (p.done || p.launched, AlreadyDone) ∷
     (not (launches plan (kind p) i), NoUnit) ∷
     (is_memory (kind p) && is_full c, NotMet) ∷ []) (source_bar p (entry_bar plan s p))
 
 return_row : Plan → State → ℕ → Passenger → Option Bar
-return_row plan s i p = first_of (
+return_row plan s i p = first_bar_of (
     (not (recovers plan (kind p) i), NoUnit) ∷
     (not p.launched || p.recovered, AlreadyDone) ∷ []) (exit_op_bar plan s p)
 

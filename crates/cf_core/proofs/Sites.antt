@@ -22,13 +22,13 @@ use Rattle.cf_semantics.specs.state.Passengers.{kind}
 use Rattle.cf_semantics.specs.state.State.{State, cell_at, siding_at}
 use Rattle.cf_stages.specs.Changes.{passenger_at}
 use Rattle.cf_stages.proofs.Parts.{stage-high, stage-low}
-use Rattle.cf_core.specs.Marks.{Within, alone, home_at, sites, touched}
+use Rattle.cf_core.specs.Marks.{Within, one_stage, home_at, sites, touched}
 use Rattle.cf_core.specs.Processors.{IsProcessor}
 use Rattle.cf_core.proofs.Berths.{cells-none, length-siding}
 use Rattle.cf_core.proofs.Ported.{memory-port}
 use Rattle.cf_layout.specs.Layout.{cells_of}
 
-one_within : (plan : Plan) (i : ℕ) → 0 < i → i ≤ plan.stages → Within plan (alone i)
+one_within : (plan : Plan) (i : ℕ) → 0 < i → i ≤ plan.stages → Within plan (one_stage i)
 one_within plan i low high = record { low = low; low_in = high; high = low; high_in = high }
 
 -- a stage that exists
@@ -42,7 +42,7 @@ cell_in cells i f None e free = absurd (cc)
 cell_in cells i f (Some c) e free = (c, e, free)
 
 at_stage : (plan : Plan) (s : State) (i : ℕ) (f : Cell → Option Bar) → IsProcessor plan s → on (cell_at s.cells i) (Some NoSuchSite) f ≡ None →
-    Within plan (alone i)
+    Within plan (one_stage i)
 at_stage plan s i f h free =
     let c = cell_in s.cells i f (cell_at s.cells i) refl free in
     let t = there plan s i c.0 h c.1 in
@@ -52,7 +52,7 @@ at_stage plan s i f h free =
 siding_within : (plan : Plan) (k : ℕ) → IsAccepted plan → k < length plan.sidings → Within plan (sites plan k)
 unfolding launch_stage recover_stage
 siding_within plan k a within =
-    let rules : IsSiding plan (layout.siding_at plan k) = of_plan plan.sidings k within a.sidings in
+    let rules : IsSiding plan (layout.siding_plan_at plan k) = of_plan plan.sidings k within a.sidings in
     record { low = omega (arith, rules.launches.0); low_in = rules.launches.1; high = omega (arith, rules.recovers.0); high_in = rules.recovers.1 }
   where
     of_plan : (sidings : List SidingPlan) (k : ℕ) → k < length sidings → All (IsSiding plan) sidings → IsSiding plan (unwrap_or (slice_get sidings k) no_siding)
@@ -63,7 +63,7 @@ home_number plan None k e = absurd (cc)
 home_number plan (Some p) k e = (siding_found plan (kind p) k e).0
 
 home_within : (plan : Plan) (s : State) (i : ℕ) (f : Cell → Option Bar) (o : Option ℕ) → IsProcessor plan s → home_at plan s i ≡ o →
-    on (cell_at s.cells i) (Some NoSuchSite) f ≡ None → Within plan (on o (alone i) (sites plan))
+    on (cell_at s.cells i) (Some NoSuchSite) f ≡ None → Within plan (on o (one_stage i) (sites plan))
 home_within plan s i f None h e free = at_stage plan s i f h free
 home_within plan s i f (Some k) h e free = siding_within plan k h.accepted (home_number plan (passenger_at s.cells i) k e)
 

@@ -16,7 +16,7 @@ use Rattle.cf_bind.specs.declared.passenger.Passenger.{Passenger}
 use Rattle.cf_bind.specs.Meeting.{Met, garnered, meeting, or_value, packet_met, passenger_met}
 use Rattle.cf_layout.specs.Layout.{Plan}
 use Rattle.cf_layout.specs.Words.{has_bit}
-use Rattle.cf_semantics.specs.moves.Bars.{climb_bar, emit_bar, entry_bar, exit_bar, fall_bar, first, first_of, is_full, launch_bar, leave_bar, row_bar, source_bar, stops_at}
+use Rattle.cf_semantics.specs.moves.Bars.{climb_bar, emit_bar, entry_bar, exit_bar, fall_bar, first, first_bar_of, is_full, launch_bar, leave_bar, row_bar, source_bar, stops_at}
 use Rattle.cf_semantics.specs.moves.Instructions.{is_memory}
 use Rattle.cf_semantics.specs.state.Layouts.{ends_units, launches, recovers}
 use Rattle.cf_semantics.specs.moves.Moves.{cell_met, climbed, emitted, exited, fallen, left, left_live, moved, without_packet, without_passenger}
@@ -26,7 +26,7 @@ use Rattle.cf_semantics.specs.state.State.{State, cell_at, put_cell, with_cell}
 use Rattle.cf_stages.specs.Changes.{passenger_at}
 use Rattle.cf_stages.proofs.Bits.{word-bit}
 use Rattle.cf_stages.proofs.Parts.{cell-put, cell-put-other, stage-high, stage-low}
-use Rattle.cf_core.specs.Marks.{is_free, keeps_marks, mark_at, marks_of, no_mark, passes_by}
+use Rattle.cf_core.specs.Marks.{row_allows, keeps_marks, mark_at, marks_of, no_mark, passes_by}
 use Rattle.cf_core.specs.Masks.{rides, stops_there}
 use Rattle.cf_core.specs.Riders.{awaits, is_idle, is_out, is_passed_by, is_spent, is_undone}
 use Rattle.cf_core.specs.declared.marks.Marks.{Marks}
@@ -68,7 +68,7 @@ put_same plan s i b c here same =
 
 -- the row of Launch for a passenger, beside a packet that it has still to meet or not
 abbrev entry_row : Plan → State → Bool → ℕ → Passenger → Option Bar
-entry_row plan s full i p = first_of (
+entry_row plan s full i p = first_bar_of (
     (p.dead, Dead) ∷
     (p.done || p.launched, AlreadyDone) ∷
     (not (launches plan (kind p) i), NoUnit) ∷
@@ -139,7 +139,8 @@ fall_tests c d e = tests (is_some c.packet) (is_full c) (is_some d.packet) e
     tests true false true g = absurd (cc)
     tests true false false g = (refl, refl)
 
-fall_keeps : (plan : Plan) (s : State) (i : ℕ) → row_bar plan s (Fall i) ≡ None → is_free plan s (Launch (i - 1)) ≡ false → Same plan s (moved plan s (Fall i))
+fall_keeps : (plan : Plan) (s : State) (i : ℕ) → row_bar plan s (Fall i) ≡ None → row_allows plan s (Launch (i - 1)) ≡ false →
+    Same plan s (moved plan s (Fall i))
 unfolding moved
 fall_keeps plan s i free barred = by_cells (cell_at s.cells i) (cell_at s.cells (i - 1)) refl refl free barred
   where
@@ -162,7 +163,7 @@ emit_tests r lane c e = tests (is_some c.packet) e
     tests true g = absurd (cc)
     tests false g = refl
 
-emit_keeps : (plan : Plan) (s : State) → row_bar plan s Emit ≡ None → is_free plan s (Launch plan.stages) ≡ false → Same plan s (moved plan s Emit)
+emit_keeps : (plan : Plan) (s : State) → row_bar plan s Emit ≡ None → row_allows plan s (Launch plan.stages) ≡ false → Same plan s (moved plan s Emit)
 unfolding moved
 emit_keeps plan s free barred = by_cell (cell_at s.cells plan.stages) s.lane refl free barred
   where
@@ -331,7 +332,7 @@ met_passing p (Value r v) passed = by_dead p.dead
 -- what does not stop cannot be launched
 unlaunched : (dead done launched out ends site memory full : Bool) (rest : Option Bar) → (out || (not dead && not done && not launched && (ends || site)))
     ≡ false →
-    not (is_some (first_of ((dead, Dead) ∷ (done || launched, AlreadyDone) ∷ (not site, NoUnit) ∷ (memory && full, NotMet) ∷ []) rest)) ≡ false
+    not (is_some (first_bar_of ((dead, Dead) ∷ (done || launched, AlreadyDone) ∷ (not site, NoUnit) ∷ (memory && full, NotMet) ∷ []) rest)) ≡ false
 unlaunched true done launched out ends site memory full rest e = refl
 unlaunched false true launched out ends site memory full rest e = refl
 unlaunched false false true out ends site memory full rest e = refl
@@ -426,8 +427,8 @@ pub moved-same : (plan : Plan) (s : State) (mv : Move) → row_bar plan s mv ≡
 unfolding keeps_marks
 moved-same plan s (Climb i) free keeps = climb_keeps plan s i free keeps
 moved-same plan s (Meet i) free keeps = meeting_keeps plan s i (rides s i is_spent) (stops_there plan s i) refl refl keeps
-moved-same plan s (Fall i) free keeps = fall_keeps plan s i free (unset (is_free plan s (Launch (i - 1))) keeps)
-moved-same plan s Emit free keeps = emit_keeps plan s free (unset (is_free plan s (Launch plan.stages)) keeps)
+moved-same plan s (Fall i) free keeps = fall_keeps plan s i free (unset (row_allows plan s (Launch (i - 1))) keeps)
+moved-same plan s Emit free keeps = emit_keeps plan s free (unset (row_allows plan s (Launch plan.stages)) keeps)
 moved-same plan s Leave free keeps = leave_keeps plan s free
 moved-same plan s Exit free keeps = exit_keeps plan s free
 moved-same plan s (Issue g) free keeps = absurd (cc)
@@ -441,7 +442,7 @@ moved-same plan s Serve free keeps = absurd (cc)
 
 -- the bit of a stage says whether an operation can be launched there
 pub launch-bit : (plan : Plan) (s : State) (marks : Marks) (i : ℕ) → marks ≡ marks_of plan s → 0 < i → i ≤ plan.stages →
-    has_bit marks.launch (i - 1) ≡ is_free plan s (Launch i)
+    has_bit marks.launch (i - 1) ≡ row_allows plan s (Launch i)
 unfolding marks_of mark_at
 launch-bit plan s marks i is low within =
     let bit = word-bit (λ k. (mark_at plan s k).launch) plan.stages (i - 1) (omega (arith, low, within)) in

@@ -16,7 +16,7 @@ use Rattle.cf_semantics.specs.moves.Moves.{accessed, back_in, cell_met, climbed,
 use Rattle.cf_semantics.specs.state.Options.{on}
 use Rattle.cf_semantics.specs.state.Passengers.{finish, kind, trapped}
 use Rattle.cf_semantics.specs.state.State.{State, cell_at, siding_at, with_cell, with_siding}
-use Rattle.cf_core.specs.Marks.{alone, home_at, sites, touched}
+use Rattle.cf_core.specs.Marks.{one_stage, home_at, sites, touched}
 use Rattle.cf_core.specs.declared.touching.Touched.{Touched}
 use Rattle.cf_core.proofs.Bits.{SameBut}
 use Rattle.cf_core.proofs.SameMarks.{cell-but, rest-but, siding-but}
@@ -143,7 +143,7 @@ SameButAt plan s t at = SameBut plan s t at.low at.high
 
 launched_but : (plan : Plan) (s : State) (i : ℕ) (c : Cell) (p : Passenger) (trap : Option End) (home : Option ℕ) → launch_bar plan s c i ≡ None →
     c.passenger ≡ Some p → siding_of plan (kind p) ≡ home → launch_trap s p ≡ trap →
-    SameButAt plan s (launched plan s i c p) (on home (alone i) (sites plan))
+    SameButAt plan s (launched plan s i c p) (on home (one_stage i) (sites plan))
 launched_but plan s i c p (Some e) None free rides home trap = rw trap (cell-but plan s i i (with_passenger c (trapped p e)))
 launched_but plan s i c p (Some e) (Some k) free rides home trap = rw (trap, launch_site plan s i c p k free rides home)
     (cell-but plan s i (recover_stage plan k) (with_passenger c (trapped p e)))
@@ -158,7 +158,7 @@ launched_but plan s i c p None (Some k) free rides home trap =
 
 recovered_but : (plan : Plan) (s : State) (i : ℕ) (c : Cell) (p : Passenger) (home : Option ℕ) → recover_bar plan s c i ≡ None → c.passenger ≡ Some p →
     siding_of plan (kind p) ≡ home →
-    SameButAt plan s (recovered plan s i c p) (on home (alone i) (sites plan))
+    SameButAt plan s (recovered plan s i c p) (on home (one_stage i) (sites plan))
 recovered_but plan s i c p None free rides home = rw home (unchanged plan s i i)
 recovered_but plan s i c p (Some k) free rides home =
     let site = recover_site plan s i c p k free rides home in
@@ -170,34 +170,34 @@ recovered_but plan s i c p (Some k) free rides home =
     (siding-but plan t k (set_last (siding_at s k) None))))
 
 launch-but : (plan : Plan) (s : State) (i : ℕ) → row_bar plan s (Launch i) ≡ None → SameButAt plan s (moved plan s (Launch i))
-    (on (home_at plan s i) (alone i) (sites plan))
+    (on (home_at plan s i) (one_stage i) (sites plan))
 unfolding moved
 launch-but plan s i free = by_cell (cell_at s.cells i) refl free
   where
     by_rider : (c : Cell) (o : Option Passenger) → cell_at s.cells i ≡ Some c → c.passenger ≡ o → launch_bar plan s c i ≡ None →
-        SameButAt plan s (on o s (launched plan s i c)) (on (on o None (λ p. siding_of plan (kind p))) (alone i) (sites plan))
+        SameButAt plan s (on o s (launched plan s i c)) (on (on o None (λ p. siding_of plan (kind p))) (one_stage i) (sites plan))
     by_rider c None here rides row = unchanged plan s i i
     by_rider c (Some p) here rides row = launched_but plan s i c p (launch_trap s p) (siding_of plan (kind p)) row rides refl refl
 
     by_cell : (o : Option Cell) → cell_at s.cells i ≡ o → on o (Some NoSuchSite) (λ c. launch_bar plan s c i) ≡ None →
         SameButAt plan s (on o s (λ c. on c.passenger s (launched plan s i c))) (on (on (on o None (λ c. c.passenger)) None (λ p. siding_of plan (kind p)))
-        (alone i) (sites plan))
+        (one_stage i) (sites plan))
     by_cell None here row = unchanged plan s i i
     by_cell (Some c) here row = by_rider c c.passenger here refl row
 
 recover-but : (plan : Plan) (s : State) (i : ℕ) → row_bar plan s (Recover i) ≡ None → SameButAt plan s (moved plan s (Recover i))
-    (on (home_at plan s i) (alone i) (sites plan))
+    (on (home_at plan s i) (one_stage i) (sites plan))
 unfolding moved
 recover-but plan s i free = by_cell (cell_at s.cells i) refl free
   where
     by_rider : (c : Cell) (o : Option Passenger) → cell_at s.cells i ≡ Some c → c.passenger ≡ o → recover_bar plan s c i ≡ None →
-        SameButAt plan s (on o s (recovered plan s i c)) (on (on o None (λ p. siding_of plan (kind p))) (alone i) (sites plan))
+        SameButAt plan s (on o s (recovered plan s i c)) (on (on o None (λ p. siding_of plan (kind p))) (one_stage i) (sites plan))
     by_rider c None here rides row = unchanged plan s i i
     by_rider c (Some p) here rides row = recovered_but plan s i c p (siding_of plan (kind p)) row rides refl
 
     by_cell : (o : Option Cell) → cell_at s.cells i ≡ o → on o (Some NoSuchSite) (λ c. recover_bar plan s c i) ≡ None →
         SameButAt plan s (on o s (λ c. on c.passenger s (recovered plan s i c))) (on (on (on o None (λ c. c.passenger)) None (λ p. siding_of plan (kind p)))
-        (alone i) (sites plan))
+        (one_stage i) (sites plan))
     by_cell None here row = unchanged plan s i i
     by_cell (Some c) here row = by_rider c c.passenger here refl row
 

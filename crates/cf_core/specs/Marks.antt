@@ -17,17 +17,17 @@ use Rattle.cf_core.specs.declared.marks.Marks.{Marks}
 use Rattle.cf_core.specs.declared.touching.Touched.{Touched}
 
 -- nothing in the move's own row bars it
-abbrev pub is_free : Plan → State → Move → Bool
-is_free plan s mv = not (is_some (row_bar plan s mv))
+abbrev pub row_allows : Plan → State → Move → Bool
+row_allows plan s mv = not (is_some (row_bar plan s mv))
 
 -- what holds of a stage
 unfoldable pub mark_at : Plan → State → ℕ → StageMark
 mark_at plan s i = record {
   owes = owes_at s i;
   stops = stops_there plan s i;
-  execute = is_free plan s (Execute i);
-  launch = is_free plan s (Launch i);
-  recover = is_free plan s (Recover i);
+  execute = row_allows plan s (Execute i);
+  launch = row_allows plan s (Launch i);
+  recover = row_allows plan s (Recover i);
 }
 
 -- what holds of a stage without an instruction
@@ -55,8 +55,8 @@ marked marks i mark = record {
 }
 
 -- one stage, twice
-abbrev pub alone : ℕ → Touched
-alone i = record { low = i; high = i }
+abbrev pub one_stage : ℕ → Touched
+one_stage i = record { low = i; high = i }
 
 -- the stage from which a siding launches, and the one at which it recovers
 abbrev pub sites : Plan → ℕ → Touched
@@ -69,20 +69,20 @@ home_at plan s i = on (passenger_at s.cells i) None (λ p. siding_of plan (kind 
 -- the stages for which what holds can change with the move: where the contents changed, and where the siding launches
 -- and recovers whose first or last cell may have changed
 unfoldable pub touched : Plan → State → Move → Touched
-touched plan s (Issue g) = alone 1
-touched plan s Emit = alone plan.stages
+touched plan s (Issue g) = one_stage 1
+touched plan s Emit = one_stage plan.stages
 touched plan s (Climb i) = record { low = i; high = i + 1 }
 touched plan s (Fall i) = record { low = i - 1; high = i }
-touched plan s (Meet i) = alone i
-touched plan s (Execute i) = alone i
-touched plan s (Send i) = alone i
-touched plan s (Launch i) = on (home_at plan s i) (alone i) (sites plan)
+touched plan s (Meet i) = one_stage i
+touched plan s (Execute i) = one_stage i
+touched plan s (Send i) = one_stage i
+touched plan s (Launch i) = on (home_at plan s i) (one_stage i) (sites plan)
 touched plan s (Slide k c) = sites plan k
 touched plan s Access = sites plan (port plan)
-touched plan s (Recover i) = on (home_at plan s i) (alone i) (sites plan)
-touched plan s Leave = alone plan.stages
-touched plan s Exit = alone 1
-touched plan s Serve = alone plan.stages
+touched plan s (Recover i) = on (home_at plan s i) (one_stage i) (sites plan)
+touched plan s Leave = one_stage plan.stages
+touched plan s Exit = one_stage 1
+touched plan s Serve = one_stage plan.stages
 
 -- both are stages of the pipeline
 pub record Within (plan : Plan) (t : Touched) : Type 0 where
@@ -105,8 +105,8 @@ passes_by s i = on (passenger_at s.cells i) false (λ p. on (packet_at s.cells i
 unfoldable pub keeps_marks : Plan → State → Move → Bool
 keeps_marks plan s (Climb i) = rides s i is_spent
 keeps_marks plan s (Meet i) = rides s i is_spent || (not (stops_there plan s i) && passes_by s i)
-keeps_marks plan s (Fall i) = not (is_free plan s (Launch (i - 1)))
-keeps_marks plan s Emit = not (is_free plan s (Launch plan.stages))
+keeps_marks plan s (Fall i) = not (row_allows plan s (Launch (i - 1)))
+keeps_marks plan s Emit = not (row_allows plan s (Launch plan.stages))
 keeps_marks plan s Leave = true
 keeps_marks plan s Exit = true
 keeps_marks plan s mv = false

@@ -58,13 +58,13 @@ pub record IsProcessor (plan : Plan) (s : State) : Type 0 where
   pub lane : All IsWritable s.lane
 
 -- a processor in which nothing stands, with what a machine holds
-unfoldable pub opened : Plan → Hart → Processor
-opened plan hart = record { plan = plan; state = opened_on plan (record { hart = hart; rest = []; output = [] }) }
+unfoldable pub opened_processor : Plan → Hart → Processor
+opened_processor plan hart = record { plan = plan; state = opened_on plan (record { hart = hart; rest = []; output = [] }) }
 
 -- the processor was opened on some hart, and has made no move since
 pub record IsOpened (core : Processor) : Type 0 where
   pub hart : Hart
-  pub is : core ≡ opened core.plan hart
+  pub is : core ≡ opened_processor core.plan hart
 
 -- the two have one layout and are in one state, but for the values that are kept at the bottom
 abbrev pub AreSame : Processor → Processor → Type 0

@@ -11,7 +11,7 @@ abbrev pub died : Option Passenger → Option Passenger → Bool
 died before after = on before false (λ p. on after false (λ q. not p.dead && q.dead))
 
 -- the packet is gone, or the passenger died, or nothing is seen
-unfoldable pub seen : Cell → Cell → Event
-seen before after =
+unfoldable pub event_seen : Cell → Cell → Event
+event_seen before after =
     if not (is_some after.packet) then event.Killed else
     if died before.passenger after.passenger then event.Died else event.Plain

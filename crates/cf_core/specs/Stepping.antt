@@ -92,29 +92,29 @@ StepsOrBarred old new mv before after ReadFault = (bar old.plan old.state mv ≡
 StepsOrBarred old new mv before after WriteFault = (bar old.plan old.state mv ≡ None) × (mv ≡ Serve) × FailsToWrite old new before after
 
 -- an error where the input failed the step
-abbrev pub input_stepped : Step → Result (Unit {0}) (Unit {0})
-input_stepped ReadFault = Err tt
-input_stepped WriteFault = Ok tt
-input_stepped (Moved e) = Ok tt
-input_stepped (Barred b) = Ok tt
+abbrev pub input_at_step : Step → Result (Unit {0}) (Unit {0})
+input_at_step ReadFault = Err tt
+input_at_step WriteFault = Ok tt
+input_at_step (Moved e) = Ok tt
+input_at_step (Barred b) = Ok tt
 
 -- an error where the output failed it
-abbrev pub output_stepped : Step → Result (Unit {0}) (Unit {0})
-output_stepped ReadFault = Ok tt
-output_stepped WriteFault = Err tt
-output_stepped (Moved e) = Ok tt
-output_stepped (Barred b) = Ok tt
+abbrev pub output_at_step : Step → Result (Unit {0}) (Unit {0})
+output_at_step ReadFault = Ok tt
+output_at_step WriteFault = Err tt
+output_at_step (Moved e) = Ok tt
+output_at_step (Barred b) = Ok tt
 
 -- the same for Serve alone
-abbrev pub input_served : Result (Unit {0}) Fault → Result (Unit {0}) (Unit {0})
-input_served (Ok done) = Ok tt
-input_served (Err fault.Read) = Err tt
-input_served (Err fault.Write) = Ok tt
+abbrev pub input_at_serve : Result (Unit {0}) Fault → Result (Unit {0}) (Unit {0})
+input_at_serve (Ok done) = Ok tt
+input_at_serve (Err fault.Read) = Err tt
+input_at_serve (Err fault.Write) = Ok tt
 
-abbrev pub output_served : Result (Unit {0}) Fault → Result (Unit {0}) (Unit {0})
-output_served (Ok done) = Ok tt
-output_served (Err fault.Read) = Ok tt
-output_served (Err fault.Write) = Err tt
+abbrev pub output_at_serve : Result (Unit {0}) Fault → Result (Unit {0}) (Unit {0})
+output_at_serve (Ok done) = Ok tt
+output_at_serve (Err fault.Read) = Ok tt
+output_at_serve (Err fault.Write) = Err tt
 
 -- and for a move that is made
 abbrev pub input_made : Result Event Fault → Result (Unit {0}) (Unit {0})

@@ -23,10 +23,10 @@ use Rattle.cf_core.specs.declared.undo.Undo.{Undo}
 
 -- What a record of the code keeps --
 
-abbrev pub listed : {A : Type 0} → Few A → List A
-listed Nothing = []
-listed (One a) = a ∷ []
-listed (Two a b) = a ∷ b ∷ []
+abbrev pub list_of_few : {A : Type 0} → Few A → List A
+list_of_few Nothing = []
+list_of_few (One a) = a ∷ []
+list_of_few (Two a b) = a ∷ b ∷ []
 
 abbrev pub cell_kept : OldCell → KeptCell
 cell_kept c = record { stage = c.stage; cell = c.cell }
@@ -51,8 +51,8 @@ number_kept (Some n) = Some (record { addr = n.addr; bytes = le_bytes n.width n.
 unfoldable pub kept_by : Undo → Kept
 kept_by u = record {
   move = u.made;
-  cells = map cell_kept (listed u.cells);
-  ops = map op_kept (listed u.ops);
+  cells = map cell_kept (list_of_few u.cells);
+  ops = map op_kept (list_of_few u.ops);
   lane = lane_kept u.lane;
   fetch = u.fetch;
   cache = u.cache;

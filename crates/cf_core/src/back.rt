@@ -5,7 +5,7 @@ ghost use Rattle.cf_passengers.specs.Facts.{IsWritable};
 ghost use Rattle.cf_semantics.specs.moves.Kept.{bytes_back, cells_back, lane_back, ops_back, register_back, restored};
 ghost use Rattle.cf_core.specs.Processors.{in_state};
 ghost use Rattle.cf_core.specs.Places.{Each, FitsLane, IsOldCell, IsOldOp, CanReturn, with_cells, with_lane, with_memory, with_registers, with_sidings};
-ghost use Rattle.cf_core.specs.Undo.{HasJustMade, cell_kept, kept_by, lane_kept, listed, number_kept, op_kept, register_kept};
+ghost use Rattle.cf_core.specs.Undo.{HasJustMade, cell_kept, kept_by, lane_kept, list_of_few, number_kept, op_kept, register_kept};
 
 use crate::counterflow::Core;
 use crate::old_number::OldNumber;
@@ -26,7 +26,7 @@ impl Processor {
     /// The old contents of the stages.
     fn put_cells(&mut self, cells: Few<OldCell>)
         requires { Each (IsOldCell (length self.old.state.cells)) cells }
-        ensures { self.new ≡ with_cells self.old (cells_back (map cell_kept (listed cells)) self.old.state.cells) }
+        ensures { self.new ≡ with_cells self.old (cells_back (map cell_kept (list_of_few cells)) self.old.state.cells) }
     {
         match cells {
             Few::Nothing => {}
@@ -50,7 +50,7 @@ impl Processor {
     /// The old contents of the cells of sidings.
     fn put_ops(&mut self, ops: Few<OldOp>)
         requires { Each (IsOldOp (map length self.old.state.sidings)) ops }
-        ensures { self.new ≡ with_sidings self.old (ops_back (map op_kept (listed ops)) self.old.state.sidings) }
+        ensures { self.new ≡ with_sidings self.old (ops_back (map op_kept (list_of_few ops)) self.old.state.sidings) }
     {
         match ops {
             Few::Nothing => {}

@@ -9,7 +9,7 @@ ghost use Rattle.cf_semantics.specs.moves.Bars.{bar as first_bar, row_bar};
 ghost use Rattle.cf_semantics.specs.moves.Kept.{kept, kept_bytes, kept_cell, kept_cells, kept_lane, kept_op, kept_ops, kept_range, kept_register, siding_there};
 ghost use Rattle.cf_semantics.specs.state.State.{siding_at};
 ghost use Rattle.cf_core.specs.Processors.{IsProcessor};
-ghost use Rattle.cf_core.specs.Undo.{CanStand, cell_kept, kept_by, lane_kept, listed, number_kept, op_kept, register_kept};
+ghost use Rattle.cf_core.specs.Undo.{CanStand, cell_kept, kept_by, lane_kept, list_of_few, number_kept, op_kept, register_kept};
 
 use crate::counterflow::Core;
 use crate::old_number::OldNumber;
@@ -36,7 +36,7 @@ impl Processor {
     fn old_cells(&self, m: Move) -> Few<OldCell>
         requires facts { IsProcessor self.now.plan self.now.state }
         requires allowed { row_bar self.now.plan self.now.state m ≡ None }
-        ensures { map cell_kept (listed result) ≡ kept_cells self.now.plan self.now.state m }
+        ensures { map cell_kept (list_of_few result) ≡ kept_cells self.now.plan self.now.state m }
     {
         match m {
             Move::Issue(_) | Move::Exit => Few::One(self.old_cell(1)),
@@ -79,7 +79,7 @@ impl Processor {
     fn old_ops(&self, m: Move) -> Few<OldOp>
         requires facts { IsProcessor self.now.plan self.now.state }
         requires allowed { row_bar self.now.plan self.now.state m ≡ None }
-        ensures { map op_kept (listed result) ≡ kept_ops self.now.plan self.now.state m }
+        ensures { map op_kept (list_of_few result) ≡ kept_ops self.now.plan self.now.state m }
     {
         match m {
             Move::Launch(i) => match self.siding_there(i) {

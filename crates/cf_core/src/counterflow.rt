@@ -11,8 +11,8 @@ ghost use Rattle.cf_semantics.specs.state.State.{cell_at, siding_at};
 ghost use Rattle.cf_semantics.specs.state.Layouts.{isa_of};
 ghost use Rattle.cf_semantics.specs.state.Passengers.{cached as kept_value};
 ghost use Rattle.cf_core.specs.Asking.{AsksInput, AsksOutput};
-ghost use Rattle.cf_core.specs.Processors.{opened, IsOp, IsProcessor, IsCellOfSet};
-ghost use Rattle.cf_core.specs.Stepping.{MakesOrFails, StepsOrBarred, input_made, input_stepped, output_made, output_stepped};
+ghost use Rattle.cf_core.specs.Processors.{opened_processor, IsOp, IsProcessor, IsCellOfSet};
+ghost use Rattle.cf_core.specs.Stepping.{MakesOrFails, StepsOrBarred, input_made, input_at_step, output_made, output_at_step};
 
 use crate::fault::Fault;
 use crate::marks::Marks;
@@ -58,9 +58,9 @@ impl Model for Core {
 impl Core {
     /// A processor of this layout in which nothing stands: it fetches at the program counter of the machine and has its
     /// registers, memory and retired count. Where there is no memory for its parts the machine is dropped.
-    #[tactic(auto, using(crate::proofs::Opened::opening), unfolding(crate::specs::Processors::opened, cf_semantics::specs::runs::Runs::opened, cf_sidings::specs::Sidings::empty_sidings))]
+    #[tactic(auto, using(crate::proofs::Opened::opening), unfolding(crate::specs::Processors::opened_processor, cf_semantics::specs::runs::Runs::opened, cf_sidings::specs::Sidings::empty_sidings))]
     pub fn new(alloc: Global, layout: Layout, machine: Machine) -> Result<Core, AllocError>
-        ensures { IfOk result (λ core. core ≡ opened layout machine) }
+        ensures { IfOk result (λ core. core ≡ opened_processor layout machine) }
     {
         let stages = Stages::new(alloc, layout.stages())?;
         let sidings = Sidings::new(alloc, &layout)?;
@@ -263,8 +263,8 @@ impl Core {
         ensures steps { StepsOrBarred self.old self.new m
             (streams_of (S.left input.old) (K.written output.old))
             (streams_of (S.left input.new) (K.written output.new)) result }
-        ensures input { HasCause (S.faults input.old) (S.faults input.new) (input_stepped result) }
-        ensures output { HasCause (K.faults output.old) (K.faults output.new) (output_stepped result) }
+        ensures input { HasCause (S.faults input.old) (S.faults input.new) (input_at_step result) }
+        ensures output { HasCause (K.faults output.old) (K.faults output.new) (output_at_step result) }
         ensures input_asked { (AsksInput self.old m → ⊥) → input.new ≡ input.old }
         ensures output_asked { (AsksOutput self.old m → ⊥) → output.new ≡ output.old }
     {

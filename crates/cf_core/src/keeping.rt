@@ -3,7 +3,7 @@
 ghost use Rattle.std.specs.Prelude.{◌≡◌, ◌<◌, ◌≤◌, None};
 ghost use Rattle.cf_bind.specs.declared.moves.Move.TheVariants as mv;
 ghost use Rattle.cf_semantics.specs.moves.Bars.{row_bar};
-ghost use Rattle.cf_core.specs.Marks.{is_free, marks_of, keeps_marks as keeps_all};
+ghost use Rattle.cf_core.specs.Marks.{row_allows, marks_of, keeps_marks as keeps_all};
 ghost use Rattle.cf_core.specs.Masks.{rides, stops_there};
 ghost use Rattle.cf_core.specs.Processors.{IsProcessor};
 ghost use Rattle.cf_core.specs.Riders.{is_spent as has_done_all};
@@ -37,7 +37,7 @@ impl Processor {
         requires above { 0 < i }
         requires within { i ≤ self.now.plan.stages }
         requires marks { marks ≡ marks_of self.now.plan self.now.state }
-        ensures { result ≡ is_free self.now.plan self.now.state (mv.Launch i) }
+        ensures { result ≡ row_allows self.now.plan self.now.state (mv.Launch i) }
     {
         self.know_stages();
         has_bit(marks.launch, i)

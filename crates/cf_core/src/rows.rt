@@ -2,7 +2,7 @@
 
 ghost use Rattle.std.specs.Option.{option_copied};
 ghost use Rattle.std.specs.Prelude.{◌≡◌, find, None, ◌<◌, ◌≤◌, IfErr, IfOk, OnOk, Some};
-ghost use Rattle.cf_semantics.specs.moves.Bars.{first_of as first_bar_of, at, of_passenger, source_bar as bar_of_sources};
+ghost use Rattle.cf_semantics.specs.moves.Bars.{first_bar_of as first_bar_of, at, of_passenger, source_bar as bar_of_sources};
 ghost use Rattle.cf_stages.specs.Changes.{passenger_at};
 ghost use Rattle.cf_core.specs.Processors.{IsProcessor};
 

@@ -18,7 +18,7 @@ use Rattle.cf_run.proofs.Fronts.{front-after}
 use Rattle.cf_run.proofs.Settling.{IsKept, kept-run}
 use Rattle.cf_debug.specs.declared.answer.Debugged.TheVariants.{WriteFault}
 use Rattle.cf_debug.specs.Making.{FailsOne, ProcessorState}
-use Rattle.cf_debug.specs.Standing.{IsLeftAt, IsOnRun, StandsNow, place_at}
+use Rattle.cf_debug.specs.Standing.{IsLeftAt, IsOnRun, StandsNow, session_place}
 use Rattle.cf_debug.proofs.Standing.{Comes, stands-at, stands-comes}
 
 -- the processor that a failed write leaves
@@ -69,6 +69,7 @@ stands-aground start blank mv now new accepted h f =
       opened_is = h.opened_is;
       moves = c.reached.moves;
       right = right start.plan x c.reached.moves accepted h.wide c.reached.allowed;
-      left = subst (λ (m : Moment). IsLeftAt x m (place_at start blank) (place_at new.core new.output) WriteFault) c.reached.is
-          (aground x c.moment (place_at start blank) (place_at now.core now.output) (place_at new.core new.output) accepted kept there free f.fails);
+      left = subst (λ (m : Moment). IsLeftAt x m (session_place start blank) (session_place new.core new.output) WriteFault) c.reached.is
+          (aground x c.moment (session_place start blank) (session_place now.core now.output) (session_place new.core new.output) accepted kept there free
+          f.fails);
     }

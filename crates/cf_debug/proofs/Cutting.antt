@@ -11,7 +11,7 @@ use Rattle.rv_text.specs.Lines.{without_return}
 use Rattle.cf_debug.specs.declared.command.Refusal.TheVariants.{TooLong}
 use Rattle.cf_debug.specs.Commands.{command_in}
 use Rattle.cf_debug.specs.declared.feed.Next.TheVariants.{Byte, AtEnd, TooMany, Fault}
-use Rattle.cf_debug.specs.Cutting.{Feeding, Feeds, HasLines, IsPiece, held, joined}
+use Rattle.cf_debug.specs.Cutting.{Feeding, Feeds, HasLines, IsPiece, held_line, joined}
 use Rattle.cf_debug.specs.Limits.{most_taken}
 
 -- Lines --
@@ -65,18 +65,18 @@ has-end bytes lines line h = record {
 -- What is held of a line --
 
 -- one more byte
-pub held-more : (line : List ℕ) (byte : ℕ) → held (held line ++ byte ∷ []) ≡ held (line ++ byte ∷ [])
+pub held-more : (line : List ℕ) (byte : ℕ) → held_line (held_line line ++ byte ∷ []) ≡ held_line (line ++ byte ∷ [])
 held-more line byte = of (nat_lt 258 (length line)) refl
   where
-    of : (b : Bool) → nat_lt 258 (length line) ≡ b → held (held line ++ byte ∷ []) ≡ held (line ++ byte ∷ [])
+    of : (b : Bool) → nat_lt 258 (length line) ≡ b → held_line (held_line line ++ byte ∷ []) ≡ held_line (line ++ byte ∷ [])
     of true long =
         let more : 258 < length line = grind (arith, nat_tests, long) in
-        let full : length (held line) ≡ 258 = length-take-le 258 line (omega (arith, more)) in
-        take-append-le 258 (held line) (byte ∷ []) (omega (arith, full)) ∙ take_all 258 (held line) (omega (arith, full))
+        let full : length (held_line line) ≡ 258 = length-take-le 258 line (omega (arith, more)) in
+        take-append-le 258 (held_line line) (byte ∷ []) (omega (arith, full)) ∙ take_all 258 (held_line line) (omega (arith, full))
         ∙ sym (take-append-le 258 line (byte ∷ []) (omega (arith, more)))
     of false short =
         let few : length line ≤ 258 = grind (arith, nat_tests, short) in
-        ap (λ (front : List ℕ). held (front ++ byte ∷ [])) (take_all 258 line few)
+        ap (λ (front : List ℕ). held_line (front ++ byte ∷ [])) (take_all 258 line few)
 
 -- a line that is too long
 too_long : (line : List ℕ) → 256 < length line → command_in line ≡ Err TooLong
@@ -97,37 +97,37 @@ nearly line = of (ends_with nat_eq line (13 ∷ []))
     of false = omega arith
 
 -- what is held of a line gives the same command, whether or not the line is ended
-pub held-whole : (line : List ℕ) → command_in (without_return (held line)) ≡ command_in (without_return line)
+pub held-whole : (line : List ℕ) → command_in (without_return (held_line line)) ≡ command_in (without_return line)
 held-whole line = of (nat_lt 258 (length line)) refl
   where
-    of : (b : Bool) → nat_lt 258 (length line) ≡ b → command_in (without_return (held line)) ≡ command_in (without_return line)
+    of : (b : Bool) → nat_lt 258 (length line) ≡ b → command_in (without_return (held_line line)) ≡ command_in (without_return line)
     of true long =
         let more : 258 < length line = grind (arith, nat_tests, long) in
-        let full : length (held line) ≡ 258 = length-take-le 258 line (omega (arith, more)) in
-        too_long (without_return (held line)) (omega (arith, full, nearly (held line))) ∙ sym
+        let full : length (held_line line) ≡ 258 = length-take-le 258 line (omega (arith, more)) in
+        too_long (without_return (held_line line)) (omega (arith, full, nearly (held_line line))) ∙ sym
         (too_long (without_return line) (omega (arith, more, nearly line)))
     of false short =
         let few : length line ≤ 258 = grind (arith, nat_tests, short) in
         ap (λ (front : List ℕ). command_in (without_return front)) (take_all 258 line few)
 
-pub held-last : (line : List ℕ) → command_in (held line) ≡ command_in line
+pub held-last : (line : List ℕ) → command_in (held_line line) ≡ command_in line
 held-last line = of (nat_lt 258 (length line)) refl
   where
-    of : (b : Bool) → nat_lt 258 (length line) ≡ b → command_in (held line) ≡ command_in line
+    of : (b : Bool) → nat_lt 258 (length line) ≡ b → command_in (held_line line) ≡ command_in line
     of true long =
         let more : 258 < length line = grind (arith, nat_tests, long) in
-        let full : length (held line) ≡ 258 = length-take-le 258 line (omega (arith, more)) in
-        too_long (held line) (omega (arith, full)) ∙ sym (too_long line (omega (arith, more)))
+        let full : length (held_line line) ≡ 258 = length-take-le 258 line (omega (arith, more)) in
+        too_long (held_line line) (omega (arith, full)) ∙ sym (too_long line (omega (arith, more)))
     of false short =
         let few : length line ≤ 258 = grind (arith, nat_tests, short) in
         ap command_in (take_all 258 line few)
 
 -- nothing is held of an empty line alone
-pub held-none : (line : List ℕ) → held line ≡ [] → line ≡ []
+pub held-none : (line : List ℕ) → held_line line ≡ [] → line ≡ []
 held-none [] none = refl
 held-none (byte ∷ line) none = absurd (omega (arith, ap length none, length-take 258 (byte ∷ line)))
 
-pub held-some : (line : List ℕ) → 0 < length (held line) → 0 < length line
+pub held-some : (line : List ℕ) → 0 < length (held_line line) → 0 < length line
 held-some line some = omega (arith, some, length-take 258 line)
 
 -- What is taken --

@@ -19,13 +19,13 @@ use Rattle.cf_sched.proofs.ByRule.{any-offered}
 use Rattle.cf_sched.specs.Policies.{round_pick, round_on}
 use Rattle.cf_report.specs.Putting.{PutsText}
 use Rattle.cf_run.specs.Made.{Made, retirement}
-use Rattle.cf_run.specs.Policies.{Chooser, chooser, choice, fresh, offered_to}
+use Rattle.cf_run.specs.Policies.{Chooser, chooser, choice, fresh_chooser, offered_to}
 use Rattle.cf_run.specs.Reaching.{GoesOn}
 use Rattle.cf_run.proofs.ByRule.{ruled-allowed}
 use Rattle.cf_run.proofs.Stopped.{offered-stopped, offers-offered, paced-stopped}
 use Rattle.cf_debug.specs.declared.answer.Broken.{Broken}
 use Rattle.cf_debug.specs.declared.answer.Broken.TheVariants as broken
-use Rattle.cf_debug.specs.Driving.{Turn, DriveTakes, Passes, Pauses, Drives, DrivesOn, DrivesAground, breaks, first_turn, next_turn, pick, retirements}
+use Rattle.cf_debug.specs.Driving.{Turn, DriveTakes, Passes, Pauses, Drives, DrivesOn, DrivesAground, meets_break, first_auto_turn, next_turn, pick, retirements}
 use Rattle.cf_debug.specs.Limits.{most_retired}
 use Rattle.cf_debug.specs.Making.{ProcessorState, MakesAndKeeps, MakesKeptOrFails, FailsOne}
 use Rattle.cf_debug.specs.Outcomes.{DrivesOut, IsNextTurn, Steers}
@@ -42,7 +42,7 @@ made_of mv e new = record { move = mv; event = e; state = new.core.state }
 -- the move that is picked was made, and its line written
 pub steers-on : (stop : Option ℕ) (at later : Turn) (now new : ProcessorState) (mv : Move) (e : Event) (last : Bool) (written after : Option (List ℕ)) (i j : ℕ)
     (answer : Unit {0})
-    → GoesOn most_retired now.core.state → pick at now ≡ Some mv → MakesKeptOrFails mv now new (Ok e) → last ≡ breaks stop now.core.state mv →
+    → GoesOn most_retired now.core.state → pick at now ≡ Some mv → MakesKeptOrFails mv now new (Ok e) → last ≡ meets_break stop now.core.state mv →
     IsNextTurn at later now (made_of mv e new) → PutsText {E = Failed} written after i j (retirement new.core.state.retired e) (Ok answer)
     → Steers stop at later now new written after (Ok last)
 unfolding Steers MakesKeptOrFails
@@ -120,7 +120,7 @@ chosen-next last policy c later now new mv e drained beside ruled drained_is lat
 pub record Comes (stop : Option ℕ) (start now : ProcessorState) (held : Turn) (written after : Option (List ℕ)) (count : ℕ) : Type 0 where
   pub trace : List Made
   pub at : Turn
-  pub passes : Passes stop first_turn start trace at now
+  pub passes : Passes stop first_auto_turn start trace at now
   pub rule : held.rule ≡ at.rule
   pub policy : held.policy ≡ at.policy
   pub count_is : held.count ≡ stopped now.core.plan.stages at.count
@@ -132,7 +132,7 @@ pub comes-first : (stop : Option ℕ) (start : ProcessorState) (policy : Option 
 unfolding Passes retirements
 comes-first stop start policy held stages written fresh_policy zero_held beside = record {
   trace = [];
-  at = first_turn;
+  at = first_auto_turn;
   passes = (refl, refl);
   rule = refl;
   policy = fresh_policy;
@@ -173,11 +173,11 @@ took stop start now new held written after count made c t = record {
 }
 
 passes_more : (stop : Option ℕ) (first : Turn) (start : ProcessorState) (trace : List Made) (at : Turn) (now : ProcessorState) (made : Made)
-    (new : ProcessorState) → Passes stop first start trace at now → DriveTakes at made now new → breaks stop now.core.state made.move ≡ false
+    (new : ProcessorState) → Passes stop first start trace at now → DriveTakes at made now new → meets_break stop now.core.state made.move ≡ false
     → Passes stop first start (trace ++ made ∷ []) (next_turn at now made) new
 unfolding Passes
 passes_more stop first start [] at now made new (same, here) takes free =
-    let P : Turn → ProcessorState → Type 0 = λ q b. DriveTakes q made b new × (breaks stop b.core.state made.move ≡ false)
+    let P : Turn → ProcessorState → Type 0 = λ q b. DriveTakes q made b new × (meets_break stop b.core.state made.move ≡ false)
     × (next_turn at now made ≡ next_turn q b made) in
     let k : P first start = subst (λ (b : ProcessorState). P first b) here (subst (λ (q : Turn). P q now) same (takes, free, refl)) in
     (new, k.0, k.1, (k.2, refl))
@@ -207,7 +207,7 @@ comes-more stop start now new held later written between after count last goes_o
     record {
       trace = c.trace ++ made ∷ [];
       at = next_turn c.at now made;
-      passes = passes_more stop first_turn start c.trace c.at now made new c.passes taken (free ∙ goes_on);
+      passes = passes_more stop first_auto_turn start c.trace c.at now made new c.passes taken (free ∙ goes_on);
       rule = next.rule ∙ c.rule;
       policy = next.policy ∙ onward_same stop start now held written between count c;
       count_is = next.count ∙ ap (λ (n : ℕ). stopped now.core.plan.stages (paced n made.move made.event (is_drained made.state))) c.count_is

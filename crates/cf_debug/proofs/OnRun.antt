@@ -12,7 +12,7 @@ use Rattle.cf_debug.specs.declared.command.DebugCommand.{DebugCommand}
 use Rattle.cf_debug.specs.declared.command.DebugCommand.TheVariants.{Nothing, Move, Auto, Show, Break, Back, End}
 use Rattle.cf_debug.specs.declared.command.Refusal.{Refusal}
 use Rattle.cf_debug.specs.Commands.{command_in}
-use Rattle.cf_debug.specs.Driving.{Turn, DrivesOn, Passes, Pauses, first_turn, next_turn}
+use Rattle.cf_debug.specs.Driving.{Turn, DrivesOn, Passes, Pauses, first_auto_turn, next_turn}
 use Rattle.cf_debug.specs.Making.{ProcessorState}
 use Rattle.cf_debug.specs.Replies.{DebuggerState, AnswersLine, AnswersPart, CommandAnswers, CommandAnswersPart, FailsAnswer, RunsAground, TakesBack, TakesMoves, TakesNewest}
 use Rattle.cf_debug.specs.Sessions.{LineLeaves, FinishesSession, UsesByte}
@@ -75,7 +75,7 @@ carries_stand start blank (Move mv) now new text h (same, inr (inr (below, (e, m
 carries_stand start blank (Auto n) now new text h (same, inl (spent, r)) = same_stands start blank now.processor new.processor h r.0
 carries_stand start blank (Auto n) now new text h (same, inr (below, (count, lines, d, is))) =
     pauses_stand start blank n now.stop (length d.trace) d.at d.now new.processor d.last
-    (passes_stand start blank now.stop first_turn d.at now.processor d.now d.trace h d.passes) d.pauses
+    (passes_stand start blank now.stop first_auto_turn d.at now.processor d.now d.trace h d.passes) d.pauses
 carries_stand start blank (Show view) now new text h c = processor_same start blank now new h c.0
 carries_stand start blank (Break stop) now new text h c =
     same_stands start blank now.processor new.processor h (ap (λ (d : DebuggerState). d.processor) c.0)
@@ -86,7 +86,7 @@ carries_stand start blank End now new text h c = processor_same start blank now 
 drives_stand : (start : Processor) (blank : Option (List ℕ)) (n : ℕ) (stop : Option ℕ) (now new : ProcessorState) (lines : List ℕ) →
     StandsNow start blank now → DrivesOn n stop now new lines → StandsNow start blank new
 drives_stand start blank n stop now new lines h d =
-    makes-stands start d.made.move d.made.event blank d.now new (passes_stand start blank stop first_turn d.at now d.now d.trace h d.passes) d.takes.makes
+    makes-stands start d.made.move d.made.event blank d.now new (passes_stand start blank stop first_auto_turn d.at now d.now d.trace h d.passes) d.takes.makes
 
 -- so does a command whose answer the report failed
 parts_stand : (start : Processor) (blank : Option (List ℕ)) (command : DebugCommand) (now new : DebuggerState) (text : List ℕ) →
@@ -110,7 +110,7 @@ runs_aground start blank Nothing now new text accepted h f = absurd f
 runs_aground start blank (Move mv) now new text accepted h f = stands-aground start blank mv now.processor new.processor accepted h f.1
 runs_aground start blank (Auto n) now new text accepted h d =
     stands-aground start blank _ d.now new.processor accepted
-    (passes_stand start blank now.stop first_turn d.at now.processor d.now d.trace h d.passes) d.fails
+    (passes_stand start blank now.stop first_auto_turn d.at now.processor d.now d.trace h d.passes) d.fails
 runs_aground start blank (Show view) now new text accepted h f = absurd f
 runs_aground start blank (Break stop) now new text accepted h f = absurd f
 runs_aground start blank (Back n) now new text accepted h f = absurd f

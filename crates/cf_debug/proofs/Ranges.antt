@@ -15,7 +15,7 @@ use Rattle.cf_debug.specs.declared.command.View.TheVariants.{Picture, Registers,
 use Rattle.cf_debug.specs.declared.command.Refusal.{Refusal}
 use Rattle.cf_debug.specs.declared.command.Refusal.TheVariants.{TooLong, UnknownCommand, BadNumber, ExtraWords}
 use Rattle.texts.specs.Answers.{and_then}
-use Rattle.cf_debug.specs.Commands.{AsksFew, address_told, alone, auto_told, back_told, break_told, code_told, command_in, command_named, lone_command, lone_told, memory_told, move_told, number_told, other_told, stop_told, why_told, within}
+use Rattle.cf_debug.specs.Commands.{AsksFew, address_told, command_alone, auto_told, back_told, break_told, code_told, command_in, command_named, lone_command, lone_told, memory_told, move_told, number_told, other_told, stop_told, why_told, number_within}
 
 -- the command, if there is one, shows few bytes
 abbrev Few : Result DebugCommand Refusal → Type 0
@@ -26,8 +26,8 @@ pick : (b : Bool) (x y : Result DebugCommand Refusal) → Few x → Few y → Fe
 pick true x y few other = few
 pick false x y few other = other
 
-alone_few : (words : List (List ℕ)) (command : DebugCommand) → AsksFew command → Few (alone words command)
-unfolding alone
+alone_few : (words : List (List ℕ)) (command : DebugCommand) → AsksFew command → Few (command_alone words command)
+unfolding command_alone
 alone_few words command few = pick (length words == 0) (Ok command) (Err ExtraWords) few tt
 
 then_few : {A : Type 0} (r : Result A Refusal) (step : A → Result DebugCommand Refusal) → ((a : A) → r ≡ Ok a → Few (step a)) → Few (and_then r step)
@@ -42,7 +42,7 @@ why_few : (r : Result AnyMove ScriptKind) → Few (why_told r)
 why_few (Ok mv) = tt
 why_few (Err kind) = tt
 
-within_most : (most : ℕ) (r : Result ℕ ScriptKind) (n : ℕ) → within most r ≡ Ok n → n ≤ most
+within_most : (most : ℕ) (r : Result ℕ ScriptKind) (n : ℕ) → number_within most r ≡ Ok n → n ≤ most
 within_most most (Err kind) n is = absurd (cc)
 within_most most (Ok k) n is = of (nat_le 1 k && nat_le k most) refl is
   where

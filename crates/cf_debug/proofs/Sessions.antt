@@ -13,7 +13,7 @@ use Rattle.cf_debug.specs.declared.answer.Debugged.{Debugged}
 use Rattle.cf_debug.specs.declared.answer.Debugged.TheVariants.{Done, Limit, ReadFault, WriteFault, ReportFault}
 use Rattle.cf_debug.specs.declared.feed.Next.TheVariants.{Byte, AtEnd, TooMany, Fault}
 use Rattle.cf_debug.specs.Commands.{command_in}
-use Rattle.cf_debug.specs.Cutting.{Feeding, Feeds, HasLines, held, last_line}
+use Rattle.cf_debug.specs.Cutting.{Feeding, Feeds, HasLines, held_line, last_line}
 use Rattle.cf_debug.specs.Limits.{most_bytes, most_taken}
 use Rattle.cf_debug.specs.Making.{ProcessorState}
 use Rattle.cf_debug.specs.Replies.{DebuggerState, debugger_state, AnswersAll}
@@ -31,7 +31,7 @@ pub record Comes (before : Session) (begin now : DebuggerState) (commands report
   pub lines : List (List ℕ)
   pub unfinished : List ℕ
   pub has : HasLines used lines unfinished
-  pub line_is : line ≡ held unfinished
+  pub line_is : line ≡ held_line unfinished
   pub answers : AnswersLines lines begin now before.report report
 
 -- before the first byte
@@ -91,7 +91,7 @@ comes-more before begin now new commands fed_commands report after line later fe
       lines = c.lines;
       unfinished = c.unfinished ++ byte ∷ [];
       has = has-byte c.used c.lines c.unfinished byte c.has other;
-      line_is = held_is ∙ ap (λ (l : List ℕ). held (l ++ byte ∷ [])) c.line_is ∙ held-more c.unfinished byte;
+      line_is = held_is ∙ ap (λ (l : List ℕ). held_line (l ++ byte ∷ [])) c.line_is ∙ held-more c.unfinished byte;
       answers = subst (λ (d : DebuggerState). AnswersLines c.lines begin d before.report after) (sym same)
           (subst (λ (o : Option (List ℕ)). AnswersLines c.lines begin now before.report o) (sym still) c.answers);
     }

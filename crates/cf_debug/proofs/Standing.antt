@@ -19,7 +19,7 @@ use Rattle.cf_semantics.specs.runs.Runs.{IsReached, IsRun, opened as opened_on, 
 use Rattle.cf_semantics.specs.state.State.{Moment, State}
 use Rattle.theory_confluence.proofs.Laws.{some_pick}
 use Rattle.theory_confluence.proofs.back.TakenBack.{state_back}
-use Rattle.cf_core.specs.Processors.{Processor, in_state, opened, IsOpened}
+use Rattle.cf_core.specs.Processors.{Processor, in_state, opened_processor, IsOpened}
 use Rattle.cf_core.specs.Undo.{HasJustMade}
 use Rattle.cf_core.proofs.Steps.{next_moved}
 use Rattle.cf_run.specs.Headline.{machine_on, StandsAt}
@@ -27,7 +27,7 @@ use Rattle.cf_run.specs.Moving.{RunPlace}
 use Rattle.cf_run.proofs.Arrived.{right}
 use Rattle.cf_debug.specs.declared.answer.Debugged.{Debugged}
 use Rattle.cf_debug.specs.Rings.{RecordsLead, WasKept, ring_after, with_record}
-use Rattle.cf_debug.specs.Standing.{IsLeftAt, IsOnRun, StandsAfterMoves, place_at}
+use Rattle.cf_debug.specs.Standing.{IsLeftAt, IsOnRun, StandsAfterMoves, session_place}
 
 -- Runs --
 
@@ -129,7 +129,7 @@ stands-comes start core ring blank full h =
 -- at first it is where it was opened, with an empty ring
 pub stands-first : (core : Processor) (ring : List Kept) (blank : Option (List ℕ)) → IsOpened core → length core.state.regs ≡ 32 → ring ≡ [] →
     StandsAfterMoves core core ring blank blank
-unfolding RecordsLead IsRun run opened opened_on
+unfolding RecordsLead IsRun run opened_processor opened_on
 stands-first core ring blank o wide none = record {
   hart = o.hart;
   opened_is = o.is;
@@ -160,7 +160,7 @@ stands-untold start core ring blank full after h = record {
 
 -- it is at the moment
 pub stands-at : (start core : Processor) (ring : List Kept) (blank full : Option (List ℕ)) (h : StandsAfterMoves start core ring blank full) →
-    (c : Comes start.plan (machine_on h.hart []) h.older.output core.state) → StandsAt c.moment (place_at start blank) (place_at core full)
+    (c : Comes start.plan (machine_on h.hart []) h.older.output core.state) → StandsAt c.moment (session_place start blank) (session_place core full)
 stands-at start core ring blank full h c = record {
   core = ap (λ (plan : Plan). record { plan = plan; state = core.state }) h.plan ∙ ap (in_state start) (sym c.state);
   streams = record { input = ap Some (sym c.none); output = subst (Writes blank full) (sym c.put) h.output };
@@ -178,8 +178,8 @@ stands-on_run start core ring blank full answer accepted ends h =
       opened_is = h.opened_is;
       moves = c.reached.moves;
       right = right start.plan x c.reached.moves accepted h.wide c.reached.allowed;
-      left = subst (λ (m : Moment). IsLeftAt x m (place_at start blank) (place_at core full) answer) c.reached.is
-          (ends x c.moment (place_at start blank) (place_at core full) (stands-at start core ring blank full h c));
+      left = subst (λ (m : Moment). IsLeftAt x m (session_place start blank) (session_place core full) answer) c.reached.is
+          (ends x c.moment (session_place start blank) (session_place core full) (stands-at start core ring blank full h c));
     }
 
 -- at another state, with another ring that leads there

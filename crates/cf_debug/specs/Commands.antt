@@ -14,16 +14,16 @@ use Rattle.cf_debug.specs.declared.command.View.{View}
 use Rattle.cf_debug.specs.declared.command.View.TheVariants.{Picture, Registers, Memory, Bound, Allowed, Standing, Code, Help}
 use Rattle.cf_debug.specs.declared.command.Refusal.{Refusal}
 use Rattle.cf_debug.specs.declared.command.Refusal.TheVariants.{TooLong, UnknownCommand, BadNumber, ExtraWords, Script}
-use Rattle.cf_debug.specs.Limits.{longest_line, most_kept, most_moves}
+use Rattle.cf_debug.specs.Limits.{longest_line, most_kept, most_auto_moves}
 
 -- the number, from one up to a limit, or a refusal where it is missing
-abbrev pub within : ℕ → Result ℕ ScriptKind → Result ℕ Refusal
-within most (Err kind) = Err BadNumber
-within most (Ok n) = if nat_le 1 n && nat_le n most then Ok n else Err BadNumber
+abbrev pub number_within : ℕ → Result ℕ ScriptKind → Result ℕ Refusal
+number_within most (Err kind) = Err BadNumber
+number_within most (Ok n) = if nat_le 1 n && nat_le n most then Ok n else Err BadNumber
 
 -- a number that the first word spells in one to nine decimal digits, from one up to a limit
 unfoldable pub number_told : ℕ → List (List ℕ) → Result ℕ Refusal
-number_told most words = within most (first_number words)
+number_told most words = number_within most (first_number words)
 
 -- the address that a word spells in eight hexadecimal digits
 unfoldable pub address_told : List ℕ → Result ℕ Refusal
@@ -34,8 +34,8 @@ unfoldable pub break_told : List ℕ → Result (Option ℕ) Refusal
 break_told word = if bytes_eq word (codes "none") then Ok None else and_then (address_told word) (λ a. Ok (Some a))
 
 -- a command after which no word is left
-unfoldable pub alone : List (List ℕ) → DebugCommand → Result DebugCommand Refusal
-alone words command = if length words == 0 then Ok command else Err ExtraWords
+unfoldable pub command_alone : List (List ℕ) → DebugCommand → Result DebugCommand Refusal
+command_alone words command = if length words == 0 then Ok command else Err ExtraWords
 
 -- the move that the text after `move` names, as a line of a script
 abbrev pub move_told : Result AnyMove ScriptKind → Result DebugCommand Refusal
@@ -49,28 +49,28 @@ why_told (Err kind) = Err (Script kind)
 
 -- how many moves
 unfoldable pub auto_told : List (List ℕ) → Result DebugCommand Refusal
-auto_told words = and_then (number_told most_moves words) (λ n. alone (drop 1 words) (Auto n))
+auto_told words = and_then (number_told most_auto_moves words) (λ n. command_alone (drop 1 words) (Auto n))
 
 -- how many moves are taken back, up to as many as are kept: one where no word follows
 unfoldable pub back_told : List (List ℕ) → Result DebugCommand Refusal
 back_told words =
     if length words == 0 then Ok (Back 1)
-    else and_then (number_told most_kept words) (λ n. alone (drop 1 words) (Back n))
+    else and_then (number_told most_kept words) (λ n. command_alone (drop 1 words) (Back n))
 
 -- an address, and nothing more
 unfoldable pub code_told : List (List ℕ) → Result DebugCommand Refusal
-code_told words = and_then (address_told (first_word words)) (λ address. alone (drop 1 words) (Show (Code address)))
+code_told words = and_then (address_told (first_word words)) (λ address. command_alone (drop 1 words) (Show (Code address)))
 
 -- an address and how many bytes, up to 16
 unfoldable pub memory_told : List (List ℕ) → Result DebugCommand Refusal
 memory_told words =
     and_then (address_told (first_word words)) (λ address.
     and_then (number_told 16 (drop 1 words)) (λ len.
-    alone (drop 1 (drop 1 words)) (Show (Memory address len))))
+    command_alone (drop 1 (drop 1 words)) (Show (Memory address len))))
 
 -- a break address, or `none`, and nothing more
 unfoldable pub stop_told : List (List ℕ) → Result DebugCommand Refusal
-stop_told words = and_then (break_told (first_word words)) (λ stop. alone (drop 1 words) (Break stop))
+stop_told words = and_then (break_told (first_word words)) (λ stop. command_alone (drop 1 words) (Break stop))
 
 -- the command of this name, if it is one after which no word may follow
 unfoldable pub lone_command : List ℕ → Option DebugCommand
@@ -86,7 +86,7 @@ lone_command name =
 -- such a command, or the refusal of an unknown name
 abbrev pub lone_told : Option DebugCommand → List (List ℕ) → Result DebugCommand Refusal
 lone_told None words = Err UnknownCommand
-lone_told (Some command) words = alone words command
+lone_told (Some command) words = command_alone words command
 
 -- a line that begins with the name of a move is one, as a line of a script; another is a command after which no word may
 -- follow

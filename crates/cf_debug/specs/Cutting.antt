@@ -32,8 +32,8 @@ last_line [] = []
 last_line (byte ∷ line) = (byte ∷ line) ∷ []
 
 -- what is held of an unfinished line: enough to show whether it is too long, with a carriage return counted
-abbrev pub held : List ℕ → List ℕ
-held line = take (longest_line + 2) line
+abbrev pub held_line : List ℕ → List ℕ
+held_line line = take (longest_line + 2) line
 
 -- the bytes that were taken and not used yet, how many may still be taken, and whether a take gave none, after which there
 -- is no other

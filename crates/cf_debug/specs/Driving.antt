@@ -10,28 +10,28 @@ use Rattle.cf_semantics.specs.state.State.{State}
 use Rattle.cf_semantics.specs.claims.Weight.{is_issue}
 use Rattle.cf_sched.specs.Policies.{round_pick, round_on}
 use Rattle.cf_run.specs.Made.{Made, retirement}
-use Rattle.cf_run.specs.Policies.{Chooser, fresh, choice, after_choice}
+use Rattle.cf_run.specs.Policies.{Chooser, fresh_chooser, choice, after_choice}
 use Rattle.cf_run.specs.Reaching.{GoesOn}
 use Rattle.cf_debug.specs.Limits.{most_retired}
 use Rattle.cf_debug.specs.Making.{ProcessorState, MakesAndKeeps, FailsOne}
 
 -- fetch runs at the address
-abbrev pub runs_at : ℕ → Fetch → Bool
-runs_at address (Running pc) = pc == address
-runs_at address Waiting = false
+abbrev pub fetch_runs_at : ℕ → Fetch → Bool
+fetch_runs_at address (Running pc) = pc == address
+fetch_runs_at address Waiting = false
 
 -- the move issues an instruction at the break address, where there is one; whatever the guess
-abbrev pub breaks : Option ℕ → State → Move → Bool
-breaks None s mv = false
-breaks (Some address) s mv = is_issue mv && runs_at address s.fetch
+abbrev pub meets_break : Option ℕ → State → Move → Bool
+meets_break None s mv = false
+meets_break (Some address) s mv = is_issue mv && fetch_runs_at address s.fetch
 
 -- the last move that Round picked, and the Issue moves that the hold rule has counted
 abbrev pub Turn : Type 0
 Turn = Chooser (Option Move)
 
 -- before the first pick
-abbrev pub first_turn : Turn
-first_turn = fresh rules.Any None
+abbrev pub first_auto_turn : Turn
+first_auto_turn = fresh_chooser rules.Any None
 
 -- the move that is picked in the state
 abbrev pub pick : Turn → ProcessorState → Option Move
@@ -52,7 +52,7 @@ pub record DriveTakes (at : Turn) (made : Made) (now new : ProcessorState) : Typ
 unfoldable pub Passes : Option ℕ → Turn → ProcessorState → List Made → Turn → ProcessorState → Type 0
 Passes stop at now [] last new = (last ≡ at) × (new ≡ now)
 Passes stop at now (made ∷ trace) last new =
-    (next : ProcessorState) × DriveTakes at made now next × (breaks stop now.core.state made.move ≡ false)
+    (next : ProcessorState) × DriveTakes at made now next × (meets_break stop now.core.state made.move ≡ false)
     × Passes stop (next_turn at now made) next trace last new
 
 -- the lines of the instructions that retired
@@ -65,7 +65,7 @@ retirements (made ∷ trace) = retirement made.state.retired made.event ++ retir
 abbrev pub Pauses : ℕ → Option ℕ → ℕ → Turn → (now new : ProcessorState) → List Made → Type 0
 Pauses n stop count at now new [] = (new ≡ now) × ((count ≡ n) ⊎ (GoesOn most_retired now.core.state → ⊥))
 Pauses n stop count at now new (made ∷ []) =
-    (count < n) × DriveTakes at made now new × (breaks stop now.core.state made.move ≡ true)
+    (count < n) × DriveTakes at made now new × (meets_break stop now.core.state made.move ≡ true)
 Pauses n stop count at now new (made ∷ other ∷ more) = ⊥
 
 -- at most n moves were made, `count` of them, with these lines of the instructions that retired
@@ -73,7 +73,7 @@ pub record Drives (n : ℕ) (stop : Option ℕ) (start new : ProcessorState) (co
   pub trace : List Made
   pub at : Turn
   pub now : ProcessorState
-  pub passes : Passes stop first_turn start trace at now
+  pub passes : Passes stop first_auto_turn start trace at now
   pub within : length trace ≤ n
   pub last : List Made
   pub pauses : Pauses n stop (length trace) at now new last
@@ -85,7 +85,7 @@ pub record DrivesOn (n : ℕ) (stop : Option ℕ) (start new : ProcessorState) (
   pub trace : List Made
   pub at : Turn
   pub now : ProcessorState
-  pub passes : Passes stop first_turn start trace at now
+  pub passes : Passes stop first_auto_turn start trace at now
   pub below : length trace < n
   pub made : Made
   pub takes : DriveTakes at made now new
@@ -96,7 +96,7 @@ pub record DrivesAground (n : ℕ) (stop : Option ℕ) (start new : ProcessorSta
   pub trace : List Made
   pub at : Turn
   pub now : ProcessorState
-  pub passes : Passes stop first_turn start trace at now
+  pub passes : Passes stop first_auto_turn start trace at now
   pub below : length trace < n
   pub goes : GoesOn most_retired now.core.state
   pub pick_is : pick at now ≡ Some Serve

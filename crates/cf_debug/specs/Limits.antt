@@ -22,8 +22,8 @@ abbrev pub most_retired : ℕ
 most_retired = 10000000
 
 -- the greatest number of moves of one command
-abbrev pub most_moves : ℕ
-most_moves = 1000000
+abbrev pub most_auto_moves : ℕ
+most_auto_moves = 1000000
 
 -- the capacity of the ring, in records
 abbrev pub most_kept : ℕ

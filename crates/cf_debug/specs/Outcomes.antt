@@ -13,7 +13,7 @@ use Rattle.cf_run.specs.Reaching.{GoesOn}
 use Rattle.cf_debug.specs.declared.answer.Broken.{Broken}
 use Rattle.cf_debug.specs.declared.answer.Broken.TheVariants as broken
 use Rattle.cf_debug.specs.declared.command.DebugCommand.{DebugCommand}
-use Rattle.cf_debug.specs.Driving.{Turn, DriveTakes, Drives, DrivesOn, DrivesAground, breaks, next_turn, pick}
+use Rattle.cf_debug.specs.Driving.{Turn, DriveTakes, Drives, DrivesOn, DrivesAground, meets_break, next_turn, pick}
 use Rattle.cf_debug.specs.Limits.{most_retired}
 use Rattle.cf_debug.specs.Making.{ProcessorState, FailsOne}
 use Rattle.cf_debug.specs.Replies.{DebuggerState, CommandAnswers, CommandAnswersPart, RefusesLine, RunsAground, TakesBack, TakesNewest}
@@ -27,7 +27,7 @@ pub record IsNextTurn (at later : Turn) (now : ProcessorState) (made : Made) : T
 -- the outcome of a move of `auto`, and whether it issued an instruction at the break address
 unfoldable pub Steers : Option ℕ → (at later : Turn) → (now new : ProcessorState) → (written after : Option (List ℕ)) → Result Bool Broken → Type 0
 Steers stop at later now new written after (Ok last) =
-    (made : Made) × DriveTakes at made now new × (breaks stop now.core.state made.move ≡ last) × IsNextTurn at later now made
+    (made : Made) × DriveTakes at made now new × (meets_break stop now.core.state made.move ≡ last) × IsNextTurn at later now made
     × Writes written after (retirement made.state.retired made.event)
 Steers stop at later now new written after (Err broken.Report) =
     (made : Made) × DriveTakes at made now new × WritesFront written after (retirement made.state.retired made.event)

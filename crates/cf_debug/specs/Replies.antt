@@ -136,22 +136,22 @@ abbrev pub OnlyAnswers : (now new : DebuggerState) → (text told : List ℕ) �
 OnlyAnswers now new text told = (new ≡ now) × (text ≡ told)
 
 -- what is shown of a processor
-unfoldable pub shown : Processor → View → List ℕ
-shown core Picture = picture core.plan core.state
-shown core Registers = registers_text core.state.regs
-shown core (Memory address len) = memory_text address (range_of core.state.mem address len)
-shown core Bound = counted_line (codes "bound ") (weight core.plan core.state)
-shown core Allowed = flat_map (line_in core.plan core.state) (candidates core.plan core.state)
-shown core (Standing mv) = line_in core.plan core.state mv
-shown core (Code address) = code_text address (fetch_at core.state.mem address)
-shown core Help = COMMANDS_HELP.now
+unfoldable pub view_shown : Processor → View → List ℕ
+view_shown core Picture = picture core.plan core.state
+view_shown core Registers = registers_text core.state.regs
+view_shown core (Memory address len) = memory_text address (range_of core.state.mem address len)
+view_shown core Bound = counted_line (codes "bound ") (weight core.plan core.state)
+view_shown core Allowed = flat_map (line_in core.plan core.state) (candidates core.plan core.state)
+view_shown core (Standing mv) = line_in core.plan core.state mv
+view_shown core (Code address) = code_text address (fetch_at core.state.mem address)
+view_shown core Help = COMMANDS_HELP.now
 
 -- the table
 unfoldable pub CommandAnswers : DebugCommand → (now new : DebuggerState) → List ℕ → Type 0
 CommandAnswers Nothing now new text = OnlyAnswers now new text []
 CommandAnswers (Move mv) now new text = (new.stop ≡ now.stop) × Moves mv now.processor new.processor text
 CommandAnswers (Auto n) now new text = (new.stop ≡ now.stop) × Automates n now.stop now.processor new.processor text
-CommandAnswers (Show view) now new text = OnlyAnswers now new text (shown now.processor.core view)
+CommandAnswers (Show view) now new text = OnlyAnswers now new text (view_shown now.processor.core view)
 CommandAnswers (Break stop) now new text = (new ≡ debugger_state now.processor stop) × (text ≡ break_text stop)
 CommandAnswers (Back n) now new text = (new.stop ≡ now.stop) × TakesBack n now.processor new.processor text
 CommandAnswers End now new text = OnlyAnswers now new text []

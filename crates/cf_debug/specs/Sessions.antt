@@ -11,7 +11,7 @@ use Rattle.cf_debug.specs.declared.answer.Debugged.TheVariants.{Done, Limit, Rea
 use Rattle.cf_debug.specs.declared.command.DebugCommand.TheVariants.{End}
 use Rattle.cf_debug.specs.Commands.{command_in}
 use Rattle.rv_text.specs.Lines.{without_return}
-use Rattle.cf_debug.specs.Cutting.{HasLines, held, last_line}
+use Rattle.cf_debug.specs.Cutting.{HasLines, held_line, last_line}
 use Rattle.cf_debug.specs.Limits.{most_bytes, most_taken}
 use Rattle.cf_debug.specs.Making.{ProcessorState, processor_state}
 use Rattle.cf_debug.specs.Replies.{DebuggerState, debugger_state, AnswersLine, AnswersAll, AnswersPart, FailsAnswer}
@@ -45,7 +45,7 @@ ended_by (Err broken.Report) = Some ReportFault
 -- the outcome of a byte: it continues the unfinished line, of which this is held; or it ends the line
 abbrev pub UsesByte : ℕ → (line later : List ℕ) → (now new : DebuggerState) → (written after : Option (List ℕ)) → Option Debugged → Type 0
 UsesByte byte line later now new written after answer =
-    ((byte ≢ 10) × (later ≡ held (line ++ byte ∷ [])) × (new ≡ now) × (after ≡ written) × (answer ≡ None))
+    ((byte ≢ 10) × (later ≡ held_line (line ++ byte ∷ [])) × (new ≡ now) × (after ≡ written) × (answer ≡ None))
     ⊎ ((byte ≡ 10) × (later ≡ []) × LineLeaves (without_return line) now new written after answer)
 
 -- the outcome of the end of the commands: there is no unfinished line; or it is answered, or ends the session

@@ -8,9 +8,9 @@ use Rattle.cf_bind.specs.declared.moves.Move.{Move}
 use Rattle.cf_semantics.specs.moves.Kept.{Kept}
 use Rattle.cf_semantics.specs.runs.Runs.{IsReached}
 use Rattle.cf_semantics.specs.state.State.{Moment}
-use Rattle.cf_core.specs.Processors.{Processor, opened}
+use Rattle.cf_core.specs.Processors.{Processor, opened_processor}
 use Rattle.cf_run.specs.Headline.{machine_on, moment_after, IsRight, StandsAt, FailsOutput}
-use Rattle.cf_run.specs.Moving.{RunPlace, place_of}
+use Rattle.cf_run.specs.Moving.{RunPlace, run_place_of}
 use Rattle.cf_run.specs.Reaching.{no_tally}
 use Rattle.cf_debug.specs.declared.answer.Debugged.{Debugged}
 use Rattle.cf_debug.specs.declared.answer.Debugged.TheVariants.{Done, Limit, ReadFault, WriteFault, ReportFault}
@@ -21,7 +21,7 @@ use Rattle.cf_debug.specs.Rings.{RecordsLead}
 -- to the output, none of it by the last of them, which are kept in the ring
 pub record StandsAfterMoves (start core : Processor) (ring : List Kept) (blank full : Option (List ℕ)) : Type 0 where
   pub hart : Hart
-  pub opened_is : start ≡ opened start.plan hart
+  pub opened_is : start ≡ opened_processor start.plan hart
   pub wide : length hart.regs ≡ 32
   pub older : Moment
   pub reached : IsReached start.plan (machine_on hart []) older
@@ -39,8 +39,8 @@ abbrev pub StandsSomewhere : Processor → List Kept → Type 0
 StandsSomewhere core ring = (start : Processor) × StandsAfterMoves start core ring None None
 
 -- a processor with an input of which nothing is left, and with what the output exposes
-abbrev pub place_at : Processor → Option (List ℕ) → RunPlace
-place_at core output = place_of core (streams_of (Some []) output) None no_tally
+abbrev pub session_place : Processor → Option (List ℕ) → RunPlace
+session_place core output = run_place_of core (streams_of (Some []) output) None no_tally
 
 -- how a session that ended in this way is left: at the moment; or the output failed the call that was to be served there
 abbrev pub IsLeftAt : Machine → Moment → (begin new : RunPlace) → Debugged → Type 0
@@ -54,7 +54,7 @@ IsLeftAt x m begin new ReportFault = StandsAt m begin new
 -- and with nothing to read; what they write is what was added to the output.
 pub record IsOnRun (start core : Processor) (blank full : Option (List ℕ)) (answer : Debugged) : Type 0 where
   pub hart : Hart
-  pub opened_is : start ≡ opened start.plan hart
+  pub opened_is : start ≡ opened_processor start.plan hart
   pub moves : List Move
   pub right : IsRight start.plan (machine_on hart []) moves
-  pub left : IsLeftAt (machine_on hart []) (moment_after start.plan (machine_on hart []) moves) (place_at start blank) (place_at core full) answer
+  pub left : IsLeftAt (machine_on hart []) (moment_after start.plan (machine_on hart []) moves) (session_place start blank) (session_place core full) answer

@@ -6,7 +6,7 @@ ghost use Rattle.cf_io.specs.Causes.{HasCause};
 ghost use Rattle.cf_semantics.specs.moves.Holding.{offered};
 ghost use Rattle.cf_run.specs.Reaching.{GoesOn};
 ghost use Rattle.cf_run.specs.Policies.{chooser};
-ghost use Rattle.cf_debug.specs.Driving.{breaks};
+ghost use Rattle.cf_debug.specs.Driving.{meets_break};
 ghost use Rattle.cf_debug.specs.Limits.{most_retired};
 ghost use Rattle.cf_debug.specs.Making.{processor_state};
 ghost use Rattle.cf_debug.specs.Outcomes.{DrivesOut, Steers, output_broken, report_broken};
@@ -29,7 +29,7 @@ const MOST_RETIRED: u64 = 10_000_000;
 
 /// Whether the move issues an instruction at the break address.
 fn breaks(core: &Core, stop: Option<u32>, mv: Move) -> bool
-    ensures { result ≡ breaks stop core.now.state mv }
+    ensures { result ≡ meets_break stop core.now.state mv }
 {
     match stop {
         Some(address) => { matches!(mv, Move::Issue(_)) && core.fetch() == Fetch::Running(address) }

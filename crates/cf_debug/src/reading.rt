@@ -3,7 +3,7 @@
 ghost use Rattle.std.specs.Prelude.{◌≡◌, drop};
 ghost use Rattle.run_scripts.specs.MoveLines.{move_in};
 ghost use Rattle.run_scripts.specs.Words.{words_of};
-ghost use Rattle.cf_debug.specs.Commands.{address_told, alone, auto_told, back_told, break_told, code_told, command_in, command_named, lone_command, lone_told, memory_told, move_told, number_told, other_told, stop_told, why_told};
+ghost use Rattle.cf_debug.specs.Commands.{address_told, command_alone, auto_told, back_told, break_told, code_told, command_in, command_named, lone_command, lone_told, memory_told, move_told, number_told, other_told, stop_told, why_told};
 
 use crate::command::{DebugCommand, Refusal, View};
 use run_scripts::{Words, place_named, read_move};
@@ -48,9 +48,9 @@ fn address(word: &[u8]) -> Result<u32, Refusal>
 }
 
 /// The command, if no word is left.
-#[tactic(auto, unfolding(crate::specs::Commands::alone))]
+#[tactic(auto, unfolding(crate::specs::Commands::command_alone))]
 fn alone(words: &Words<'_>, command: DebugCommand) -> Result<DebugCommand, Refusal>
-    ensures { result ≡ alone words.now command }
+    ensures { result ≡ command_alone words.now command }
 {
     if words.is_empty() {
         Ok(command)

@@ -7,7 +7,7 @@ ghost use Rattle.cf_semantics.specs.moves.Candidates.{candidates as candidates_i
 ghost use Rattle.report_closing.specs.Moves.{line_in};
 ghost use Rattle.cf_report.specs.Putting.{PutsText};
 ghost use Rattle.cf_debug.specs.Commands.{ShowsFew};
-ghost use Rattle.cf_debug.specs.Replies.{code_text, shown};
+ghost use Rattle.cf_debug.specs.Replies.{code_text, view_shown};
 
 use crate::command::View;
 use crate::help::COMMANDS_HELP;
@@ -48,7 +48,7 @@ fn put_code<R: Sink>(core: &Core, address: u32, report: &mut R) -> Result<(), Fa
 }
 
 /// Writes a view of the processor.
-#[tactic(auto, unfolding(crate::specs::Replies::shown))]
+#[tactic(auto, unfolding(crate::specs::Replies::view_shown))]
 pub(crate) fn show<R: Sink>(
     view: View,
     core: &Core,
@@ -57,7 +57,7 @@ pub(crate) fn show<R: Sink>(
 ) -> Result<(), Failed>
     requires { ShowsFew view }
     ensures { PutsText (R.written report.old) (R.written report.new) (R.faults report.old) (R.faults report.new)
-        (shown core.now view) result }
+        (view_shown core.now view) result }
 {
     match view {
         View::Picture => put_picture(core, report),

@@ -1,7 +1,7 @@
 -- One more line of a text with a line for each number, and one more draw.
 use Rattle.std.proofs.Common.{◌≡◌, ℕ, zero, suc, ◌+◌, ◌*◌, ◌-◌, ◌<◌, ◌≤◌, List, [], ◌∷◌, ◌++◌, refl, ap, sym, ◌∙◌, arith, zero-add, append_assoc}
 use Rattle.std.specs.List.{flat_map, range_with_len}
-use Rattle.cf_gen.specs.Draws.{next_state, state_after}
+use Rattle.cf_gen.specs.Draws.{state_after_draw, state_after_draws}
 
 range-next : (a b : ℕ) → a < b → range_with_len a (b - a) ≡ a ∷ range_with_len (a + 1) (b - (a + 1))
 range-next a b h = let e : b - a ≡ suc (b - (a + 1)) = omega arith in rw e refl
@@ -29,20 +29,20 @@ lines-before f a b text after h e =
     rw (e, lines-next f a b h) (append_assoc (f a) _ after)
 
 -- some draws and then more
-after-more : (m n x : ℕ) → state_after (m + n) x ≡ state_after n (state_after m x)
-after-more zero n x = ap (λ k. state_after k x) (zero-add n)
+after-more : (m n x : ℕ) → state_after_draws (m + n) x ≡ state_after_draws n (state_after_draws m x)
+after-more zero n x = ap (λ k. state_after_draws k x) (zero-add n)
 after-more (suc m) n x =
     let e : suc m + n ≡ suc (m + n) = omega arith in
-    ap (λ k. state_after k x) e ∙ after-more m n (next_state x)
+    ap (λ k. state_after_draws k x) e ∙ after-more m n (state_after_draw x)
 
 -- one more register is given a number
-pub after-register : (r x : ℕ) → 8 ≤ r → state_after (r + 1 - 8) x ≡ next_state (state_after (r - 8) x)
+pub after-register : (r x : ℕ) → 8 ≤ r → state_after_draws (r + 1 - 8) x ≡ state_after_draw (state_after_draws (r - 8) x)
 after-register r x h =
     let e : r + 1 - 8 ≡ (r - 8) + 1 = omega arith in
-    ap (λ k. state_after k x) e ∙ after-more (r - 8) 1 x
+    ap (λ k. state_after_draws k x) e ∙ after-more (r - 8) 1 x
 
 -- one more statement is drawn
-pub after-statement : (i x : ℕ) → 1 ≤ i → state_after (8 + 5 * (i + 1 - 1)) x ≡ state_after 5 (state_after (8 + 5 * (i - 1)) x)
+pub after-statement : (i x : ℕ) → 1 ≤ i → state_after_draws (8 + 5 * (i + 1 - 1)) x ≡ state_after_draws 5 (state_after_draws (8 + 5 * (i - 1)) x)
 after-statement i x h =
     let e : 8 + 5 * (i + 1 - 1) ≡ (8 + 5 * (i - 1)) + 5 = omega arith in
-    ap (λ k. state_after k x) e ∙ after-more (8 + 5 * (i - 1)) 5 x
+    ap (λ k. state_after_draws k x) e ∙ after-more (8 + 5 * (i - 1)) 5 x

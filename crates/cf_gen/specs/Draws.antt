@@ -3,14 +3,14 @@
 use Rattle.std.specs.Prelude.{ℕ, zero, suc, ◌+◌, ◌*◌, ◌/◌, ◌%◌, ◌^◌}
 
 -- the state after one draw
-unfoldable pub next_state : ℕ → ℕ
-next_state x = (1664525 * x + 1013904223) % 2 ^ 32
+unfoldable pub state_after_draw : ℕ → ℕ
+state_after_draw x = (1664525 * x + 1013904223) % 2 ^ 32
 
 -- the state after this many draws
-abbrev pub state_after : ℕ → ℕ → ℕ
-state_after zero x = x
-state_after (suc n) x = state_after n (next_state x)
+abbrev pub state_after_draws : ℕ → ℕ → ℕ
+state_after_draws zero x = x
+state_after_draws (suc n) x = state_after_draws n (state_after_draw x)
 
 -- the number below m that is drawn from a state
-abbrev pub drawn : ℕ → ℕ → ℕ
-drawn m x = next_state x / 65536 % m
+abbrev pub drawn_below : ℕ → ℕ → ℕ
+drawn_below m x = state_after_draw x / 65536 % m

@@ -3,7 +3,7 @@
 use Rattle.std.specs.Prelude.{ℕ, ◌+◌, ◌*◌, ◌-◌, min, List, ◌++◌, codes, decimal}
 use Rattle.std.specs.List.{flat_map, range_with_len}
 use Rattle.texts.specs.Lines.{line}
-use Rattle.cf_gen.specs.Draws.{state_after, drawn}
+use Rattle.cf_gen.specs.Draws.{state_after_draws, drawn_below}
 use Rattle.cf_gen.specs.Statements.{choice_of, register_operand, label_text, instruction_text}
 
 -- the line of a statement
@@ -17,7 +17,7 @@ label_line name = name ++ line (codes ":")
 -- a register from 8 on is given the number below 65536 that is drawn after those of the registers before it
 unfoldable pub load_line : ℕ → ℕ → List ℕ
 load_line x r =
-    statement (codes "li " ++ register_operand r ++ codes ", " ++ decimal (drawn 65536 (state_after (r - 8) x)))
+    statement (codes "li " ++ register_operand r ++ codes ", " ++ decimal (drawn_below 65536 (state_after_draws (r - 8) x)))
 
 -- the beginning of the program, with its first eight draws
 unfoldable pub opening_text : ℕ → List ℕ
@@ -37,7 +37,7 @@ drawn_statement number i x =
 
 -- the i-th statement of the program: eight draws and those of the statements before it come before its own
 abbrev pub numbered_statement : ℕ → ℕ → List ℕ
-numbered_statement number i = drawn_statement number i (state_after (8 + 5 * (i - 1)) number)
+numbered_statement number i = drawn_statement number i (state_after_draws (8 + 5 * (i - 1)) number)
 
 -- all statements
 abbrev pub statements_text : ℕ → List ℕ
@@ -72,12 +72,12 @@ data_text =
     ++ label_line (codes "text") ++ statement (codes ".ascii \"00000000\\n\"")
 
 -- what follows the last label
-unfoldable pub ending_text : List ℕ
-ending_text = gathering_text ++ converting_text ++ writing_text ++ data_text
+unfoldable pub last_lines : List ℕ
+last_lines = gathering_text ++ converting_text ++ writing_text ++ data_text
 
 -- what follows the statements
 unfoldable pub closing_text : ℕ → List ℕ
-closing_text number = label_line (label_text (number + 1)) ++ ending_text
+closing_text number = label_line (label_text (number + 1)) ++ last_lines
 
 -- the program of this many statements
 unfoldable pub program_text : ℕ → List ℕ

@@ -4,7 +4,7 @@ use Rattle.std.specs.Prelude.{ℕ, ◌+◌, ◌*◌, ◌==◌, if◌then◌else�
 use Rattle.cf_gen.specs.declared.choice.Operation.{Operation}
 use Rattle.cf_gen.specs.declared.choice.Operation.TheVariants.{Add, Sub, Xor, Or, Sltu, Sll, Addi, Sw, Lw, Blt}
 use Rattle.cf_gen.specs.declared.choice.Choice.{Choice}
-use Rattle.cf_gen.specs.Draws.{state_after, drawn}
+use Rattle.cf_gen.specs.Draws.{state_after_draws, drawn_below}
 
 -- the operation that a number below 10 stands for
 abbrev pub operation_of : ℕ → Operation
@@ -22,11 +22,11 @@ operation_of k =
 -- the choice for a statement, from five draws
 unfoldable pub choice_of : ℕ → Choice
 choice_of x = record {
-  operation = operation_of (drawn 10 x);
-  first = 8 + drawn 8 (state_after 1 x);
-  second = 8 + drawn 8 (state_after 2 x);
-  third = 8 + drawn 8 (state_after 3 x);
-  offset = drawn 64 (state_after 4 x);
+  operation = operation_of (drawn_below 10 x);
+  first = 8 + drawn_below 8 (state_after_draws 1 x);
+  second = 8 + drawn_below 8 (state_after_draws 2 x);
+  third = 8 + drawn_below 8 (state_after_draws 3 x);
+  offset = drawn_below 64 (state_after_draws 4 x);
 }
 
 -- a register: `x` and its number

@@ -2,7 +2,7 @@
 #![tactic(auto, unfolding(crate::specs::Statements::choice_of))]
 
 ghost use Rattle.std.specs.Prelude.{◌≡◌};
-ghost use Rattle.cf_gen.specs.Draws.{state_after};
+ghost use Rattle.cf_gen.specs.Draws.{state_after_draws};
 ghost use Rattle.cf_gen.specs.Statements.{operation_of, choice_of};
 
 use crate::draws::Draws;
@@ -52,7 +52,7 @@ fn operation_for(number: u32) -> Operation
 /// The choice of the next statement, which always takes five draws.
 pub fn choose(draws: &mut Draws) -> Choice
     ensures choice { result ≡ choice_of draws.old }
-    ensures state { draws.new ≡ state_after 5 draws.old }
+    ensures state { draws.new ≡ state_after_draws 5 draws.old }
 {
     Choice {
         operation: operation_for(draws.below(10)),

@@ -1,8 +1,8 @@
 //! The numbers that a program is drawn from.
-#![tactic(auto, unfolding(crate::specs::Draws::next_state))]
+#![tactic(auto, unfolding(crate::specs::Draws::state_after_draw))]
 
 ghost use Rattle.std.specs.Prelude.{◌≡◌, ◌<◌};
-ghost use Rattle.cf_gen.specs.Draws.{next_state, drawn};
+ghost use Rattle.cf_gen.specs.Draws.{state_after_draw, drawn_below};
 
 use std::marker::Model;
 
@@ -31,9 +31,9 @@ impl Draws {
     /// The next number below a bound.
     pub fn below(&mut self, bound: u32) -> u32
         requires { 0 < bound }
-        ensures number { result ≡ drawn bound self.old }
+        ensures number { result ≡ drawn_below bound self.old }
         ensures small { result < bound }
-        ensures state { self.new ≡ next_state self.old }
+        ensures state { self.new ≡ state_after_draw self.old }
     {
         self.state = self
             .state

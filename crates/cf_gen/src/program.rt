@@ -5,7 +5,7 @@ ghost use Rattle.std.specs.Prelude.{◌≡◌, ◌+◌, ◌≤◌, ◌++◌, OnO
 ghost use Rattle.run_options.specs.Limits.{most_statements};
 ghost use Rattle.cf_io.specs.Causes.{HasCause};
 ghost use Rattle.cf_io.specs.Puts.{Writes, WritesFront};
-ghost use Rattle.cf_gen.specs.Draws.{state_after};
+ghost use Rattle.cf_gen.specs.Draws.{state_after_draws};
 ghost use Rattle.cf_gen.specs.Statements.{register_operand};
 ghost use Rattle.cf_gen.specs.Program.{statement as statement_line, opening_text, drawn_statement, closing_text, program_text};
 ghost use Rattle.texts.specs.Room.{page_room};
@@ -77,7 +77,7 @@ fn push_load(page: &mut Page, register: u32, number: u32)
 /// The lines up to the first statement, for which eight numbers are drawn.
 fn opening(draws: &mut Draws) -> Page
     ensures text { result ≡ opening_text draws.old }
-    ensures state { draws.new ≡ state_after 8 draws.old }
+    ensures state { draws.new ≡ state_after_draws 8 draws.old }
 {
     let mut page = Page::new();
     page.push(OPENING);
@@ -92,7 +92,7 @@ fn statement(number: u32, i: u32, draws: &mut Draws) -> Page
     requires within { i ≤ number }
     requires limit { number ≤ most_statements }
     ensures text { result ≡ drawn_statement number i draws.old }
-    ensures state { draws.new ≡ state_after 5 draws.old }
+    ensures state { draws.new ≡ state_after_draws 5 draws.old }
 {
     let mut page = Page::new();
     push_label(&mut page, i);
@@ -103,7 +103,7 @@ fn statement(number: u32, i: u32, draws: &mut Draws) -> Page
 }
 
 /// The lines after the statements.
-#[tactic(auto, unfolding(crate::specs::Program::closing_text, crate::specs::Program::ending_text))]
+#[tactic(auto, unfolding(crate::specs::Program::closing_text, crate::specs::Program::last_lines))]
 fn closing(number: u32) -> Page
     requires { number ≤ most_statements }
     ensures { result ≡ closing_text number }

@@ -13,7 +13,7 @@ use Rattle.cf_bind.specs.declared.moves.Bar.{Bar}
 use Rattle.cf_bind.specs.declared.moves.Bar.TheVariants.{AlreadyDone, Failed, Halted, NoPassenger, NoSuchSite, NotDone, NoUnit, Occupied, OpNotThere}
 use Rattle.cf_bind.specs.declared.moves.Move.{Move}
 use Rattle.cf_bind.specs.declared.moves.Move.TheVariants.{Access, Exit, Leave, Recover, Serve, Slide}
-use Rattle.cf_semantics.specs.moves.Bars.{bar, exit_op_bar, first, is_taken, last_op, recover_bar, slide_bar}
+use Rattle.cf_semantics.specs.moves.Bars.{bar, exit_op_bar, first, cell_is_taken, last_op, recover_bar, slide_bar}
 use Rattle.cf_semantics.specs.moves.Candidates.{at_stages, counted_from, slides_from}
 use Rattle.cf_semantics.specs.moves.Instructions.{is_memory}
 use Rattle.cf_semantics.specs.state.Layouts.{port, recovers}
@@ -69,7 +69,7 @@ last_none [] e = refl
 last_none (o ∷ []) e = none_there o (both_false (is_some o) false e).0
 last_none (o ∷ p ∷ ops) e = last_none (p ∷ ops) (both_false (is_some o) (list_any is_some (p ∷ ops)) e).1
 
-cell_none : (ops : List (Option Op)) (c : ℕ) → list_any is_some ops ≡ false → is_taken (slice_get ops c) ≡ false
+cell_none : (ops : List (Option Op)) (c : ℕ) → list_any is_some ops ≡ false → cell_is_taken (slice_get ops c) ≡ false
 cell_none [] c e = refl
 cell_none (o ∷ ops) zero e = (both_false (is_some o) (list_any is_some ops) e).0
 cell_none (o ∷ ops) (suc c) e = cell_none ops c (both_false (is_some o) (list_any is_some ops) e).1
@@ -80,11 +80,11 @@ barred_by true failed b e = refl
 barred_by false true b e = refl
 barred_by false false b e = rw e refl
 
-slide_row : (ops : List (Option Op)) (c : ℕ) → is_taken (slice_get ops c) ≡ false → is_some (slide_bar ops c) ≡ true
+slide_row : (ops : List (Option Op)) (c : ℕ) → cell_is_taken (slice_get ops c) ≡ false → is_some (slide_bar ops c) ≡ true
 slide_row ops c none = of (slice_get ops (c + 1))
   where
     of : (o : Option (Option Op)) → is_some (on o (Some NoSuchSite)
-        (λ p. first (not (is_taken (slice_get ops c))) OpNotThere (first (is_some p) Occupied None))) ≡ true
+        (λ p. first (not (cell_is_taken (slice_get ops c))) OpNotThere (first (is_some p) Occupied None))) ≡ true
     of None = refl
     of (Some p) = rw none refl
 

@@ -13,7 +13,7 @@ use Rattle.cf_bind.specs.declared.moves.Move.TheVariants.{Climb, Fall, Meet, Exe
 use Rattle.cf_semantics.specs.state.State.{State}
 use Rattle.cf_semantics.specs.moves.Candidates.{counted_from, at_stages, slides_from, all_moves, candidates}
 use Rattle.cf_core.specs.Processors.{IsProcessor}
-use Rattle.cf_index.specs.Places.{places}
+use Rattle.cf_index.specs.Places.{set_places}
 use Rattle.cf_index.specs.declared.passing.Passing.{Passing}
 use Rattle.cf_index.specs.declared.leaving.Leaving.{Leaving}
 use Rattle.cf_index.specs.Listed.{flagged, at_word, slide_at, slides_of, passing_moves, leaving_moves}
@@ -27,7 +27,7 @@ none_of_any j b = let e : nat_lt (j / 8) 0 ≡ false = grind (arith, nat_tests) 
 -- the moves of a word over the stages
 pub stages_chosen : (plan : Plan) (s : State) (kind : ℕ → Move) (w : ℕ) → plan.stages ≤ 32 → HasStages plan s kind w →
     at_word kind w ≡ filter (is_allowed plan s) (at_stages plan kind)
-unfolding at_word places
+unfolding at_word set_places
 stages_chosen plan s kind w few has = sym (filter_chosen (is_allowed plan s) kind (λ k. kind (k + 1)) (has_bit w) 1 0 plan.stages 64 (omega arith)
     (λ c below. let e : 0 + c ≡ c = omega arith in let f : 1 + c ≡ c + 1 = omega arith in rw (e, f) (has c))
     (λ c below. let e : 0 + c + 1 ≡ 1 + c = omega arith in rw e refl))
@@ -127,7 +127,7 @@ cells_there plan s w n m c few small has =
 pub slides_chosen : (plan : Plan) (s : State) (w n : ℕ) → IsProcessor plan s → n ≡ length plan.sidings →
     ((j : ℕ) → has_bit w j ≡ (nat_lt (j / 8) n && (nat_lt (j % 8) (cells_of plan (j / 8) - 1) && is_allowed plan s (slide_at j)))) →
     slides_of w ≡ filter (is_allowed plan s) (slides_from 0 plan.sidings)
-unfolding slides_of places
+unfolding slides_of set_places
 slides_chosen plan s w n p e has =
     let a = p.accepted in
     sym (within (is_allowed plan s) w 0 8 plan.sidings a.few_sidings (λ k d inside. (a.sidings k d inside).cells.1)

@@ -17,7 +17,7 @@ use Rattle.cf_semantics.specs.moves.Candidates.{candidates, counted_from, held_b
 use Rattle.cf_semantics.specs.state.State.{State}
 use Rattle.cf_semantics.specs.claims.Weight.{is_issue}
 use Rattle.cf_index.specs.Allowed.{all_entering, all_leaving, all_passing, allowed_issues, allowed_others, is_allowed, kept_issues, withheld}
-use Rattle.cf_index.specs.GuessRules.{guided, keeps}
+use Rattle.cf_index.specs.GuessRules.{guided, keeps_move}
 use Rattle.cf_index.specs.Order.{first_after, kind_place, stands_after}
 use Rattle.cf_index.proofs.FirstsAfter.{found_after, found_candidate, found_held, found_second, entering_none, no_issue}
 use Rattle.cf_index.proofs.Filled.{all_chosen}
@@ -131,34 +131,34 @@ candidates_parts plan s =
 -- a guess rule leaves the same others
 pub guided_others : (r : GuessRule) (plan : Plan) (s : State) → other_moves (guided r plan s) ≡ allowed_others plan s
 unfolding guided
-guided_others r plan s = same-others (keeps r plan s) (candidates plan s) (keeps-others r plan s) ∙ others_are plan s
+guided_others r plan s = same-others (keeps_move r plan s) (candidates plan s) (keeps-others r plan s) ∙ others_are plan s
 
-others_kept : (r : GuessRule) (plan : Plan) (s : State) → filter (keeps r plan s) (allowed_others plan s) ≡ allowed_others plan s
+others_kept : (r : GuessRule) (plan : Plan) (s : State) → filter (keeps_move r plan s) (allowed_others plan s) ≡ allowed_others plan s
 others_kept r plan s =
     let e = others_are plan s in
-    ap (filter (keeps r plan s)) (sym e) ∙ kept-others (keeps r plan s) (candidates plan s) (keeps-others r plan s) ∙ e
+    ap (filter (keeps_move r plan s)) (sym e) ∙ kept-others (keeps_move r plan s) (candidates plan s) (keeps-others r plan s) ∙ e
 
 pub guided_parts : (r : GuessRule) (plan : Plan) (s : State) → guided r plan s ≡ kept_issues r plan s ++ allowed_others plan s
 unfolding guided
 guided_parts r plan s =
-    let k = keeps r plan s in
+    let k = keeps_move r plan s in
     ap (filter k) (candidates_parts plan s) ∙ filter-append k (allowed_issues plan s) (allowed_others plan s)
     ∙ ap (λ (xs : List Move). kept_issues r plan s ++ xs) (others_kept r plan s)
 
 -- what is filled in by its parts; and by the rule that keeps every guess, all candidates
 pub guided_chosen : (r : GuessRule) (plan : Plan) (s : State) (es ps ss ls : List Move) →
-    es ≡ filter (keeps r plan s) (filter (is_allowed plan s) all_entering) → ps ≡ filter (is_allowed plan s) (all_passing plan) →
+    es ≡ filter (keeps_move r plan s) (filter (is_allowed plan s) all_entering) → ps ≡ filter (is_allowed plan s) (all_passing plan) →
     ss ≡ filter (is_allowed plan s) (slides_from 0 plan.sidings) → ls ≡ filter (is_allowed plan s) (all_leaving plan) →
     es ++ (ps ++ (ss ++ ls)) ≡ guided r plan s
 unfolding guided rest_of
 guided_chosen r plan s es ps ss ls enter pass slide leave =
-    let k = keeps r plan s in
+    let k = keeps_move r plan s in
     let free : filter k (rest_of plan s) ≡ rest_of plan s = ap (filter k) (sym (rest_others plan s))
     ∙ kept-others k (rest_of plan s) (keeps-others r plan s) ∙ rest_others plan s in
     rw (enter, pass, slide, leave) (sym (ap (filter k) (in_parts plan s) ∙ filter-append k (filter (is_allowed plan s) all_entering) (rest_of plan s)
     ∙ ap (λ (xs : List Move). filter k (filter (is_allowed plan s) all_entering) ++ xs) free))
 
-any_kept : (xs : List Move) (plan : Plan) (s : State) → filter (keeps rules.Any plan s) xs ≡ xs
+any_kept : (xs : List Move) (plan : Plan) (s : State) → filter (keeps_move rules.Any plan s) xs ≡ xs
 any_kept [] plan s = refl
 any_kept (Issue g ∷ xs) plan s = ap (λ (l : List Move). Issue g ∷ l) (any_kept xs plan s)
 any_kept (x ∷ xs) plan s = ap (λ (l : List Move). x ∷ l) (any_kept xs plan s)
@@ -270,7 +270,7 @@ wrapped r plan s last held o n after e none first =
     let p = stands_after last in
     let nowhere : find p (candidates plan s) ≡ None = ap (find p) (in_parts plan s) ∙ found_second p (filter (is_allowed plan s) all_entering) (rest_of plan s)
     (entering_none last (is_allowed plan s) after) ∙ (sym e ∙ none) in
-    let unguided : find p (guided r plan s) ≡ None = none_chosen p (keeps r plan s) (candidates plan s) nowhere in
+    let unguided : find p (guided r plan s) ≡ None = none_chosen p (keeps_move r plan s) (candidates plan s) nowhere in
     let zero_is = none_after last (withheld held (guided r plan s)) (none_withheld p held (guided r plan s) unguided) in
     rw zero_is first
 
@@ -282,7 +282,7 @@ unfolding guided
 found_soon r plan s last m held o after e is = of held
   where
     there : find (stands_after last) (guided r plan s) ≡ Some m
-    there = found-kept (stands_after last) (keeps r plan s) (candidates plan s) m (λ mv f. keeps-others r plan s mv (no_issue last mv after f))
+    there = found-kept (stands_after last) (keeps_move r plan s) (candidates plan s) m (λ mv f. keeps-others r plan s mv (no_issue last mv after f))
         (found_candidate plan s last m after (sym e ∙ is))
 
     of : (b : Bool) → Some m ≡ slice_get (withheld b (guided r plan s)) (first_after (Some last) (withheld b (guided r plan s)))

@@ -17,16 +17,16 @@ use Rattle.cf_semantics.specs.state.State.{State}
 use Rattle.cf_semantics.specs.claims.Weight.{is_issue}
 use Rattle.cf_index.specs.Allowed.{all_entering, all_leaving, all_passing, is_allowed}
 use Rattle.cf_index.specs.Order.{first_after, kind_place, stands_after}
-use Rattle.cf_index.specs.Places.{places}
+use Rattle.cf_index.specs.Places.{set_places}
 use Rattle.cf_index.proofs.Filled.{all_chosen}
 use Rattle.cf_index.proofs.Passed.{earlier}
 use Rattle.cf_index.proofs.Places.{lowest, places_zero}
 
 -- the lowest number of a word
-pub lowest_place : (w : ℕ) → w < 2 ^ 32 → 0 < w → Some (trailing_zeros w64 w) ≡ slice_get (places 64 w) 0
+pub lowest_place : (w : ℕ) → w < 2 ^ 32 → 0 < w → Some (trailing_zeros w64 w) ≡ slice_get (set_places 64 w) 0
 lowest_place w small some = sym (lowest w some (omega arith))
 
-pub no_place : (w : ℕ) → w ≡ 0 → None ≡ slice_get (places 64 w) 0
+pub no_place : (w : ℕ) → w ≡ 0 → None ≡ slice_get (set_places 64 w) 0
 no_place w none = rw (none, places_zero 64) refl
 
 -- what is found in a part is found in the whole, where the part before has none

@@ -31,7 +31,7 @@ use Rattle.cf_semantics.specs.state.Options.{on, is_some}
 use Rattle.cf_semantics.specs.state.Passengers.{fresh, fresh_as, fresh_end, fresh_fence, requests}
 use Rattle.cf_semantics.specs.state.State.{State, cell_at}
 use Rattle.cf_index.specs.Allowed.{all_entering, is_allowed, kept_issues, may_issue}
-use Rattle.cf_index.specs.GuessRules.{guess_at, guess_back, guess_for, guess_of, is_guess, keeps, keeps_guess}
+use Rattle.cf_index.specs.GuessRules.{guess_at, guess_back, guess_for, guess_of, is_guess, keeps_move, keeps_guess}
 use Rattle.cf_index.specs.Listed.{flagged}
 
 -- the instruction that was fetched, if any
@@ -302,14 +302,14 @@ any_at r plan s e = rw e (at-any plan s)
 -- of the Issues by the next word, taken and to wait, the first that is allowed and kept, where one guess is
 first-of : (q p : Move → Bool) (g : Guess) → q (Issue Next) ≡ true → q (Issue g) ≡ true → ((h : Guess) → p (Issue h) ≡ is_guess g h) →
     ((t : ℕ) → g ≡ To t → ⊥) → Some (Issue g) ≡ slice_get (filter p (filter q (Issue Next ∷ Issue Taken ∷ Issue Wait ∷ []))) 0
-first-of q p Next next own keeps none = rw (next, keeps Next) refl
-first-of q p Taken next own keeps none = rw (next, own, keeps Next, keeps Taken) refl
-first-of q p Wait next own keeps none = go (q (Issue Taken)) refl
+first-of q p Next next own keeps_move none = rw (next, keeps_move Next) refl
+first-of q p Taken next own keeps_move none = rw (next, own, keeps_move Next, keeps_move Taken) refl
+first-of q p Wait next own keeps_move none = go (q (Issue Taken)) refl
   where
     go : (b : Bool) → q (Issue Taken) ≡ b → Some (Issue Wait) ≡ slice_get (filter p (filter q (Issue Next ∷ Issue Taken ∷ Issue Wait ∷ []))) 0
-    go true e = rw (next, e, own, keeps Next, keeps Taken, keeps Wait) refl
-    go false e = rw (next, e, own, keeps Next, keeps Wait) refl
-first-of q p (To t) next own keeps none = absurd (none t refl)
+    go true e = rw (next, e, own, keeps_move Next, keeps_move Taken, keeps_move Wait) refl
+    go false e = rw (next, e, own, keeps_move Next, keeps_move Wait) refl
+first-of q p (To t) next own keeps_move none = absurd (none t refl)
 
 -- where the next word can be issued, the rule's own guess is the first that it keeps
 pub own_first : (r : GuessRule) (plan : Plan) (s : State) → is_allowed plan s (Issue Next) ≡ true →
@@ -317,7 +317,7 @@ pub own_first : (r : GuessRule) (plan : Plan) (s : State) → is_allowed plan s 
 own_first rules.Any plan s next = rw (← at-any plan s, next) refl
 own_first r plan s next =
     let may : is_allowed plan s (Issue (guess_at r plan s)) ≡ true = allowed-issue plan s (guess_at r plan s) ∙ rw (next, rule-may r plan s) refl in
-    first-of (is_allowed plan s) (keeps r plan s) (guess_at r plan s) next may (λ h. refl) (at-own r plan s)
+    first-of (is_allowed plan s) (keeps_move r plan s) (guess_at r plan s) next may (λ h. refl) (at-own r plan s)
 
 -- the moves that enter, by the flags
 flag-step : (p q : Move → Bool) (x : Move) (b : Bool) (xs ys : List Move) → b ≡ (q x && p x) → ys ≡ filter p (filter q xs) →
@@ -359,7 +359,7 @@ three-flagged p q n t w next taken wait =
 abbrev KeepsOthers : (Move → Bool) → Type 0
 KeepsOthers k = (mv : Move) → is_issue mv ≡ false → k mv ≡ true
 
-pub keeps-others : (r : GuessRule) (plan : Plan) (s : State) → KeepsOthers (keeps r plan s)
+pub keeps-others : (r : GuessRule) (plan : Plan) (s : State) → KeepsOthers (keeps_move r plan s)
 keeps-others r plan s (Issue g) e = absurd (cc)
 keeps-others r plan s mv e = refl
 

@@ -10,7 +10,7 @@ use Rattle.cf_semantics.specs.claims.Weight.{is_issue}
 use Rattle.cf_semantics.specs.moves.Candidates.{other_moves, held_back}
 use Rattle.cf_index.specs.declared.passing.Passing.{Passing}
 use Rattle.cf_index.specs.declared.leaving.Leaving.{Leaving}
-use Rattle.cf_index.specs.Places.{places}
+use Rattle.cf_index.specs.Places.{set_places}
 use Rattle.cf_index.specs.Listed.{flagged, at_word, slide_at, slides_of, passing_moves, leaving_moves}
 
 -- a list of moves of which none is an Issue
@@ -21,11 +21,11 @@ kept f (k ∷ ks) none = rw (none k, kept f ks none) refl
 -- the moves of a word are not Issue, where their kind is not
 others_word : (kind : ℕ → Move) (w : ℕ) → ((k : ℕ) → is_issue (kind k) ≡ false) → other_moves (at_word kind w) ≡ at_word kind w
 unfolding at_word
-others_word kind w none = kept (λ k. kind (k + 1)) (places 64 w) (λ k. none (k + 1))
+others_word kind w none = kept (λ k. kind (k + 1)) (set_places 64 w) (λ k. none (k + 1))
 
 others_slides : (w : ℕ) → other_moves (slides_of w) ≡ slides_of w
 unfolding slides_of
-others_slides w = kept slide_at (places 64 w) (λ k. refl)
+others_slides w = kept slide_at (set_places 64 w) (λ k. refl)
 
 others_flag : (b : Bool) (mv : Move) → is_issue mv ≡ false → other_moves (flagged b mv) ≡ flagged b mv
 others_flag true mv none = rw none refl

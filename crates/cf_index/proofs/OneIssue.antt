@@ -21,7 +21,7 @@ use Rattle.cf_semantics.specs.state.Layouts.{isa_of}
 use Rattle.cf_semantics.specs.state.Options.{on}
 use Rattle.cf_semantics.specs.state.State.{State}
 use Rattle.cf_index.specs.Allowed.{allowed_issues, allowed_others, is_allowed, kept_issues, may_issue}
-use Rattle.cf_index.specs.GuessRules.{guess_at, guess_back, guess_for, guess_of, guided, is_guess, keeps, keeps_guess}
+use Rattle.cf_index.specs.GuessRules.{guess_at, guess_back, guess_for, guess_of, guided, is_guess, keeps_move, keeps_guess}
 use Rattle.cf_index.proofs.Firsts.{any_guided, candidates_parts, guided_parts}
 use Rattle.cf_index.proofs.Guided.{allowed-issue, may_at, rule-may, three-flagged}
 
@@ -92,11 +92,11 @@ one-free r plan s off free = go (guess_at r plan s) refl
     known t e = let k : false ≡ true = ap is_known (sym e) ∙ at-known r plan s in cc
 
     go : (g : Guess) → guess_at r plan s ≡ g → kept_issues r plan s ≡ Issue g ∷ []
-    go Next e = sym (three-flagged (keeps r plan s) (is_allowed plan s) true false false (issue-own r plan s Next off e free refl)
+    go Next e = sym (three-flagged (keeps_move r plan s) (is_allowed plan s) true false false (issue-own r plan s Next off e free refl)
         (issue-other r plan s Next Taken off e refl) (issue-other r plan s Next Wait off e refl))
-    go Taken e = sym (three-flagged (keeps r plan s) (is_allowed plan s) false true false (issue-other r plan s Taken Next off e refl)
+    go Taken e = sym (three-flagged (keeps_move r plan s) (is_allowed plan s) false true false (issue-other r plan s Taken Next off e refl)
         (issue-own r plan s Taken off e free refl) (issue-other r plan s Taken Wait off e refl))
-    go Wait e = sym (three-flagged (keeps r plan s) (is_allowed plan s) false false true (issue-other r plan s Wait Next off e refl)
+    go Wait e = sym (three-flagged (keeps_move r plan s) (is_allowed plan s) false false true (issue-other r plan s Wait Next off e refl)
         (issue-other r plan s Wait Taken off e refl) (issue-own r plan s Wait off e free refl))
     go (To t) e = absurd (known t e)
 

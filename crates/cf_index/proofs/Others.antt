@@ -11,7 +11,7 @@ use Rattle.cf_bind.specs.declared.passenger.Guess.TheVariants.{Next, Taken, Wait
 use Rattle.cf_semantics.specs.moves.Candidates.{held_back, slides_from}
 use Rattle.cf_semantics.specs.state.State.{State}
 use Rattle.cf_index.specs.Allowed.{all_leaving, all_passing, allowed_others, is_allowed, kept_issues, may_issue, unheld_issues, withheld}
-use Rattle.cf_index.specs.GuessRules.{guided, keeps}
+use Rattle.cf_index.specs.GuessRules.{guided, keeps_move}
 use Rattle.cf_index.specs.Listed.{flagged}
 use Rattle.cf_index.specs.Most.{most_leaving, most_of_kind, most_others, most_passing}
 use Rattle.cf_index.proofs.Firsts.{guided_others, guided_parts}
@@ -53,21 +53,21 @@ few_parts plan s passing slides leaving =
 pub issue_next : (r : GuessRule) (plan : Plan) (s : State) (n t w : Bool) → n ≡ may_issue r plan s Next → t ≡ may_issue r plan s Taken →
     w ≡ may_issue r plan s Wait → n ≡ true → Some (Issue Next) ≡ slice_get (kept_issues r plan s) 0
 issue_next r plan s n t w next taken wait e =
-    rw e at (ap (λ (l : List Move). slice_get l 0) (three-flagged (keeps r plan s) (is_allowed plan s) n t w next taken wait))
+    rw e at (ap (λ (l : List Move). slice_get l 0) (three-flagged (keeps_move r plan s) (is_allowed plan s) n t w next taken wait))
 
 pub issue_taken : (r : GuessRule) (plan : Plan) (s : State) (n t w : Bool) → n ≡ may_issue r plan s Next → t ≡ may_issue r plan s Taken →
     w ≡ may_issue r plan s Wait → n ≡ false → t ≡ true → Some (Issue Taken) ≡ slice_get (kept_issues r plan s) 0
 issue_taken r plan s n t w next taken wait e f =
-    rw (e, f) at (ap (λ (l : List Move). slice_get l 0) (three-flagged (keeps r plan s) (is_allowed plan s) n t w next taken wait))
+    rw (e, f) at (ap (λ (l : List Move). slice_get l 0) (three-flagged (keeps_move r plan s) (is_allowed plan s) n t w next taken wait))
 
 pub issue_wait : (r : GuessRule) (plan : Plan) (s : State) (n t w : Bool) → n ≡ may_issue r plan s Next → t ≡ may_issue r plan s Taken →
     w ≡ may_issue r plan s Wait → n ≡ false → t ≡ false → w ≡ true → Some (Issue Wait) ≡ slice_get (kept_issues r plan s) 0
 issue_wait r plan s n t w next taken wait e f g =
-    rw (e, f, g) at (ap (λ (l : List Move). slice_get l 0) (three-flagged (keeps r plan s) (is_allowed plan s) n t w next taken wait))
+    rw (e, f, g) at (ap (λ (l : List Move). slice_get l 0) (three-flagged (keeps_move r plan s) (is_allowed plan s) n t w next taken wait))
 
 pub issue_none : (r : GuessRule) (plan : Plan) (s : State) (n t w : Bool) → n ≡ may_issue r plan s Next → t ≡ may_issue r plan s Taken →
     w ≡ may_issue r plan s Wait → n ≡ false → t ≡ false → w ≡ false → None ≡ slice_get (kept_issues r plan s) 0
 issue_none r plan s n t w next taken wait e f g =
-    rw (e, f, g) at (ap (λ (l : List Move). slice_get l 0) (three-flagged (keeps r plan s) (is_allowed plan s) n t w next taken wait))
+    rw (e, f, g) at (ap (λ (l : List Move). slice_get l 0) (three-flagged (keeps_move r plan s) (is_allowed plan s) n t w next taken wait))
 
 pub ruleset issues = (issue_next, issue_taken, issue_wait, issue_none)

@@ -5,14 +5,14 @@ use mir.Val.{bool_byte}
 use Rattle.std.proofs.lemmas.List.{length-append, length-map}
 use Rattle.std.proofs.lemmas.Option.{slice_get-map}
 use Rattle.cf_bind.specs.declared.moves.Move.{Move}
-use Rattle.cf_index.specs.Places.{places}
+use Rattle.cf_index.specs.Places.{set_places}
 use Rattle.cf_index.specs.Listed.{flagged, at_word, slides_of, slide_at}
 use Rattle.cf_index.proofs.Places.{places_zero}
 
 -- how many moves a word stands for
-pub length-at_word : (kind : ℕ → Move) (w : ℕ) → length (at_word kind w) ≡ length (places 64 w)
+pub length-at_word : (kind : ℕ → Move) (w : ℕ) → length (at_word kind w) ≡ length (set_places 64 w)
 unfolding at_word
-length-at_word kind w = length-map (places 64 w) (λ k. kind (k + 1))
+length-at_word kind w = length-map (set_places 64 w) (λ k. kind (k + 1))
 
 -- an element of the first part
 pub here : {X : Type 0} (xs ys : List X) (i : ℕ) (x : X) → Some x ≡ slice_get xs i → Some x ≡ slice_get (xs ++ ys) i
@@ -29,28 +29,28 @@ pub beyond : {X : Type 0} (xs ys : List X) (n i : ℕ) (x : X) → n ≡ length 
 beyond xs ys n i x e after at = at ∙ beyond_by xs ys (i - n) ∙ ap (λ (k : ℕ). slice_get (xs ++ ys) k) (omega (arith, e))
 
 -- a move of a word
-pub of_word : (kind : ℕ → Move) (w k i : ℕ) → Some k ≡ slice_get (places 64 w) i → Some (kind (k + 1)) ≡ slice_get (at_word kind w) i
+pub of_word : (kind : ℕ → Move) (w k i : ℕ) → Some k ≡ slice_get (set_places 64 w) i → Some (kind (k + 1)) ≡ slice_get (at_word kind w) i
 unfolding at_word
-of_word kind w k i e = rw (slice_get-map (λ k. kind (k + 1)) (places 64 w) i, ← e) refl
+of_word kind w k i e = rw (slice_get-map (λ k. kind (k + 1)) (set_places 64 w) i, ← e) refl
 
 -- a move of a word before other moves
-pub in_word : (kind : ℕ → Move) (w k i : ℕ) (ys : List Move) → Some k ≡ slice_get (places 64 w) i → Some (kind (k + 1)) ≡ slice_get (at_word kind w ++ ys) i
+pub in_word : (kind : ℕ → Move) (w k i : ℕ) (ys : List Move) → Some k ≡ slice_get (set_places 64 w) i → Some (kind (k + 1)) ≡ slice_get (at_word kind w ++ ys) i
 in_word kind w k i ys e = here (at_word kind w) ys i (kind (k + 1)) (of_word kind w k i e)
 
 -- a move after those of a word
-pub past_word : (kind : ℕ → Move) (w n i : ℕ) (x : Move) (ys : List Move) → n ≡ length (places 64 w) → n ≤ i → Some x ≡ slice_get ys (i - n) →
+pub past_word : (kind : ℕ → Move) (w n i : ℕ) (x : Move) (ys : List Move) → n ≡ length (set_places 64 w) → n ≤ i → Some x ≡ slice_get ys (i - n) →
     Some x ≡ slice_get (at_word kind w ++ ys) i
 past_word kind w n i x ys e after at = beyond (at_word kind w) ys n i x (e ∙ sym (length-at_word kind w)) after at
 
 -- how many moves within the sidings there are
-pub length-slides_of : (w : ℕ) → length (slides_of w) ≡ length (places 64 w)
+pub length-slides_of : (w : ℕ) → length (slides_of w) ≡ length (set_places 64 w)
 unfolding slides_of
-length-slides_of w = length-map (places 64 w) slide_at
+length-slides_of w = length-map (set_places 64 w) slide_at
 
 -- a move within the sidings
-pub of_slides : (w j i : ℕ) → Some j ≡ slice_get (places 64 w) i → Some (slide_at j) ≡ slice_get (slides_of w) i
+pub of_slides : (w j i : ℕ) → Some j ≡ slice_get (set_places 64 w) i → Some (slide_at j) ≡ slice_get (slides_of w) i
 unfolding slides_of
-of_slides w j i e = rw (slice_get-map slide_at (places 64 w) i, ← e) refl
+of_slides w j i e = rw (slice_get-map slide_at (set_places 64 w) i, ← e) refl
 
 pub ruleset lengths = (length-append, length-at_word, length-slides_of)
 

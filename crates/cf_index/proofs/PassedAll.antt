@@ -5,9 +5,9 @@ use Rattle.cf_bind.specs.declared.moves.Move.{Move}
 use Rattle.cf_index.specs.declared.entering.Entering.{Entering}
 use Rattle.cf_index.specs.declared.passing.Passing.{Passing}
 use Rattle.cf_index.specs.declared.leaving.Leaving.{Leaving}
-use Rattle.cf_index.specs.Places.{places}
+use Rattle.cf_index.specs.Places.{set_places}
 use Rattle.cf_index.specs.Listed.{entering_moves, passing_moves, slides_of, leaving_moves}
-use Rattle.cf_index.specs.Order.{kind_place, passed, first_after}
+use Rattle.cf_index.specs.Order.{kind_place, passed_moves, first_after}
 use Rattle.cf_index.proofs.Parts.{length-slides_of}
 use Rattle.cf_index.proofs.Passed.{passed_all, passed_part, both_none}
 use Rattle.cf_index.proofs.PassedStages.{passing_none, passing_all}
@@ -19,7 +19,7 @@ whole e p w l = entering_moves e ++ (passing_moves p ++ (slides_of w ++ leaving_
 
 -- by a move that enters
 pub passed_entering : (e : Entering) (p : Passing) (w : ℕ) (l : Leaving) (last : Move) → kind_place last < 2 →
-    passed last (whole e p w l) ≡ passed last (entering_moves e)
+    passed_moves last (whole e p w l) ≡ passed_moves last (entering_moves e)
 passed_entering e p w l last before =
     passed_part last (entering_moves e) _ (
     both_none last _ _ (passing_none p last before) (
@@ -27,14 +27,14 @@ passed_entering e p w l last before =
 
 -- by a move in the stages
 pub passed_passing : (e : Entering) (p : Passing) (w : ℕ) (l : Leaving) (last : Move) → 1 < kind_place last → kind_place last < 8 →
-    passed last (whole e p w l) ≡ length (entering_moves e) + passed last (passing_moves p)
+    passed_moves last (whole e p w l) ≡ length (entering_moves e) + passed_moves last (passing_moves p)
 passed_passing e p w l last after before =
     passed_all last (entering_moves e) _ (entering_all e last (omega arith)) ∙ ap (λ n. length (entering_moves e) + n) (
     passed_part last (passing_moves p) _ (both_none last _ _ (slides_none w last before) (leaving_none l last (omega arith))))
 
 -- by a move within the sidings
 pub passed_sliding : (e : Entering) (p : Passing) (w : ℕ) (l : Leaving) (last : Move) → 7 < kind_place last → kind_place last < 9 →
-    passed last (whole e p w l) ≡ length (entering_moves e) + (length (passing_moves p) + passed last (slides_of w))
+    passed_moves last (whole e p w l) ≡ length (entering_moves e) + (length (passing_moves p) + passed_moves last (slides_of w))
 passed_sliding e p w l last after before =
     passed_all last (entering_moves e) _ (entering_all e last (omega arith)) ∙ ap (λ n. length (entering_moves e) + n) (
     passed_all last (passing_moves p) _ (passing_all p last after) ∙ ap (λ n. length (passing_moves p) + n) (
@@ -42,7 +42,8 @@ passed_sliding e p w l last after before =
 
 -- by a move that leaves
 pub passed_leaving : (e : Entering) (p : Passing) (w : ℕ) (l : Leaving) (last : Move) → 8 < kind_place last →
-    passed last (whole e p w l) ≡ length (entering_moves e) + (length (passing_moves p) + (length (places 64 w) + passed last (leaving_moves l)))
+    passed_moves last (whole e p w l) ≡ length (entering_moves e) + (length (passing_moves p) +
+    (length (set_places 64 w) + passed_moves last (leaving_moves l)))
 passed_leaving e p w l last after =
     passed_all last (entering_moves e) _ (entering_all e last (omega arith)) ∙ ap (λ n. length (entering_moves e) + n) (
     passed_all last (passing_moves p) _ (passing_all p last (omega arith)) ∙ ap (λ n. length (passing_moves p) + n) (

@@ -4,69 +4,71 @@ use Rattle.std.specs.Prelude.{filter}
 use Rattle.cf_bind.specs.declared.moves.Move.{Move}
 use Rattle.cf_bind.specs.declared.moves.Move.TheVariants.{Climb, Fall, Meet, Execute, Send, Launch}
 use Rattle.cf_index.specs.declared.passing.Passing.{Passing}
-use Rattle.cf_index.specs.Places.{places}
+use Rattle.cf_index.specs.Places.{set_places}
 use Rattle.cf_index.specs.Listed.{passing_moves}
-use Rattle.cf_index.specs.Order.{kind_place, passed}
+use Rattle.cf_index.specs.Order.{kind_place, passed_moves}
 use Rattle.cf_index.proofs.Passed.{earlier, later, step_all, step_part, word_all, word_none, word_part, both_none, both_all, up_to}
 
-pub passed_climb : (p : Passing) (i : ℕ) → passed (Climb i) (passing_moves p) ≡ length (filter (λ k. nat_lt k i) (places 64 p.climb))
+pub passed_climb : (p : Passing) (i : ℕ) → passed_moves (Climb i) (passing_moves p) ≡ length (filter (λ k. nat_lt k i) (set_places 64 p.climb))
 unfolding passing_moves
 passed_climb p i =
     step_part (Climb i) Climb i p.climb _ (λ k. up_to i k) (both_none (Climb i) _ _ (word_none (Climb i) Fall p.fall (λ k. refl))
     (both_none (Climb i) _ _ (word_none (Climb i) Meet p.meet (λ k. refl)) (both_none (Climb i) _ _ (word_none (Climb i) Execute p.execute (λ k. refl))
     (both_none (Climb i) _ _ (word_none (Climb i) Send p.send (λ k. refl)) (word_none (Climb i) Launch p.launch (λ k. refl))))))
 
-pub passed_fall : (p : Passing) (i : ℕ) → passed (Fall i) (passing_moves p) ≡ length (places 64 p.climb) + length (filter (λ k. nat_lt k i) (places 64 p.fall))
+pub passed_fall : (p : Passing) (i : ℕ) → passed_moves (Fall i) (passing_moves p) ≡ length (set_places 64 p.climb) + length
+    (filter (λ k. nat_lt k i) (set_places 64 p.fall))
 unfolding passing_moves
 passed_fall p i =
-    step_all (Fall i) Climb p.climb _ (λ k. refl) ∙ ap (λ n. length (places 64 p.climb) + n) (
+    step_all (Fall i) Climb p.climb _ (λ k. refl) ∙ ap (λ n. length (set_places 64 p.climb) + n) (
     step_part (Fall i) Fall i p.fall _ (λ k. up_to i k) (both_none (Fall i) _ _ (word_none (Fall i) Meet p.meet (λ k. refl))
     (both_none (Fall i) _ _ (word_none (Fall i) Execute p.execute (λ k. refl)) (both_none (Fall i) _ _ (word_none (Fall i) Send p.send (λ k. refl))
     (word_none (Fall i) Launch p.launch (λ k. refl))))))
 
-pub passed_meet : (p : Passing) (i : ℕ) → passed (Meet i) (passing_moves p) ≡ length (places 64 p.climb) +
-    (length (places 64 p.fall) + length (filter (λ k. nat_lt k i) (places 64 p.meet)))
+pub passed_meet : (p : Passing) (i : ℕ) → passed_moves (Meet i) (passing_moves p) ≡ length (set_places 64 p.climb) +
+    (length (set_places 64 p.fall) + length (filter (λ k. nat_lt k i) (set_places 64 p.meet)))
 unfolding passing_moves
 passed_meet p i =
-    step_all (Meet i) Climb p.climb _ (λ k. refl) ∙ ap (λ n. length (places 64 p.climb) + n) (
-    step_all (Meet i) Fall p.fall _ (λ k. refl) ∙ ap (λ n. length (places 64 p.fall) + n) (
+    step_all (Meet i) Climb p.climb _ (λ k. refl) ∙ ap (λ n. length (set_places 64 p.climb) + n) (
+    step_all (Meet i) Fall p.fall _ (λ k. refl) ∙ ap (λ n. length (set_places 64 p.fall) + n) (
     step_part (Meet i) Meet i p.meet _ (λ k. up_to i k) (both_none (Meet i) _ _ (word_none (Meet i) Execute p.execute (λ k. refl))
     (both_none (Meet i) _ _ (word_none (Meet i) Send p.send (λ k. refl)) (word_none (Meet i) Launch p.launch (λ k. refl))))))
 
-pub passed_execute : (p : Passing) (i : ℕ) → passed (Execute i) (passing_moves p) ≡ length (places 64 p.climb) +
-    (length (places 64 p.fall) + (length (places 64 p.meet) + length (filter (λ k. nat_lt k i) (places 64 p.execute))))
+pub passed_execute : (p : Passing) (i : ℕ) → passed_moves (Execute i) (passing_moves p) ≡ length (set_places 64 p.climb) +
+    (length (set_places 64 p.fall) + (length (set_places 64 p.meet) + length (filter (λ k. nat_lt k i) (set_places 64 p.execute))))
 unfolding passing_moves
 passed_execute p i =
-    step_all (Execute i) Climb p.climb _ (λ k. refl) ∙ ap (λ n. length (places 64 p.climb) + n) (
-    step_all (Execute i) Fall p.fall _ (λ k. refl) ∙ ap (λ n. length (places 64 p.fall) + n) (
-    step_all (Execute i) Meet p.meet _ (λ k. refl) ∙ ap (λ n. length (places 64 p.meet) + n) (
+    step_all (Execute i) Climb p.climb _ (λ k. refl) ∙ ap (λ n. length (set_places 64 p.climb) + n) (
+    step_all (Execute i) Fall p.fall _ (λ k. refl) ∙ ap (λ n. length (set_places 64 p.fall) + n) (
+    step_all (Execute i) Meet p.meet _ (λ k. refl) ∙ ap (λ n. length (set_places 64 p.meet) + n) (
     step_part (Execute i) Execute i p.execute _ (λ k. up_to i k) (both_none (Execute i) _ _ (word_none (Execute i) Send p.send (λ k. refl))
     (word_none (Execute i) Launch p.launch (λ k. refl))))))
 
-pub passed_send : (p : Passing) (i : ℕ) → passed (Send i) (passing_moves p) ≡ length (places 64 p.climb) +
-    (length (places 64 p.fall) + (length (places 64 p.meet) + (length (places 64 p.execute) + length (filter (λ k. nat_lt k i) (places 64 p.send)))))
+pub passed_send : (p : Passing) (i : ℕ) → passed_moves (Send i) (passing_moves p) ≡ length (set_places 64 p.climb) +
+    (length (set_places 64 p.fall) + (length (set_places 64 p.meet) + (length (set_places 64 p.execute) + length
+    (filter (λ k. nat_lt k i) (set_places 64 p.send)))))
 unfolding passing_moves
 passed_send p i =
-    step_all (Send i) Climb p.climb _ (λ k. refl) ∙ ap (λ n. length (places 64 p.climb) + n) (
-    step_all (Send i) Fall p.fall _ (λ k. refl) ∙ ap (λ n. length (places 64 p.fall) + n) (
-    step_all (Send i) Meet p.meet _ (λ k. refl) ∙ ap (λ n. length (places 64 p.meet) + n) (
-    step_all (Send i) Execute p.execute _ (λ k. refl) ∙ ap (λ n. length (places 64 p.execute) + n) (
+    step_all (Send i) Climb p.climb _ (λ k. refl) ∙ ap (λ n. length (set_places 64 p.climb) + n) (
+    step_all (Send i) Fall p.fall _ (λ k. refl) ∙ ap (λ n. length (set_places 64 p.fall) + n) (
+    step_all (Send i) Meet p.meet _ (λ k. refl) ∙ ap (λ n. length (set_places 64 p.meet) + n) (
+    step_all (Send i) Execute p.execute _ (λ k. refl) ∙ ap (λ n. length (set_places 64 p.execute) + n) (
     step_part (Send i) Send i p.send _ (λ k. up_to i k) (word_none (Send i) Launch p.launch (λ k. refl))))))
 
-pub passed_launch : (p : Passing) (i : ℕ) → passed (Launch i) (passing_moves p) ≡ length (places 64 p.climb) +
-    (length (places 64 p.fall) + (length (places 64 p.meet) + (length (places 64 p.execute) +
-    (length (places 64 p.send) + length (filter (λ k. nat_lt k i) (places 64 p.launch))))))
+pub passed_launch : (p : Passing) (i : ℕ) → passed_moves (Launch i) (passing_moves p) ≡ length (set_places 64 p.climb) +
+    (length (set_places 64 p.fall) + (length (set_places 64 p.meet) + (length (set_places 64 p.execute) +
+    (length (set_places 64 p.send) + length (filter (λ k. nat_lt k i) (set_places 64 p.launch))))))
 unfolding passing_moves
 passed_launch p i =
-    step_all (Launch i) Climb p.climb _ (λ k. refl) ∙ ap (λ n. length (places 64 p.climb) + n) (
-    step_all (Launch i) Fall p.fall _ (λ k. refl) ∙ ap (λ n. length (places 64 p.fall) + n) (
-    step_all (Launch i) Meet p.meet _ (λ k. refl) ∙ ap (λ n. length (places 64 p.meet) + n) (
-    step_all (Launch i) Execute p.execute _ (λ k. refl) ∙ ap (λ n. length (places 64 p.execute) + n) (
-    step_all (Launch i) Send p.send _ (λ k. refl) ∙ ap (λ n. length (places 64 p.send) + n) (
+    step_all (Launch i) Climb p.climb _ (λ k. refl) ∙ ap (λ n. length (set_places 64 p.climb) + n) (
+    step_all (Launch i) Fall p.fall _ (λ k. refl) ∙ ap (λ n. length (set_places 64 p.fall) + n) (
+    step_all (Launch i) Meet p.meet _ (λ k. refl) ∙ ap (λ n. length (set_places 64 p.meet) + n) (
+    step_all (Launch i) Execute p.execute _ (λ k. refl) ∙ ap (λ n. length (set_places 64 p.execute) + n) (
+    step_all (Launch i) Send p.send _ (λ k. refl) ∙ ap (λ n. length (set_places 64 p.send) + n) (
     word_part (Launch i) Launch i p.launch (λ k. up_to i k))))))
 
 -- none of them, by a move of an earlier kind
-pub passing_none : (p : Passing) (last : Move) → kind_place last < 2 → passed last (passing_moves p) ≡ 0
+pub passing_none : (p : Passing) (last : Move) → kind_place last < 2 → passed_moves last (passing_moves p) ≡ 0
 unfolding passing_moves
 passing_none p last before =
     both_none last _ _ (word_none last Climb p.climb (λ k. later last (Climb k) (omega arith)))
@@ -77,7 +79,7 @@ passing_none p last before =
     (word_none last Launch p.launch (λ k. later last (Launch k) (omega arith)))))))
 
 -- all of them, by a move of a later kind
-pub passing_all : (p : Passing) (last : Move) → 7 < kind_place last → passed last (passing_moves p) ≡ length (passing_moves p)
+pub passing_all : (p : Passing) (last : Move) → 7 < kind_place last → passed_moves last (passing_moves p) ≡ length (passing_moves p)
 unfolding passing_moves
 passing_all p last after =
     both_all last _ _ (word_all last Climb p.climb (λ k. earlier last (Climb k) (omega arith)))

@@ -16,8 +16,8 @@ use Rattle.cf_core.specs.Masks.{masks_of}
 use Rattle.cf_core.specs.declared.masks.Masks.{Masks}
 use Rattle.cf_index.specs.Allowed.{all_leaving, all_passing, allowed_others, climb_on, execute_on, fall_on, is_allowed, launch_on, meet_on, passing_of, send_on}
 use Rattle.cf_index.specs.Listed.{at_word, slide_at, slides_of}
-use Rattle.cf_index.specs.Order.{kind_place, passed, place, slide_place, stands_after}
-use Rattle.cf_index.specs.Places.{places}
+use Rattle.cf_index.specs.Order.{kind_place, passed_moves, place, slide_place, stands_after}
+use Rattle.cf_index.specs.Places.{set_places}
 use Rattle.cf_index.specs.Ranks.{first_rank, is_past, rank_of}
 use Rattle.cf_index.specs.PickedFrom.{IsLast, IsPickedFrom, from_access, from_climb, from_emit, from_exit, from_fall, from_leave, from_meet, from_execute, from_recover, from_send, from_serve, from_launch, outward_on}
 use Rattle.cf_index.proofs.AllowedWords.{climb-on}
@@ -382,12 +382,12 @@ slide_picked rule held plan s k c none =
     after_slide mv after = grind (arith, nat_tests)
 
 pub slid_on : (rule : GuessRule) (held : Bool) (plan : Plan) (s : State) (w k c n m : ℕ) →
-    slides_of w ≡ filter (is_allowed plan s) (slides_from 0 plan.sidings) → n ≡ passed (Slide k c) (slides_of w) → m ≡ length (places 64 w) → m ≤ n →
+    slides_of w ≡ filter (is_allowed plan s) (slides_from 0 plan.sidings) → n ≡ passed_moves (Slide k c) (slides_of w) → m ≡ length (set_places 64 w) → m ≤ n →
     IsPickedFrom rule held plan s (Some (Slide k c)) first_rank (from_access plan s)
-unfolding passed slides_of
+unfolding passed_moves slides_of
 slid_on rule held plan s w k c n m is before all few =
-    let whole : length (map slide_at (places 64 w)) ≡ length (places 64 w) = length-map (places 64 w) slide_at in
+    let whole : length (map slide_at (set_places 64 w)) ≡ length (set_places 64 w) = length-map (set_places 64 w) slide_at in
     slide_picked rule held plan s k c (ap (find (stands_after (Slide k c))) (sym is)
-    ∙ none_beyond (stands_after (Slide k c)) (map slide_at (places 64 w)) (omega (arith, before, all, few, whole)))
+    ∙ none_beyond (stands_after (Slide k c)) (map slide_at (set_places 64 w)) (omega (arith, before, all, few, whole)))
 
 pub ruleset going_on = (climbed_on, fallen_on, met_on)

@@ -14,7 +14,7 @@ use Rattle.std.proofs.lemmas.List.Filters.{length-filter_both}
 use Rattle.cf_layout.specs.Words.{has_bit}
 use Rattle.cf_semantics.specs.moves.Candidates.{counted_from}
 use Rattle.cf_index.specs.Most.{most_of_kind}
-use Rattle.cf_index.specs.Places.{places}
+use Rattle.cf_index.specs.Places.{set_places}
 use Rattle.cf_index.proofs.Counted.{counted_split, filter_same, filter_none, filter_first, filter_shifted, filter_below, filter_above}
 
 -- the low bits of a word are those of its remainder
@@ -29,8 +29,8 @@ unfolding has_bit
 has_high w a j = rw (shr-shr w a j) refl
 
 -- the numbers of a word are the low ones and then the high ones
-pub places_split : (a b w : ℕ) → places (a + b) w ≡ places a (w % 2 ^ a) ++ map (λ j. a + j) (places b (w / 2 ^ a))
-unfolding places
+pub places_split : (a b w : ℕ) → set_places (a + b) w ≡ set_places a (w % 2 ^ a) ++ map (λ j. a + j) (set_places b (w / 2 ^ a))
+unfolding set_places
 places_split a b w =
     let z : 0 + a ≡ a + 0 = omega arith in
     let low = filter_same (has_bit w) (has_bit (w % 2 ^ a)) 0 a (λ i from below. has_low w a i (omega arith)) in
@@ -38,8 +38,8 @@ places_split a b w =
     rw (counted_split 0 a b, filter-append, low, z, filter_shifted (has_bit w) a 0 b, high) refl
 
 -- a word of one bit
-count_one : (r : ℕ) → r < 2 → count_ones r ≡ length (places 1 r)
-unfolding places has_bit count_ones
+count_one : (r : ℕ) → r < 2 → count_ones r ≡ length (set_places 1 r)
+unfolding set_places has_bit count_ones
 count_one zero small = refl
 count_one (suc zero) small = refl
 count_one (suc (suc r)) small = absurd (omega arith)
@@ -49,12 +49,12 @@ count_none : count_ones 0 ≡ 0
 unfolding count_ones
 count_none = refl
 
-places_none : (w : ℕ) → length (places 0 w) ≡ 0
-unfolding places
+places_none : (w : ℕ) → length (set_places 0 w) ≡ 0
+unfolding set_places
 places_none w = refl
 
 -- how many numbers a word has is how many of its bits are set
-pub count_places : (n w : ℕ) → w < 2 ^ n → count_ones w ≡ length (places n w)
+pub count_places : (n w : ℕ) → w < 2 ^ n → count_ones w ≡ length (set_places n w)
 count_places zero w small = let e : w ≡ 0 = omega arith in rw (e, count_none, places_none 0) refl
 count_places (suc n) w small =
     let e : suc n ≡ 1 + n = omega arith in
@@ -66,13 +66,13 @@ count_places (suc n) w small =
     rw (e, places_split 1 n w, length-append, length-map, ← r, ← count_one (w % 2 ^ 1) one) (omega (arith, c))
 
 -- the word 0 has no number
-pub places_zero : (n : ℕ) → places n 0 ≡ []
-unfolding places has_bit
+pub places_zero : (n : ℕ) → set_places n 0 ≡ []
+unfolding set_places has_bit
 places_zero n = filter_none (has_bit 0) 0 n (λ i low high. no_bits i)
 
 -- the lowest of the numbers
-pub lowest : (w : ℕ) → 0 < w → w < 2 ^ 64 → slice_get (places 64 w) 0 ≡ Some (trailing_zeros w64 w)
-unfolding places has_bit
+pub lowest : (w : ℕ) → 0 < w → w < 2 ^ 64 → slice_get (set_places 64 w) 0 ≡ Some (trailing_zeros w64 w)
+unfolding set_places has_bit
 lowest w some small =
     let t = bit_at-trailing_zeros w64 w some small in
     filter_first (has_bit w) 0 64 (trailing_zeros w64 w) (omega arith) (omega (arith, t.0)) (rw (t.1) refl) (λ i low high. rw (t.2 i high) refl)
@@ -85,25 +85,25 @@ even_less : (m : ℕ) → bit_and (suc m * 2 ^ 1 + 0) (suc m * 2 ^ 1 + 0 - 1) �
 even_less m = let e : suc m * 2 ^ 1 + 0 - 1 ≡ m * 2 ^ 1 + 1 = omega arith in let f : suc m - 1 ≡ m = omega arith in
     rw (e, f, and_block 1 (suc m) m 0 1 (omega arith) (omega arith)) refl
 
-doubled : (n m r : ℕ) → r < 2 → places (1 + n) (m * 2 ^ 1 + r) ≡ places 1 r ++ map (λ j. 1 + j) (places n m)
+doubled : (n m r : ℕ) → r < 2 → set_places (1 + n) (m * 2 ^ 1 + r) ≡ set_places 1 r ++ map (λ j. 1 + j) (set_places n m)
 doubled n m r small =
     let q : (m * 2 ^ 1 + r) / 2 ^ 1 ≡ m = omega arith in
     let s : (m * 2 ^ 1 + r) % 2 ^ 1 ≡ r = omega arith in
     rw (places_split 1 n (m * 2 ^ 1 + r), q, s) refl
 
-none_or_one : (xs : List ℕ) → (places 1 0 ++ xs ≡ xs) × (drop 1 (places 1 1 ++ xs) ≡ xs)
-unfolding places has_bit
+none_or_one : (xs : List ℕ) → (set_places 1 0 ++ xs ≡ xs) × (drop 1 (set_places 1 1 ++ xs) ≡ xs)
+unfolding set_places has_bit
 none_or_one xs = (refl, refl)
 
-cleared_step : (n m r : ℕ) → r < 2 → 0 < m * 2 ^ 1 + r → ((0 < m) → places n (bit_and m (m - 1)) ≡ drop 1 (places n m)) →
-    places (1 + n) (bit_and (m * 2 ^ 1 + r) (m * 2 ^ 1 + r - 1)) ≡ drop 1 (places (1 + n) (m * 2 ^ 1 + r))
+cleared_step : (n m r : ℕ) → r < 2 → 0 < m * 2 ^ 1 + r → ((0 < m) → set_places n (bit_and m (m - 1)) ≡ drop 1 (set_places n m)) →
+    set_places (1 + n) (bit_and (m * 2 ^ 1 + r) (m * 2 ^ 1 + r - 1)) ≡ drop 1 (set_places (1 + n) (m * 2 ^ 1 + r))
 cleared_step n m (suc zero) small some before =
     rw (
       odd_less m,
       doubled n m 0 (omega arith),
       doubled n m 1 (omega arith),
-      (none_or_one (map (λ j. 1 + j) (places n m))).0,
-      (none_or_one (map (λ j. 1 + j) (places n m))).1,
+      (none_or_one (map (λ j. 1 + j) (set_places n m))).0,
+      (none_or_one (map (λ j. 1 + j) (set_places n m))).1,
     ) refl
 cleared_step n zero zero small some before = absurd (omega arith)
 cleared_step n (suc m) zero small some before =
@@ -112,14 +112,14 @@ cleared_step n (suc m) zero small some before =
       even_less m,
       doubled n (bit_and (suc m) (suc m - 1)) 0 (omega arith),
       doubled n (suc m) 0 (omega arith),
-      (none_or_one (map (λ j. 1 + j) (places n (bit_and (suc m) (suc m - 1))))).0,
-      (none_or_one (map (λ j. 1 + j) (places n (suc m)))).0,
+      (none_or_one (map (λ j. 1 + j) (set_places n (bit_and (suc m) (suc m - 1))))).0,
+      (none_or_one (map (λ j. 1 + j) (set_places n (suc m)))).0,
       h,
-      drop-map (λ (j : ℕ). 1 + j) 1 (places n (suc m)),
+      drop-map (λ (j : ℕ). 1 + j) 1 (set_places n (suc m)),
     ) refl
 cleared_step n m (suc (suc r)) small some before = absurd (omega arith)
 
-pub cleared : (n w : ℕ) → 0 < w → w < 2 ^ n → places n (bit_and w (w - 1)) ≡ drop 1 (places n w)
+pub cleared : (n w : ℕ) → 0 < w → w < 2 ^ n → set_places n (bit_and w (w - 1)) ≡ drop 1 (set_places n w)
 cleared zero w some small = absurd (omega arith)
 cleared (suc n) w some small =
     let e : suc n ≡ 1 + n = omega arith in
@@ -129,17 +129,17 @@ cleared (suc n) w some small =
     rw e (rw s at c)
 
 -- the numbers of a word that are below k
-pub places_below : (k b w : ℕ) → filter (λ j. nat_lt j k) (places (k + b) w) ≡ places k (w % 2 ^ k)
-unfolding places
+pub places_below : (k b w : ℕ) → filter (λ j. nat_lt j k) (set_places (k + b) w) ≡ set_places k (w % 2 ^ k)
+unfolding set_places
 places_below k b w =
     let low = filter_below (has_bit (w % 2 ^ k)) k 0 k (omega arith) in
-    let none = filter_above k (places b (w / 2 ^ k)) in
+    let none = filter_above k (set_places b (w / 2 ^ k)) in
     let s = places_split k b w in
-    rw s (rw (filter-append (λ j. nat_lt j k) (places k (w % 2 ^ k)) (map (λ j. k + j) (places b (w / 2 ^ k))), none, low, append-nil) refl)
+    rw s (rw (filter-append (λ j. nat_lt j k) (set_places k (w % 2 ^ k)) (map (λ j. k + j) (set_places b (w / 2 ^ k))), none, low, append-nil) refl)
 
 -- all of them are where k is no smaller than the width
-pub places_all_below : (n k w : ℕ) → n ≤ k → filter (λ j. nat_lt j k) (places n w) ≡ places n w
-unfolding places
+pub places_all_below : (n k w : ℕ) → n ≤ k → filter (λ j. nat_lt j k) (set_places n w) ≡ set_places n w
+unfolding set_places
 places_all_below n k w wide = filter_below (has_bit w) k 0 n (omega arith)
 
 -- the mask of the numbers below k
@@ -147,22 +147,22 @@ pub mask_some : (k : ℕ) → k < 64 → 1 ≤ 1 * 2 ^ k % 2 ^ 64
 mask_some k small = omega (arith, one_shl k 64 small, pow_pos k)
 
 -- how many of the numbers are below k
-pub counts_below : (w k : ℕ) → k < 64 → count_ones (bit_and w (1 * 2 ^ k % 2 ^ 64 - 1)) ≡ length (filter (λ j. nat_lt j k) (places 64 w))
+pub counts_below : (w k : ℕ) → k < 64 → count_ones (bit_and w (1 * 2 ^ k % 2 ^ 64 - 1)) ≡ length (filter (λ j. nat_lt j k) (set_places 64 w))
 counts_below w k small =
     let e : k + (64 - k) ≡ 64 = omega arith in
     let b = rw e at (places_below k (64 - k) w) in
     rw (one_shl k 64 small, and_mask w k, b) (count_places k (w % 2 ^ k) (mod_below w (2 ^ k) (pow_pos k)))
 
-pub counts_all_below : (w k : ℕ) → w < 2 ^ 64 → 64 ≤ k → count_ones w ≡ length (filter (λ j. nat_lt j k) (places 64 w))
+pub counts_all_below : (w k : ℕ) → w < 2 ^ 64 → 64 ≤ k → count_ones w ≡ length (filter (λ j. nat_lt j k) (set_places 64 w))
 counts_all_below w k small wide = rw (places_all_below 64 k w wide) (count_places 64 w small)
 
 -- a word that has a number is not 0
-pub some_place : (n w : ℕ) → 0 < length (places n w) → 0 < w
+pub some_place : (n w : ℕ) → 0 < length (set_places n w) → 0 < w
 some_place n zero some = let e = rw (places_zero n) at some in absurd (omega (arith, e))
 some_place n (suc w) some = omega arith
 
-pub some_left : (w rest i : ℕ) → i < length (places 64 w) → places 64 rest ≡ drop i (places 64 w) → 1 ≤ rest
-some_left w rest i more e = let l = ap length e ∙ length-drop i (places 64 w) in some_place 64 rest (omega arith)
+pub some_left : (w rest i : ℕ) → i < length (set_places 64 w) → set_places 64 rest ≡ drop i (set_places 64 w) → 1 ≤ rest
+some_left w rest i more e = let l = ap length e ∙ length-drop i (set_places 64 w) in some_place 64 rest (omega arith)
 
 -- the first that is left
 first_left : (i : ℕ) (xs : List ℕ) → slice_get (drop i xs) 0 ≡ slice_get xs i
@@ -171,20 +171,20 @@ first_left (suc i) [] = refl
 first_left (suc i) (x ∷ xs) = first_left i xs
 
 -- the numbers after the first i are those of a word that is left
-pub one_passed : (w rest i : ℕ) → rest < 2 ^ 64 → i < length (places 64 w) → places 64 rest ≡ drop i (places 64 w) →
-    places 64 (bit_and rest (rest - 1)) ≡ drop (i + 1) (places 64 w)
+pub one_passed : (w rest i : ℕ) → rest < 2 ^ 64 → i < length (set_places 64 w) → set_places 64 rest ≡ drop i (set_places 64 w) →
+    set_places 64 (bit_and rest (rest - 1)) ≡ drop (i + 1) (set_places 64 w)
 one_passed w rest i small more e =
-    let l = ap length e ∙ length-drop i (places 64 w) in
+    let l = ap length e ∙ length-drop i (set_places 64 w) in
     let some : 0 < rest = some_place 64 rest (omega arith) in
-    cleared 64 rest some small ∙ rw e (drop-drop 1 i (places 64 w))
+    cleared 64 rest some small ∙ rw e (drop-drop 1 i (set_places 64 w))
 
 -- the lowest of them is the next
-pub next_place : (w rest i : ℕ) → rest < 2 ^ 64 → i < length (places 64 w) → places 64 rest ≡ drop i (places 64 w) →
-    Some (trailing_zeros w64 rest) ≡ slice_get (places 64 w) i
+pub next_place : (w rest i : ℕ) → rest < 2 ^ 64 → i < length (set_places 64 w) → set_places 64 rest ≡ drop i (set_places 64 w) →
+    Some (trailing_zeros w64 rest) ≡ slice_get (set_places 64 w) i
 next_place w rest i small more e =
-    let l = ap length e ∙ length-drop i (places 64 w) in
+    let l = ap length e ∙ length-drop i (set_places 64 w) in
     let some : 0 < rest = some_place 64 rest (omega arith) in
-    sym (lowest rest some small) ∙ rw e (first_left i (places 64 w))
+    sym (lowest rest some small) ∙ rw e (first_left i (set_places 64 w))
 
 -- there are no more numbers than the width
 most_choice : (b : Bool) (k n : ℕ) (xs : List ℕ) → length xs ≤ n → length (cond b (k ∷ xs) xs) ≤ suc n
@@ -195,13 +195,13 @@ most_kept : (p : ℕ → Bool) (k n : ℕ) → length (filter p (counted_from k 
 most_kept p k zero = omega arith
 most_kept p k (suc n) = let r = most_kept p (suc k) n in most_choice (p k) k n (filter p (counted_from (suc k) n)) r
 
-pub most_places : (w : ℕ) → length (places 64 w) ≤ most_of_kind
-unfolding places
+pub most_places : (w : ℕ) → length (set_places 64 w) ≤ most_of_kind
+unfolding set_places
 most_places w = most_kept (has_bit w) 0 64
 
-pub most_below : (w k : ℕ) → length (filter (λ j. nat_lt j k) (places 64 w)) ≤ most_of_kind
-most_below w k = omega (arith, length-filter_both (λ j. nat_lt j k) (λ j. not (nat_lt j k)) (λ j. refl) (places 64 w), most_places w)
+pub most_below : (w k : ℕ) → length (filter (λ j. nat_lt j k) (set_places 64 w)) ≤ most_of_kind
+most_below w k = omega (arith, length-filter_both (λ j. nat_lt j k) (λ j. not (nat_lt j k)) (λ j. refl) (set_places 64 w), most_places w)
 
 -- the next number is below the width
-pub next_within : (w rest i : ℕ) → rest < 2 ^ 64 → i < length (places 64 w) → places 64 rest ≡ drop i (places 64 w) → trailing_zeros w64 rest < 64
+pub next_within : (w rest i : ℕ) → rest < 2 ^ 64 → i < length (set_places 64 w) → set_places 64 rest ≡ drop i (set_places 64 w) → trailing_zeros w64 rest < 64
 next_within w rest i small more e = (bit_at-trailing_zeros w64 rest (some_left w rest i more e) small).0

@@ -18,7 +18,7 @@ use Rattle.cf_index.specs.declared.rank.Rank.{Rank}
 use Rattle.cf_index.specs.Allowed.{all_leaving, all_passing, is_allowed}
 use Rattle.cf_index.specs.Listed.{at_word, slides_of}
 use Rattle.cf_index.specs.Order.{kind_place, slide_place, stands_after}
-use Rattle.cf_index.specs.Places.{places}
+use Rattle.cf_index.specs.Places.{set_places}
 use Rattle.cf_index.specs.Ranks.{is_past, rank_of}
 use Rattle.cf_index.proofs.FirstsAfter.{found_first, found_second}
 use Rattle.cf_index.proofs.Parts.{of_slides, slides_of-zero}
@@ -65,24 +65,24 @@ pick p f has new a (suc n) ys is =
     (pick p f has new (suc a) n ys is))
 
 pub word_split : (r : Rank) (kind : ℕ → Move) (w new : ℕ) (ys : List Move) → ((k : ℕ) → has_bit new k ≡ (has_bit w k && is_past r (kind (k + 1)))) →
-    find (is_past r) (at_word kind w ++ ys) ≡ on (slice_get (places 64 new) 0) (find (is_past r) ys) (λ k. Some (kind (k + 1)))
-unfolding at_word places
+    find (is_past r) (at_word kind w ++ ys) ≡ on (slice_get (set_places 64 new) 0) (find (is_past r) ys) (λ k. Some (kind (k + 1)))
+unfolding at_word set_places
 word_split r kind w new ys is = pick (is_past r) (λ k. kind (k + 1)) (has_bit w) (has_bit new) 0 64 ys is
 
 pub word_here : (r : Rank) (kind : ℕ → Move) (w new k : ℕ) (ys : List Move) → ((j : ℕ) → has_bit new j ≡ (has_bit w j && is_past r (kind (j + 1)))) →
-    Some k ≡ slice_get (places 64 new) 0 → Some (kind (k + 1)) ≡ find (is_past r) (at_word kind w ++ ys)
+    Some k ≡ slice_get (set_places 64 new) 0 → Some (kind (k + 1)) ≡ find (is_past r) (at_word kind w ++ ys)
 word_here r kind w new k ys is e = sym (rw (← e) at (word_split r kind w new ys is))
 
 pub word_gone : (r : Rank) (kind : ℕ → Move) (w new : ℕ) (ys : List Move) → ((j : ℕ) → has_bit new j ≡ (has_bit w j && is_past r (kind (j + 1)))) →
-    None ≡ slice_get (places 64 new) 0 → find (is_past r) ys ≡ find (is_past r) (at_word kind w ++ ys)
+    None ≡ slice_get (set_places 64 new) 0 → find (is_past r) ys ≡ find (is_past r) (at_word kind w ++ ys)
 word_gone r kind w new ys is e = sym (rw (← e) at (word_split r kind w new ys is))
 
 pub end_here : (r : Rank) (kind : ℕ → Move) (w new k : ℕ) → ((j : ℕ) → has_bit new j ≡ (has_bit w j && is_past r (kind (j + 1)))) →
-    Some k ≡ slice_get (places 64 new) 0 → Some (kind (k + 1)) ≡ find (is_past r) (at_word kind w)
+    Some k ≡ slice_get (set_places 64 new) 0 → Some (kind (k + 1)) ≡ find (is_past r) (at_word kind w)
 end_here r kind w new k is e = rw (append-nil (at_word kind w)) at (word_here r kind w new k [] is e)
 
 pub end_gone : (r : Rank) (kind : ℕ → Move) (w new : ℕ) → ((j : ℕ) → has_bit new j ≡ (has_bit w j && is_past r (kind (j + 1)))) →
-    None ≡ slice_get (places 64 new) 0 → None ≡ find (is_past r) (at_word kind w)
+    None ≡ slice_get (set_places 64 new) 0 → None ≡ find (is_past r) (at_word kind w)
 end_gone r kind w new is e = rw (append-nil (at_word kind w)) at (word_gone r kind w new [] is e)
 
 -- Where all come after, or none does --

@@ -12,7 +12,7 @@ use Rattle.cf_bind.specs.declared.moves.Move.TheVariants.{Climb, Fall, Meet, Exe
 use Rattle.cf_bind.specs.declared.passenger.Passenger.{Passenger}
 use Rattle.cf_layout.specs.Layout.{Plan}
 use Rattle.cf_layout.specs.Words.{has_bit}
-use Rattle.cf_semantics.specs.moves.Bars.{bar, climb_bar, fall_bar, first, first_of, is_full, meet_bar, row_bar, send_bar, stops_at}
+use Rattle.cf_semantics.specs.moves.Bars.{bar, climb_bar, fall_bar, first, first_bar_of, is_full, meet_bar, row_bar, send_bar, stops_at}
 use Rattle.cf_semantics.specs.state.Options.{on, is_some}
 use Rattle.cf_semantics.specs.state.State.{State, cell_at}
 use Rattle.cf_stages.specs.Words.{word_of}
@@ -117,9 +117,9 @@ first_case : (b : Bool) (bar : Bar) (rest : Option Bar) (clear : Bool) → not (
 first_case true bar rest clear e = refl
 first_case false bar rest clear e = e
 
-first_free : (rows : List (Bool × Bar)) → not (is_some (first_of rows None)) ≡ none_holds rows
+first_free : (rows : List (Bool × Bar)) → not (is_some (first_bar_of rows None)) ≡ none_holds rows
 first_free [] = refl
-first_free (row ∷ rows) = first_case row.0 row.1 (first_of rows None) (none_holds rows) (first_free rows)
+first_free (row ∷ rows) = first_case row.0 row.1 (first_bar_of rows None) (none_holds rows) (first_free rows)
 
 -- both are there, and have not met
 full_in : Option Cell → Bool
@@ -146,7 +146,7 @@ climb_row plan i (Some c) None = by_rider c.passenger (not (is_full c)) (not (ow
 climb_row plan i (Some c) (Some d) = by_rider c.passenger (is_full c)
   where
     by_rider : (o : Option Passenger) (f : Bool) →
-        not (is_some (on o (Some NoPassenger) (λ p. first_of ((f, NotMet) ∷ (is_some p.owes, Owes) ∷ (stops_at plan p i, NotDone)
+        not (is_some (on o (Some NoPassenger) (λ p. first_bar_of ((f, NotMet) ∷ (is_some p.owes, Owes) ∷ (stops_at plan p i, NotDone)
         ∷ (is_some d.passenger, Occupied) ∷ []) None)))
         ≡ (is_some o && (not f && (not (on o false (λ p. is_some p.owes)) && (not (on o false (λ p. stops_at plan p i))
         && (not (is_some d.passenger) && true)))))

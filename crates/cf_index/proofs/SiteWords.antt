@@ -7,7 +7,7 @@ use Rattle.std.specs.Int.Bits.{and_lt}
 use mir.Syntax.{w64}
 use Rattle.std.proofs.lemmas.Bool.Decides.{nat_tests}
 use Rattle.std.proofs.lemmas.Option.{unwrap_or-slice_get}
-use Rattle.cf_layout.specs.Layout.{Plan, SidingPlan, cells_of, no_siding, siding_at}
+use Rattle.cf_layout.specs.Layout.{Plan, SidingPlan, cells_of, no_siding, siding_plan_at}
 use Rattle.cf_layout.specs.Accepted.{IsAccepted}
 use Rattle.cf_layout.specs.Words.{has_bit}
 use Rattle.std.proofs.lemmas.Nat.Bits.{bit_at-trailing_zeros}
@@ -19,7 +19,7 @@ pub siding_within : (plan : Plan) (k : ℕ) → IsAccepted plan → k < length p
 unfolding cells_of
 siding_within plan k a within =
     let c = (a.sidings k no_siding within).cells in
-    let e : siding_at plan k ≡ get_or plan.sidings k no_siding = unwrap_or-slice_get plan.sidings k no_siding in
+    let e : siding_plan_at plan k ≡ get_or plan.sidings k no_siding = unwrap_or-slice_get plan.sidings k no_siding in
     let f = ap (λ (siding : SidingPlan). siding.cells) e in
     (omega (arith, f, c), omega (arith, f, c), omega (arith, a.few_sidings))
 

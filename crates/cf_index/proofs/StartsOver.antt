@@ -21,7 +21,7 @@ use Rattle.cf_semantics.specs.state.State.{State, cell_at}
 use Rattle.cf_stages.specs.Changes.{passenger_at}
 use Rattle.cf_index.specs.declared.rank.Rank.{Rank}
 use Rattle.cf_index.specs.Allowed.{all_passing, allowed_issues, allowed_others, is_allowed, is_running, kept_issues, unheld_issues, withheld}
-use Rattle.cf_index.specs.GuessRules.{guided, keeps}
+use Rattle.cf_index.specs.GuessRules.{guided, keeps_move}
 use Rattle.cf_index.specs.Order.{first_after, kind_place, slide_place}
 use Rattle.cf_index.specs.PickedFrom.{IsLast, IsPicked, IsPickedFrom, from_climb, from_emit, outward_on}
 use Rattle.cf_index.specs.Ranks.{first_rank, is_past, rank_of}
@@ -223,7 +223,7 @@ pub issue_kind : (rule : GuessRule) (plan : Plan) (s : State) (o : Option Move) 
 unfolding AreIssues
 issue_kind rule plan s o mv first is =
     issues_first (kept_issues rule plan s) mv
-    (issues_kept (keeps rule plan s) (allowed_issues plan s)
+    (issues_kept (keeps_move rule plan s) (allowed_issues plan s)
     (issues_kept (is_allowed plan s) (Issue Next ∷ Issue Taken ∷ Issue Wait ∷ []) (refl, (refl, (refl, tt)))))
     (sym first ∙ is)
 

@@ -11,7 +11,7 @@ use Rattle.cf_bind.specs.declared.moves.Bar.{Bar}
 use Rattle.cf_bind.specs.declared.moves.Bar.TheVariants.{NoSuchSite, OpNotThere, Occupied}
 use Rattle.cf_bind.specs.declared.moves.Move.{Move}
 use Rattle.cf_bind.specs.declared.moves.Move.TheVariants.{Issue, Emit, Climb, Fall, Meet, Execute, Send, Launch, Slide, Access, Recover, Leave, Exit, Serve}
-use Rattle.cf_semantics.specs.moves.Bars.{bar, row_bar, last_op, access_bar, slide_bar, climb_bar, fall_bar, first_of, is_taken}
+use Rattle.cf_semantics.specs.moves.Bars.{bar, row_bar, last_op, access_bar, slide_bar, climb_bar, fall_bar, first_bar_of, cell_is_taken}
 use Rattle.cf_semantics.specs.moves.Candidates.{counted_from}
 use Rattle.cf_semantics.specs.state.Layouts.{port}
 use Rattle.cf_semantics.specs.state.Options.{on, is_some}
@@ -84,7 +84,7 @@ slid_within : (ops : List (Option Op)) (c : ℕ) → slide_bar ops c ≡ None �
 slid_within ops c e = go (slice_get ops (c + 1)) refl e
   where
     go : (cell : Option (Option Op)) → slice_get ops (c + 1) ≡ cell → on cell (Some NoSuchSite)
-        (λ o. first_of ((not (is_taken (slice_get ops c)), OpNotThere) ∷ (is_some o, Occupied) ∷ []) None) ≡ None → c + 1 < length ops
+        (λ o. first_bar_of ((not (cell_is_taken (slice_get ops c)), OpNotThere) ∷ (is_some o, Occupied) ∷ []) None) ≡ None → c + 1 < length ops
     go None is f = absurd (cc)
     go (Some o) is f = slice_get_within ops (c + 1) o is
 

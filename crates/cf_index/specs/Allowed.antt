@@ -16,7 +16,7 @@ use Rattle.cf_semantics.specs.moves.Candidates.{at_stages, held_back, slides_fro
 use Rattle.cf_stages.specs.Changes.{passenger_at}
 use Rattle.cf_stages.specs.Words.{word_of}
 use Rattle.cf_index.specs.declared.passing.Passing.{Passing}
-use Rattle.cf_index.specs.GuessRules.{keeps, keeps_guess}
+use Rattle.cf_index.specs.GuessRules.{keeps_move, keeps_guess}
 use Rattle.cf_index.specs.Listed.{at_word}
 use Rattle.cf_index.specs.Words.{goes_on}
 
@@ -95,7 +95,7 @@ may_issue r plan s g = is_allowed plan s (Issue g) && keeps_guess r plan s g
 
 -- the allowed moves that issue and that a guess rule keeps
 abbrev pub kept_issues : GuessRule → Plan → State → List Move
-kept_issues r plan s = filter (keeps r plan s) (allowed_issues plan s)
+kept_issues r plan s = filter (keeps_move r plan s) (allowed_issues plan s)
 
 -- those that are offered where Issue is held back, and where it is not
 abbrev pub unheld_issues : Bool → GuessRule → Plan → State → List Move

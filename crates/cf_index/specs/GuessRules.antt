@@ -56,10 +56,10 @@ keeps_guess rule.Any plan s g = true
 keeps_guess r plan s g = is_guess (guess_at r plan s) g
 
 -- the rule keeps each move but an Issue by another guess than its own
-abbrev pub keeps : GuessRule → Plan → State → Move → Bool
-keeps r plan s (Issue g) = keeps_guess r plan s g
-keeps r plan s mv = true
+abbrev pub keeps_move : GuessRule → Plan → State → Move → Bool
+keeps_move r plan s (Issue g) = keeps_guess r plan s g
+keeps_move r plan s mv = true
 
 -- the candidates that a rule leaves
 unfoldable pub guided : GuessRule → Plan → State → List Move
-guided r plan s = filter (keeps r plan s) (candidates plan s)
+guided r plan s = filter (keeps_move r plan s) (candidates plan s)

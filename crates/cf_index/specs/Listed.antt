@@ -6,7 +6,7 @@ use Rattle.cf_bind.specs.declared.moves.Move.TheVariants.{Issue, Emit, Climb, Fa
 use Rattle.cf_index.specs.declared.entering.Entering.{Entering}
 use Rattle.cf_index.specs.declared.passing.Passing.{Passing}
 use Rattle.cf_index.specs.declared.leaving.Leaving.{Leaving}
-use Rattle.cf_index.specs.Places.{places}
+use Rattle.cf_index.specs.Places.{set_places}
 
 -- a move, where its flag is set
 abbrev pub flagged : Bool → Move → List Move
@@ -15,7 +15,7 @@ flagged false mv = []
 
 -- one kind of move at each stage of a word, which has bit i - 1 for stage i
 unfoldable pub at_word : (ℕ → Move) → ℕ → List Move
-at_word kind w = map (λ k. kind (k + 1)) (places 64 w)
+at_word kind w = map (λ k. kind (k + 1)) (set_places 64 w)
 
 -- the move within the sidings of bit 8k + c: siding k, cell c
 abbrev pub slide_at : ℕ → Move
@@ -23,7 +23,7 @@ slide_at j = Slide (j / 8) (j % 8)
 
 -- the moves within the sidings of a word
 unfoldable pub slides_of : ℕ → List Move
-slides_of w = map slide_at (places 64 w)
+slides_of w = map slide_at (set_places 64 w)
 
 -- what enters the two pipes
 unfoldable pub entering_moves : Entering → List Move

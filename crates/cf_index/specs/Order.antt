@@ -71,8 +71,8 @@ is_after None mv = true
 is_after (Some last) mv = stands_after last mv
 
 -- how many of the moves come before the first after the last one
-unfoldable pub passed : Move → List Move → ℕ
-passed last moves = prefix_len (λ mv. not (stands_after last mv)) moves
+unfoldable pub passed_moves : Move → List Move → ℕ
+passed_moves last moves = prefix_len (λ mv. not (stands_after last mv)) moves
 
 -- the place in the list of the first move after the last one, and that of the first of all where none comes after it
 unfoldable pub first_after : Option Move → List Move → ℕ

@@ -4,5 +4,5 @@ use Rattle.cf_layout.specs.Words.{has_bit}
 use Rattle.cf_semantics.specs.moves.Candidates.{counted_from}
 
 -- the numbers below n whose bit the word has, ascending
-unfoldable pub places : ℕ → ℕ → List ℕ
-places n w = filter (has_bit w) (counted_from 0 n)
+unfoldable pub set_places : ℕ → ℕ → List ℕ
+set_places n w = filter (has_bit w) (counted_from 0 n)

@@ -3,13 +3,13 @@
 ghost use Rattle.std.specs.Prelude.{◌≡◌, ℕ, ◌<◌, ◌≤◌, ◌&&◌, ◌||◌, nat_eq, IfSome, Some, filter, length, nat_lt, slice_get};
 ghost use Rattle.cf_layout.specs.Words.{has_bit};
 ghost use Rattle.cf_index.specs.Most.{most_of_kind};
-ghost use Rattle.cf_index.specs.Places.{places};
+ghost use Rattle.cf_index.specs.Places.{set_places};
 
 /// How many numbers the word has.
 #[inline(always)]
 #[tactic(auto, using(crate::proofs::Places::count_places, crate::proofs::Places::most_places))]
 pub(crate) fn count(word: u64) -> usize
-    ensures numbers { result ≡ length (places 64 word) }
+    ensures numbers { result ≡ length (set_places 64 word) }
     ensures most { result ≤ most_of_kind }
 {
     word.count_ones() as usize
@@ -19,7 +19,7 @@ pub(crate) fn count(word: u64) -> usize
 #[inline(always)]
 #[tactic(auto, using(crate::proofs::Places::mask_some, crate::proofs::Places::counts_below, crate::proofs::Places::counts_all_below, crate::proofs::Places::most_below))]
 pub(crate) fn count_below(word: u64, k: usize) -> usize
-    ensures numbers { result ≡ length (filter (λ j. nat_lt j k) (places 64 word)) }
+    ensures numbers { result ≡ length (filter (λ j. nat_lt j k) (set_places 64 word)) }
     ensures most { result ≤ most_of_kind }
 {
     if k < 64 {
@@ -33,7 +33,7 @@ pub(crate) fn count_below(word: u64, k: usize) -> usize
 #[inline(always)]
 #[tactic(auto, using(crate::proofs::FirstsAfter::lowest_place, crate::proofs::FirstsAfter::no_place))]
 pub(crate) fn lowest(word: u32) -> Option<u32>
-    ensures number { result ≡ slice_get (places 64 word) 0 }
+    ensures number { result ≡ slice_get (set_places 64 word) 0 }
     ensures within { IfSome result (λ k. k < 64) }
 {
     let wide = word as u64;
@@ -48,8 +48,8 @@ pub(crate) fn lowest(word: u32) -> Option<u32>
 #[inline(always)]
 #[tactic(auto, using(crate::proofs::Places::some_left, crate::proofs::Places::one_passed, crate::proofs::Places::next_place, crate::proofs::Places::next_within))]
 pub(crate) fn nth(word: u64, i: usize) -> u32
-    requires { i < length (places 64 word) }
-    ensures number { Some result ≡ slice_get (places 64 word) i }
+    requires { i < length (set_places 64 word) }
+    ensures number { Some result ≡ slice_get (set_places 64 word) i }
     ensures within { result < 64 }
 {
     let mut rest = word;

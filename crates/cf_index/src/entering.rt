@@ -4,7 +4,7 @@ ghost use Rattle.std.specs.Prelude.{◌≡◌, ◌<◌, ◌≤◌, Some, length,
 ghost use Rattle.cf_semantics.specs.moves.Candidates.{other_moves};
 ghost use Rattle.cf_index.specs.Listed.{entering_moves};
 ghost use Rattle.cf_index.specs.Most.{most_entering};
-ghost use Rattle.cf_index.specs.Order.{passed};
+ghost use Rattle.cf_index.specs.Order.{passed_moves};
 
 use cf_bind::{Guess, Move};
 
@@ -65,9 +65,9 @@ impl Entering {
 
     /// The place of the first that comes after this move in the order of all moves.
     #[inline(always)]
-    #[tactic(auto, unfolding(crate::specs::Listed::entering_moves, crate::specs::Order::passed))]
+    #[tactic(auto, unfolding(crate::specs::Listed::entering_moves, crate::specs::Order::passed_moves))]
     pub(crate) fn passed(&self, last: Move) -> usize
-        ensures count { result ≡ passed last (entering_moves self.now) }
+        ensures count { result ≡ passed_moves last (entering_moves self.now) }
         ensures most { result ≤ most_entering }
     {
         match last {

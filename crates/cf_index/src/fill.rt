@@ -6,7 +6,7 @@ ghost use Rattle.cf_layout.specs.Words.{has_bit};
 ghost use Rattle.cf_semantics.specs.moves.Candidates.{candidates, slides_from};
 ghost use Rattle.cf_core.specs.Masks.{masks_of};
 ghost use Rattle.cf_index.specs.Allowed.{all_entering, all_leaving, all_passing, is_allowed};
-ghost use Rattle.cf_index.specs.GuessRules.{guided, keeps};
+ghost use Rattle.cf_index.specs.GuessRules.{guided, keeps_move};
 ghost use Rattle.cf_index.specs.Listed.{entering_moves, leaving_moves, passing_moves, slide_at, slides_of};
 
 use crate::bits::with_bit;
@@ -60,7 +60,7 @@ pub(crate) fn slides(core: &Core) -> u64
 #[inline(always)]
 #[tactic(auto, unfolding(crate::specs::Listed::entering_moves))]
 fn entering(core: &Core, rule: GuessRule) -> Entering
-    ensures { entering_moves result ≡ filter (keeps rule core.now.plan core.now.state) (filter (is_allowed core.now.plan core.now.state) all_entering) }
+    ensures { entering_moves result ≡ filter (keeps_move rule core.now.plan core.now.state) (filter (is_allowed core.now.plan core.now.state) all_entering) }
 {
     let issuable = guided(core, rule);
     Entering {

@@ -3,7 +3,7 @@
 ghost use Rattle.std.specs.Prelude.{◌≡◌, ◌<◌, ◌≤◌, Some, length, slice_get};
 ghost use Rattle.cf_index.specs.Listed.{leaving_moves};
 ghost use Rattle.cf_index.specs.Most.{most_leaving};
-ghost use Rattle.cf_index.specs.Order.{passed};
+ghost use Rattle.cf_index.specs.Order.{passed_moves};
 
 use crate::bits::{count, count_below, nth};
 use cf_bind::Move;
@@ -65,7 +65,7 @@ impl Leaving {
     #[inline(always)]
     #[tactic(auto, using(crate::proofs::PassedEnds::leaving))]
     pub(crate) fn passed(&self, last: Move) -> usize
-        ensures count { result ≡ passed last (leaving_moves self.now) }
+        ensures count { result ≡ passed_moves last (leaving_moves self.now) }
         ensures most { result ≤ most_leaving }
     {
         let accesses = self.access as usize;

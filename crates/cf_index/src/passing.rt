@@ -3,7 +3,7 @@
 ghost use Rattle.std.specs.Prelude.{◌≡◌, ◌<◌, ◌≤◌, Some, length, slice_get};
 ghost use Rattle.cf_index.specs.Listed.{passing_moves};
 ghost use Rattle.cf_index.specs.Most.{most_passing};
-ghost use Rattle.cf_index.specs.Order.{passed};
+ghost use Rattle.cf_index.specs.Order.{passed_moves};
 
 use crate::bits::{count, count_below, nth};
 use cf_bind::Move;
@@ -73,7 +73,7 @@ impl Passing {
     #[inline(always)]
     #[tactic(auto, using(crate::proofs::PassedStages::passing))]
     pub(crate) fn passed(&self, last: Move) -> usize
-        ensures count { result ≡ passed last (passing_moves self.now) }
+        ensures count { result ≡ passed_moves last (passing_moves self.now) }
         ensures most { result ≤ most_passing }
     {
         let climbs = count(self.climb as u64);

@@ -8,7 +8,7 @@ ghost use Rattle.cf_semantics.specs.moves.Candidates.{slides_from};
 ghost use Rattle.cf_index.specs.Allowed.{all_leaving, all_passing, allowed_others, is_allowed, kept_issues};
 ghost use Rattle.cf_index.specs.Listed.{entering_moves, flagged, leaving_moves, passing_moves, slides_of};
 ghost use Rattle.cf_index.specs.Most.{most_leaving, most_of_kind, most_others, most_passing};
-ghost use Rattle.cf_index.specs.Places.{places};
+ghost use Rattle.cf_index.specs.Places.{set_places};
 ghost use Rattle.cf_index.specs.Spread.{numbered};
 
 use crate::bits::count;
@@ -80,7 +80,7 @@ fn visit_if<V: Visitor>(visitor: &mut V, there: bool, mv: Move)
 #[inline(always)]
 #[tactic(auto, using(crate::proofs::Shown::shown_next, crate::proofs::Shown::shown_none, crate::proofs::Shown::lowest_within, crate::proofs::Shown::less_word))]
 fn visit_word<V: Visitor>(visitor: &mut V, kind: Spread, word: u64)
-    ensures { visitor.new ≡ fold V.after visitor.old (map (numbered kind) (places 64 word)) }
+    ensures { visitor.new ≡ fold V.after visitor.old (map (numbered kind) (set_places 64 word)) }
 {
     let mut rest = word;
     while rest != 0 {

@@ -29,8 +29,8 @@ unread_files files fails = record {
 }
 
 -- what the files expose
-abbrev pub told_by : MemoryFiles → FilesSeen
-told_by files = record {
+abbrev pub known_files : MemoryFiles → FilesSeen
+known_files files = record {
   content = content_of files.files;
   read = files.read;
   failed = files.failed;

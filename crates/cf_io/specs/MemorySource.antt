@@ -11,8 +11,8 @@ pub record MemorySource : Type 0 where
   pub faults : ℕ
 
 -- before the first call
-abbrev pub start_of : List ℕ → ℕ → List ℕ → MemorySource
-start_of bytes piece fails = record {
+abbrev pub source_at_start : List ℕ → ℕ → List ℕ → MemorySource
+source_at_start bytes piece fails = record {
   left = bytes;
   piece = piece;
   calls = no_calls fails;

@@ -4,7 +4,7 @@ ghost use Rattle.std.specs.Prelude.{◌≡◌, ◌<◌, ◌≤◌, [], ◌∷◌
 ghost use Rattle.std.specs.Prelude.{vec_len, vec_capacity};
 ghost use Rattle.cf_io.specs.Causes.{raised};
 ghost use Rattle.cf_io.specs.Reads.{ReadsFile, HasReadCause};
-ghost use Rattle.cf_io.specs.MemoryFiles.{unread_files, told_by, ReadsCounted};
+ghost use Rattle.cf_io.specs.MemoryFiles.{unread_files, known_files, ReadsCounted};
 ghost use Rattle.cf_io.specs.NamedFiles.{content_of, entry_of};
 
 use crate::failing_calls::FailingCalls;
@@ -131,15 +131,15 @@ impl MemFiles {
 
 impl Files for MemFiles {
     ghost use Rattle.std.specs.Prelude.{Some};
-    ghost use Rattle.cf_io.specs.MemoryFiles.{told_by};
+    ghost use Rattle.cf_io.specs.MemoryFiles.{known_files};
 
-    ghost told = { λ f. Some (told_by f) };
+    ghost told = { λ f. Some (known_files f) };
 
     ghost faults = { λ f. f.faults };
 
     #[tactic(auto, unfolding(crate::specs::MemoryFiles::read_fails))]
     fn read(&mut self, alloc: Global, name: &str, most: u64) -> Result<Vec<u8>, FilesErr>
-        ensures bytes { ReadsFile (Some (told_by self.old)) (Some (told_by self.new))
+        ensures bytes { ReadsFile (Some (known_files self.old)) (Some (known_files self.new))
             name.now most result }
         ensures most { IfOk result (λ bytes. vec_len bytes ≤ most) }
         ensures cause { HasReadCause self.old.faults self.new.faults result }

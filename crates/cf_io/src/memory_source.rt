@@ -3,7 +3,7 @@
 ghost use Rattle.std.specs.Prelude.{◌≡◌, ◌<◌, ◌↔◌, Some, length, IfOk, IsErr, IsTrue};
 ghost use Rattle.cf_io.specs.Causes.{HasCause};
 ghost use Rattle.cf_io.specs.Takes.{Takes};
-ghost use Rattle.cf_io.specs.MemorySource.{start_of, piece_size, take_fails, after_take};
+ghost use Rattle.cf_io.specs.MemorySource.{source_at_start, piece_size, take_fails, after_take};
 
 use crate::failed::Failed;
 use crate::failing_calls::FailingCalls;
@@ -41,7 +41,7 @@ impl MemSource {
     /// the numbers of the takes that fail, counted from 1; takes into an empty slice are not counted.
     pub fn new(bytes: Vec<u8>, piece: usize, fails: Vec<u64>) -> MemSource
         requires { 0 < piece }
-        ensures { result ≡ start_of bytes.items piece fails.items }
+        ensures { result ≡ source_at_start bytes.items piece fails.items }
     {
         MemSource {
             bytes,

@@ -5,15 +5,15 @@ use Rattle.std.proofs.lemmas.Bool.Decides.{nat_tests}
 use Rattle.rv_inst.specs.declared.classes.Class.{Class}
 use Rattle.rv_inst.specs.declared.classes.Class.TheVariants.{Add, Logic, Shift, Compare, Branch, Jump, Memory, Serial, Free, Mul, Div}
 use Rattle.cf_layout.specs.declared.parts.Parts.{Parts}
-use Rattle.cf_layout.specs.Asked.{natural, is_within, IsSmallSiding, is_asked, listed, ascending, plan_of}
+use Rattle.cf_layout.specs.Asked.{natural, is_integer_within, IsSmallSiding, is_asked, stages_listed, ascending, plan_of}
 use Rattle.cf_layout.specs.Accepted.{is_needed, is_control, IsEquipped, IsAccepted}
 use Rattle.cf_layout.specs.Acceptable.{AreComputed, AreEquipped, IsAcceptable}
-use Rattle.cf_layout.specs.Refusal.{loose_refusal, refusal, missing, missing_refusal, needed_classes, above, turn_refusal, control_refusal, turns_in, siding_for, memory_launch_in}
+use Rattle.cf_layout.specs.Refusal.{loose_refusal, first_refusal, missing_class, missing_refusal, needed_classes, above, turn_refusal, control_refusal, turns_in, siding_for, memory_launch_in}
 use Rattle.cf_layout.proofs.Control.{described_equipped, described}
 use Rattle.cf_layout.proofs.Passing.{first_passes, next_passes, holds, none_found, all_fail, within_most, limits_hold, units_hold, sidings_hold, small_sidings, all_once}
 
 -- no class is missing
-none_missing : (o : Option Class) → missing o ≡ None → o ≡ None
+none_missing : (o : Option Class) → missing_class o ≡ None → o ≡ None
 none_missing None e = refl
 none_missing (Some c) e = cc
 
@@ -53,13 +53,13 @@ none_above c launch (Some stage) e = cc
 
 -- no stage where the class turns control is above
 turns_low : (parts : Parts) (c : Class) → turn_refusal parts c ≡ None → All (λ stage. stage ≤ memory_launch_in parts.sidings)
-    (turns_in (ascending (listed parts.units c)) (siding_for parts.sidings c))
+    (turns_in (ascending (stages_listed parts.units c)) (siding_for parts.sidings c))
 unfolding turn_refusal
 turns_low parts c e = λ k d within. not_above _ _ (all_fail (nat_lt (memory_launch_in parts.sidings)) _ (none_above c _ _ e) k d within)
 
 -- the classes that turn control
 control_low : (parts : Parts) → control_refusal parts ≡ None → (c : Class) → is_control c ≡ true →
-    All (λ stage. stage ≤ memory_launch_in parts.sidings) (turns_in (ascending (listed parts.units c)) (siding_for parts.sidings c))
+    All (λ stage. stage ≤ memory_launch_in parts.sidings) (turns_in (ascending (stages_listed parts.units c)) (siding_for parts.sidings c))
 unfolding control_refusal
 control_low parts e Branch t = turns_low parts Branch (first_passes _ _ e)
 control_low parts e Jump t = turns_low parts Jump (next_passes _ _ e)
@@ -104,13 +104,13 @@ equipped parts e =
     }
 
 -- and parts that are not refused are acceptable
-pub acceptable : (parts : Parts) → refusal parts ≡ None → IsAcceptable parts
-unfolding refusal
+pub acceptable : (parts : Parts) → first_refusal parts ≡ None → IsAcceptable parts
+unfolding first_refusal
 acceptable parts e = record { equipped = equipped parts (first_passes _ _ e); control = control_low parts (next_passes _ _ e) }
 
 -- and pass all tests but the last
-pub loosely_passed : (parts : Parts) → refusal parts ≡ None → loose_refusal parts ≡ None
-unfolding refusal
+pub loosely_passed : (parts : Parts) → first_refusal parts ≡ None → loose_refusal parts ≡ None
+unfolding first_refusal
 loosely_passed parts e = first_passes _ _ e
 
 -- so what parts that pass all tests but the last describe is equipped
@@ -118,11 +118,11 @@ pub equips : (parts : Parts) → AreComputed parts → loose_refusal parts ≡ N
 equips parts computed e = described_equipped parts computed (equipped parts e)
 
 -- and what parts that are not refused describe is accepted
-pub accepted : (parts : Parts) → AreComputed parts → refusal parts ≡ None → IsAccepted (plan_of parts)
+pub accepted : (parts : Parts) → AreComputed parts → first_refusal parts ≡ None → IsAccepted (plan_of parts)
 accepted parts computed e = described parts computed (acceptable parts e)
 
 -- their numbers are within the limits of a layout
-pub limits_kept : (parts : Parts) → loose_refusal parts ≡ None → (is_within 2 32 parts.stages ≡ true) × (is_within 2 64 parts.lane ≡ true)
+pub limits_kept : (parts : Parts) → loose_refusal parts ≡ None → (is_integer_within 2 32 parts.stages ≡ true) × (is_integer_within 2 64 parts.lane ≡ true)
     × (length parts.sidings ≤ 8)
 unfolding loose_refusal
 limits_kept parts e = limits_hold parts (first_passes _ _ e)

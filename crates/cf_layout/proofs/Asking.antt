@@ -15,9 +15,9 @@ use Rattle.cf_layout.specs.declared.parts.Parts.{Parts}
 use Rattle.cf_layout.specs.Layout.{Plan, SidingPlan, place_of, same_class, computed_classes, stages_of, unit_at, unit_homes, homes, serves}
 use Rattle.cf_layout.specs.Accepted.{IsStage, IsAccepted, is_needed, is_control, memory_launch}
 use Rattle.cf_layout.specs.Accepted as accepted
-use Rattle.cf_layout.specs.Asked.{is_within, names, is_sided, is_asked, stages_in, listed, ascending, siding_plan, units_plan, plan_of}
+use Rattle.cf_layout.specs.Asked.{is_integer_within, lists_class, is_sided, is_asked, stages_in, stages_listed, ascending, siding_plan, units_plan, plan_of}
 use Rattle.cf_layout.specs.Acceptable.{IsComputed, AreEquipped, IsAcceptable, IsUnit, IsSiding, times, sided_classes, asked_classes}
-use Rattle.cf_layout.specs.Refusal.{siding_for, turns_in, memory_launch_in, refusal}
+use Rattle.cf_layout.specs.Refusal.{siding_for, turns_in, memory_launch_in, first_refusal}
 use Rattle.cf_layout.proofs.Counts.{same_true, times_append, times_cons, times_nil, is_sided_times, is_asked_times}
 use Rattle.cf_layout.proofs.Facts.{one_home}
 use Rattle.cf_layout.proofs.Described.{needed_computed, control_needed}
@@ -64,13 +64,13 @@ listed_by c d true more mine (i ∷ is) rest e equal after = let all = equal ref
 listed_by c d false more mine (i ∷ is) rest e equal after = rw e after
 
 listed_among : (stages : Class → List ℕ) (c : Class) (cs : List Class) → stages_in (find (λ unit. same_class c unit.0) (units_for stages cs))
-    ≡ cond (names cs c) (map (λ n. pos n) (stages c)) []
+    ≡ cond (lists_class cs c) (map (λ n. pos n) (stages c)) []
 listed_among stages c [] = refl
-listed_among stages c (d ∷ ds) = listed_by c d (same_class c d) (names ds c) (stages c) (stages d) (units_for stages ds) refl
+listed_among stages c (d ∷ ds) = listed_by c d (same_class c d) (lists_class ds c) (stages c) (stages d) (units_for stages ds) refl
     (λ same. ap stages (same_true c d same)) (listed_among stages c ds)
 
 -- a computed class is one of the computed classes
-one_of_them : (c : Class) → IsComputed c → names computed_classes c ≡ true
+one_of_them : (c : Class) → IsComputed c → lists_class computed_classes c ≡ true
 one_of_them Add small = refl
 one_of_them Logic small = refl
 one_of_them Shift small = refl
@@ -84,8 +84,8 @@ one_of_them Serial small = absurd (omega arith)
 one_of_them Free small = absurd (omega arith)
 
 -- the stages that are listed for a computed class are its stages
-asked_stages : (plan : Plan) (c : Class) → IsComputed c → listed (units_for (stages_of plan) computed_classes) c ≡ map (λ n. pos n) (stages_of plan c)
-unfolding listed
+asked_stages : (plan : Plan) (c : Class) → IsComputed c → stages_listed (units_for (stages_of plan) computed_classes) c ≡ map (λ n. pos n) (stages_of plan c)
+unfolding stages_listed
 asked_stages plan c small = listed_among (stages_of plan) c computed_classes ∙ ap (λ (b : Bool). cond b (map (λ n. pos n) (stages_of plan c)) [])
     (one_of_them c small)
 
@@ -102,7 +102,7 @@ unfolding stages_of
 class_within plan a c = place_within plan plan.units (place_of c) a.ascending a.unit_stages
 
 -- the stages of a computed class are requested unchanged
-pub stages_back : (plan : Plan) → IsAccepted plan → (c : Class) → IsComputed c → ascending (listed (asking plan).units c) ≡ stages_of plan c
+pub stages_back : (plan : Plan) → IsAccepted plan → (c : Class) → IsComputed c → ascending (stages_listed (asking plan).units c) ≡ stages_of plan c
 stages_back plan a c small =
     let w = class_within plan a c in
     let few = a.stages.1 in
@@ -146,7 +146,7 @@ same_at f g same = rw (
 
 units_back : (plan : Plan) → IsAccepted plan → units_plan (asking plan).units ≡ plan.units
 unfolding units_plan stages_of
-units_back plan a = same_at (λ c. ascending (listed (asking plan).units c)) (λ c. unwrap_or (slice_get plan.units (place_of c)) []) (stages_back plan a)
+units_back plan a = same_at (λ c. ascending (stages_listed (asking plan).units c)) (λ c. unwrap_or (slice_get plan.units (place_of c)) []) (stages_back plan a)
     ∙ nine_places plan.units a.classes
 
 -- a requested siding comes back
@@ -212,12 +212,12 @@ rise_step : (same rest : Bool) (t : ℕ) → (same ≡ true → rest ≡ false) 
 rise_step true rest t alone e = let none = alone refl in let z = rw none at e in omega arith
 rise_step false rest t alone e = omega arith
 
-rise_times : (k : ℕ) (classes : List Class) (c : Class) → Rises k (map place_of classes) → times classes c ≡ cond (names classes c) 1 0
+rise_times : (k : ℕ) (classes : List Class) (c : Class) → Rises k (map place_of classes) → times classes c ≡ cond (lists_class classes c) 1 0
 unfolding has_place
 rise_times k [] c rise = times_nil c
 rise_times k (d ∷ ds) c rise =
     times_cons d ds c
-    ∙ rise_step (same_class c d) (names ds c) (times ds c) (λ same. let at = ap place_of (same_true c d same) in
+    ∙ rise_step (same_class c d) (lists_class ds c) (times ds c) (λ same. let at = ap place_of (same_true c d same) in
     places_same (place_of c) ds ∙ not_among (place_of c) (suc (place_of d)) (map place_of ds) (omega arith) rise.1)
     (rise_times (suc (place_of d)) ds c rise.1)
 
@@ -276,7 +276,7 @@ needed_asked : (plan : Plan) → IsAccepted plan → (c : Class) → is_needed c
 needed_asked plan a c n = is_asked_homed plan a c (needed_computed c n) ∙ ap (λ (h : ℕ). nat_lt 0 h) (a.needed c n)
 
 -- a number within bounds passes the test of them
-within_test : (least most n : ℕ) → least ≤ n → n ≤ most → is_within least most (pos n) ≡ true
+within_test : (least most n : ℕ) → least ≤ n → n ≤ most → is_integer_within least most (pos n) ≡ true
 within_test least most n low high = grind (arith, nat_tests)
 
 -- the entries are acceptable
@@ -288,7 +288,7 @@ entry_right n c (i ∷ is) rest off all after =
     (record {
       beside_memory = off (omega arith);
       some = omega arith;
-      stages = All-map (λ z. is_within 1 n z ≡ true) (λ m. pos m) (i ∷ is) (λ k d within. within_test 1 n _ (all k d within).0 (all k d within).1);
+      stages = All-map (λ z. is_integer_within 1 n z ≡ true) (λ m. pos m) (i ∷ is) (λ k d within. within_test 1 n _ (all k d within).0 (all k d within).1);
     })
     after
 
@@ -327,7 +327,8 @@ find_step false s found rest e = e
 asked_siding : (sidings : List SidingPlan) (c : Class) → siding_for (map asking_siding sidings) c ≡ option_map asking_siding (find (λ s. serves s c) sidings)
 unfolding siding_for serves
 asked_siding [] c = refl
-asked_siding (s ∷ ss) c = find_step (names s.classes c) s (find (λ t. names t.classes c) ss) (find (λ t. names t.classes c) (map asking_siding ss))
+asked_siding (s ∷ ss) c = find_step (lists_class s.classes c) s (find (λ t. lists_class t.classes c) ss)
+    (find (λ t. lists_class t.classes c) (map asking_siding ss))
     (asked_siding ss c)
 
 -- what holds of all that pass holds of the first
@@ -375,7 +376,7 @@ launch_back : (plan : Plan) → IsAccepted plan → memory_launch plan ≡ memor
 launch_back plan a = launch_given (asking plan).sidings plan (sym (sidings_back plan plan.sidings a.sidings)) (memory_stages plan a)
 
 control_right : (plan : Plan) → IsAccepted plan → (c : Class) → is_control c ≡ true → All (λ stage. stage ≤ memory_launch_in (asking plan).sidings)
-    (turns_in (ascending (listed (asking plan).units c)) (siding_for (asking plan).sidings c))
+    (turns_in (ascending (stages_listed (asking plan).units c)) (siding_for (asking plan).sidings c))
 control_right plan a c turns =
     rw (← launch_back plan a, stages_back plan a c (needed_computed c (control_needed c turns)), asked_siding plan.sidings c)
     (turns_right (stages_of plan c) (find (λ s. serves s c) plan.sidings) (memory_launch plan) (units_low plan a c turns)
@@ -399,5 +400,5 @@ pub asking_acceptable : (plan : Plan) → IsAccepted plan → IsAcceptable (aski
 asking_acceptable plan a = record { equipped = asking_equipped plan a; control = control_right plan a }
 
 -- and so not refused
-pub asking_passes : (plan : Plan) → IsAccepted plan → refusal (asking plan) ≡ None
+pub asking_passes : (plan : Plan) → IsAccepted plan → first_refusal (asking plan) ≡ None
 asking_passes plan a = not_refused (asking plan) (asking_acceptable plan a)

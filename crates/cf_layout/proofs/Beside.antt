@@ -9,8 +9,8 @@ use Rattle.cf_layout.specs.declared.parts.Parts.{Parts}
 use Rattle.cf_layout.specs.declared.refusal.LayoutErr.{LayoutErr}
 use Rattle.cf_layout.specs.declared.refusal.LayoutErr.TheVariants.{StagesOutOfRange, LaneOutOfRange, StageOutOfRange, ClassTwice, MissingUnit, EmptyUnit, MemoryNotSiding, MemorySharesSiding, SidingOrder, CellsOutOfRange, TooManySidings, EmptySiding}
 use Rattle.cf_layout.specs.Layout.{same_class}
-use Rattle.cf_layout.specs.Asked.{natural, is_within, names, is_unit, is_sided, is_asked, listed, ascending}
-use Rattle.cf_layout.specs.Refusal.{unless, outside, twice, missing, above, limits_refusal, unit_refusal, units_refusal, first_repeated, stages_refusal, classes_refusal, filled_refusal, siding_refusal, sidings_refusal, missing_refusal, needed_classes, turn_refusal, control_refusal, turns_in, siding_for, memory_launch_in, loose_refusal, refusal, beside_control}
+use Rattle.cf_layout.specs.Asked.{natural, is_integer_within, lists_class, is_unit, is_sided, is_asked, stages_listed, ascending}
+use Rattle.cf_layout.specs.Refusal.{unless, outside, twice, missing_class, above, limits_refusal, unit_refusal, units_refusal, first_repeated, stages_refusal, classes_refusal, filled_refusal, siding_refusal, sidings_refusal, missing_refusal, needed_classes, turn_refusal, control_refusal, turns_in, siding_for, memory_launch_in, loose_refusal, first_refusal, beside_control}
 
 -- a refusal, if there is one, is not for where control turns
 unfoldable IsBeside : Option LayoutErr → Type 0
@@ -41,7 +41,7 @@ unfolding IsBeside
 beside_twice None = refl
 beside_twice (Some c) = refl
 
-beside_missing : (o : Option Class) → IsBeside (missing o)
+beside_missing : (o : Option Class) → IsBeside (missing_class o)
 unfolding IsBeside
 beside_missing None = refl
 beside_missing (Some c) = refl
@@ -50,8 +50,8 @@ beside_missing (Some c) = refl
 beside_limits : (parts : Parts) → IsBeside (limits_refusal parts)
 unfolding limits_refusal
 beside_limits parts =
-    beside_first _ _ (beside_unless (is_within 2 32 parts.stages) (StagesOutOfRange parts.stages) refl)
-    (beside_first _ _ (beside_unless (is_within 2 64 parts.lane) (LaneOutOfRange parts.lane) refl)
+    beside_first _ _ (beside_unless (is_integer_within 2 32 parts.stages) (StagesOutOfRange parts.stages) refl)
+    (beside_first _ _ (beside_unless (is_integer_within 2 64 parts.lane) (LaneOutOfRange parts.lane) refl)
     (beside_unless (nat_le (length parts.sidings) 8) (TooManySidings (min (length parts.sidings) 4294967295)) refl))
 
 -- of units
@@ -60,7 +60,7 @@ unfolding unit_refusal
 beside_unit n before unit =
     beside_first _ _ (beside_unless (not (same_class unit.0 Memory)) MemoryNotSiding refl)
     (beside_first _ _ (beside_unless (nat_lt 0 (length unit.1)) (EmptyUnit unit.0) refl)
-    (beside_first _ _ (beside_outside unit.0 (find (λ stage. not (is_within 1 n stage)) unit.1))
+    (beside_first _ _ (beside_outside unit.0 (find (λ stage. not (is_integer_within 1 n stage)) unit.1))
     (beside_unless (not (is_unit before unit.0)) (ClassTwice unit.0) refl)))
 
 beside_units : (n : ℕ) (before units : List (Class × List ℤ)) → IsBeside (units_refusal n before units)
@@ -71,16 +71,16 @@ beside_units n before (unit ∷ units) = beside_first _ _ (beside_unit n before 
 beside_stages : (n : ℕ) (siding : asked.Siding) (first : Class) → IsBeside (stages_refusal n siding first)
 unfolding stages_refusal
 beside_stages n siding first =
-    beside_first _ _ (beside_unless (is_within 1 8 siding.cells) (CellsOutOfRange siding.cells) refl)
-    (beside_first _ _ (beside_unless (is_within 1 n siding.launch) (StageOutOfRange first siding.launch) refl)
-    (beside_first _ _ (beside_unless (is_within 1 n siding.recover) (StageOutOfRange first siding.recover) refl)
+    beside_first _ _ (beside_unless (is_integer_within 1 8 siding.cells) (CellsOutOfRange siding.cells) refl)
+    (beside_first _ _ (beside_unless (is_integer_within 1 n siding.launch) (StageOutOfRange first siding.launch) refl)
+    (beside_first _ _ (beside_unless (is_integer_within 1 n siding.recover) (StageOutOfRange first siding.recover) refl)
     (beside_unless (int_lt siding.launch siding.recover) (SidingOrder siding.launch siding.recover) refl)))
 
 beside_classes : (elsewhere : Class → Bool) (classes : List Class) → IsBeside (classes_refusal elsewhere classes)
 unfolding classes_refusal
 beside_classes elsewhere classes =
     beside_first _ _ (beside_twice (first_repeated elsewhere [] classes))
-    (beside_unless (not (names classes Memory && nat_lt 1 (length classes))) MemorySharesSiding refl)
+    (beside_unless (not (lists_class classes Memory && nat_lt 1 (length classes))) MemorySharesSiding refl)
 
 beside_filled : (n : ℕ) (elsewhere : Class → Bool) (index : ℕ) (siding : asked.Siding) (classes : List Class) →
     IsBeside (filled_refusal n elsewhere index siding classes)
@@ -124,7 +124,7 @@ only_first (Some x) b p q = p
 only_turns : (parts : Parts) (c : Class) → beside_control (turn_refusal parts c) ≡ None
 unfolding turn_refusal
 only_turns parts c = only_above c (memory_launch_in parts.sidings) (find (nat_lt (memory_launch_in parts.sidings))
-    (turns_in (ascending (listed parts.units c)) (siding_for parts.sidings c)))
+    (turns_in (ascending (stages_listed parts.units c)) (siding_for parts.sidings c)))
 
 only_control : (parts : Parts) → beside_control (control_refusal parts) ≡ None
 unfolding control_refusal
@@ -137,6 +137,6 @@ beside_or parts None p = sym (only_control parts)
 beside_or parts (Some e) p = sym p
 
 -- the tests before the last refuse as all tests do, unless that is for where control turns
-pub loosely : (parts : Parts) → loose_refusal parts ≡ beside_control (refusal parts)
-unfolding refusal
+pub loosely : (parts : Parts) → loose_refusal parts ≡ beside_control (first_refusal parts)
+unfolding first_refusal
 loosely parts = beside_or parts (loose_refusal parts) (beside_loosely parts)

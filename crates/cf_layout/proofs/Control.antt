@@ -14,7 +14,7 @@ use Rattle.cf_layout.specs.declared.parts.Parts.{Parts}
 use Rattle.cf_layout.specs.Layout.{Plan, SidingPlan, no_siding, siding_of, launch_stage, serves, unit_at}
 use Rattle.cf_layout.specs.Accepted.{memory_launch}
 use Rattle.cf_layout.specs.Accepted as accepted
-use Rattle.cf_layout.specs.Asked.{natural, is_within, is_asked, units_plan, names, ascending, siding_plan, is_unit, is_sided, listed, plan_of}
+use Rattle.cf_layout.specs.Asked.{natural, is_integer_within, is_asked, units_plan, lists_class, ascending, siding_plan, is_unit, is_sided, stages_listed, plan_of}
 use Rattle.cf_layout.specs.Acceptable.{IsComputed, AreComputed, AreEquipped, IsAcceptable, IsSiding, asked_classes, sided_classes, times}
 use Rattle.cf_layout.specs.Refusal.{siding_for, launch_in, memory_launch_in, turns_in}
 use Rattle.cf_layout.proofs.Counts.{any_kept, times_append, is_unit_times, is_sided_times, is_asked_times}
@@ -29,9 +29,10 @@ found_step here false siding rest found e later = rw e later
 
 -- the siding that serves a class is found where the siding that names it is
 found_plan : (sidings : List asked.Siding) (c : Class) → IsComputed c → find (λ s. serves s c) (map siding_plan sidings)
-    ≡ option_map siding_plan (find (λ s. names s.classes c) sidings)
+    ≡ option_map siding_plan (find (λ s. lists_class s.classes c) sidings)
 found_plan [] c small = refl
-found_plan (siding ∷ sidings) c small = found_step (serves (siding_plan siding) c) (names siding.classes c) siding (find (λ s. names s.classes c) sidings)
+found_plan (siding ∷ sidings) c small = found_step (serves (siding_plan siding) c) (lists_class siding.classes c) siding
+    (find (λ s. lists_class s.classes c) sidings)
     (find (λ s. serves s c) (map siding_plan sidings)) (serves_named siding c small) (found_plan sidings c small)
 
 -- past its end a list has nothing
@@ -74,7 +75,7 @@ none_found test [] e = refl
 none_found test (x ∷ xs) e = none_found_step (test x) (list_any test xs) x (find test xs) e (λ later. none_found test xs later)
 
 -- the siding that serves a class in the layout that is described, where one is requested for it
-serving : (sidings : List asked.Siding) (siding : asked.Siding) (c : Class) → IsComputed c → find (λ s. names s.classes c) sidings ≡ Some siding →
+serving : (sidings : List asked.Siding) (siding : asked.Siding) (c : Class) → IsComputed c → find (λ s. lists_class s.classes c) sidings ≡ Some siding →
     find (λ s. serves s c) (map siding_plan sidings) ≡ Some (siding_plan siding)
 serving sidings siding c small e = found_plan sidings c small ∙ ap (λ (o : Option asked.Siding). option_map siding_plan o) e
 
@@ -88,7 +89,7 @@ pub launch_given : (sidings : List asked.Siding) (plan : Plan) → plan.sidings 
     memory_launch plan ≡ memory_launch_in sidings
 unfolding memory_launch launch_stage siding_of memory_launch_in siding_for
 launch_given sidings plan same e =
-    let f = some_found (λ s. names s.classes Memory) sidings e in
+    let f = some_found (λ s. lists_class s.classes Memory) sidings e in
     let g = serving sidings f.0 Memory (omega arith) f.1 in
     let p = position_gives (λ s. serves s Memory) (map siding_plan sidings) (siding_plan f.0) g in
     rw same (ap (λ (s : SidingPlan). s.launch) p ∙ sym (launch_of _ f.0 f.1))
@@ -139,16 +140,16 @@ no_siding_beside units sidings e once = grind (arith, nat_tests)
 
 -- control turns low at each unit, by whether there are units
 units_low : (parts : Parts) (c : Class) (launch i : ℕ) (some : Bool) → is_unit parts.units c ≡ some → times (asked_classes parts) c ≤ 1 →
-    All (λ stage. stage ≤ launch) (turns_in (ascending (listed parts.units c)) (siding_for parts.sidings c)) →
-    list_any (nat_eq i) (ascending (listed parts.units c)) ≡ true → i ≤ launch
+    All (λ stage. stage ≤ launch) (turns_in (ascending (stages_listed parts.units c)) (siding_for parts.sidings c)) →
+    list_any (nat_eq i) (ascending (stages_listed parts.units c)) ≡ true → i ≤ launch
 unfolding siding_for
 units_low parts c launch i true e once all at =
     let t = times_append (map (λ unit. unit.0) parts.units) (sided_classes parts.sidings) c in
     let apart : nat_lt 0 (times (sided_classes parts.sidings) c) ≡ false = no_siding_beside (times (map (λ unit. unit.0) parts.units) c)
     (times (sided_classes parts.sidings) c) (sym (is_unit_times parts.units c) ∙ e) (omega (arith, t)) in
-    let none = none_found (λ s. names s.classes c) parts.sidings (is_sided_times parts.sidings c ∙ apart) in
+    let none = none_found (λ s. lists_class s.classes c) parts.sidings (is_sided_times parts.sidings c ∙ apart) in
     let low = rw none at all in
-    any_all launch i (ascending (listed parts.units c)) low at
+    any_all launch i (ascending (stages_listed parts.units c)) low at
 units_low parts c launch i false e once all at = let n = listed_none parts.units c e in let f = rw (n, ascending_none) at at in cc
 
 -- a class that is in no unit but is requested is in a siding
@@ -169,7 +170,7 @@ sidings_described plan sidings computed all = All-map (accepted.IsSiding plan) s
     (λ k d within. siding_described plan _ (computed k d within) (all k d within))
 
 -- the limits of numbers
-natural_within : (least most : ℕ) (z : ℤ) → is_within least most z ≡ true → (least ≤ natural z) × (natural z ≤ most)
+natural_within : (least most : ℕ) (z : ℤ) → is_integer_within least most z ≡ true → (least ≤ natural z) × (natural z ≤ most)
 natural_within least most (pos n) e = (grind (arith, nat_tests), grind (arith, nat_tests))
 natural_within least most (negsuc n) e = cc
 
@@ -211,6 +212,6 @@ described parts computed a =
       equipped = described_equipped parts computed a.equipped;
       control_units = λ c i turns at. rw launch (units_low parts c (memory_launch_in parts.sidings) i (is_unit parts.units c) refl (a.once c)
           (a.control c turns) (rw (described_stages parts c (needed_computed c (control_needed c turns))) at at));
-      control_sidings = λ c turns. rw launch (sidings_low parts.sidings c (ascending (listed parts.units c)) (memory_launch_in parts.sidings)
+      control_sidings = λ c turns. rw launch (sidings_low parts.sidings c (ascending (stages_listed parts.units c)) (memory_launch_in parts.sidings)
           (needed_computed c (control_needed c turns)) (sided_once parts c (a.once c)) (a.control c turns));
     }

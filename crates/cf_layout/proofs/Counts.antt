@@ -9,7 +9,7 @@ use Rattle.rv_inst.specs.declared.classes.Class.TheVariants.{Add, Logic, Shift, 
 use Rattle.cf_layout.specs.declared.parts.Siding.{Siding}
 use Rattle.cf_layout.specs.declared.parts.Parts.{Parts}
 use Rattle.cf_layout.specs.Layout.{place_of, same_class}
-use Rattle.cf_layout.specs.Asked.{names, is_unit, is_sided, is_asked}
+use Rattle.cf_layout.specs.Asked.{lists_class, is_unit, is_sided, is_asked}
 use Rattle.cf_layout.specs.Acceptable.{times, sided_classes, asked_classes}
 
 -- the class at an index
@@ -64,7 +64,7 @@ any_kept test [] = refl
 any_kept test (x ∷ xs) = any_here (test x) x (filter test xs) (list_any test xs) (any_kept test xs)
 
 -- a list names a class where the class is in it
-pub names_times : (classes : List Class) (c : Class) → names classes c ≡ nat_lt 0 (times classes c)
+pub names_times : (classes : List Class) (c : Class) → lists_class classes c ≡ nat_lt 0 (times classes c)
 unfolding times
 names_times classes c = any_kept (same_class c) classes
 

@@ -20,7 +20,7 @@ use Rattle.cf_layout.specs.declared.parts.Siding as asked
 use Rattle.cf_layout.specs.declared.parts.Parts.{Parts}
 use Rattle.cf_layout.specs.Layout.{Plan, SidingPlan, place_of, computed_classes, same_class, stages_of, unit_homes, homes, serves}
 use Rattle.cf_layout.specs.Accepted as accepted
-use Rattle.cf_layout.specs.Asked.{natural, is_within, is_number, names, stage_numbers, ascending, in_class_order, siding_plan, units_plan, is_unit, is_asked, listed, stages_in, plan_of}
+use Rattle.cf_layout.specs.Asked.{natural, is_integer_within, is_integer, lists_class, stage_numbers, ascending, in_class_order, siding_plan, units_plan, is_unit, is_asked, stages_listed, stages_in, plan_of}
 use Rattle.cf_layout.specs.Acceptable.{IsComputed, asked_classes, sided_classes, times, IsUnit, IsSiding}
 
 -- consecutive numbers ascend
@@ -37,7 +37,7 @@ stage_numbers_rise = range_rises 32 1
 -- stages ascend
 pub ascending_rises : (stages : List ℤ) → IsStrictlyIncreasing (ascending stages)
 unfolding ascending
-ascending_rises stages = IsStrictlyIncreasing-filter (λ i. list_any (is_number i) stages) stage_numbers stage_numbers_rise
+ascending_rises stages = IsStrictlyIncreasing-filter (λ i. list_any (is_integer i) stages) stage_numbers stage_numbers_rise
 
 -- the indices of the classes that are kept, by whether the first is kept
 places_step : (kept : Bool) (c : Class) (cs : List Class) (rest : List ℕ) → map place_of cs ≡ rest →
@@ -55,7 +55,7 @@ placed : List Class → ℕ → Bool
 placed classes n = list_any (λ d. nat_eq n (place_of d)) classes
 
 -- classes that are kept from some that ascend ascend
-kept_rise : (classes cs : List Class) → IsStrictlyIncreasing (map place_of cs) → IsStrictlyIncreasing (map place_of (filter (names classes) cs))
+kept_rise : (classes cs : List Class) → IsStrictlyIncreasing (map place_of cs) → IsStrictlyIncreasing (map place_of (filter (lists_class classes) cs))
 unfolding placed
 kept_rise classes cs rise = rw (places_kept (placed classes) cs) (IsStrictlyIncreasing-filter (placed classes) (map place_of cs) rise)
 
@@ -65,25 +65,26 @@ unfolding in_class_order
 classes_rise classes = kept_rise classes computed_classes (range_rises 9 0)
 
 -- a number that is listed is within the bounds of the list, by what the first number is
-within_here : (n i : ℕ) (z : ℤ) → is_number i z ≡ true → is_within 1 n z ≡ true → (1 ≤ i) × (i ≤ n)
+within_here : (n i : ℕ) (z : ℤ) → is_integer i z ≡ true → is_integer_within 1 n z ≡ true → (1 ≤ i) × (i ≤ n)
 within_here n i (pos m) same in_bounds = (grind (arith, nat_tests), grind (arith, nat_tests))
 within_here n i (negsuc m) same in_bounds = cc
 
-within_step : (n i : ℕ) (z : ℤ) (here rest : Bool) → is_number i z ≡ here → (here || rest) ≡ true → is_within 1 n z ≡ true → (rest ≡ true → (1 ≤ i) × (i ≤ n)) →
+within_step : (n i : ℕ) (z : ℤ) (here rest : Bool) → is_integer i z ≡ here → (here || rest) ≡ true → is_integer_within 1 n z ≡ true →
+    (rest ≡ true → (1 ≤ i) × (i ≤ n)) →
     (1 ≤ i) × (i ≤ n)
 within_step n i z true rest at e in_bounds later = within_here n i z at in_bounds
 within_step n i z false rest at e in_bounds later = later e
 
 -- a number that is listed is within the bounds of the list
-listed_within : (n i : ℕ) (stages : List ℤ) → All (λ z. is_within 1 n z ≡ true) stages → list_any (is_number i) stages ≡ true → (1 ≤ i) × (i ≤ n)
+listed_within : (n i : ℕ) (stages : List ℤ) → All (λ z. is_integer_within 1 n z ≡ true) stages → list_any (is_integer i) stages ≡ true → (1 ≤ i) × (i ≤ n)
 listed_within n i [] all e = cc
-listed_within n i (z ∷ zs) all e = within_step n i z (is_number i z) (list_any (is_number i) zs) refl e (all 0 z (omega arith))
-    (λ later. listed_within n i zs (All-tail (λ y. is_within 1 n y ≡ true) z zs all) later)
+listed_within n i (z ∷ zs) all e = within_step n i z (is_integer i z) (list_any (is_integer i) zs) refl e (all 0 z (omega arith))
+    (λ later. listed_within n i zs (All-tail (λ y. is_integer_within 1 n y ≡ true) z zs all) later)
 
 -- what is listed is from the requested stages
-ascending_within : (n : ℕ) (stages : List ℤ) → All (λ z. is_within 1 n z ≡ true) stages → All (λ i. (1 ≤ i) × (i ≤ n)) (ascending stages)
+ascending_within : (n : ℕ) (stages : List ℤ) → All (λ z. is_integer_within 1 n z ≡ true) stages → All (λ i. (1 ≤ i) × (i ≤ n)) (ascending stages)
 unfolding ascending
-ascending_within n stages all = λ k d within. listed_within n _ stages all (filter_passes (λ i. list_any (is_number i) stages) stage_numbers k d within)
+ascending_within n stages all = λ k d within. listed_within n _ stages all (filter_passes (λ i. list_any (is_integer i) stages) stage_numbers k d within)
 
 -- the computed class at its index
 at_its_place : (c : Class) → IsComputed c → get_or computed_classes (place_of c) Add ≡ c
@@ -100,15 +101,15 @@ at_its_place Serial small = absurd (omega arith)
 at_its_place Free small = absurd (omega arith)
 
 -- a class that is computed is one of them
-is_computed : (c : Class) → IsComputed c → names computed_classes c ≡ true
+is_computed : (c : Class) → IsComputed c → lists_class computed_classes c ≡ true
 is_computed c small = list_any_at (same_class c) computed_classes (place_of c) Add small (rw (at_its_place c small) (same_self c))
 
 -- in class order the same computed classes are named
-in_order_names : (classes : List Class) (c : Class) → IsComputed c → names (in_class_order classes) c ≡ names classes c
+in_order_names : (classes : List Class) (c : Class) → IsComputed c → lists_class (in_class_order classes) c ≡ lists_class classes c
 unfolding in_class_order
 in_order_names classes c small =
-    any-filter_same (same_class c) (names classes) (names classes c) (λ d e. ap (names classes) (sym (same_true c d e))) computed_classes
-    ∙ (ap (λ (b : Bool). names classes c && b) (is_computed c small) ∙ and-true (names classes c))
+    any-filter_same (same_class c) (lists_class classes) (lists_class classes c) (λ d e. ap (lists_class classes) (sym (same_true c d e))) computed_classes
+    ∙ (ap (λ (b : Bool). lists_class classes c && b) (is_computed c small) ∙ and-true (lists_class classes c))
 
 -- a list of classes that is not empty has some in class order
 in_order_some : (classes : List Class) → 0 < length classes → All IsComputed classes → 0 < length (in_class_order classes)
@@ -116,9 +117,9 @@ unfolding in_class_order
 in_order_some [] some all = absurd (omega arith)
 in_order_some (c ∷ cs) some all =
     let small : IsComputed c = all 0 c (omega arith) in
-    let named : names (c ∷ cs) c ≡ true = rw (same_self c) refl in
-    lt_true 0 _ (sym (any_kept (names (c ∷ cs)) computed_classes) ∙ list_any_at (names (c ∷ cs)) computed_classes (place_of c) Add small
-    (subst (λ (k : Class). names (c ∷ cs) k ≡ true) (sym (at_its_place c small)) named))
+    let named : lists_class (c ∷ cs) c ≡ true = rw (same_self c) refl in
+    lt_true 0 _ (sym (any_kept (lists_class (c ∷ cs)) computed_classes) ∙ list_any_at (lists_class (c ∷ cs)) computed_classes (place_of c) Add small
+    (subst (λ (k : Class). lists_class (c ∷ cs) k ≡ true) (sym (at_its_place c small)) named))
 
 -- the computed classes are computed
 all_computed : All IsComputed computed_classes
@@ -128,21 +129,21 @@ all_computed = All-from_recursion IsComputed computed_classes
 -- what is kept of computed classes is computed
 order_computed : (classes : List Class) → All IsComputed (in_class_order classes)
 unfolding in_class_order
-order_computed classes = λ k d within. All-filter (names classes) IsComputed computed_classes all_computed k d within
+order_computed classes = λ k d within. All-filter (lists_class classes) IsComputed computed_classes all_computed k d within
 
 -- numbers that are within bounds
-is_stage : (n : ℕ) (z : ℤ) → is_within 1 n z ≡ true → (1 ≤ natural z) × (natural z ≤ n)
+is_stage : (n : ℕ) (z : ℤ) → is_integer_within 1 n z ≡ true → (1 ≤ natural z) × (natural z ≤ n)
 is_stage n (pos m) e = (grind (arith, nat_tests), grind (arith, nat_tests))
 is_stage n (negsuc m) e = cc
 
 -- and their order
-natural_order : (n : ℕ) (y z : ℤ) → is_within 1 n y ≡ true → is_within 1 n z ≡ true → y <ℤ z → natural y < natural z
+natural_order : (n : ℕ) (y z : ℤ) → is_integer_within 1 n y ≡ true → is_integer_within 1 n z ≡ true → y <ℤ z → natural y < natural z
 natural_order n (pos a) (pos b) e f o = omega (arith, ints)
 natural_order n (pos a) (negsuc b) e f o = cc
 natural_order n (negsuc a) z e f o = cc
 
 -- a list with one element that names Memory is the list of Memory alone
-memory_only : (classes : List Class) → names classes Memory ≡ true → length classes ≡ 1 → classes ≡ Memory ∷ []
+memory_only : (classes : List Class) → lists_class classes Memory ≡ true → length classes ≡ 1 → classes ≡ Memory ∷ []
 memory_only [] named one = cc
 memory_only (c ∷ []) named one = let e = same_true Memory c (sym (or-false (same_class Memory c)) ∙ named) in rw (← e) refl
 memory_only (c ∷ d ∷ rest) named one = absurd (omega arith)
@@ -165,12 +166,12 @@ siding_described plan siding computed s = record {
   order = natural_order plan.stages siding.launch siding.recover s.launch s.recover s.order;
   cells = is_stage 8 siding.cells s.cells;
   memory_alone = λ e.
-      let named : names siding.classes Memory ≡ true = sym (in_order_names siding.classes Memory (omega arith)) ∙ e in
+      let named : lists_class siding.classes Memory ≡ true = sym (in_order_names siding.classes Memory (omega arith)) ∙ e in
       ap in_class_order (memory_only siding.classes named (s.memory_alone named)) ∙ memory_in_order;
 }
 
 -- the stages of a computed class in the layout that is described
-pub described_stages : (parts : Parts) (c : Class) → IsComputed c → stages_of (plan_of parts) c ≡ ascending (listed parts.units c)
+pub described_stages : (parts : Parts) (c : Class) → IsComputed c → stages_of (plan_of parts) c ≡ ascending (stages_listed parts.units c)
 unfolding stages_of plan_of units_plan
 described_stages parts Add small = refl
 described_stages parts Logic small = refl
@@ -205,34 +206,34 @@ unfolding stage_numbers
 stage_count = length-range_with_len 1 32
 
 -- the number is itself
-number_self : (n : ℕ) (z : ℤ) → is_within 1 n z ≡ true → is_number (natural z) z ≡ true
+number_self : (n : ℕ) (z : ℤ) → is_integer_within 1 n z ≡ true → is_integer (natural z) z ≡ true
 number_self n (pos m) e = grind (arith, nat_tests)
 number_self n (negsuc m) e = cc
 
 -- where a stage is listed, the ascending stages have one
-ascending_some : (n : ℕ) (stages : List ℤ) → n ≤ 32 → 0 < length stages → All (λ z. is_within 1 n z ≡ true) stages → 0 < length (ascending stages)
+ascending_some : (n : ℕ) (stages : List ℤ) → n ≤ 32 → 0 < length stages → All (λ z. is_integer_within 1 n z ≡ true) stages → 0 < length (ascending stages)
 unfolding ascending
 ascending_some n [] few some all = absurd (omega arith)
 ascending_some n (z ∷ zs) few some all =
-    let within : is_within 1 n z ≡ true = all 0 z (omega arith) in
+    let within : is_integer_within 1 n z ≡ true = all 0 z (omega arith) in
     let b = is_stage n z within in
     let low : 1 ≤ natural z = b.0 in
     let high : natural z ≤ n = b.1 in
-    let here : list_any (is_number (natural z)) (z ∷ zs) ≡ true = rw (number_self n z within) refl in
+    let here : list_any (is_integer (natural z)) (z ∷ zs) ≡ true = rw (number_self n z within) refl in
     let at = stage_at (natural z) low (omega arith) in
-    lt_true 0 _ (sym (any_kept (λ i. list_any (is_number i) (z ∷ zs)) stage_numbers) ∙ list_any_at (λ i. list_any (is_number i) (z ∷ zs)) stage_numbers
-    (natural z - 1) 0 (omega (arith, stage_count)) (subst (λ (k : ℕ). list_any (is_number k) (z ∷ zs) ≡ true) (sym at) here))
+    lt_true 0 _ (sym (any_kept (λ i. list_any (is_integer i) (z ∷ zs)) stage_numbers) ∙ list_any_at (λ i. list_any (is_integer i) (z ∷ zs)) stage_numbers
+    (natural z - 1) 0 (omega (arith, stage_count)) (subst (λ (k : ℕ). list_any (is_integer k) (z ∷ zs) ≡ true) (sym at) here))
 
 -- the entry of a class, by whether the first is for it
 entry_step : (n : ℕ) (here rest : Bool) (unit : Class × List ℤ) (found : Option (Class × List ℤ)) → (here || rest) ≡ true → IsUnit n unit →
-    (rest ≡ true → (0 < length (stages_in found)) × All (λ z. is_within 1 n z ≡ true) (stages_in found)) →
-    (0 < length (stages_in (cond here (Some unit) found))) × All (λ z. is_within 1 n z ≡ true) (stages_in (cond here (Some unit) found))
+    (rest ≡ true → (0 < length (stages_in found)) × All (λ z. is_integer_within 1 n z ≡ true) (stages_in found)) →
+    (0 < length (stages_in (cond here (Some unit) found))) × All (λ z. is_integer_within 1 n z ≡ true) (stages_in (cond here (Some unit) found))
 entry_step n true rest unit found e u later = (u.some, u.stages)
 entry_step n false rest unit found e u later = later e
 
 -- a class that is in a unit has stages listed
 entry_some : (n : ℕ) (units : List (Class × List ℤ)) (c : Class) → All (IsUnit n) units → is_unit units c ≡ true →
-    (0 < length (stages_in (find (λ unit. same_class c unit.0) units))) × All (λ z. is_within 1 n z ≡ true)
+    (0 < length (stages_in (find (λ unit. same_class c unit.0) units))) × All (λ z. is_integer_within 1 n z ≡ true)
     (stages_in (find (λ unit. same_class c unit.0) units))
 entry_some n [] c all e = cc
 entry_some n (unit ∷ units) c all e = entry_step n (same_class c unit.0) (is_unit units c) unit (find (λ v. same_class c v.0) units) e
@@ -240,8 +241,8 @@ entry_some n (unit ∷ units) c all e = entry_step n (same_class c unit.0) (is_u
 
 -- the same of what is listed
 listed_some : (n : ℕ) (units : List (Class × List ℤ)) (c : Class) → All (IsUnit n) units → is_unit units c ≡ true →
-    (0 < length (listed units c)) × All (λ z. is_within 1 n z ≡ true) (listed units c)
-unfolding listed
+    (0 < length (stages_listed units c)) × All (λ z. is_integer_within 1 n z ≡ true) (stages_listed units c)
+unfolding stages_listed
 listed_some n units c all e = entry_some n units c all e
 
 -- no entry
@@ -256,8 +257,8 @@ entry_none [] c e = refl
 entry_none (unit ∷ units) c e = entry_none_step (same_class c unit.0) (is_unit units c) unit (find (λ v. same_class c v.0) units) e (entry_none units c)
 
 -- the same of what is listed
-pub listed_none : (units : List (Class × List ℤ)) (c : Class) → is_unit units c ≡ false → listed units c ≡ []
-unfolding listed
+pub listed_none : (units : List (Class × List ℤ)) (c : Class) → is_unit units c ≡ false → stages_listed units c ≡ []
+unfolding stages_listed
 listed_none units c e = entry_none units c e
 
 -- stages are one home where there are some
@@ -267,8 +268,8 @@ one_home (i ∷ is) some = refl
 
 -- the home that units give, by whether there are any
 unit_home_by : (n : ℕ) (units : List (Class × List ℤ)) (c : Class) (some : Bool) → n ≤ 32 → All (IsUnit n) units → is_unit units c ≡ some →
-    unit_homes (ascending (listed units c)) ≡ cond some 1 0
-unit_home_by n units c true few all e = let l = listed_some n units c all e in one_home _ (ascending_some n (listed units c) few l.0 l.1)
+    unit_homes (ascending (stages_listed units c)) ≡ cond some 1 0
+unit_home_by n units c true few all e = let l = listed_some n units c all e in one_home _ (ascending_some n (stages_listed units c) few l.0 l.1)
 unit_home_by n units c false few all e = rw (listed_none units c e, ascending_none) refl
 
 -- how many of the sidings that are described serve a class, with one more siding
@@ -278,7 +279,7 @@ served_step t true siding kept rest e once same = let some : 0 < t = lt_true 0 t
 served_step t false siding kept rest e once same = let none : t ≡ 0 = grind (arith, nat_tests) in omega arith
 
 -- a siding that is described serves a class where the requested siding names it
-pub serves_named : (siding : asked.Siding) (c : Class) → IsComputed c → serves (siding_plan siding) c ≡ names siding.classes c
+pub serves_named : (siding : asked.Siding) (c : Class) → IsComputed c → serves (siding_plan siding) c ≡ lists_class siding.classes c
 unfolding serves siding_plan
 serves_named siding c small = in_order_names siding.classes c small
 
@@ -384,17 +385,17 @@ no_memory_stages parts units = described_stages parts Memory (omega arith) ∙ (
 -- the stages of all units ascend
 pub units_rise : (units : List (Class × List ℤ)) → All IsStrictlyIncreasing (units_plan units)
 unfolding units_plan
-units_rise units = All-map IsStrictlyIncreasing (λ c. ascending (listed units c)) computed_classes
-    (λ k d within. ascending_rises (listed units (get_or computed_classes k d)))
+units_rise units = All-map IsStrictlyIncreasing (λ c. ascending (stages_listed units c)) computed_classes
+    (λ k d within. ascending_rises (stages_listed units (get_or computed_classes k d)))
 
 -- what is listed for a class are stages of the pipeline
 listed_by : (n : ℕ) (units : List (Class × List ℤ)) (c : Class) (some : Bool) → All (IsUnit n) units → is_unit units c ≡ some →
-    All (λ i. (1 ≤ i) × (i ≤ n)) (ascending (listed units c))
-listed_by n units c true all e = ascending_within n (listed units c) (listed_some n units c all e).1
+    All (λ i. (1 ≤ i) × (i ≤ n)) (ascending (stages_listed units c))
+listed_by n units c true all e = ascending_within n (stages_listed units c) (listed_some n units c all e).1
 listed_by n units c false all e = rw (listed_none units c e, ascending_none) (All-nil (λ i. (1 ≤ i) × (i ≤ n)))
 
 -- the stages of all units are stages of the pipeline
 pub units_within : (n : ℕ) (units : List (Class × List ℤ)) → All (IsUnit n) units → All (All (λ i. (1 ≤ i) × (i ≤ n))) (units_plan units)
 unfolding units_plan
-units_within n units all = All-map (All (λ i. (1 ≤ i) × (i ≤ n))) (λ c. ascending (listed units c)) computed_classes
+units_within n units all = All-map (All (λ i. (1 ≤ i) × (i ≤ n))) (λ c. ascending (stages_listed units c)) computed_classes
     (λ k d within. listed_by n units (get_or computed_classes k d) (is_unit units (get_or computed_classes k d)) all refl)

@@ -7,7 +7,7 @@ use Rattle.std.proofs.lemmas.List.Elements.{All-nil, All-tail}
 use Rattle.std.proofs.lemmas.Bool.Decides.{nat_tests}
 use Rattle.rv_inst.specs.declared.classes.Class.{Class}
 use Rattle.rv_inst.specs.declared.classes.Class.TheVariants.{Add, Logic, Shift, Compare, Branch, Jump, Memory, Serial, Free, Mul, Div}
-use Rattle.cf_layout.specs.Layout.{Plan, SidingPlan, place_of, same_class, no_siding, siding_at, siding_of, launch_stage, recover_stage, cells_of, serves, stages_of, unit_at, unit_homes, homes, is_homed, last_of, recovers_by}
+use Rattle.cf_layout.specs.Layout.{Plan, SidingPlan, place_of, same_class, no_siding, siding_plan_at, siding_of, launch_stage, recover_stage, cells_of, serves, stages_of, unit_at, unit_homes, homes, is_homed, last_of, recovers_by}
 use Rattle.cf_layout.specs.Accepted.{memory_launch, IsStage, IsSiding, IsEquipped, IsAccepted}
 use Rattle.std.proofs.lemmas.List.Folds.{list_any_at}
 use Rattle.std.proofs.Math.Bool.{or-true, or-false}
@@ -22,7 +22,7 @@ read_at (s ∷ ss) zero within = refl
 read_at (s ∷ ss) (suc k) within = read_at ss k (omega arith)
 
 -- the siding of a class exists, and serves it
-pub siding_found : (plan : Plan) (c : Class) (k : ℕ) → siding_of plan c ≡ Some k → (k < length plan.sidings) × (serves (siding_at plan k) c ≡ true)
+pub siding_found : (plan : Plan) (c : Class) (k : ℕ) → siding_of plan c ≡ Some k → (k < length plan.sidings) × (serves (siding_plan_at plan k) c ≡ true)
 unfolding siding_of
 siding_found plan c k e =
     let p = position-Some (λ s. serves s c) plan.sidings k no_siding e in
@@ -30,7 +30,7 @@ siding_found plan c k e =
     (within, ap (λ (s : SidingPlan). serves s c) (read_at plan.sidings k within) ∙ p.1)
 
 -- what holds of each siding holds of a class's siding
-pub siding_rules : (plan : Plan) → IsEquipped plan → (c : Class) (k : ℕ) → siding_of plan c ≡ Some k → IsSiding plan (siding_at plan k)
+pub siding_rules : (plan : Plan) → IsEquipped plan → (c : Class) (k : ℕ) → siding_of plan c ≡ Some k → IsSiding plan (siding_plan_at plan k)
 siding_rules plan a c k e =
     let f = siding_found plan c k e in
     let within : k < length plan.sidings = f.0 in

@@ -8,7 +8,7 @@ use Rattle.std.proofs.lemmas.List.Elements.{All-tail, All-map}
 use Rattle.std.proofs.lemmas.Bool.Decides.{nat_tests}
 use Rattle.rv_inst.specs.declared.classes.Class.{Class}
 use Rattle.cf_layout.specs.Layout.{place_of, computed_classes}
-use Rattle.cf_layout.specs.Asked.{is_number, stage_numbers, ascending, in_class_order}
+use Rattle.cf_layout.specs.Asked.{is_integer, stage_numbers, ascending, in_class_order}
 use Rattle.cf_layout.proofs.Counts.{same_place}
 
 -- the numbers ascend from k on
@@ -98,7 +98,7 @@ rises_few k bound (x ∷ xs) within rise low =
     omega arith
 
 -- the numbers of a list, requested as integers
-numbers_same : (i : ℕ) (stages : List ℕ) → list_any (is_number i) (map (λ n. pos n) stages) ≡ list_any (nat_eq i) stages
+numbers_same : (i : ℕ) (stages : List ℕ) → list_any (is_integer i) (map (λ n. pos n) stages) ≡ list_any (nat_eq i) stages
 numbers_same i [] = refl
 numbers_same i (x ∷ xs) = ap (λ (b : Bool). nat_eq i x || b) (numbers_same i xs)
 
@@ -106,7 +106,7 @@ numbers_same i (x ∷ xs) = ap (λ (b : Bool). nat_eq i x || b) (numbers_same i 
 pub ascending_same : (stages : List ℕ) → IsStrictlyIncreasing stages → All (λ i. 1 ≤ i) stages → All (λ i. i < 33) stages →
     ascending (map (λ n. pos n) stages) ≡ stages
 unfolding ascending stage_numbers
-ascending_same stages rise low high = kept_same (λ i. list_any (is_number i) (map (λ n. pos n) stages)) 32 1 stages (rises_from 1 stages rise low)
+ascending_same stages rise low high = kept_same (λ i. list_any (is_integer i) (map (λ n. pos n) stages)) 32 1 stages (rises_from 1 stages rise low)
     (below_from 33 stages high) (λ i from. numbers_same i stages)
 
 -- and are at most 32

@@ -13,9 +13,9 @@ use Rattle.cf_layout.specs.declared.parts.Siding as asked
 use Rattle.cf_layout.specs.declared.parts.Parts.{Parts}
 use Rattle.cf_layout.specs.declared.refusal.LayoutErr.{LayoutErr}
 use Rattle.cf_layout.specs.Layout.{same_class}
-use Rattle.cf_layout.specs.Asked.{natural, is_within, names, is_unit, is_sided, IsSmallSiding}
+use Rattle.cf_layout.specs.Asked.{natural, is_integer_within, lists_class, is_unit, is_sided, IsSmallSiding}
 use Rattle.cf_layout.specs.Acceptable.{IsUnit, IsSiding, times, sided_classes}
-use Rattle.cf_layout.specs.Refusal.{told, unless, outside, twice, limits_refusal, unit_refusal, units_refusal, first_repeated, stages_refusal, classes_refusal, filled_refusal, siding_refusal, sidings_refusal}
+use Rattle.cf_layout.specs.Refusal.{test_outcome, unless, outside, twice, limits_refusal, unit_refusal, units_refusal, first_repeated, stages_refusal, classes_refusal, filled_refusal, siding_refusal, sidings_refusal}
 use Rattle.cf_layout.proofs.Counts.{same_true, names_times, times_cons, times_append, times_nil, is_unit_times}
 
 -- a test that refuses nothing holds
@@ -61,12 +61,12 @@ pub none_found : {X : Type 0} (test : X → Bool) (xs : List X) → find (λ x. 
 none_found test xs e = λ k d within. not_false _ (all_fail (λ x. not (test x)) xs e k d within)
 
 -- a number within bounds fits 32 bits where the bounds do
-pub within_word : (z : ℤ) (least most : ℕ) → is_within least most z ≡ true → most ≤ 4294967295 → is_within 0 4294967295 z ≡ true
+pub within_word : (z : ℤ) (least most : ℕ) → is_integer_within least most z ≡ true → most ≤ 4294967295 → is_integer_within 0 4294967295 z ≡ true
 within_word (pos n) least most e small = grind (arith, nat_tests)
 within_word (negsuc n) least most e small = cc
 
 -- and is at most the upper bound
-pub within_most : (z : ℤ) (least most : ℕ) → is_within least most z ≡ true → natural z ≤ most
+pub within_most : (z : ℤ) (least most : ℕ) → is_integer_within least most z ≡ true → natural z ≤ most
 within_most (pos n) least most e = grind (arith, nat_tests)
 within_most (negsuc n) least most e = cc
 
@@ -78,7 +78,7 @@ pub lt_true : (a b : ℕ) → nat_lt a b ≡ true → a < b
 lt_true a b e = grind (arith, nat_tests)
 
 -- the limits
-pub limits_hold : (parts : Parts) → limits_refusal parts ≡ None → (is_within 2 32 parts.stages ≡ true) × (is_within 2 64 parts.lane ≡ true)
+pub limits_hold : (parts : Parts) → limits_refusal parts ≡ None → (is_integer_within 2 32 parts.stages ≡ true) × (is_integer_within 2 64 parts.lane ≡ true)
     × (length parts.sidings ≤ 8)
 unfolding limits_refusal
 limits_hold parts e =
@@ -103,7 +103,7 @@ unit_holds n before unit e =
       record {
         beside_memory = not_memory unit.0 (holds _ _ (first_passes _ _ e));
         some = lt_true _ _ (holds _ _ (first_passes _ _ f));
-        stages = none_found (is_within 1 n) unit.1 (none_outside unit.0 _ (first_passes _ _ g));
+        stages = none_found (is_integer_within 1 n) unit.1 (none_outside unit.0 _ (first_passes _ _ g));
       },
       not_true _ (holds _ _ (next_passes _ _ g)),
     )
@@ -120,7 +120,8 @@ int_order y z e = grind (arith, ints)
 
 -- the cells and the stages of a siding
 stages_hold : (n : ℕ) (siding : asked.Siding) (first : Class) → stages_refusal n siding first ≡ None →
-    (is_within 1 8 siding.cells ≡ true) × (is_within 1 n siding.launch ≡ true) × (is_within 1 n siding.recover ≡ true) × (siding.launch <ℤ siding.recover)
+    (is_integer_within 1 8 siding.cells ≡ true) × (is_integer_within 1 n siding.launch ≡ true) × (is_integer_within 1 n siding.recover ≡ true) ×
+    (siding.launch <ℤ siding.recover)
 unfolding stages_refusal
 stages_hold n siding first e =
     let f = next_passes _ _ e in
@@ -134,9 +135,9 @@ alone_holds false n e some t = cc
 
 -- the classes of a siding
 classes_alone : (elsewhere : Class → Bool) (classes : List Class) → classes_refusal elsewhere classes ≡ None → 0 < length classes →
-    names classes Memory ≡ true → length classes ≡ 1
+    lists_class classes Memory ≡ true → length classes ≡ 1
 unfolding classes_refusal
-classes_alone elsewhere classes e some t = alone_holds (names classes Memory) (length classes) (holds _ _ (next_passes _ _ e)) some t
+classes_alone elsewhere classes e some t = alone_holds (lists_class classes Memory) (length classes) (holds _ _ (next_passes _ _ e)) some t
 
 -- a siding whose classes these are
 filled_holds : (n : ℕ) (elsewhere : Class → Bool) (index : ℕ) (siding : asked.Siding) (classes : List Class) →
@@ -181,19 +182,19 @@ pub small_sidings : (n : ℕ) (units : List (Class × List ℤ)) (sidings : List
 small_sidings n units sidings e few = λ k d within. small_siding n _ few (sidings_hold n units [] sidings e k d within)
 
 -- where a test answers that it passes there is no refusal
-pub none_told : (o : Option LayoutErr) (answer : Result (Unit {0}) LayoutErr) (u : Unit {0}) → answer ≡ told o → answer ≡ Ok u → o ≡ None
+pub none_told : (o : Option LayoutErr) (answer : Result (Unit {0}) LayoutErr) (u : Unit {0}) → answer ≡ test_outcome o → answer ≡ Ok u → o ≡ None
 none_told None answer u told_so passes = refl
 none_told (Some e) answer u told_so passes = cc
 
 -- so after an answer that lets them pass
 pub told_small : (n : ℕ) (units : List (Class × List ℤ)) (sidings : List asked.Siding) (o : Option LayoutErr) → sidings_refusal n units [] sidings ≡ o →
-    n ≤ 32 → OnOk (told o) (All IsSmallSiding sidings)
+    n ≤ 32 → OnOk (test_outcome o) (All IsSmallSiding sidings)
 told_small n units sidings None e few = small_sidings n units sidings e few
 told_small n units sidings (Some x) e few = tt
 
 -- whether a list names a class, with one more class in it
-pub seen_more : (seen : List Class) (x c : Class) → names (seen ++ x ∷ []) c ≡ (names seen c || same_class c x)
-seen_more seen x c = rw (list_any-append (same_class c) seen (x ∷ [])) (ap (λ (b : Bool). names seen c || b) (or-false (same_class c x)))
+pub seen_more : (seen : List Class) (x c : Class) → lists_class (seen ++ x ∷ []) c ≡ (lists_class seen c || same_class c x)
+seen_more seen x c = rw (list_any-append (same_class c) seen (x ∷ [])) (ap (λ (b : Bool). lists_class seen c || b) (or-false (same_class c x)))
 
 -- one more class, which is nowhere else
 once_same : (rest : ℕ) (off seen : Bool) → (off || seen) ≡ false → rest + cond (off || (seen || true)) 1 0 ≤ 1 → 1 + rest + cond (off || seen) 1 0 ≤ 1
@@ -229,13 +230,13 @@ one_at_most false = omega arith
 
 -- classes that are not repeated, here or elsewhere, occur at most once, counting elsewhere
 repeated_once : (elsewhere : Class → Bool) (seen classes : List Class) → first_repeated elsewhere seen classes ≡ None → (c : Class) →
-    times classes c + cond (elsewhere c || names seen c) 1 0 ≤ 1
-repeated_once elsewhere seen [] e c = rw (times_nil c) (one_at_most (elsewhere c || names seen c))
+    times classes c + cond (elsewhere c || lists_class seen c) 1 0 ≤ 1
+repeated_once elsewhere seen [] e c = rw (times_nil c) (one_at_most (elsewhere c || lists_class seen c))
 repeated_once elsewhere seen (x ∷ xs) e c =
     let r = repeated_once elsewhere (seen ++ x ∷ []) xs (rest_alone _ _ _ e) c in
     let l = rw (seen_more seen x c) at r in
-    rw (times_cons x xs c) (once_step (elsewhere c) (names seen c) (same_class c x) (times xs c)
-    (λ same. subst (λ (k : Class). (elsewhere k || names seen k) ≡ false) (sym (same_true c x same)) (first_alone _ _ _ e)) l)
+    rw (times_cons x xs c) (once_step (elsewhere c) (lists_class seen c) (same_class c x) (times xs c)
+    (λ same. subst (λ (k : Class). (elsewhere k || lists_class seen k) ≡ false) (sym (same_true c x same)) (first_alone _ _ _ e)) l)
 
 -- no class is listed twice
 none_twice : (o : Option Class) → twice o ≡ None → o ≡ None
@@ -271,7 +272,11 @@ unit_more before unit c = rw (list_any-append (λ (u : Class × List ℤ). same_
 pub sided_more : (units : List (Class × List ℤ)) (before : List asked.Siding) (siding : asked.Siding) (c : Class) →
     (is_unit units c || is_sided (before ++ siding ∷ []) c) ≡ ((is_unit units c || is_sided before c) || nat_lt 0 (times siding.classes c))
 sided_more units before siding c =
-    rw (list_any-append (λ (s : asked.Siding). names s.classes c) before (siding ∷ []), or-false (names siding.classes c), names_times siding.classes c)
+    rw (
+      list_any-append (λ (s : asked.Siding). lists_class s.classes c) before (siding ∷ []),
+      or-false (lists_class siding.classes c),
+      names_times siding.classes c,
+    )
     (or_regroup (is_unit units c) (is_sided before c) (nat_lt 0 (times siding.classes c)))
 
 -- the classes of a siding

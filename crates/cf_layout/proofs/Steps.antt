@@ -7,7 +7,7 @@ use Rattle.std.proofs.lemmas.Option.{same_Some}
 use Rattle.std.specs.Option.{option_or}
 use Rattle.rv_inst.specs.declared.classes.Class.{Class}
 use Rattle.cf_layout.specs.declared.parts.Siding.{Siding}
-use Rattle.cf_layout.specs.Asked.{IsSmallSiding, names}
+use Rattle.cf_layout.specs.Asked.{IsSmallSiding, lists_class}
 use Rattle.cf_layout.specs.Refusal.{siding_for, unit_refusal, units_refusal, siding_refusal, sidings_refusal, first_repeated}
 
 -- the units from one unit on are refused for that unit, or else for those after it
@@ -35,13 +35,13 @@ sidings_on n units sidings i siding within this passes = sym (rw (← this, pass
 
 -- the first repeated class is the next one, or else one after it
 pub repeated_step : (elsewhere : Class → Bool) (classes : List Class) (i : ℕ) (d : Class) → i < length classes →
-    first_repeated elsewhere (take i classes) (drop i classes) ≡ cond (elsewhere (get_or classes i d) || names (take i classes) (get_or classes i d))
+    first_repeated elsewhere (take i classes) (drop i classes) ≡ cond (elsewhere (get_or classes i d) || lists_class (take i classes) (get_or classes i d))
     (Some (get_or classes i d)) (first_repeated elsewhere (take (i + 1) classes) (drop (i + 1) classes))
 repeated_step elsewhere classes i d within = rw (drop-cons classes i d, add-one, take-suc classes i d) refl
 
 -- a class that is not repeated is passed over
 pub repeated_on : (elsewhere : Class → Bool) (classes : List Class) (i : ℕ) (d : Class) → i < length classes →
-    (elsewhere (get_or classes i d) || names (take i classes) (get_or classes i d)) ≡ false →
+    (elsewhere (get_or classes i d) || lists_class (take i classes) (get_or classes i d)) ≡ false →
     first_repeated elsewhere (take (i + 1) classes) (drop (i + 1) classes) ≡ first_repeated elsewhere (take i classes) (drop i classes)
 repeated_on elsewhere classes i d within alone = sym (rw alone at (repeated_step elsewhere classes i d within))
 
@@ -59,4 +59,4 @@ found_holds P test (y ∷ xs) x all e = found_step P (test y) y x (find test xs)
 -- so of small sidings the one that is found is small
 pub found_small : (sidings : List Siding) (c : Class) (siding : Siding) → All IsSmallSiding sidings → siding_for sidings c ≡ Some siding → IsSmallSiding siding
 unfolding siding_for
-found_small sidings c siding all e = found_holds IsSmallSiding (λ s. names s.classes c) sidings siding all e
+found_small sidings c siding all e = found_holds IsSmallSiding (λ s. lists_class s.classes c) sidings siding all e

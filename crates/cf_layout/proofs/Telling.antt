@@ -17,10 +17,10 @@ use Rattle.cf_layout.specs.declared.refusal.LayoutErr.{LayoutErr}
 use Rattle.cf_layout.specs.declared.refusal.LayoutErr.TheVariants.{StagesOutOfRange, LaneOutOfRange, StageOutOfRange, ClassTwice, MissingUnit, EmptyUnit, MemoryNotSiding, MemorySharesSiding, SidingOrder, CellsOutOfRange, TooManySidings, EmptySiding}
 use Rattle.cf_layout.specs.Layout.{same_class}
 use Rattle.cf_layout.specs.Accepted.{is_needed, is_control}
-use Rattle.cf_layout.specs.Asked.{natural, is_within, names, is_unit, is_sided, is_asked, listed, ascending}
+use Rattle.cf_layout.specs.Asked.{natural, is_integer_within, lists_class, is_unit, is_sided, is_asked, stages_listed, ascending}
 use Rattle.cf_layout.specs.Acceptable.{AreEquipped, IsAcceptable, times, sided_classes, asked_classes}
 use Rattle.cf_layout.specs.Causes.{IsLayoutCause}
-use Rattle.cf_layout.specs.Refusal.{unless, outside, twice, missing, above, limits_refusal, unit_refusal, units_refusal, first_repeated, stages_refusal, classes_refusal, filled_refusal, siding_refusal, sidings_refusal, missing_refusal, needed_classes, turn_refusal, control_refusal, turns_in, siding_for, memory_launch_in, loose_refusal, refusal}
+use Rattle.cf_layout.specs.Refusal.{unless, outside, twice, missing_class, above, limits_refusal, unit_refusal, units_refusal, first_repeated, stages_refusal, classes_refusal, filled_refusal, siding_refusal, sidings_refusal, missing_refusal, needed_classes, turn_refusal, control_refusal, turns_in, siding_for, memory_launch_in, loose_refusal, first_refusal}
 use Rattle.cf_layout.proofs.Counts.{same_true, same_self, times_cons, times_append, is_unit_times, is_sided_times}
 use Rattle.cf_layout.proofs.Acceptance.{equipped, acceptable}
 use Rattle.cf_layout.proofs.Unrefused.{not_loosely_refused, not_refused}
@@ -88,8 +88,8 @@ says_unless parts false e cause = cause refl
 says_limits : (parts : Parts) → Says parts (limits_refusal parts)
 unfolding limits_refusal
 says_limits parts =
-    says_first parts _ _ (says_unless parts (is_within 2 32 parts.stages) (StagesOutOfRange parts.stages) (λ off. (refl, off)))
-    (says_first parts _ _ (says_unless parts (is_within 2 64 parts.lane) (LaneOutOfRange parts.lane) (λ off. (refl, off)))
+    says_first parts _ _ (says_unless parts (is_integer_within 2 32 parts.stages) (StagesOutOfRange parts.stages) (λ off. (refl, off)))
+    (says_first parts _ _ (says_unless parts (is_integer_within 2 64 parts.lane) (LaneOutOfRange parts.lane) (λ off. (refl, off)))
     (says_unless parts (nat_le (length parts.sidings) 8) (TooManySidings (min (length parts.sidings) 4294967295)) (λ off. (refl, over _ _ off))))
 
 -- what is found is in the list and passes
@@ -136,11 +136,11 @@ unit_more_often parts before unit rest whole e =
 
 -- a stage that the pipeline does not have
 says_outside : (parts : Parts) (before : List (Class × List ℤ)) (unit : Class × List ℤ) (rest : List (Class × List ℤ)) → parts.units ≡ before ++ unit ∷ rest →
-    (o : Option ℤ) → find (λ stage. not (is_within 1 (natural parts.stages) stage)) unit.1 ≡ o → Says parts (outside unit.0 o)
+    (o : Option ℤ) → find (λ stage. not (is_integer_within 1 (natural parts.stages) stage)) unit.1 ≡ o → Says parts (outside unit.0 o)
 unfolding Says
 says_outside parts before unit rest whole None e = tt
 says_outside parts before unit rest whole (Some z) e =
-    let f = found_in (λ stage. not (is_within 1 (natural parts.stages) stage)) unit.1 z e in
+    let f = found_in (λ stage. not (is_integer_within 1 (natural parts.stages) stage)) unit.1 z e in
     (not_on _ f.0, inl (rw whole (after (λ (u : Class × List ℤ). (u.0 ≡ unit.0) × Contains u.1 z) before unit rest (refl, f.1))))
 
 -- a unit
@@ -152,7 +152,7 @@ says_unit parts before unit rest whole =
     (λ off. rw whole (memory_unit before unit rest (same_true unit.0 Memory (not_off _ off)))))
     (says_first parts _ _ (says_unless parts (nat_lt 0 (length unit.1)) (EmptyUnit unit.0)
     (λ off. rw whole (after (λ (u : Class × List ℤ). (u.0 ≡ unit.0) × (length u.1 ≡ 0)) before unit rest (refl, nothing _ off))))
-    (says_first parts _ _ (says_outside parts before unit rest whole (find (λ stage. not (is_within 1 (natural parts.stages) stage)) unit.1) refl)
+    (says_first parts _ _ (says_outside parts before unit rest whole (find (λ stage. not (is_integer_within 1 (natural parts.stages) stage)) unit.1) refl)
     (says_unless parts (not (is_unit before unit.0)) (ClassTwice unit.0) (λ off. unit_more_often parts before unit rest whole (not_off _ off)))))
 
 -- all units
@@ -173,15 +173,15 @@ says_stages : (parts : Parts) (before : List asked.Siding) (siding : asked.Sidin
     parts.sidings ≡ before ++ siding ∷ rest → Contains siding.classes first → Says parts (stages_refusal (natural parts.stages) siding first)
 unfolding stages_refusal
 says_stages parts before siding rest first whole has =
-    says_first parts _ _ (says_unless parts (is_within 1 8 siding.cells) (CellsOutOfRange siding.cells)
+    says_first parts _ _ (says_unless parts (is_integer_within 1 8 siding.cells) (CellsOutOfRange siding.cells)
     (λ off. (off, sided (λ (s : asked.Siding). s.cells ≡ siding.cells) parts before siding rest whole refl)))
-    (says_first parts _ _ (says_unless parts (is_within 1 (natural parts.stages) siding.launch) (StageOutOfRange first siding.launch)
+    (says_first parts _ _ (says_unless parts (is_integer_within 1 (natural parts.stages) siding.launch) (StageOutOfRange first siding.launch)
     (λ off. (
       off,
       inr (sided (λ (s : asked.Siding). Contains s.classes first × ((s.launch ≡ siding.launch) ⊎ (s.recover ≡ siding.launch))) parts before
           siding rest whole (has, inl refl)),
     )))
-    (says_first parts _ _ (says_unless parts (is_within 1 (natural parts.stages) siding.recover) (StageOutOfRange first siding.recover)
+    (says_first parts _ _ (says_unless parts (is_integer_within 1 (natural parts.stages) siding.recover) (StageOutOfRange first siding.recover)
     (λ off. (
       off,
       inr (sided (λ (s : asked.Siding). Contains s.classes first × ((s.launch ≡ siding.recover) ⊎ (s.recover ≡ siding.recover))) parts before
@@ -196,21 +196,21 @@ says_stages parts before siding rest first whole has =
 
 -- a class that is repeated occurs more than once, counting elsewhere and before
 repeated_here : (elsewhere : Class → Bool) (seen : List Class) (here : Bool) (x c : Class) (xs : List Class) (rest : Option Class) →
-    (elsewhere x || names seen x) ≡ here → cond here (Some x) rest ≡ Some c → (rest ≡ Some c →
-    1 < times xs c + cond (elsewhere c || names (seen ++ x ∷ []) c) 1 0) → 1 < times (x ∷ xs) c + cond (elsewhere c || names seen c) 1 0
+    (elsewhere x || lists_class seen x) ≡ here → cond here (Some x) rest ≡ Some c → (rest ≡ Some c →
+    1 < times xs c + cond (elsewhere c || lists_class (seen ++ x ∷ []) c) 1 0) → 1 < times (x ∷ xs) c + cond (elsewhere c || lists_class seen c) 1 0
 repeated_here elsewhere seen true x c xs rest at e later =
     let same = same_Some x c e in
-    let here : (elsewhere c || names seen c) ≡ true = subst (λ (k : Class). (elsewhere k || names seen k) ≡ true) same at in
+    let here : (elsewhere c || lists_class seen c) ≡ true = subst (λ (k : Class). (elsewhere k || lists_class seen k) ≡ true) same at in
     let self : same_class c x ≡ true = subst (λ (k : Class). same_class c k ≡ true) (sym same) (same_self c) in
     rw (times_cons x xs c, self, here) (omega arith)
 repeated_here elsewhere seen false x c xs rest at e later =
     let l = rw (seen_more seen x c) at (later e) in
-    rw (times_cons x xs c) (more_before (elsewhere c) (names seen c) (same_class c x) (times xs c) l)
+    rw (times_cons x xs c) (more_before (elsewhere c) (lists_class seen c) (same_class c x) (times xs c) l)
 
 repeated_more : (elsewhere : Class → Bool) (seen classes : List Class) (c : Class) → first_repeated elsewhere seen classes ≡ Some c →
-    1 < times classes c + cond (elsewhere c || names seen c) 1 0
+    1 < times classes c + cond (elsewhere c || lists_class seen c) 1 0
 repeated_more elsewhere seen [] c e = cc
-repeated_more elsewhere seen (x ∷ xs) c e = repeated_here elsewhere seen (elsewhere x || names seen x) x c xs
+repeated_more elsewhere seen (x ∷ xs) c e = repeated_here elsewhere seen (elsewhere x || lists_class seen x) x c xs
     (first_repeated elsewhere (seen ++ x ∷ []) xs) refl e (λ later. repeated_more elsewhere (seen ++ x ∷ []) xs c later)
 
 -- the classes of sidings one after the other
@@ -241,8 +241,8 @@ says_classes : (parts : Parts) (before : List asked.Siding) (siding : asked.Sidi
 unfolding classes_refusal
 says_classes parts before siding rest whole =
     says_first parts _ _ (says_twice parts before siding rest whole (first_repeated (λ c. is_unit parts.units c || is_sided before c) [] siding.classes) refl)
-    (says_unless parts (not (names siding.classes Memory && nat_lt 1 (length siding.classes))) MemorySharesSiding (λ off. let b =
-    both_true _ _ (not_off _ off) in sided (λ (s : asked.Siding). (names s.classes Memory ≡ true) × (1 < length s.classes)) parts before siding rest whole
+    (says_unless parts (not (lists_class siding.classes Memory && nat_lt 1 (length siding.classes))) MemorySharesSiding (λ off. let b =
+    both_true _ _ (not_off _ off) in sided (λ (s : asked.Siding). (lists_class s.classes Memory ≡ true) × (1 < length s.classes)) parts before siding rest whole
     (b.0, lt_true 1 _ b.1)))
 
 -- the siding after others has their number as its index
@@ -281,7 +281,7 @@ says_sidings parts before (siding ∷ sidings) whole = says_first parts _ _ (say
     (says_sidings parts (before ++ siding ∷ []) sidings (whole ∙ sym (taken before siding sidings)))
 
 -- a class that is missing
-says_absent : (parts : Parts) (o : Option Class) → find (λ c. not (is_asked parts c)) needed_classes ≡ o → Says parts (missing o)
+says_absent : (parts : Parts) (o : Option Class) → find (λ c. not (is_asked parts c)) needed_classes ≡ o → Says parts (missing_class o)
 unfolding Says
 says_absent parts None e = tt
 says_absent parts (Some c) e =
@@ -299,18 +299,18 @@ says_missing parts =
 
 -- a stage above the one from which memory is reached
 says_above : (parts : Parts) (c : Class) → is_control c ≡ true → (o : Option ℕ) → find (nat_lt (memory_launch_in parts.sidings))
-    (turns_in (ascending (listed parts.units c)) (siding_for parts.sidings c)) ≡ o → Says parts (above c (memory_launch_in parts.sidings) o)
+    (turns_in (ascending (stages_listed parts.units c)) (siding_for parts.sidings c)) ≡ o → Says parts (above c (memory_launch_in parts.sidings) o)
 unfolding Says
 says_above parts c turns None e = tt
 says_above parts c turns (Some stage) e =
-    let f = found_in (nat_lt (memory_launch_in parts.sidings)) (turns_in (ascending (listed parts.units c)) (siding_for parts.sidings c)) stage e in
+    let f = found_in (nat_lt (memory_launch_in parts.sidings)) (turns_in (ascending (stages_listed parts.units c)) (siding_for parts.sidings c)) stage e in
     (turns, refl, lt_true _ _ f.0, f.1)
 
 -- where a class turns control
 says_turns : (parts : Parts) (c : Class) → is_control c ≡ true → Says parts (turn_refusal parts c)
 unfolding turn_refusal
 says_turns parts c turns = says_above parts c turns (find (nat_lt (memory_launch_in parts.sidings))
-    (turns_in (ascending (listed parts.units c)) (siding_for parts.sidings c))) refl
+    (turns_in (ascending (stages_listed parts.units c)) (siding_for parts.sidings c))) refl
 
 -- where control turns
 says_control : (parts : Parts) → Says parts (control_refusal parts)
@@ -326,8 +326,8 @@ says_loosely parts =
     (says_first parts _ _ (says_sidings parts [] parts.sidings refl) (says_missing parts)))
 
 -- all tests
-says_all : (parts : Parts) → Says parts (refusal parts)
-unfolding refusal
+says_all : (parts : Parts) → Says parts (first_refusal parts)
+unfolding first_refusal
 says_all parts = says_first parts _ _ (says_loosely parts) (says_control parts)
 
 -- what is answered is a cause
@@ -337,21 +337,22 @@ told_cause parts None e said at = cc
 told_cause parts (Some f) e said at = subst (IsLayoutCause parts) (same_Some f e at) said
 
 -- each refusal is true
-pub causes : (parts : Parts) (e : LayoutErr) → refusal parts ≡ Some e → IsLayoutCause parts e
-causes parts e at = told_cause parts (refusal parts) e (says_all parts) at
+pub causes : (parts : Parts) (e : LayoutErr) → first_refusal parts ≡ Some e → IsLayoutCause parts e
+causes parts e at = told_cause parts (first_refusal parts) e (says_all parts) at
 
 -- an answer that refuses is true
-pub refused_cause : {T : Type 0} (parts : Parts) (r : Result T LayoutErr) → IfErr r (λ e. refusal parts ≡ Some e) → IfErr r (λ e. IsLayoutCause parts e)
+pub refused_cause : {T : Type 0} (parts : Parts) (r : Result T LayoutErr) → IfErr r (λ e. first_refusal parts ≡ Some e) → IfErr r (λ e. IsLayoutCause parts e)
 refused_cause parts (Ok x) h = tt
 refused_cause parts (Err e) h = causes parts e h
 
 -- and is given for no acceptable parts
-pub refused_unacceptable : {T : Type 0} (parts : Parts) (r : Result T LayoutErr) → IfErr r (λ e. refusal parts ≡ Some e) → IfErr r (λ e. ¬ IsAcceptable parts)
+pub refused_unacceptable : {T : Type 0} (parts : Parts) (r : Result T LayoutErr) → IfErr r (λ e. first_refusal parts ≡ Some e) →
+    IfErr r (λ e. ¬ IsAcceptable parts)
 refused_unacceptable parts (Ok x) h = tt
 refused_unacceptable parts (Err e) h = λ a. let n = not_refused parts a in cc
 
 -- an answer that accepts is given for acceptable parts alone
-pub accepted_acceptable : {T : Type 0} (parts : Parts) (r : Result T LayoutErr) → IfOk r (λ x. refusal parts ≡ None) → IfOk r (λ x. IsAcceptable parts)
+pub accepted_acceptable : {T : Type 0} (parts : Parts) (r : Result T LayoutErr) → IfOk r (λ x. first_refusal parts ≡ None) → IfOk r (λ x. IsAcceptable parts)
 accepted_acceptable parts (Ok x) h = acceptable parts h
 accepted_acceptable parts (Err e) h = tt
 

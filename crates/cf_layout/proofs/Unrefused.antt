@@ -12,9 +12,9 @@ use Rattle.cf_layout.specs.declared.parts.Siding as asked
 use Rattle.cf_layout.specs.declared.parts.Parts.{Parts}
 use Rattle.cf_layout.specs.declared.refusal.LayoutErr.{LayoutErr}
 use Rattle.cf_layout.specs.Layout.{same_class}
-use Rattle.cf_layout.specs.Asked.{natural, is_within, names, is_unit, is_sided, is_asked, listed, ascending}
+use Rattle.cf_layout.specs.Asked.{natural, is_integer_within, lists_class, is_unit, is_sided, is_asked, stages_listed, ascending}
 use Rattle.cf_layout.specs.Acceptable.{IsUnit, IsSiding, AreEquipped, IsAcceptable, times, sided_classes}
-use Rattle.cf_layout.specs.Refusal.{unless, outside, twice, missing, above, limits_refusal, unit_refusal, units_refusal, first_repeated, stages_refusal, classes_refusal, filled_refusal, siding_refusal, sidings_refusal, missing_refusal, needed_classes, turn_refusal, control_refusal, turns_in, siding_for, memory_launch_in, loose_refusal, refusal}
+use Rattle.cf_layout.specs.Refusal.{unless, outside, twice, missing_class, above, limits_refusal, unit_refusal, units_refusal, first_repeated, stages_refusal, classes_refusal, filled_refusal, siding_refusal, sidings_refusal, missing_refusal, needed_classes, turn_refusal, control_refusal, turns_in, siding_for, memory_launch_in, loose_refusal, first_refusal}
 use Rattle.cf_layout.proofs.Counts.{same_true, same_self, times_cons, times_append, is_unit_times}
 use Rattle.cf_layout.proofs.Passing.{unit_more, sided_more, seen_more}
 
@@ -88,7 +88,7 @@ unfolding unit_refusal
 unit_pass n before unit u alone =
     both _ _ (passes _ _ (other_class unit.0 u.beside_memory))
     (both _ _ (passes _ _ (lt_test _ _ u.some))
-    (both _ _ (ap (outside unit.0) (none_outside (is_within 1 n) unit.1 u.stages)) (passes _ _ (ap not alone))))
+    (both _ _ (ap (outside unit.0) (none_outside (is_integer_within 1 n) unit.1 u.stages)) (passes _ _ (ap not alone))))
 
 -- a class that occurs once does not occur before
 alone_before : (seen : Bool) (rest : ℕ) → 1 + rest + cond seen 1 0 ≤ 1 → seen ≡ false
@@ -112,14 +112,14 @@ units_pass n before (unit ∷ units) all once =
     (once_more (is_unit before c) (same_class c unit.0) _ (rw (times_cons unit.0 (map (λ u. u.0) units) c) at (once c)))))
 
 -- classes none of which is repeated
-repeated_pass : (elsewhere : Class → Bool) (seen classes : List Class) → ((c : Class) → times classes c + cond (elsewhere c || names seen c) 1 0 ≤ 1) →
+repeated_pass : (elsewhere : Class → Bool) (seen classes : List Class) → ((c : Class) → times classes c + cond (elsewhere c || lists_class seen c) 1 0 ≤ 1) →
     first_repeated elsewhere seen classes ≡ None
 repeated_pass elsewhere seen [] once = refl
 repeated_pass elsewhere seen (x ∷ xs) once =
     let here = rw (times_cons x xs x, same_self x) at (once x) in
-    none_step (elsewhere x || names seen x) x _ (alone_before _ _ here)
-    (repeated_pass elsewhere (seen ++ x ∷ []) xs (λ c. rw (seen_more seen x c, or_regroup (elsewhere c) (names seen c) (same_class c x))
-    (once_more (elsewhere c || names seen c) (same_class c x) _ (rw (times_cons x xs c) at (once c)))))
+    none_step (elsewhere x || lists_class seen x) x _ (alone_before _ _ here)
+    (repeated_pass elsewhere (seen ++ x ∷ []) xs (λ c. rw (seen_more seen x c, or_regroup (elsewhere c) (lists_class seen c) (same_class c x))
+    (once_more (elsewhere c || lists_class seen c) (same_class c x) _ (rw (times_cons x xs c) at (once c)))))
 
 -- the cells and the stages of a siding
 stages_pass : (n : ℕ) (siding : asked.Siding) (first : Class) → IsSiding n siding → stages_refusal n siding first ≡ None
@@ -134,10 +134,10 @@ alone_pass false n one = refl
 
 -- the classes of a siding
 classes_pass : (elsewhere : Class → Bool) (classes : List Class) → ((c : Class) → times classes c + cond (elsewhere c) 1 0 ≤ 1) →
-    (names classes Memory ≡ true → length classes ≡ 1) → classes_refusal elsewhere classes ≡ None
+    (lists_class classes Memory ≡ true → length classes ≡ 1) → classes_refusal elsewhere classes ≡ None
 unfolding classes_refusal
 classes_pass elsewhere classes once alone = both _ _ (ap twice (repeated_pass elsewhere [] classes (λ c. rw (or-false (elsewhere c)) (once c))))
-    (passes _ _ (alone_pass (names classes Memory) (length classes) alone))
+    (passes _ _ (alone_pass (lists_class classes Memory) (length classes) alone))
 
 -- a siding with these classes
 filled_pass : (n : ℕ) (elsewhere : Class → Bool) (index : ℕ) (siding : asked.Siding) (classes : List Class) → classes ≡ siding.classes → IsSiding n siding →
@@ -175,7 +175,7 @@ sidings_pass n units before (siding ∷ sidings) all once =
 missing_pass : (parts : Parts) → AreEquipped parts → missing_refusal parts ≡ None
 unfolding missing_refusal
 missing_pass parts a =
-    both _ _ (ap missing (none_outside (is_asked parts) needed_classes (All-from_recursion (λ c. is_asked parts c ≡ true) needed_classes (
+    both _ _ (ap missing_class (none_outside (is_asked parts) needed_classes (All-from_recursion (λ c. is_asked parts c ≡ true) needed_classes (
       a.needed Add refl,
       (
         a.needed Logic refl,
@@ -192,10 +192,10 @@ missing_pass parts a =
 
 -- where control turns
 turn_pass : (parts : Parts) (c : Class) → All (λ stage. stage ≤ memory_launch_in parts.sidings)
-    (turns_in (ascending (listed parts.units c)) (siding_for parts.sidings c)) → turn_refusal parts c ≡ None
+    (turns_in (ascending (stages_listed parts.units c)) (siding_for parts.sidings c)) → turn_refusal parts c ≡ None
 unfolding turn_refusal
 turn_pass parts c all = ap (above c (memory_launch_in parts.sidings)) (none_fails (nat_lt (memory_launch_in parts.sidings))
-    (turns_in (ascending (listed parts.units c)) (siding_for parts.sidings c)) (λ k d within. low_test _ _ (all k d within)))
+    (turns_in (ascending (stages_listed parts.units c)) (siding_for parts.sidings c)) (λ k d within. low_test _ _ (all k d within)))
 
 control_pass : (parts : Parts) → IsAcceptable parts → control_refusal parts ≡ None
 unfolding control_refusal
@@ -214,6 +214,6 @@ not_loosely_refused parts a =
     (missing_pass parts a)))
 
 -- and acceptable parts are not refused
-pub not_refused : (parts : Parts) → IsAcceptable parts → refusal parts ≡ None
-unfolding refusal
+pub not_refused : (parts : Parts) → IsAcceptable parts → first_refusal parts ≡ None
+unfolding first_refusal
 not_refused parts a = both _ _ (not_loosely_refused parts a.equipped) (control_pass parts a)

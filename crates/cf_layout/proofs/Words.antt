@@ -12,14 +12,14 @@ use Rattle.std.proofs.lemmas.List.{take_all, drop_all}
 use Rattle.rv_inst.specs.declared.classes.Class.TheVariants.{Add, Logic, Shift, Compare, Branch, Jump, Memory, Serial, Free, Mul, Div}
 use Rattle.std.specs.List.{AllByRecursion}
 use Rattle.std.proofs.lemmas.Map.Views.{any-filter_same}
-use Rattle.cf_layout.specs.Asked.{is_number, ascending, names, in_class_order}
+use Rattle.cf_layout.specs.Asked.{is_integer, ascending, lists_class, in_class_order}
 use Rattle.std.proofs.lemmas.Nat.Bits.{bit_at_set_same, bit_at_set_other, bit_at-zero}
 use mir.Syntax.{w32}
 use Rattle.rv_inst.specs.declared.classes.Class.{Class}
 use Rattle.cf_layout.specs.Layout.{place_of, same_class, computed_classes}
 use Rattle.cf_layout.specs.Asked.{stage_numbers}
 use Rattle.cf_layout.specs.Kept.{stages_kept}
-use Rattle.cf_layout.specs.Words.{has_bit, members, word_of, bit_of, stages_of_word, classes_of_word}
+use Rattle.cf_layout.specs.Words.{has_bit, members, word_of_list, bit_of, stages_of_word, classes_of_word}
 
 -- one more bit in a word, by whether it is the requested one
 set_bit_case : (w k i : ℕ) (same : Bool) → nat_eq i k ≡ same → k < 32 → has_bit (bit_or w (1 * 2 ^ k % 2 ^ 32)) i ≡ (same || has_bit w i)
@@ -101,7 +101,7 @@ from_end w = refl
 
 -- the bit of a stage
 pub stage_bit : (w v n : ℕ) (stage : ℤ) → ((k : ℕ) → has_bit v k ≡ (nat_eq k (n - 1) || has_bit w k)) → stage ≡ pos n → 1 ≤ n → (k : ℕ) →
-    has_bit v k ≡ (has_bit w k || is_number (k + 1) stage)
+    has_bit v k ≡ (has_bit w k || is_integer (k + 1) stage)
 stage_bit w v n stage new at low k = let h = new k in rw at (grind (arith, nat_tests, h))
 
 -- the word 0 has no bit
@@ -121,10 +121,10 @@ stages_agree w test (suc n) k same =
     rw (e, h) (ap (λ (l : List ℕ). cond (test (k + 1)) ((k + 1) ∷ l) l) r)
 
 -- the stages of a word by what is tested instead of the bits
-pub stages_by : (w n : ℕ) (stages : List ℤ) → length stages ≤ n → ((i : ℕ) → i < 32 → has_bit w i ≡ list_any (is_number (i + 1)) (take n stages)) →
+pub stages_by : (w n : ℕ) (stages : List ℤ) → length stages ≤ n → ((i : ℕ) → i < 32 → has_bit w i ≡ list_any (is_integer (i + 1)) (take n stages)) →
     stages_of_word w ≡ ascending stages
 unfolding ascending stage_numbers
-stages_by w n stages all same = stages_agree w (λ i. list_any (is_number i) stages) 32 0 (λ i below. rw (take_all n stages all) at (same i below))
+stages_by w n stages all same = stages_agree w (λ i. list_any (is_integer i) stages) 32 0 (λ i below. rw (take_all n stages all) at (same i below))
 
 -- a word with the bit of one more class has the bits of the same classes and of that class
 pub class_bit : (w v : ℕ) (class c : Class) → ((k : ℕ) → has_bit v k ≡ (nat_eq k (place_of class) || has_bit w k)) →
@@ -136,10 +136,10 @@ pub no_class_bit : (class c : Class) → 9 ≤ place_of class → place_of c < 9
 no_class_bit class c high low = grind (arith, nat_tests)
 
 -- the classes of a word by what is tested instead of the bits
-classes_agree : (w : ℕ) (classes : List Class) → ((c : Class) → place_of c < 9 → has_bit w (place_of c) ≡ names classes c) →
+classes_agree : (w : ℕ) (classes : List Class) → ((c : Class) → place_of c < 9 → has_bit w (place_of c) ≡ lists_class classes c) →
     classes_of_word w ≡ in_class_order classes
 unfolding in_class_order
-classes_agree w classes same = members_by place_of (names classes) w computed_classes (
+classes_agree w classes same = members_by place_of (lists_class classes) w computed_classes (
   same Add (omega arith),
   (
     same Logic (omega arith),
@@ -154,7 +154,8 @@ classes_agree w classes same = members_by place_of (names classes) w computed_cl
 )
 
 -- the same where all classes of the list have been gone through
-pub classes_by : (w n : ℕ) (classes : List Class) → length classes ≤ n → ((c : Class) → place_of c < 9 → has_bit w (place_of c) ≡ names (take n classes) c) →
+pub classes_by : (w n : ℕ) (classes : List Class) → length classes ≤ n →
+    ((c : Class) → place_of c < 9 → has_bit w (place_of c) ≡ lists_class (take n classes) c) →
     classes_of_word w ≡ in_class_order classes
 classes_by w n classes all same = classes_agree w classes (rw (take_all n classes all) at same)
 
@@ -164,13 +165,13 @@ unfolding has_bit
 high_bit w i small high = let p : 2 ^ 9 ≤ 2 ^ i = pow-le-pow_right (omega arith) high in let e : w / 2 ^ i ≡ 0 = div-eq_of_lt (omega arith) in rw e refl
 
 -- a class of a word is a bit of it
-any_class : (w : ℕ) (c : Class) → names (classes_of_word w) c ≡ (has_bit w (place_of c) && names computed_classes c)
+any_class : (w : ℕ) (c : Class) → lists_class (classes_of_word w) c ≡ (has_bit w (place_of c) && lists_class computed_classes c)
 unfolding members
 any_class w c = any-filter_same (same_class c) (λ k. has_bit w (place_of k)) (has_bit w (place_of c)) (λ k e. let at : place_of c ≡ place_of k =
     grind (arith, nat_tests) in rw at refl) computed_classes
 
 -- the class is one of those that have a bit, or has a high index
-computed_or : (c : Class) → (names computed_classes c ≡ true) ⊎ ((names computed_classes c ≡ false) × (9 ≤ place_of c))
+computed_or : (c : Class) → (lists_class computed_classes c ≡ true) ⊎ ((lists_class computed_classes c ≡ false) × (9 ≤ place_of c))
 computed_or Add = inl refl
 computed_or Logic = inl refl
 computed_or Shift = inl refl
@@ -184,7 +185,7 @@ computed_or Serial = inr (refl, omega arith)
 computed_or Free = inr (refl, omega arith)
 
 -- a class of a word by its bit
-pub class_in : (w : ℕ) (c : Class) → w < 2 ^ 9 → names (classes_of_word w) c ≡ has_bit w (place_of c)
+pub class_in : (w : ℕ) (c : Class) → w < 2 ^ 9 → lists_class (classes_of_word w) c ≡ has_bit w (place_of c)
 class_in w c small = let e = any_class w c in elim (computed_or c) [
   | inl in_order ↦ rw in_order at e ∙ and-true (has_bit w (place_of c))
   | inr after ↦ let h = high_bit w (place_of c) small after.1 in rw (after.0, h) at e ∙ sym h
@@ -196,8 +197,8 @@ unfolding members stage_numbers has_bit
 no_stages = refl
 
 -- a list of stages is empty where its word is 0
-word_of_none : (stages : List ℕ) → length stages ≡ 0 → word_of bit_of stages ≡ 0
-unfolding word_of
+word_of_none : (stages : List ℕ) → length stages ≡ 0 → word_of_list bit_of stages ≡ 0
+unfolding word_of_list
 word_of_none [] none = refl
 word_of_none (stage ∷ stages) none = absurd (omega arith)
 

@@ -6,7 +6,7 @@ use Rattle.cf_layout.specs.declared.parts.Siding.{Siding}
 use Rattle.cf_layout.specs.declared.parts.Parts.{Parts}
 use Rattle.cf_layout.specs.Layout.{place_of, same_class}
 use Rattle.cf_layout.specs.Accepted.{is_needed, is_control}
-use Rattle.cf_layout.specs.Asked.{natural, is_within, names, is_asked, listed, ascending}
+use Rattle.cf_layout.specs.Asked.{natural, is_integer_within, lists_class, is_asked, stages_listed, ascending}
 use Rattle.cf_layout.specs.Refusal.{siding_for, turns_in, memory_launch_in}
 
 -- units or sidings can compute the class
@@ -37,24 +37,24 @@ pub record IsUnit (n : ℕ) (unit : Class × List ℤ) : Type 0 where
   pub beside_memory : unit.0 ≢ Memory
   -- it has at least one stage, and only stages of the pipeline
   pub some : 0 < length unit.1
-  pub stages : All (λ stage. is_within 1 n stage ≡ true) unit.1
+  pub stages : All (λ stage. is_integer_within 1 n stage ≡ true) unit.1
 
 -- what has to hold of a siding
 pub record IsSiding (n : ℕ) (siding : Siding) : Type 0 where
   -- it is for at least one class
   pub some : 0 < length siding.classes
-  pub cells : is_within 1 8 siding.cells ≡ true
+  pub cells : is_integer_within 1 8 siding.cells ≡ true
   -- it launches from a stage of the pipeline, and recovers at a higher one
-  pub launch : is_within 1 n siding.launch ≡ true
-  pub recover : is_within 1 n siding.recover ≡ true
+  pub launch : is_integer_within 1 n siding.launch ≡ true
+  pub recover : is_integer_within 1 n siding.recover ≡ true
   pub order : siding.launch <ℤ siding.recover
   -- Memory shares its siding with no other class
-  pub memory_alone : names siding.classes Memory ≡ true → length siding.classes ≡ 1
+  pub memory_alone : lists_class siding.classes Memory ≡ true → length siding.classes ≡ 1
 
 -- what has to hold of all parts, wherever control turns
 pub record AreEquipped (parts : Parts) : Type 0 where
-  pub stages : is_within 2 32 parts.stages ≡ true
-  pub lane : is_within 2 64 parts.lane ≡ true
+  pub stages : is_integer_within 2 32 parts.stages ≡ true
+  pub lane : is_integer_within 2 64 parts.lane ≡ true
   pub few_sidings : length parts.sidings ≤ 8
   pub units : All (IsUnit (natural parts.stages)) parts.units
   pub sidings : All (IsSiding (natural parts.stages)) parts.sidings
@@ -70,4 +70,4 @@ pub record IsAcceptable (parts : Parts) : Type 0 where
   pub open equipped use *
   -- control turns, at a unit or a recovery, at or below the stage from which loads and stores are launched
   pub control : (c : Class) → is_control c ≡ true → All (λ stage. stage ≤ memory_launch_in parts.sidings)
-      (turns_in (ascending (listed parts.units c)) (siding_for parts.sidings c))
+      (turns_in (ascending (stages_listed parts.units c)) (siding_for parts.sidings c))

@@ -12,18 +12,18 @@ natural (pos n) = n
 natural (negsuc n) = 0
 
 -- the number is from `least` to `most`
-abbrev pub is_within : ℕ → ℕ → ℤ → Bool
-is_within least most (pos n) = nat_le least n && nat_le n most
-is_within least most (negsuc n) = false
+abbrev pub is_integer_within : ℕ → ℕ → ℤ → Bool
+is_integer_within least most (pos n) = nat_le least n && nat_le n most
+is_integer_within least most (negsuc n) = false
 
 -- the number is n
-abbrev pub is_number : ℕ → ℤ → Bool
-is_number n (pos m) = nat_eq n m
-is_number n (negsuc m) = false
+abbrev pub is_integer : ℕ → ℤ → Bool
+is_integer n (pos m) = nat_eq n m
+is_integer n (negsuc m) = false
 
 -- the list names the class
-abbrev pub names : List Class → Class → Bool
-names classes c = list_any (same_class c) classes
+abbrev pub lists_class : List Class → Class → Bool
+lists_class classes c = list_any (same_class c) classes
 
 -- the entry's stages, where there is an entry
 abbrev pub stages_in : Option (Class × List ℤ) → List ℤ
@@ -31,8 +31,8 @@ stages_in None = []
 stages_in (Some unit) = unit.1
 
 -- the stages that are listed for the units of the class
-unfoldable pub listed : List (Class × List ℤ) → Class → List ℤ
-listed units c = stages_in (find (λ unit. same_class c unit.0) units)
+unfoldable pub stages_listed : List (Class × List ℤ) → Class → List ℤ
+stages_listed units c = stages_in (find (λ unit. same_class c unit.0) units)
 
 -- the numbers of all stages that a pipeline can have
 unfoldable pub stage_numbers : List ℕ
@@ -40,11 +40,11 @@ stage_numbers = range_with_len 1 32
 
 -- these stages, ascending and each once
 unfoldable pub ascending : List ℤ → List ℕ
-ascending stages = filter (λ i. list_any (is_number i) stages) stage_numbers
+ascending stages = filter (λ i. list_any (is_integer i) stages) stage_numbers
 
 -- these classes, in class order and each once
 unfoldable pub in_class_order : List Class → List Class
-in_class_order classes = filter (names classes) computed_classes
+in_class_order classes = filter (lists_class classes) computed_classes
 
 -- the requested siding
 unfoldable pub siding_plan : Siding → SidingPlan
@@ -53,7 +53,7 @@ siding_plan siding = record
 
 -- the requested units: for each class in class order their stages
 unfoldable pub units_plan : List (Class × List ℤ) → List (List ℕ)
-units_plan units = map (λ c. ascending (listed units c)) computed_classes
+units_plan units = map (λ c. ascending (stages_listed units c)) computed_classes
 
 -- the layout that the parts describe
 unfoldable pub plan_of : Parts → Plan
@@ -70,7 +70,7 @@ abbrev pub is_unit : List (Class × List ℤ) → Class → Bool
 is_unit units c = list_any (λ unit. same_class c unit.0) units
 
 abbrev pub is_sided : List Siding → Class → Bool
-is_sided sidings c = list_any (λ siding. names siding.classes c) sidings
+is_sided sidings c = list_any (λ siding. lists_class siding.classes c) sidings
 
 -- a class is in either
 unfoldable pub is_asked : Parts → Class → Bool
@@ -78,6 +78,6 @@ is_asked parts c = is_unit parts.units c || is_sided parts.sidings c
 
 -- the numbers of a siding are natural numbers of 32 bits
 pub record IsSmallSiding (siding : Siding) : Type 0 where
-  pub launch : is_within 0 4294967295 siding.launch ≡ true
-  pub recover : is_within 0 4294967295 siding.recover ≡ true
-  pub cells : is_within 0 4294967295 siding.cells ≡ true
+  pub launch : is_integer_within 0 4294967295 siding.launch ≡ true
+  pub recover : is_integer_within 0 4294967295 siding.recover ≡ true
+  pub cells : is_integer_within 0 4294967295 siding.cells ≡ true

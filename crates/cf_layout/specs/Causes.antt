@@ -8,7 +8,7 @@ use Rattle.cf_layout.specs.declared.parts.Parts.{Parts}
 use Rattle.cf_layout.specs.declared.refusal.LayoutErr.{LayoutErr}
 use Rattle.cf_layout.specs.declared.refusal.LayoutErr.TheVariants.{StagesOutOfRange, LaneOutOfRange, StageOutOfRange, ClassTwice, MissingUnit, EmptyUnit, MemoryNotSiding, MemorySharesSiding, SidingOrder, CellsOutOfRange, ControlAboveMemory, TooManySidings, EmptySiding}
 use Rattle.cf_layout.specs.Accepted.{is_needed, is_control}
-use Rattle.cf_layout.specs.Asked.{natural, is_within, names, is_unit, is_asked, listed, ascending}
+use Rattle.cf_layout.specs.Asked.{natural, is_integer_within, lists_class, is_unit, is_asked, stages_listed, ascending}
 use Rattle.cf_layout.specs.Acceptable.{times, asked_classes}
 use Rattle.cf_layout.specs.Refusal.{siding_for, turns_in, memory_launch_in}
 
@@ -26,18 +26,18 @@ IsWanted parts c = (is_needed c ≡ true) ⊎ (((c ≡ Mul) × (is_asked parts D
 
 -- what each refusal says of the parts
 abbrev pub IsLayoutCause : Parts → LayoutErr → Type 0
-IsLayoutCause parts (StagesOutOfRange z) = (z ≡ parts.stages) × (is_within 2 32 z ≡ false)
-IsLayoutCause parts (LaneOutOfRange z) = (z ≡ parts.lane) × (is_within 2 64 z ≡ false)
-IsLayoutCause parts (StageOutOfRange c z) = (is_within 1 (natural parts.stages) z ≡ false) × (ListsStage parts c z ⊎ SidesAt parts c z)
+IsLayoutCause parts (StagesOutOfRange z) = (z ≡ parts.stages) × (is_integer_within 2 32 z ≡ false)
+IsLayoutCause parts (LaneOutOfRange z) = (z ≡ parts.lane) × (is_integer_within 2 64 z ≡ false)
+IsLayoutCause parts (StageOutOfRange c z) = (is_integer_within 1 (natural parts.stages) z ≡ false) × (ListsStage parts c z ⊎ SidesAt parts c z)
 IsLayoutCause parts (ClassTwice c) = 1 < times (asked_classes parts) c
 IsLayoutCause parts (MissingUnit c) = (is_asked parts c ≡ false) × IsWanted parts c
 IsLayoutCause parts (EmptyUnit c) = Any (λ (unit : Class × List ℤ). (unit.0 ≡ c) × (length unit.1 ≡ 0)) parts.units
 IsLayoutCause parts MemoryNotSiding = is_unit parts.units Memory ≡ true
-IsLayoutCause parts MemorySharesSiding = Any (λ (siding : Siding). (names siding.classes Memory ≡ true) × (1 < length siding.classes)) parts.sidings
+IsLayoutCause parts MemorySharesSiding = Any (λ (siding : Siding). (lists_class siding.classes Memory ≡ true) × (1 < length siding.classes)) parts.sidings
 IsLayoutCause parts (SidingOrder launch recover) = (recover ≤ℤ launch) × Any (λ (siding : Siding). (siding.launch ≡ launch)
     × (siding.recover ≡ recover)) parts.sidings
-IsLayoutCause parts (CellsOutOfRange z) = (is_within 1 8 z ≡ false) × Any (λ (siding : Siding). siding.cells ≡ z) parts.sidings
+IsLayoutCause parts (CellsOutOfRange z) = (is_integer_within 1 8 z ≡ false) × Any (λ (siding : Siding). siding.cells ≡ z) parts.sidings
 IsLayoutCause parts (ControlAboveMemory c stage launch) = (is_control c ≡ true) × (launch ≡ memory_launch_in parts.sidings) × (launch < stage)
-    × Contains (turns_in (ascending (listed parts.units c)) (siding_for parts.sidings c)) stage
+    × Contains (turns_in (ascending (stages_listed parts.units c)) (siding_for parts.sidings c)) stage
 IsLayoutCause parts (TooManySidings count) = (count ≡ min (length parts.sidings) 4294967295) × (8 < length parts.sidings)
 IsLayoutCause parts (EmptySiding k) = Any (λ (siding : Siding). (slice_get parts.sidings k ≡ Some siding) × (length siding.classes ≡ 0)) parts.sidings

@@ -65,20 +65,20 @@ abbrev pub no_siding : SidingPlan
 no_siding = record { classes = []; launch = 0; recover = 0; cells = 0 }
 
 -- the siding with that number
-abbrev pub siding_at : Plan → ℕ → SidingPlan
-siding_at plan k = unwrap_or (slice_get plan.sidings k) no_siding
+abbrev pub siding_plan_at : Plan → ℕ → SidingPlan
+siding_plan_at plan k = unwrap_or (slice_get plan.sidings k) no_siding
 
 -- the stage from which a siding launches
 unfoldable pub launch_stage : Plan → ℕ → ℕ
-launch_stage plan k = (siding_at plan k).launch
+launch_stage plan k = (siding_plan_at plan k).launch
 
 -- the stage at which a siding recovers
 unfoldable pub recover_stage : Plan → ℕ → ℕ
-recover_stage plan k = (siding_at plan k).recover
+recover_stage plan k = (siding_plan_at plan k).recover
 
 -- how many cells a siding has
 unfoldable pub cells_of : Plan → ℕ → ℕ
-cells_of plan k = (siding_at plan k).cells
+cells_of plan k = (siding_plan_at plan k).cells
 
 -- the units of a class, at any number of stages, are one home
 abbrev pub unit_homes : List ℕ → ℕ

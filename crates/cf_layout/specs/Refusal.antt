@@ -8,7 +8,7 @@ use Rattle.cf_layout.specs.declared.parts.Parts.{Parts}
 use Rattle.cf_layout.specs.declared.refusal.LayoutErr.{LayoutErr}
 use Rattle.cf_layout.specs.declared.refusal.LayoutErr.TheVariants.{StagesOutOfRange, LaneOutOfRange, StageOutOfRange, ClassTwice, MissingUnit, EmptyUnit, MemoryNotSiding, MemorySharesSiding, SidingOrder, CellsOutOfRange, ControlAboveMemory, TooManySidings, EmptySiding}
 use Rattle.cf_layout.specs.Layout.{same_class}
-use Rattle.cf_layout.specs.Asked.{natural, is_within, names, is_unit, is_sided, is_asked, listed, ascending}
+use Rattle.cf_layout.specs.Asked.{natural, is_integer_within, lists_class, is_unit, is_sided, is_asked, stages_listed, ascending}
 
 -- the refusal where the test fails
 abbrev pub unless : Bool → LayoutErr → Option LayoutErr
@@ -17,8 +17,8 @@ unless holds e = if holds then None else Some e
 -- 2 to 32 stages, 2 to 64 entries in the lane, at most 8 sidings
 unfoldable pub limits_refusal : Parts → Option LayoutErr
 limits_refusal parts =
-    option_or (unless (is_within 2 32 parts.stages) (StagesOutOfRange parts.stages))
-    (option_or (unless (is_within 2 64 parts.lane) (LaneOutOfRange parts.lane))
+    option_or (unless (is_integer_within 2 32 parts.stages) (StagesOutOfRange parts.stages))
+    (option_or (unless (is_integer_within 2 64 parts.lane) (LaneOutOfRange parts.lane))
     (unless (nat_le (length parts.sidings) 8) (TooManySidings (min (length parts.sidings) 4294967295))))
 
 -- the class's first stage that the pipeline does not have
@@ -36,7 +36,7 @@ unfoldable pub unit_refusal : ℕ → List (Class × List ℤ) → Class × List
 unit_refusal n before unit =
     option_or (unless (not (same_class unit.0 Memory)) MemoryNotSiding)
     (option_or (unless (nat_lt 0 (length unit.1)) (EmptyUnit unit.0))
-    (option_or (outside unit.0 (find (λ stage. not (is_within 1 n stage)) unit.1))
+    (option_or (outside unit.0 (find (λ stage. not (is_integer_within 1 n stage)) unit.1))
     (unless (not (is_unit before unit.0)) (ClassTwice unit.0))))
 
 -- each unit in order
@@ -47,21 +47,21 @@ units_refusal n before (unit ∷ units) = option_or (unit_refusal n before unit)
 -- the first of the classes that is listed earlier among them, or elsewhere
 abbrev pub first_repeated : (Class → Bool) → List Class → List Class → Option Class
 first_repeated elsewhere before [] = None
-first_repeated elsewhere before (c ∷ cs) = if elsewhere c || names before c then Some c else first_repeated elsewhere (before ++ c ∷ []) cs
+first_repeated elsewhere before (c ∷ cs) = if elsewhere c || lists_class before c then Some c else first_repeated elsewhere (before ++ c ∷ []) cs
 
 -- the cells and the stages of a siding whose first class this is
 unfoldable pub stages_refusal : ℕ → Siding → Class → Option LayoutErr
 stages_refusal n siding first =
-    option_or (unless (is_within 1 8 siding.cells) (CellsOutOfRange siding.cells))
-    (option_or (unless (is_within 1 n siding.launch) (StageOutOfRange first siding.launch))
-    (option_or (unless (is_within 1 n siding.recover) (StageOutOfRange first siding.recover))
+    option_or (unless (is_integer_within 1 8 siding.cells) (CellsOutOfRange siding.cells))
+    (option_or (unless (is_integer_within 1 n siding.launch) (StageOutOfRange first siding.launch))
+    (option_or (unless (is_integer_within 1 n siding.recover) (StageOutOfRange first siding.recover))
     (unless (int_lt siding.launch siding.recover) (SidingOrder siding.launch siding.recover))))
 
 -- the classes of a siding, given those that are listed elsewhere; Memory shares its siding with no other class
 unfoldable pub classes_refusal : (Class → Bool) → List Class → Option LayoutErr
 classes_refusal elsewhere classes =
     option_or (twice (first_repeated elsewhere [] classes))
-    (unless (not (names classes Memory && nat_lt 1 (length classes))) MemorySharesSiding)
+    (unless (not (lists_class classes Memory && nat_lt 1 (length classes))) MemorySharesSiding)
 
 -- a siding, given which classes are listed elsewhere
 abbrev pub filled_refusal : ℕ → (Class → Bool) → ℕ → Siding → List Class → Option LayoutErr
@@ -82,20 +82,20 @@ abbrev pub needed_classes : List Class
 needed_classes = Add ∷ Logic ∷ Shift ∷ Compare ∷ Branch ∷ Jump ∷ Memory ∷ []
 
 -- the class that is missing
-abbrev pub missing : Option Class → Option LayoutErr
-missing None = None
-missing (Some c) = Some (MissingUnit c)
+abbrev pub missing_class : Option Class → Option LayoutErr
+missing_class None = None
+missing_class (Some c) = Some (MissingUnit c)
 
 -- no class that every processor computes is missing; of multiplication and division both are present or neither
 unfoldable pub missing_refusal : Parts → Option LayoutErr
 missing_refusal parts =
-    option_or (missing (find (λ c. not (is_asked parts c)) needed_classes))
+    option_or (missing_class (find (λ c. not (is_asked parts c)) needed_classes))
     (option_or (unless (is_asked parts Mul || not (is_asked parts Div)) (MissingUnit Mul))
     (unless (is_asked parts Div || not (is_asked parts Mul)) (MissingUnit Div)))
 
 -- the requested siding for the class: the first that names it
 unfoldable pub siding_for : List Siding → Class → Option Siding
-siding_for sidings c = find (λ siding. names siding.classes c) sidings
+siding_for sidings c = find (λ siding. lists_class siding.classes c) sidings
 
 -- the stage from which the siding launches, where there is one
 abbrev pub launch_in : Option Siding → ℕ
@@ -120,7 +120,7 @@ above c launch (Some stage) = Some (ControlAboveMemory c stage launch)
 -- does
 unfoldable pub turn_refusal : Parts → Class → Option LayoutErr
 turn_refusal parts c = above c (memory_launch_in parts.sidings) (find (nat_lt (memory_launch_in parts.sidings))
-    (turns_in (ascending (listed parts.units c)) (siding_for parts.sidings c)))
+    (turns_in (ascending (stages_listed parts.units c)) (siding_for parts.sidings c)))
 
 -- for branches, then for jumps
 unfoldable pub control_refusal : Parts → Option LayoutErr
@@ -135,8 +135,8 @@ loose_refusal parts =
     (missing_refusal parts)))
 
 -- the first test that the parts fail
-unfoldable pub refusal : Parts → Option LayoutErr
-refusal parts = option_or (loose_refusal parts) (control_refusal parts)
+unfoldable pub first_refusal : Parts → Option LayoutErr
+first_refusal parts = option_or (loose_refusal parts) (control_refusal parts)
 
 -- the refusal, unless it is for where control turns
 abbrev pub beside_control : Option LayoutErr → Option LayoutErr
@@ -145,6 +145,6 @@ beside_control (Some (ControlAboveMemory c stage launch)) = None
 beside_control (Some e) = Some e
 
 -- the outcome of a test
-abbrev pub told : Option LayoutErr → Result (Unit {0}) LayoutErr
-told None = Ok tt
-told (Some e) = Err e
+abbrev pub test_outcome : Option LayoutErr → Result (Unit {0}) LayoutErr
+test_outcome None = Ok tt
+test_outcome (Some e) = Err e

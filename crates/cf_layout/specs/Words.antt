@@ -14,9 +14,9 @@ unfoldable pub members : {X : Type 0} → (X → ℕ) → List X → ℕ → Lis
 members bit xs w = filter (λ x. has_bit w (bit x)) xs
 
 -- the word that has the bits of the list, whose bits differ
-unfoldable pub word_of : {X : Type 0} → (X → ℕ) → List X → ℕ
-word_of bit [] = 0
-word_of bit (x ∷ xs) = 2 ^ bit x + word_of bit xs
+unfoldable pub word_of_list : {X : Type 0} → (X → ℕ) → List X → ℕ
+word_of_list bit [] = 0
+word_of_list bit (x ∷ xs) = 2 ^ bit x + word_of_list bit xs
 
 -- the bit of a stage
 abbrev pub bit_of : ℕ → ℕ

@@ -2,7 +2,7 @@
 
 ghost use Rattle.std.specs.Prelude.{◌≡◌, All, IfSome, find, not, true};
 ghost use Rattle.std.specs.Option.{option_copied};
-ghost use Rattle.cf_layout.specs.Asked.{is_within, IsSmallSiding, natural, names, is_unit, is_sided, is_asked, listed};
+ghost use Rattle.cf_layout.specs.Asked.{is_integer_within, IsSmallSiding, natural, lists_class, is_unit, is_sided, is_asked, stages_listed};
 ghost use Rattle.cf_layout.specs.Refusal.{siding_for};
 ghost use Rattle.cf_layout.specs.Layout.{same_class};
 
@@ -12,14 +12,14 @@ use rv_inst::Class;
 
 /// Whether the number is from `least` to `most`.
 pub(crate) fn is_within(least: u32, most: u32, number: i64) -> bool
-    ensures { result ≡ is_within least most number }
+    ensures { result ≡ is_integer_within least most number }
 {
     i64::from(least) <= number && number <= i64::from(most)
 }
 
 /// The number, which fits 32 bits.
 pub(crate) fn natural(number: i64) -> u32
-    requires { is_within 0 4294967295 number ≡ true }
+    requires { is_integer_within 0 4294967295 number ≡ true }
     ensures { result ≡ natural number }
 {
     number as u32
@@ -27,14 +27,14 @@ pub(crate) fn natural(number: i64) -> u32
 
 /// The first of the stages that is not from 1 to `most`.
 pub(crate) fn first_outside(most: u32, stages: &[i64]) -> Option<&i64>
-    ensures { option_copied result ≡ find (λ stage. not (is_within 1 most stage)) stages.now }
+    ensures { option_copied result ≡ find (λ stage. not (is_integer_within 1 most stage)) stages.now }
 {
     stages.iter().find(|stage| !is_within(1, most, **stage))
 }
 
 /// Whether the list names the class.
 pub(crate) fn names(classes: &[Class], class: Class) -> bool
-    ensures { result ≡ names classes.now class }
+    ensures { result ≡ lists_class classes.now class }
 {
     classes.iter().any(|other| is_same(class, *other))
 }
@@ -70,9 +70,9 @@ fn unit_for(units: &[(Class, Listed<i64>)], class: Class) -> Option<&(Class, Lis
 }
 
 /// The stages that are listed for the units of the class.
-#[tactic(auto, unfolding(crate::specs::Asked::listed))]
+#[tactic(auto, unfolding(crate::specs::Asked::stages_listed))]
 pub(crate) fn listed(units: &[(Class, Listed<i64>)], class: Class) -> &[i64]
-    ensures { result.now ≡ listed units.now class }
+    ensures { result.now ≡ stages_listed units.now class }
 {
     match unit_for(units, class) {
         Some(unit) => unit.1.as_slice(),

@@ -2,10 +2,10 @@
 
 ghost use Rattle.std.specs.Prelude.{◌≡◌, All, IfOk, IfErr, OnOk, true, Some, None, ◌≤◌, ◌||◌, [], ◌∷◌, find, not, nat_lt, length, is_some};
 ghost use Rattle.std.specs.Option.{option_copied};
-ghost use Rattle.cf_layout.specs.Asked.{plan_of, is_within, IsSmallSiding, natural, is_unit, is_sided, is_asked, names, listed, ascending};
+ghost use Rattle.cf_layout.specs.Asked.{plan_of, is_integer_within, IsSmallSiding, natural, is_unit, is_sided, is_asked, lists_class, stages_listed, ascending};
 ghost use Rattle.cf_layout.specs.Acceptable.{AreComputed, AreEquipped, IsAcceptable};
 ghost use Rattle.cf_layout.specs.Causes.{IsLayoutCause};
-ghost use Rattle.cf_layout.specs.Refusal.{loose_refusal, refusal, told, limits_refusal, unit_refusal, units_refusal, first_repeated, stages_refusal, classes_refusal, filled_refusal, siding_refusal, sidings_refusal, missing_refusal, memory_launch_in, siding_for, launch_in, turns_in, turn_refusal, control_refusal, needed_classes};
+ghost use Rattle.cf_layout.specs.Refusal.{loose_refusal, first_refusal, test_outcome, limits_refusal, unit_refusal, units_refusal, first_repeated, stages_refusal, classes_refusal, filled_refusal, siding_refusal, sidings_refusal, missing_refusal, memory_launch_in, siding_for, launch_in, turns_in, turn_refusal, control_refusal, needed_classes};
 
 use crate::asked::{
     first_outside, is_asked, is_sided, is_unit, is_within, listed, names, natural, siding_for,
@@ -21,9 +21,9 @@ const NEEDED: usize = 7;
 /// Tests how many stages, entries of the lane and sidings there are.
 #[tactic(auto, unfolding(crate::specs::Refusal::limits_refusal))]
 fn check_limits(parts: &Parts) -> Result<(), LayoutErr>
-    ensures answer { result ≡ told (limits_refusal parts.now) }
-    ensures stages { OnOk result (is_within 2 32 parts.now.stages ≡ true) }
-    ensures lane { OnOk result (is_within 2 64 parts.now.lane ≡ true) }
+    ensures answer { result ≡ test_outcome (limits_refusal parts.now) }
+    ensures stages { OnOk result (is_integer_within 2 32 parts.now.stages ≡ true) }
+    ensures lane { OnOk result (is_integer_within 2 64 parts.now.lane ≡ true) }
     ensures few { OnOk result (length parts.now.sidings ≤ 8) }
 {
     if !is_within(2, 32, parts.stages) {
@@ -47,7 +47,7 @@ fn check_unit(
     before: &[(Class, Listed<i64>)],
     unit: &(Class, Listed<i64>),
 ) -> Result<(), LayoutErr>
-    ensures { result ≡ told (unit_refusal most before.now unit.now) }
+    ensures { result ≡ test_outcome (unit_refusal most before.now unit.now) }
 {
     let class = unit.0;
     let stages = unit.1.as_slice();
@@ -69,7 +69,7 @@ fn check_unit(
 /// Tests each unit in order.
 #[tactic(auto, using(crate::proofs::Steps::units_step))]
 fn check_units(most: u32, units: &[(Class, Listed<i64>)]) -> Result<(), LayoutErr>
-    ensures { result ≡ told (units_refusal most [] units.now) }
+    ensures { result ≡ test_outcome (units_refusal most [] units.now) }
 {
     for (index, unit) in units.iter().enumerate() {
         check_unit(most, &units[..index], unit)?;
@@ -84,7 +84,7 @@ fn stands_before(
     earlier: &[Class],
     class: Class,
 ) -> bool
-    ensures { result ≡ ((is_unit units.now class || is_sided before.now class) || names earlier.now class) }
+    ensures { result ≡ ((is_unit units.now class || is_sided before.now class) || lists_class earlier.now class) }
 {
     is_unit(units, class) || is_sided(before, class) || names(earlier, class)
 }
@@ -109,7 +109,7 @@ fn first_repeated(
 /// Tests the cells and the stages of a siding whose first class this is.
 #[tactic(auto, unfolding(crate::specs::Refusal::stages_refusal))]
 fn check_siding_stages(most: u32, siding: &Siding, first: Class) -> Result<(), LayoutErr>
-    ensures { result ≡ told (stages_refusal most siding.now first) }
+    ensures { result ≡ test_outcome (stages_refusal most siding.now first) }
 {
     if !is_within(1, 8, siding.cells) {
         return Err(LayoutErr::CellsOutOfRange(siding.cells));
@@ -133,7 +133,7 @@ fn check_siding_classes(
     before: &[Siding],
     classes: &[Class],
 ) -> Result<(), LayoutErr>
-    ensures { result ≡ told (classes_refusal (λ c. is_unit units.now c || is_sided before.now c) classes.now) }
+    ensures { result ≡ test_outcome (classes_refusal (λ c. is_unit units.now c || is_sided before.now c) classes.now) }
 {
     if let Some(class) = first_repeated(units, before, classes) {
         return Err(LayoutErr::ClassTwice(class));
@@ -153,7 +153,7 @@ fn check_siding(
     siding: &Siding,
 ) -> Result<(), LayoutErr>
     requires { length before.now ≤ 8 }
-    ensures { result ≡ told (siding_refusal most units.now before.now siding.now) }
+    ensures { result ≡ test_outcome (siding_refusal most units.now before.now siding.now) }
 {
     let classes = siding.classes.as_slice();
     match classes {
@@ -173,7 +173,7 @@ fn check_each_siding(
     sidings: &[Siding],
 ) -> Result<(), LayoutErr>
     requires { length sidings.now ≤ 8 }
-    ensures { result ≡ told (sidings_refusal most units.now [] sidings.now) }
+    ensures { result ≡ test_outcome (sidings_refusal most units.now [] sidings.now) }
 {
     for (index, siding) in sidings.iter().enumerate() {
         check_siding(most, units, &sidings[..index], siding)?;
@@ -189,7 +189,7 @@ fn check_sidings(
 ) -> Result<(), LayoutErr>
     requires eight { length sidings.now ≤ 8 }
     requires tall { most ≤ 32 }
-    ensures answer { result ≡ told (sidings_refusal most units.now [] sidings.now) }
+    ensures answer { result ≡ test_outcome (sidings_refusal most units.now [] sidings.now) }
     ensures small { OnOk result (All IsSmallSiding sidings.now) }
 {
     check_each_siding(most, units, sidings)
@@ -208,7 +208,7 @@ fn first_missing(parts: &Parts) -> Option<&Class>
 /// present or neither.
 #[tactic(auto, unfolding(crate::specs::Refusal::missing_refusal))]
 fn check_missing(parts: &Parts) -> Result<(), LayoutErr>
-    ensures { result ≡ told (missing_refusal parts.now) }
+    ensures { result ≡ test_outcome (missing_refusal parts.now) }
 {
     if let Some(class) = first_missing(parts) {
         return Err(LayoutErr::MissingUnit(*class));
@@ -260,7 +260,7 @@ fn turn_above(
     launch: u32,
 ) -> Option<u32>
     requires { All IsSmallSiding sidings.now }
-    ensures { result ≡ find (nat_lt launch) (turns_in (ascending (listed units.now class)) (siding_for sidings.now class)) }
+    ensures { result ≡ find (nat_lt launch) (turns_in (ascending (stages_listed units.now class)) (siding_for sidings.now class)) }
 {
     match siding_for(sidings, class) {
         Some(siding) => {
@@ -275,7 +275,7 @@ fn turn_above(
 #[tactic(auto, unfolding(crate::specs::Refusal::turn_refusal))]
 fn check_turns(parts: &Parts, class: Class) -> Result<(), LayoutErr>
     requires { All IsSmallSiding parts.now.sidings }
-    ensures { result ≡ told (turn_refusal parts.now class) }
+    ensures { result ≡ test_outcome (turn_refusal parts.now class) }
 {
     let sidings = parts.sidings.as_slice();
     let launch = memory_launch(sidings);
@@ -289,7 +289,7 @@ fn check_turns(parts: &Parts, class: Class) -> Result<(), LayoutErr>
 #[tactic(auto, unfolding(crate::specs::Refusal::control_refusal))]
 fn check_control(parts: &Parts) -> Result<(), LayoutErr>
     requires { All IsSmallSiding parts.now.sidings }
-    ensures { result ≡ told (control_refusal parts.now) }
+    ensures { result ≡ test_outcome (control_refusal parts.now) }
 {
     check_turns(parts, Class::Branch)?;
     check_turns(parts, Class::Jump)
@@ -298,7 +298,7 @@ fn check_control(parts: &Parts) -> Result<(), LayoutErr>
 /// How many stages the pipeline has.
 #[tactic(auto, using(crate::proofs::Passing::within_word, crate::proofs::Passing::within_most))]
 fn count_stages(parts: &Parts) -> u32
-    requires { is_within 2 32 parts.now.stages ≡ true }
+    requires { is_integer_within 2 32 parts.now.stages ≡ true }
     ensures number { result ≡ natural parts.now.stages }
     ensures few { result ≤ 32 }
 {
@@ -308,7 +308,7 @@ fn count_stages(parts: &Parts) -> u32
 /// Makes all tests but the last, in their order.
 #[tactic(auto, unfolding(crate::specs::Refusal::loose_refusal))]
 fn check_equipment(parts: &Parts) -> Result<(), LayoutErr>
-    ensures answer { result ≡ told (loose_refusal parts.now) }
+    ensures answer { result ≡ test_outcome (loose_refusal parts.now) }
     ensures small { OnOk result (All IsSmallSiding parts.now.sidings) }
 {
     let units = parts.units.as_slice();
@@ -320,9 +320,9 @@ fn check_equipment(parts: &Parts) -> Result<(), LayoutErr>
 }
 
 /// Makes all tests, in their order.
-#[tactic(auto, unfolding(crate::specs::Refusal::refusal))]
+#[tactic(auto, unfolding(crate::specs::Refusal::first_refusal))]
 fn check_all(parts: &Parts) -> Result<(), LayoutErr>
-    ensures { result ≡ told (refusal parts.now) }
+    ensures { result ≡ test_outcome (first_refusal parts.now) }
 {
     check_equipment(parts)?;
     check_control(parts)
@@ -346,8 +346,8 @@ fn lay_loosely(parts: &Parts) -> Result<LooseLayout, LayoutErr>
 fn lay_out(parts: &Parts) -> Result<Layout, LayoutErr>
     requires { AreComputed parts.now }
     ensures ok { IfOk result (λ layout. layout ≡ plan_of parts.now) }
-    ensures not_refused { IfOk result (λ layout. refusal parts.now ≡ None) }
-    ensures refused { IfErr result (λ error. refusal parts.now ≡ Some error) }
+    ensures not_refused { IfOk result (λ layout. first_refusal parts.now ≡ None) }
+    ensures refused { IfErr result (λ error. first_refusal parts.now ≡ Some error) }
 {
     match check_all(parts) {
         Ok(()) => Ok(Layout::lay(parts)),
@@ -381,8 +381,8 @@ pub fn check(parts: &Parts) -> Result<Layout, LayoutErr>
     requires { AreComputed parts.now }
     ensures ok { IfOk result (λ layout. layout ≡ plan_of parts.now) }
     ensures acceptable { IfOk result (λ layout. IsAcceptable parts.now) }
-    ensures not_refused { IfOk result (λ layout. refusal parts.now ≡ None) }
-    ensures refused { IfErr result (λ error. refusal parts.now ≡ Some error) }
+    ensures not_refused { IfOk result (λ layout. first_refusal parts.now ≡ None) }
+    ensures refused { IfErr result (λ error. first_refusal parts.now ≡ Some error) }
     ensures unacceptable { IfErr result (λ error. ¬ IsAcceptable parts.now) }
     ensures cause { IfErr result (λ error. IsLayoutCause parts.now error) }
 {

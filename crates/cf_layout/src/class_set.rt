@@ -4,7 +4,7 @@ ghost use Rattle.std.specs.Prelude.{◌≡◌, ◌↔◌, IsTrue, ◌∷◌, ◌
 ghost use Rattle.rv_inst.specs.declared.classes.Class.{Class as Kind};
 ghost use Rattle.cf_layout.specs.Layout.{same_class, place_of};
 ghost use Rattle.cf_layout.specs.Words.{has_bit};
-ghost use Rattle.cf_layout.specs.Asked.{in_class_order, names};
+ghost use Rattle.cf_layout.specs.Asked.{in_class_order, lists_class};
 
 use crate::bits::{has_bit, with_bit};
 use crate::classes::{CLASSES, place};
@@ -22,7 +22,7 @@ impl Model for ClassSet {
     ghost use Rattle.std.specs.Prelude.{List, ◌<◌, ◌^◌};
     ghost use Rattle.rv_inst.specs.declared.classes.Class.{Class};
     ghost use Rattle.cf_layout.specs.Layout.{place_of};
-    ghost use Rattle.cf_layout.specs.Words.{classes_of_word, word_of};
+    ghost use Rattle.cf_layout.specs.Words.{classes_of_word, word_of_list};
     ghost use Rattle.cf_layout.specs.Kept.{classes_kept};
 
     ghost Value = { List Class };
@@ -31,7 +31,7 @@ impl Model for ClassSet {
 
     ghost invariant = { λ s. s.word < 2 ^ 9 };
 
-    ghost inverse = { λ classes. record { word = word_of place_of classes } };
+    ghost inverse = { λ classes. record { word = word_of_list place_of classes } };
 
     ghost inverse_ok = { λ s h i. record { word = classes_kept s.word h i } };
 }
@@ -92,7 +92,7 @@ impl ClassSet {
     #[inline(always)]
     #[tactic(auto, using(crate::proofs::Words::class_in))]
     pub(crate) fn has(self, class: Class) -> bool
-        ensures { result ≡ names self class }
+        ensures { result ≡ lists_class self class }
     {
         has_bit(self.word, place(class) as u32)
     }

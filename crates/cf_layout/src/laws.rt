@@ -5,13 +5,13 @@ ghost use Rattle.cf_layout.specs.declared.parts.Parts.{Parts as Asked};
 ghost use Rattle.cf_layout.specs.Asked.{plan_of};
 ghost use Rattle.cf_layout.specs.Accepted.{IsEquipped, IsAccepted};
 ghost use Rattle.cf_layout.specs.Acceptable.{AreComputed, AreEquipped, IsAcceptable};
-ghost use Rattle.cf_layout.specs.Refusal.{loose_refusal, refusal, beside_control};
+ghost use Rattle.cf_layout.specs.Refusal.{loose_refusal, first_refusal, beside_control};
 
 /// The tests in their order refuse exactly the parts that are not acceptable.
 #[tactic(auto, using(crate::proofs::Acceptance::acceptable, crate::proofs::Unrefused::not_refused))]
 pub fn refused_unless_acceptable()
-    ensures acceptable { (parts : Asked) → refusal parts ≡ None → IsAcceptable parts }
-    ensures not_refused { (parts : Asked) → IsAcceptable parts → refusal parts ≡ None }
+    ensures acceptable { (parts : Asked) → first_refusal parts ≡ None → IsAcceptable parts }
+    ensures not_refused { (parts : Asked) → IsAcceptable parts → first_refusal parts ≡ None }
 {}
 
 /// The layout that acceptable parts describe is accepted.
@@ -29,5 +29,5 @@ pub fn equipped_describe_equipped()
 /// The tests before the last refuse as all tests do, unless that is for where control turns.
 #[tactic(auto, using(crate::proofs::Beside::loosely))]
 pub fn refused_loosely()
-    ensures { (parts : Asked) → loose_refusal parts ≡ beside_control (refusal parts) }
+    ensures { (parts : Asked) → loose_refusal parts ≡ beside_control (first_refusal parts) }
 {}

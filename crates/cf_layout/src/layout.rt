@@ -1,8 +1,8 @@
 //! An accepted layout.
 
 ghost use Rattle.std.specs.Prelude.{◌≡◌, ◌↔◌, IsTrue, ◌<◌, ◌≤◌, true, All, IfOk, IfSome, None, length};
-ghost use Rattle.cf_layout.specs.Asked.{is_within, IsSmallSiding, plan_of};
-ghost use Rattle.cf_layout.specs.Layout.{stages_of, unit_at, siding_of, launch_stage, recover_stage, cells_of, serves, siding_at, has_mul, last_stage};
+ghost use Rattle.cf_layout.specs.Asked.{is_integer_within, IsSmallSiding, plan_of};
+ghost use Rattle.cf_layout.specs.Layout.{stages_of, unit_at, siding_of, launch_stage, recover_stage, cells_of, serves, siding_plan_at, has_mul, last_stage};
 ghost use Rattle.cf_layout.specs.Accepted.{IsAccepted};
 
 use crate::{LooseLayout, Parts};
@@ -98,7 +98,7 @@ impl Layout {
     /// Whether the class goes through the siding with that number.
     pub fn serves(&self, siding: u32, class: Class) -> bool
         requires { siding < length self.now.sidings }
-        ensures { result ≡ serves (siding_at self.now siding) class }
+        ensures { result ≡ serves (siding_plan_at self.now siding) class }
     {
         self.loose.serves(siding, class)
     }
@@ -106,7 +106,7 @@ impl Layout {
     /// The classes that go through the siding with that number, in class order.
     pub fn siding_classes(&self, alloc: Global, siding: u32) -> Result<Vec<Class>, AllocError>
         requires { siding < length self.now.sidings }
-        ensures { IfOk result (λ list. list.items ≡ (siding_at self.now siding).classes) }
+        ensures { IfOk result (λ list. list.items ≡ (siding_plan_at self.now siding).classes) }
     {
         self.loose.siding_classes(alloc, siding)
     }
@@ -177,8 +177,8 @@ impl Layout {
     /// The layout that the parts describe, which is accepted.
     pub(crate) fn lay(parts: &Parts) -> Layout
         requires accepted { IsAccepted (plan_of parts.now) }
-        requires stages { is_within 2 32 parts.now.stages ≡ true }
-        requires lane { is_within 2 64 parts.now.lane ≡ true }
+        requires stages { is_integer_within 2 32 parts.now.stages ≡ true }
+        requires lane { is_integer_within 2 64 parts.now.lane ≡ true }
         requires few { length parts.now.sidings ≤ 8 }
         requires small { All IsSmallSiding parts.now.sidings }
         ensures { result ≡ plan_of parts.now }

@@ -1,8 +1,8 @@
 //! A layout that meets every rule but, perhaps, the one on where control turns.
 
 ghost use Rattle.std.specs.Prelude.{◌≡◌, ◌↔◌, IsTrue, ◌<◌, ◌≤◌, true, All, IfOk, IfSome, None, length};
-ghost use Rattle.cf_layout.specs.Asked.{is_within, IsSmallSiding, plan_of};
-ghost use Rattle.cf_layout.specs.Layout.{stages_of, unit_at, siding_of, recovers_by, is_homed, launch_stage, recover_stage, cells_of, serves, siding_at, has_mul, last_stage};
+ghost use Rattle.cf_layout.specs.Asked.{is_integer_within, IsSmallSiding, plan_of};
+ghost use Rattle.cf_layout.specs.Layout.{stages_of, unit_at, siding_of, recovers_by, is_homed, launch_stage, recover_stage, cells_of, serves, siding_plan_at, has_mul, last_stage};
 ghost use Rattle.cf_layout.specs.Accepted.{IsEquipped};
 
 use crate::Parts;
@@ -122,7 +122,7 @@ impl LooseLayout {
     #[inline(always)]
     fn siding(&self, siding: u32) -> &AcceptedSiding
         requires { siding < length self.now.sidings }
-        ensures { result.now ≡ siding_at self.now siding }
+        ensures { result.now ≡ siding_plan_at self.now siding }
     {
         &self.sidings[siding as usize]
     }
@@ -155,7 +155,7 @@ impl LooseLayout {
     #[tactic(auto, unfolding(crate::specs::Layout::serves))]
     pub fn serves(&self, siding: u32, class: Class) -> bool
         requires { siding < length self.now.sidings }
-        ensures { result ≡ serves (siding_at self.now siding) class }
+        ensures { result ≡ serves (siding_plan_at self.now siding) class }
     {
         self.siding(siding).classes.has(class)
     }
@@ -163,7 +163,7 @@ impl LooseLayout {
     /// The classes that go through the siding with that number, in class order.
     pub fn siding_classes(&self, alloc: Global, siding: u32) -> Result<Vec<Class>, AllocError>
         requires { siding < length self.now.sidings }
-        ensures { IfOk result (λ list. list.items ≡ (siding_at self.now siding).classes) }
+        ensures { IfOk result (λ list. list.items ≡ (siding_plan_at self.now siding).classes) }
     {
         self.siding(siding).classes.list(alloc)
     }
@@ -277,8 +277,8 @@ impl LooseLayout {
     #[tactic(auto, unfolding(crate::specs::Asked::plan_of))]
     pub(crate) fn lay(parts: &Parts) -> LooseLayout
         requires equipped { IsEquipped (plan_of parts.now) }
-        requires stages { is_within 2 32 parts.now.stages ≡ true }
-        requires lane { is_within 2 64 parts.now.lane ≡ true }
+        requires stages { is_integer_within 2 32 parts.now.stages ≡ true }
+        requires lane { is_integer_within 2 64 parts.now.lane ≡ true }
         requires few { length parts.now.sidings ≤ 8 }
         requires small { All IsSmallSiding parts.now.sidings }
         ensures { result ≡ plan_of parts.now }

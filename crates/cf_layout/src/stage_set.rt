@@ -4,7 +4,7 @@ ghost use Rattle.std.specs.Prelude.{◌≡◌, ◌↔◌, IsTrue, ◌≤◌, ◌
 ghost use Rattle.cf_layout.specs.Words.{has_bit};
 ghost use Rattle.std.specs.List.{list_any};
 ghost use Rattle.cf_layout.specs.Layout.{last_of};
-ghost use Rattle.cf_layout.specs.Asked.{ascending, is_number};
+ghost use Rattle.cf_layout.specs.Asked.{ascending, is_integer};
 
 use crate::bits::{has_bit, with_bit};
 use std::alloc::{AllocError, Global};
@@ -18,7 +18,7 @@ pub(crate) struct StageSet {
 
 impl Model for StageSet {
     ghost use Rattle.std.specs.Prelude.{ℕ, List, ◌<◌, ◌^◌};
-    ghost use Rattle.cf_layout.specs.Words.{stages_of_word, word_of, bit_of};
+    ghost use Rattle.cf_layout.specs.Words.{stages_of_word, word_of_list, bit_of};
     ghost use Rattle.cf_layout.specs.Kept.{stages_kept};
 
     ghost Value = { List ℕ };
@@ -27,7 +27,7 @@ impl Model for StageSet {
 
     ghost invariant = { λ s. s.word < 2 ^ 32 };
 
-    ghost inverse = { λ stages. record { word = word_of bit_of stages } };
+    ghost inverse = { λ stages. record { word = word_of_list bit_of stages } };
 
     ghost inverse_ok = { λ s h i. record { word = stages_kept s.word h i } };
 }
@@ -35,7 +35,7 @@ impl Model for StageSet {
 /// The word with the bit of the stage, if that is from 1 to 32.
 #[tactic(auto, using(crate::proofs::Words::stage_bit))]
 fn with_stage(word: u32, stage: i64) -> u32
-    ensures { (i : ℕ) → i < 32 → has_bit result i ≡ (has_bit word i || is_number (i + 1) stage) }
+    ensures { (i : ℕ) → i < 32 → has_bit result i ≡ (has_bit word i || is_integer (i + 1) stage) }
 {
     if 1 <= stage && stage <= 32 {
         with_bit(word, (stage - 1) as u32)

@@ -161,7 +161,8 @@ unfolding FeedsLog
 feeds-line before after now new have t cut few =
     (t.taken, t.takes, subst (λ (b : List ℕ). IsCut b new) t.is cut, omega (arith, cut-size have new cut, few))
 
-pub feeds-long : (before after : Option (List ℕ)) (now new : LogFeeding) (have : List ℕ) → Takes before after now.rest have → IsLogPiece have → 514 ≤ length have
+pub feeds-long : (before after : Option (List ℕ)) (now new : LogFeeding) (have : List ℕ) → Takes before after now.rest have → IsLogPiece have →
+    514 ≤ length have
     → new.line ≡ have → new.rest ≡ [] → FeedsLog before after now new TooLong
 unfolding FeedsLog
 feeds-long before after now new have t piece long is none =
@@ -210,7 +211,8 @@ none-left had taken is =
     let size : length (had ++ taken) ≡ 0 = ap length is in
     (nothing had (omega (arith, size, length-append had taken)), nothing taken (omega (arith, size, length-append had taken)))
 
-pub feeds-end : (before after : Option (List ℕ)) (now new : LogFeeding) (have more : List ℕ) (next : NextLine) → Ended before after now.rest more → IsLogPiece have →
+pub feeds-end : (before after : Option (List ℕ)) (now new : LogFeeding) (have more : List ℕ) (next : NextLine) → Ended before after now.rest more →
+    IsLogPiece have →
     more ≡ have → FinishesLog more new next
     → FeedsLog before after now new next
 unfolding FeedsLog FinishesLog
@@ -229,7 +231,8 @@ same-held b c have more count (taken, gives, is, size) zero =
     is ∙ ap (λ (m : List ℕ). have ++ m) (nothing taken (sym size ∙ zero)) ∙ append-nil have
 
 -- the end of a log is no fault
-pub end-cause : (before now : ℕ) (rest : List ℕ) (new : LogFeeding) (next : NextLine) → FinishesLog rest new next → now ≡ before → HasCause before now (log_fed next)
+pub end-cause : (before now : ℕ) (rest : List ℕ) (new : LogFeeding) (next : NextLine) → FinishesLog rest new next → now ≡ before →
+    HasCause before now (log_fed next)
 unfolding FinishesLog
 end-cause before now rest new Line f still = absurd f
 end-cause before now rest new TooLong f still = absurd f

@@ -54,8 +54,8 @@ abbrev pub as_written : List ℕ → Option ℕ → Option ℕ
 as_written word None = None
 as_written word (Some number) = if bytes_eq (decimal number) word then Some number else None
 
-unfoldable pub number_in : List ℕ → Option ℕ
-number_in text = as_written (name_part text) (numeral 10 9 (name_part text))
+unfoldable pub move_number_in : List ℕ → Option ℕ
+move_number_in text = as_written (name_part text) (numeral 10 9 (name_part text))
 
 -- a number of a register
 abbrev pub within_file : Option ℕ → Option ℕ
@@ -63,8 +63,8 @@ within_file None = None
 within_file (Some register) = if nat_lt register 32 then Some register else None
 
 -- the register of a word `xRR=V`
-unfoldable pub register_in : List ℕ → Option ℕ
-register_in word =
+unfoldable pub register_of_word : List ℕ → Option ℕ
+register_of_word word =
     if nat_lt (length word) 4 || (not (starts_with nat_eq word (codes "x")) || not (starts_with nat_eq (drop 3 word) (codes "="))) then None
     else within_file (numeral 10 2 (take 2 (drop 1 word)))
 
@@ -80,10 +80,10 @@ subject_named word after =
     else if bytes_eq word (codes "fetch") then Some Fetch
     else if bytes_eq word (codes "lane") then Some Lane
     else if bytes_eq word (codes "cache") then Some Cache
-    else if bytes_eq word (codes "stage") then Some (Stage (number_in after))
-    else if bytes_eq word (codes "siding") then Some (Siding (number_in after))
+    else if bytes_eq word (codes "stage") then Some (Stage (move_number_in after))
+    else if bytes_eq word (codes "siding") then Some (Siding (move_number_in after))
     else if bytes_eq word (codes "ended") then Some Ended
-    else of_register (register_in word)
+    else of_register (register_of_word word)
 
 -- what the words are an observation of, if they are one
 unfoldable pub subject_in : List ℕ → Option ObservedPart
@@ -118,25 +118,25 @@ observed_or (Some subject) other = Ok (Observes subject)
 observed_or None other = other
 
 -- what words say that do not begin with `move`
-abbrev pub words_read : List ℕ → Result Said LogKind
-words_read text = observed_or (subject_in text) (move_said (move_in text))
+abbrev pub said_words : List ℕ → Result Said LogKind
+said_words text = observed_or (subject_in text) (move_said (move_in text))
 
 -- what the words after the time say, if the next move has this number
 unfoldable pub said_in : ℕ → List ℕ → Result Said LogKind
 said_in next text =
-    if bytes_eq (name_part text) (codes "move") then numbered_said next (operand_part text) else words_read text
+    if bytes_eq (name_part text) (codes "move") then numbered_said next (operand_part text) else said_words text
 
 -- Lines --
 
-abbrev pub timed : ℕ → Said → TimedLine
-timed time said = record { time = time; said = said }
+abbrev pub line_with_time : ℕ → Said → TimedLine
+line_with_time time said = record { time = time; said = said }
 
 -- what a line says, if it says something, or the first refusal, where this is the latest time before it and the next move has
 -- this number
-unfoldable pub line_read : (earlier next : ℕ) → List ℕ → Result (Option TimedLine) LogKind
-line_read earlier next line =
+unfoldable pub log_line_read : (earlier next : ℕ) → List ℕ → Result (Option TimedLine) LogKind
+log_line_read earlier next line =
     if nat_lt longest_line (length line) then Err TooLong
     else if is_skipped line then Ok None
     else if not (is_ascii line) then Err NotAscii
     else and_then (time_read earlier line) (λ time.
-    and_then (said_in next (after_time line)) (λ said. Ok (Some (timed time said))))
+    and_then (said_in next (after_time line)) (λ said. Ok (Some (line_with_time time said))))

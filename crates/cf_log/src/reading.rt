@@ -2,7 +2,7 @@
 
 ghost use Rattle.std.specs.Prelude.{◌≡◌};
 ghost use Rattle.run_scripts.specs.MoveLines.{move_in};
-ghost use Rattle.cf_log.specs.Lines.{line_read, numbered_said, numbered_told, move_said, said_in, words_read};
+ghost use Rattle.cf_log.specs.Lines.{log_line_read, numbered_said, numbered_told, move_said, said_in, said_words};
 
 use crate::kind::LogKind;
 use crate::said::{Said, TimedLine};
@@ -56,7 +56,7 @@ fn read_numbered(text: &[u8], next: u64) -> Result<Said, LogKind>
 
 /// What words say that do not begin with `move`.
 fn read_other(text: &[u8]) -> Result<Said, LogKind>
-    ensures { result ≡ words_read text.now }
+    ensures { result ≡ said_words text.now }
 {
     match subject_in(text) {
         Some(subject) => Ok(Said::Observes(subject)),
@@ -80,9 +80,9 @@ fn read_said(text: &[u8], next: u64) -> Result<Said, LogKind>
 /// What a line of a log says, or the first that holds of `TooLong`, `NotAscii`, `BadTime`, `UnknownLine`, `BadNumber` and
 /// `ExtraWords`. `earlier` is the latest time before it, and `next` is the number of the next move. A comment and a line without
 /// words say nothing, and are refused only if they are too long.
-#[tactic(auto, unfolding(crate::specs::Lines::line_read))]
+#[tactic(auto, unfolding(crate::specs::Lines::log_line_read))]
 pub fn read_line(line: &[u8], earlier: u64, next: u64) -> Result<Option<TimedLine>, LogKind>
-    ensures { result ≡ line_read earlier next line.now }
+    ensures { result ≡ log_line_read earlier next line.now }
 {
     if line.len() > LONGEST_LINE {
         return Err(LogKind::TooLong);

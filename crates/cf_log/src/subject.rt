@@ -2,7 +2,7 @@
 
 ghost use Rattle.std.specs.Prelude.{◌≡◌, ◌<◌, ◌≤◌, IfSome, decimal};
 ghost use Rattle.std.specs.Str.{bytes_eq};
-ghost use Rattle.cf_log.specs.Lines.{number_in, register_in, subject_in, subject_named};
+ghost use Rattle.cf_log.specs.Lines.{move_number_in, register_of_word, subject_in, subject_named};
 
 use crate::said::ObservedPart;
 use itoa::Buffer;
@@ -17,9 +17,9 @@ pub(crate) fn is_decimal(word: &[u8], number: u64) -> bool
 }
 
 /// The number that the first word spells in decimal, without leading zeros.
-#[tactic(auto, unfolding(crate::specs::Lines::number_in))]
+#[tactic(auto, unfolding(crate::specs::Lines::move_number_in))]
 fn number_in(text: &[u8]) -> Option<u32>
-    ensures { result ≡ number_in text.now }
+    ensures { result ≡ move_number_in text.now }
 {
     let (word, _) = split_name(text);
     match numeral(word, 10, 9) {
@@ -35,9 +35,9 @@ fn number_in(text: &[u8]) -> Option<u32>
 }
 
 /// The register of a word `xRR=V`.
-#[tactic(auto, unfolding(crate::specs::Lines::register_in))]
+#[tactic(auto, unfolding(crate::specs::Lines::register_of_word))]
 fn register_in(word: &[u8]) -> Option<u8>
-    ensures register { result ≡ register_in word.now }
+    ensures register { result ≡ register_of_word word.now }
     ensures within { IfSome result (λ register. register < 32) }
 {
     if word.len() < 4 || !word.starts_with(b"x") || !word[3..].starts_with(b"=") {

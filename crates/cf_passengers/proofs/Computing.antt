@@ -7,7 +7,7 @@ use Rattle.std.proofs.lemmas.Bool.Decides.{nat_tests}
 use Rattle.rv_inst.specs.declared.classes.Class.{Class}
 use Rattle.rv_inst.specs.declared.classes.Class.TheVariants.{Memory, Serial, Free}
 use Rattle.rv_mul.specs.Values.{computes}
-use Rattle.cf_layout.specs.Layout.{Plan, place_of, same_class, stages_of, unit_at, serves, siding_of, siding_at}
+use Rattle.cf_layout.specs.Layout.{Plan, place_of, same_class, stages_of, unit_at, serves, siding_of, siding_plan_at}
 use Rattle.cf_layout.specs.Accepted.{IsEquipped, IsAccepted}
 use Rattle.cf_layout.proofs.Reading.{stages_without}
 use Rattle.cf_layout.proofs.Facts.{siding_found, siding_rules}
@@ -54,7 +54,7 @@ unfolding serves
 equipped-siding plan c k a e m =
     let f = siding_found plan c k e in
     let r = siding_rules plan a c k e in
-    computed c (low_place c (siding_at plan k).classes r.computed f.1) m
+    computed c (low_place c (siding_plan_at plan k).classes r.computed f.1) m
 
 pub siding-computes : (plan : Plan) (c : Class) (k : ℕ) → IsAccepted plan → siding_of plan c ≡ Some k → is_memory c ≡ false → IsTrue (computes c)
 siding-computes plan c k a e m = equipped-siding plan c k a.equipped e m

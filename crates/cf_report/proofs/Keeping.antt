@@ -50,7 +50,8 @@ passing-same a b c bytes start done i j p put = same-passing a b c (drop start b
 
 -- more bytes were gathered
 pub kept-more : {K : Type 0} (now : Gathering K) (sink : K) (room start end count : ℕ) (gathers : Bool) (bytes piece new : List ℕ) →
-    record { sink = sink; kept = drop start (take end bytes); room = room; gathers = gathers } ≡ now → start ≤ end → end ≤ length bytes → new ≡ piece → length piece ≡ count →
+    record { sink = sink; kept = drop start (take end bytes); room = room; gathers = gathers } ≡ now → start ≤ end → end ≤ length bytes → new ≡ piece →
+    length piece ≡ count →
     drop start (take (end + count) (put_mid end (end + count - end) bytes new)) ≡ now.kept ++ piece
 kept-more {K} now sink room start end count gathers bytes piece new view order within same size =
     ap (λ (l : List ℕ). drop start (take (end + count) (put_mid end (end + count - end) bytes l))) same

@@ -12,8 +12,8 @@ use Rattle.cf_semantics.specs.state.State.{State}
 use Rattle.cf_semantics.specs.claims.Weight.{is_issue}
 use Rattle.cf_index.specs.Alone.{HasSidings, stands_alone}
 use Rattle.cf_index.specs.Sites.{shares}
-use Rattle.cf_index.specs.GuessRules.{guided, keeps}
-use Rattle.cf_rounds.specs.Rounds.{AreApart, AreCandidates, IsAllowed, IsFull, IsRound, IsTaken, round_of, shares_any, taken}
+use Rattle.cf_index.specs.GuessRules.{guided, keeps_move}
+use Rattle.cf_rounds.specs.Rounds.{AreApart, AreCandidates, IsAllowed, IsFull, IsRound, IsTaken, round_of, shares_any, taken_moves}
 use Rattle.cf_rounds.proofs.Free.{IsFree, unshared_back}
 use Rattle.cf_index.proofs.Independence.{IsPlain}
 
@@ -47,14 +47,15 @@ all_free plan s (mv ∷ moves) = by (not (is_some (bar plan s mv))) refl (all_fr
 pub candidates_allowed : (plan : Plan) (s : State) (moves : List Move) → AreCandidates plan s moves → AllByRecursion (IsAllowed plan s) moves
 unfolding candidates guided held_back
 candidates_allowed plan s moves (r, inl is) = subst (AllByRecursion (IsAllowed plan s)) (sym is)
-    (all_passed (IsAllowed plan s) (keeps r plan s) (filter (λ mv. not (is_some (bar plan s mv))) (all_moves plan)) (all_free plan s (all_moves plan)))
+    (all_passed (IsAllowed plan s) (keeps_move r plan s) (filter (λ mv. not (is_some (bar plan s mv))) (all_moves plan)) (all_free plan s (all_moves plan)))
 candidates_allowed plan s moves (r, inr is) = subst (AllByRecursion (IsAllowed plan s)) (sym is) (by (nat_lt 0 (length (other_moves all))))
   where
     all : List Move
-    all = filter (keeps r plan s) (filter (λ mv. not (is_some (bar plan s mv))) (all_moves plan))
+    all = filter (keeps_move r plan s) (filter (λ mv. not (is_some (bar plan s mv))) (all_moves plan))
 
     free : AllByRecursion (IsAllowed plan s) all
-    free = all_passed (IsAllowed plan s) (keeps r plan s) (filter (λ mv. not (is_some (bar plan s mv))) (all_moves plan)) (all_free plan s (all_moves plan))
+    free = all_passed (IsAllowed plan s) (keeps_move r plan s) (filter (λ mv. not (is_some (bar plan s mv))) (all_moves plan))
+        (all_free plan s (all_moves plan))
 
     by : (b : Bool) → AllByRecursion (IsAllowed plan s) (if b then other_moves all else all)
     by true = all_passed (IsAllowed plan s) (λ mv. not (is_issue mv)) all free
@@ -110,46 +111,46 @@ apart_after plan (first ∷ round) mv (h, hs) (k, ks) =
 
 -- the moves that are taken have what the candidates have, and share nothing
 pub taken_all : (test : Move → Type 0) (plan : Plan) (round moves : List Move) → AllByRecursion test round → AllByRecursion test moves →
-    AllByRecursion test (taken plan round moves)
-unfolding taken
+    AllByRecursion test (taken_moves plan round moves)
+unfolding taken_moves
 taken_all test plan round [] h k = h
 taken_all test plan round (mv ∷ moves) h (k, ks) = by (shares_any plan round mv) (λ next g. taken_all test plan next moves g ks)
   where
-    by : (b : Bool) → ((next : List Move) → AllByRecursion test next → AllByRecursion test (taken plan next moves)) →
-        AllByRecursion test (taken plan (if b then round else round ++ mv ∷ []) moves)
+    by : (b : Bool) → ((next : List Move) → AllByRecursion test next → AllByRecursion test (taken_moves plan next moves)) →
+        AllByRecursion test (taken_moves plan (if b then round else round ++ mv ∷ []) moves)
     by true more = more round h
     by false more = more (round ++ mv ∷ []) (all_after test round mv h k)
 
-pub taken_apart : (plan : Plan) (round moves : List Move) → AreApart plan round → AreApart plan (taken plan round moves)
-unfolding taken
+pub taken_apart : (plan : Plan) (round moves : List Move) → AreApart plan round → AreApart plan (taken_moves plan round moves)
+unfolding taken_moves
 taken_apart plan round [] h = h
 taken_apart plan round (mv ∷ moves) h = by (shares_any plan round mv) refl (λ next g. taken_apart plan next moves g)
   where
-    by : (b : Bool) → shares_any plan round mv ≡ b → ((next : List Move) → AreApart plan next → AreApart plan (taken plan next moves)) →
-        AreApart plan (taken plan (if b then round else round ++ mv ∷ []) moves)
+    by : (b : Bool) → shares_any plan round mv ≡ b → ((next : List Move) → AreApart plan next → AreApart plan (taken_moves plan next moves)) →
+        AreApart plan (taken_moves plan (if b then round else round ++ mv ∷ []) moves)
     by true e more = more round h
     by false e more = more (round ++ mv ∷ []) (apart_after plan round mv h (unshared plan round mv e))
 
 -- those that were taken stay
-pub taken_more : (plan : Plan) (round moves : List Move) → (more : List Move) × (taken plan round moves ≡ round ++ more)
-unfolding taken
+pub taken_more : (plan : Plan) (round moves : List Move) → (more : List Move) × (taken_moves plan round moves ≡ round ++ more)
+unfolding taken_moves
 taken_more plan round [] = ([], sym (append-nil round))
 taken_more plan round (mv ∷ moves) = by (shares_any plan round mv) (λ next. taken_more plan next moves)
   where
-    by : (b : Bool) → ((next : List Move) → (more : List Move) × (taken plan next moves ≡ next ++ more)) →
-        (more : List Move) × (taken plan (if b then round else round ++ mv ∷ []) moves ≡ round ++ more)
+    by : (b : Bool) → ((next : List Move) → (more : List Move) × (taken_moves plan next moves ≡ next ++ more)) →
+        (more : List Move) × (taken_moves plan (if b then round else round ++ mv ∷ []) moves ≡ round ++ more)
     by true go = go round
     by false go = let h = go (round ++ mv ∷ []) in (mv ∷ h.0, h.1 ∙ append_assoc round (mv ∷ []) h.0)
 
 -- and each candidate is taken, or shares a site with one that is
-pub taken_full : (plan : Plan) (round moves : List Move) → AllByRecursion (IsTaken plan (taken plan round moves)) moves
-unfolding taken
+pub taken_full : (plan : Plan) (round moves : List Move) → AllByRecursion (IsTaken plan (taken_moves plan round moves)) moves
+unfolding taken_moves
 taken_full plan round [] = tt
 taken_full plan round (mv ∷ moves) = by (shares_any plan round mv) refl (λ next. taken_more plan next moves) (λ next. taken_full plan next moves)
   where
-    by : (b : Bool) → shares_any plan round mv ≡ b → ((next : List Move) → (more : List Move) × (taken plan next moves ≡ next ++ more)) →
-        ((next : List Move) → AllByRecursion (IsTaken plan (taken plan next moves)) moves)
-        → AllByRecursion (IsTaken plan (taken plan (if b then round else round ++ mv ∷ []) moves)) (mv ∷ moves)
+    by : (b : Bool) → shares_any plan round mv ≡ b → ((next : List Move) → (more : List Move) × (taken_moves plan next moves ≡ next ++ more)) →
+        ((next : List Move) → AllByRecursion (IsTaken plan (taken_moves plan next moves)) moves)
+        → AllByRecursion (IsTaken plan (taken_moves plan (if b then round else round ++ mv ∷ []) moves)) (mv ∷ moves)
     by true e go rest =
         let h = go round in (
           inr (ap (λ (all : List Move). shares_any plan all mv) h.1 ∙ list_any-append (shares plan mv) round h.0
@@ -165,7 +166,7 @@ pub round_full : (plan : Plan) (s : State) (moves : List Move) → AreCandidates
 unfolding round_of
 round_full plan s moves are = by (find (stands_alone plan s) moves) refl
   where
-    by : (o : Option Move) → find (stands_alone plan s) moves ≡ o → IsFull plan s moves (on o (taken plan [] moves) (λ mv. mv ∷ []))
+    by : (o : Option Move) → find (stands_alone plan s) moves ≡ o → IsFull plan s moves (on o (taken_moves plan [] moves) (λ mv. mv ∷ []))
     by None e = inr (taken_apart plan [] moves tt, taken_full plan [] moves)
     by (Some mv) e = inl (mv, (found_one (IsAllowed plan s) (stands_alone plan s) moves mv (candidates_allowed plan s moves are) e).1, refl)
 
@@ -181,7 +182,7 @@ round_form plan s round sidings r = by (find (stands_alone plan s) r.moves) refl
     allowed : AllByRecursion (IsAllowed plan s) r.moves
     allowed = candidates_allowed plan s r.moves r.are
 
-    by : (o : Option Move) → find (stands_alone plan s) r.moves ≡ o → round ≡ on o (taken plan [] r.moves) (λ mv. mv ∷ []) → Form plan s round
+    by : (o : Option Move) → find (stands_alone plan s) r.moves ≡ o → round ≡ on o (taken_moves plan [] r.moves) (λ mv. mv ∷ []) → Form plan s round
     by None e is = together (record {
       sidings = sidings;
       plain = subst (AllByRecursion (IsPlain plan s)) (sym is)

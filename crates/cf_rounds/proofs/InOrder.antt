@@ -10,7 +10,7 @@ use Rattle.cf_core.specs.Processors.{IsProcessor}
 use Rattle.cf_index.specs.Alone.{stands_alone}
 use Rattle.cf_index.specs.Sites.{HasSites}
 use Rattle.cf_index.proofs.There.{there_allowed}
-use Rattle.cf_rounds.specs.Rounds.{AreApart, AreCandidates, IsAllowed, IsRound, round_of, shares_any, taken}
+use Rattle.cf_rounds.specs.Rounds.{AreApart, AreCandidates, IsAllowed, IsRound, round_of, shares_any, taken_moves}
 use Rattle.cf_rounds.proofs.Chosen.{apart_after, candidates_allowed, all_after, taken_more, unshared}
 use Rattle.cf_rounds.proofs.Few.{few}
 
@@ -65,19 +65,19 @@ candidate_there plan s moves place mv p are e = there_allowed plan s mv p (all_a
 pub record TakenSoFar (plan : Plan) (moves round : List Move) (place : ℕ) : Type 0 where
   pub there : AllByRecursion (HasSites plan) round
   pub apart : AreApart plan round
-  pub rest : taken plan round (drop place moves) ≡ taken plan [] moves
+  pub rest : taken_moves plan round (drop place moves) ≡ taken_moves plan [] moves
 
 pub taken_none : (plan : Plan) (moves round : List Move) → round ≡ [] → TakenSoFar plan moves round 0
 taken_none plan moves round none = subst (λ (r : List Move). TakenSoFar plan moves r 0) (sym none) (record { there = tt; apart = tt; rest = refl })
 
 pub taken_next : (plan : Plan) (moves round new : List Move) (place : ℕ) (mv : Move) → TakenSoFar plan moves round place → Some mv ≡ slice_get moves place →
     HasSites plan mv → new ≡ (if shares_any plan round mv then round else round ++ mv ∷ []) → TakenSoFar plan moves new (place + 1)
-unfolding taken
+unfolding taken_moves
 taken_next plan moves round new place mv h e there is = subst (λ (r : List Move). TakenSoFar plan moves r (place + 1)) (sym is)
     (by (shares_any plan round mv) refl)
   where
-    rest : taken plan (if shares_any plan round mv then round else round ++ mv ∷ []) (drop (place + 1) moves) ≡ taken plan [] moves
-    rest = sym (ap (taken plan round) (drop_at moves place mv e)) ∙ h.rest
+    rest : taken_moves plan (if shares_any plan round mv then round else round ++ mv ∷ []) (drop (place + 1) moves) ≡ taken_moves plan [] moves
+    rest = sym (ap (taken_moves plan round) (drop_at moves place mv e)) ∙ h.rest
 
     by : (b : Bool) → shares_any plan round mv ≡ b → TakenSoFar plan moves (if shares_any plan round mv then round else round ++ mv ∷ []) (place + 1)
     by true f = record {
@@ -91,9 +91,10 @@ taken_next plan moves round new place mv h e there is = subst (λ (r : List Move
       rest = rest;
     }
 
-pub taken_last : (plan : Plan) (moves round : List Move) (place : ℕ) → TakenSoFar plan moves round place → length moves ≤ place → round ≡ taken plan [] moves
-unfolding taken
-taken_last plan moves round place h past = sym (ap (taken plan round) (drop_past moves place past)) ∙ h.rest
+pub taken_last : (plan : Plan) (moves round : List Move) (place : ℕ) → TakenSoFar plan moves round place → length moves ≤ place →
+    round ≡ taken_moves plan [] moves
+unfolding taken_moves
+taken_last plan moves round place h past = sym (ap (taken_moves plan round) (drop_past moves place past)) ∙ h.rest
 
 pub taken_few : (plan : Plan) (s : State) (moves round : List Move) (place : ℕ) → IsProcessor plan s → TakenSoFar plan moves round place → length round < 128
 taken_few plan s moves round place p h = let few_moves : length round ≤ 96 = few plan round p.accepted h.there h.apart in omega (arith, few_moves)
@@ -102,23 +103,24 @@ taken_few plan s moves round place p h = let few_moves : length round ≤ 96 = f
 pub chose_alone : (plan : Plan) (s : State) (moves new : List Move) (mv : Move) → Some mv ≡ find (stands_alone plan s) moves → new ≡ [] ++ mv ∷ [] →
     new ≡ round_of plan s moves
 unfolding round_of
-chose_alone plan s moves new mv found is = is ∙ ap (λ (o : Option Move). on o (taken plan [] moves) (λ m. m ∷ [])) found
+chose_alone plan s moves new mv found is = is ∙ ap (λ (o : Option Move). on o (taken_moves plan [] moves) (λ m. m ∷ [])) found
 
-pub chose_taken : (plan : Plan) (s : State) (moves new : List Move) → None ≡ find (stands_alone plan s) moves → new ≡ taken plan [] moves →
+pub chose_taken : (plan : Plan) (s : State) (moves new : List Move) → None ≡ find (stands_alone plan s) moves → new ≡ taken_moves plan [] moves →
     new ≡ round_of plan s moves
 unfolding round_of
-chose_taken plan s moves new none is = is ∙ ap (λ (o : Option Move). on o (taken plan [] moves) (λ m. m ∷ [])) none
+chose_taken plan s moves new none is = is ∙ ap (λ (o : Option Move). on o (taken_moves plan [] moves) (λ m. m ∷ [])) none
 
 pub chose_round : (plan : Plan) (s : State) (moves new : List Move) → AreCandidates plan s moves → new ≡ round_of plan s moves → IsRound plan s new
 chose_round plan s moves new are is = record { moves = moves; are = are; is = is }
 
 -- a round of some candidates has a move
 pub round_some : (plan : Plan) (s : State) (moves new : List Move) → 0 < length moves → new ≡ round_of plan s moves → 0 < length new
-unfolding round_of taken
+unfolding round_of taken_moves
 round_some plan s [] new h is = absurd (omega arith)
 round_some plan s (mv ∷ moves) new h is = by (find (stands_alone plan s) (mv ∷ moves)) is (taken_more plan (mv ∷ []) moves)
   where
-    by : (o : Option Move) → new ≡ on o (taken plan (mv ∷ []) moves) (λ m. m ∷ []) → ((more : List Move) × (taken plan (mv ∷ []) moves ≡ mv ∷ [] ++ more)) →
+    by : (o : Option Move) → new ≡ on o (taken_moves plan (mv ∷ []) moves) (λ m. m ∷ []) →
+        ((more : List Move) × (taken_moves plan (mv ∷ []) moves ≡ mv ∷ [] ++ more)) →
         0 < length new
     by (Some m) e more = omega (arith, ap length e)
     by None e more = omega (arith, ap length (e ∙ more.1))

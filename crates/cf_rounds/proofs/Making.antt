@@ -27,7 +27,7 @@ use Rattle.cf_index.proofs.Independence.{IsPlain}
 use Rattle.cf_report.specs.declared.tally.Tally.{Tally}
 use Rattle.cf_sched.specs.Paces.{PaceCount, HasCounted}
 use Rattle.run_finishes.specs.declared.finish.Ran.TheVariants as ran
-use Rattle.cf_run.specs.Made.{Made, moves_of, counted, raised_if}
+use Rattle.cf_run.specs.Made.{Made, moves_of, counted_event, raised_if}
 use Rattle.cf_run.specs.Moving.{RunPlace, MakesAndShows, MoveDoes}
 use Rattle.cf_run.proofs.AfterOutput.{next-retired}
 use Rattle.cf_rounds.specs.declared.answer.Fired.{Fired}
@@ -279,7 +279,7 @@ fired-more plan round start now new pace current later fired answer place mv e d
     let less : (next plan m mv).state.retired + leaves (drop (place + 1) round) ≤ now.core.state.retired + leaves (mv ∷ drop (place + 1) round) =
     falls plan m mv (drop (place + 1) round) in
     let all : leaves (drop place round) ≡ leaves (mv ∷ drop (place + 1) round) = ap leaves (drop_at round place mv there) in
-    let tally : new.tally ≡ counted now.tally mv e = d.makes.tally in
+    let tally : new.tally ≡ counted_event now.tally mv e = d.makes.tally in
     record {
       trace = h.trace ++ made ∷ [];
       moves = moves_more h.trace made ∙ ap (λ (moves : List Move). moves ++ mv ∷ []) h.moves ∙ sym (take_at round place mv there);

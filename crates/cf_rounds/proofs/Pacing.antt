@@ -34,8 +34,8 @@ use Rattle.cf_run.specs.Going.{Leads}
 use Rattle.cf_run.proofs.ByRule.{ruled-held}
 use Rattle.cf_sched.specs.Paces.{offered_by}
 use Rattle.cf_rounds.specs.Firing.{paced_by}
-use Rattle.cf_rounds.specs.Rounds.{AreApart, round_of, taken}
-use Rattle.cf_rounds.specs.Running.{InRounds, all_of, state_after}
+use Rattle.cf_rounds.specs.Rounds.{AreApart, round_of, taken_moves}
+use Rattle.cf_rounds.specs.Running.{InRounds, all_of, state_after_made}
 use Rattle.cf_rounds.proofs.Chosen.{found_one, taken_all, taken_apart}
 
 -- the move is not an Issue while the candidates are held, unless no other move is allowed
@@ -52,7 +52,7 @@ round_all : (test : Move → Type 0) (plan : Plan) (s : State) (moves : List Mov
 unfolding round_of
 round_all test plan s moves h = by (find (stands_alone plan s) moves) refl
   where
-    by : (o : Option Move) → find (stands_alone plan s) moves ≡ o → AllByRecursion test (on o (taken plan [] moves) (λ mv. mv ∷ []))
+    by : (o : Option Move) → find (stands_alone plan s) moves ≡ o → AllByRecursion test (on o (taken_moves plan [] moves) (λ mv. mv ∷ []))
     by None e = taken_all test plan [] moves tt h
     by (Some mv) e = ((found_one test (stands_alone plan s) moves mv h e).0, tt)
 
@@ -61,7 +61,7 @@ round_apart : (plan : Plan) (s : State) (moves : List Move) → AreApart plan (r
 unfolding round_of
 round_apart plan s moves = by (find (stands_alone plan s) moves)
   where
-    by : (o : Option Move) → AreApart plan (on o (taken plan [] moves) (λ mv. mv ∷ []))
+    by : (o : Option Move) → AreApart plan (on o (taken_moves plan [] moves) (λ mv. mv ∷ []))
     by None = taken_apart plan [] moves tt
     by (Some mv) = (tt, tt)
 
@@ -118,7 +118,7 @@ may_stay plan s t count mv e drained (other ∷ round) accepted free (one, apart
 
 -- the moves of a round, and after them those of the others
 record GoesOnAfter (plan : Plan) (limit count : ℕ) (told : Option (List ℕ)) (x : Machine) (s : State) (made rest : List Made) (last : Moment) : Type 0 where
-  go : (m : Moment) (before : List Line) → m.state ≡ state_after s made → HoldsAnew plan x before m → Leads plan limit told m rest last →
+  go : (m : Moment) (before : List Line) → m.state ≡ state_after_made s made → HoldsAnew plan x before m → Leads plan limit told m rest last →
       (written : List Line) × PacesTo plan (paced_by count made) m (moves_of rest) last written
 
 in_round : (plan : Plan) (limit count : ℕ) (told : Option (List ℕ)) (x : Machine) (before : List Line) (m last : Moment) (made rest : List Made) →
@@ -135,7 +135,7 @@ in_round plan limit count told x before m last (first ∷ made) rest accepted ho
     let stay : AllByRecursion (MayIssue plan later t.state) (moves_of made) = may_stay plan m.state t.state count first.move first.event
     (is_drained first.state) (moves_of made) accepted is.allowed apart may in
     let onward : GoesOnAfter plan limit later told x t.state made rest last =
-    record { go = λ q b same h l. after.go q b (same ∙ ap (λ (s : State). state_after s made) (sym is.state)) h l } in
+    record { go = λ q b same h l. after.go q b (same ∙ ap (λ (s : State). state_after_made s made) (sym is.state)) h l } in
     let goes : (written : List Line) × PacesTo plan later t (moves_of (made ++ rest)) last written =
     in_round plan limit later told x (before ++ retires plan m.state first.move) t last made rest accepted kept leads aparts stay onward in
     let counted : PacesTo plan (paced count first.move first.event (is_drained t.state)) t (moves_of (made ++ rest)) last goes.0 =

@@ -49,7 +49,7 @@ use Rattle.cf_rounds.specs.declared.answer.Fired.TheVariants.{Plain, Retired, En
 use Rattle.cf_rounds.specs.declared.answer.Fired.TheVariants as fault
 use Rattle.cf_rounds.specs.Firing.{FiresAll, Fires, MakesAll, input_fired, output_fired, paced_by}
 use Rattle.cf_rounds.specs.Rounds.{AreCandidates, IsRound, round_of}
-use Rattle.cf_rounds.specs.Running.{InRounds, FailsThere, RunsRounds, StopsRounds, all_of, ran_of, state_after}
+use Rattle.cf_rounds.specs.Running.{InRounds, FailsThere, RunsRounds, StopsRounds, all_of, ran_of, state_after_made}
 use Rattle.cf_rounds.specs.Turns.{IsOffered, RoundTurns, finish_with, input_turned, output_turned}
 use Rattle.cf_rounds.proofs.Level.{round-level}
 use Rattle.cf_rounds.proofs.Making.{leaves, falls, left_first}
@@ -71,20 +71,20 @@ all_more (first ∷ rounds) made = ap (λ (rest : List Made). first ++ rest) (al
 
 rounds_more : (rule : GuessRule) (plan : Plan) (limit count : ℕ) (s : State) (rounds : List (List Made)) (held : ℕ) (end : State) (made : List Made) →
     InRounds rule plan limit count s rounds held end → GoesOn limit end → moves_of made ≡ round_of plan end (offered_by rule plan held end)
-    → InRounds rule plan limit count s (rounds ++ made ∷ []) (paced_by held made) (state_after end made)
+    → InRounds rule plan limit count s (rounds ++ made ∷ []) (paced_by held made) (state_after_made end made)
 unfolding InRounds
 rounds_more rule plan limit count s [] held end made (held_is, end_is) goes is =
     let P : ℕ → State → Type 0 = λ n q. GoesOn limit q × (moves_of made ≡ round_of plan q (offered_by rule plan n q))
-    × ((paced_by held made ≡ paced_by n made) × (state_after end made ≡ state_after q made)) in
+    × ((paced_by held made ≡ paced_by n made) × (state_after_made end made ≡ state_after_made q made)) in
     subst (λ (n : ℕ). P n s) held_is (subst (P held) end_is (goes, is, (refl, refl)))
 rounds_more rule plan limit count s (first ∷ rounds) held end made (goes_on, first_is, h) goes is =
-    (goes_on, first_is, rounds_more rule plan limit (paced_by count first) (state_after s first) rounds held end made h goes is)
+    (goes_on, first_is, rounds_more rule plan limit (paced_by count first) (state_after_made s first) rounds held end made h goes is)
 
 -- the state after the moves
-pub state_there : (trace : List Made) (now new : RunPlace) → MakesAll trace now new → state_after now.core.state trace ≡ new.core.state
+pub state_there : (trace : List Made) (now new : RunPlace) → MakesAll trace now new → state_after_made now.core.state trace ≡ new.core.state
 unfolding MakesAll
 state_there [] now new h = ap (λ (p : RunPlace). p.core.state) (sym h)
-state_there (made ∷ trace) now new (there, one, is, h) = ap (λ (s : State). state_after s trace) is ∙ state_there trace there new h
+state_there (made ∷ trace) now new (there, one, is, h) = ap (λ (s : State). state_after_made s trace) is ∙ state_there trace there new h
 
 -- the moves of a round after those of a run
 record Reached (limit : ℕ) (start new : RunPlace) (before trace : List Made) : Type 0 where
@@ -181,7 +181,7 @@ comes-more rule limit start now new pace later number moves round fired c goes o
     let r : Reached limit start new c.reached.trace f.trace = reach_all limit start now new f.trace c.reached f.makes low in
     let is : moves_of f.trace ≡ round_of plan now.core.state (offered_by rule plan c.held now.core.state) = f.moves
     ∙ chosen_here rule limit start now pace number moves round c o in
-    let more : InRounds rule plan limit 0 start.core.state (c.rounds ++ f.trace ∷ []) (paced_by c.held f.trace) (state_after now.core.state f.trace) =
+    let more : InRounds rule plan limit 0 start.core.state (c.rounds ++ f.trace ∷ []) (paced_by c.held f.trace) (state_after_made now.core.state f.trace) =
     rounds_more rule plan limit 0 start.core.state c.rounds c.held now.core.state f.trace c.chosen goes is in
     record {
       reached = r.reached;

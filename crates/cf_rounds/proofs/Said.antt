@@ -18,7 +18,7 @@ use Rattle.cf_run.proofs.Ending.{Over}
 use Rattle.cf_rounds.specs.declared.answer.Clocked.{Clocked}
 use Rattle.cf_rounds.specs.declared.answer.Clocked.TheVariants.{Exit, Trap, Limit, ReadFault, WriteFault, ReportFault}
 use Rattle.cf_rounds.specs.Firing.{paced_by}
-use Rattle.cf_rounds.specs.Running.{InRounds, RunsRounds, all_of, state_after}
+use Rattle.cf_rounds.specs.Running.{InRounds, RunsRounds, all_of, state_after_made}
 use Rattle.cf_rounds.specs.RunsRight.{RoundsRunRight}
 use Rattle.cf_rounds.specs.Saying.{BreaksBehind, Says, round_text, rounds_text}
 use Rattle.cf_rounds.specs.Turns.{RoundTurns}
@@ -42,17 +42,17 @@ said-first every rule limit start pace number blank none paced zero_rounds withi
 text-more : (every : Option ℕ) (rule : GuessRule) (plan : Plan) (limit count n m : ℕ) (s : State) (rounds : List (List Made)) (held : ℕ) (end : State)
     (made : List Made) → InRounds rule plan limit count s rounds held end →
     rounds_text every n m s (rounds ++ made ∷ []) ≡ rounds_text every n m s rounds
-    ++ round_text every (n + length rounds + 1) (m + length (all_of rounds) + length made) end.retired (state_after end made).retired
+    ++ round_text every (n + length rounds + 1) (m + length (all_of rounds) + length made) end.retired (state_after_made end made).retired
 unfolding rounds_text InRounds
 text-more every rule plan limit count n m s [] held end made (held_is, end_is) =
     let one : n + 1 ≡ n + 0 + 1 = omega arith in
     let all : m + length made ≡ m + 0 + length made = omega arith in
-    append-nil (round_text every (n + 1) (m + length made) s.retired (state_after s made).retired)
-    ∙ ap (λ (k : ℕ). round_text every k (m + length made) s.retired (state_after s made).retired) one
-    ∙ ap (λ (k : ℕ). round_text every (n + 0 + 1) k s.retired (state_after s made).retired) all
-    ∙ ap (λ (q : State). round_text every (n + 0 + 1) (m + 0 + length made) q.retired (state_after q made).retired) (sym end_is)
+    append-nil (round_text every (n + 1) (m + length made) s.retired (state_after_made s made).retired)
+    ∙ ap (λ (k : ℕ). round_text every k (m + length made) s.retired (state_after_made s made).retired) one
+    ∙ ap (λ (k : ℕ). round_text every (n + 0 + 1) k s.retired (state_after_made s made).retired) all
+    ∙ ap (λ (q : State). round_text every (n + 0 + 1) (m + 0 + length made) q.retired (state_after_made q made).retired) (sym end_is)
 text-more every rule plan limit count n m s (first ∷ rounds) held end made (goes, is, h) =
-    let t : State = state_after s first in
+    let t : State = state_after_made s first in
     let later = text-more every rule plan limit (paced_by count first) (n + 1) (m + length first) t rounds held end made h in
     let one : n + 1 + length rounds + 1 ≡ n + length (first ∷ rounds) + 1 = omega arith in
     let all : m + length first + length (all_of rounds) + length made ≡ m + length (first ++ all_of rounds) + length made =
@@ -60,11 +60,11 @@ text-more every rule plan limit count n m s (first ∷ rounds) held end made (go
     let here : List ℕ = round_text every (n + 1) (m + length first) s.retired t.retired in
     ap (λ (text : List ℕ). here ++ text) later
     ∙ sym (append_assoc here (rounds_text every (n + 1) (m + length first) t rounds)
-    (round_text every (n + 1 + length rounds + 1) (m + length first + length (all_of rounds) + length made) end.retired (state_after end made).retired))
+    (round_text every (n + 1 + length rounds + 1) (m + length first + length (all_of rounds) + length made) end.retired (state_after_made end made).retired))
     ∙ ap (λ (k : ℕ). (here ++ rounds_text every (n + 1) (m + length first) t rounds) ++ round_text every k
-    (m + length first + length (all_of rounds) + length made) end.retired (state_after end made).retired) one
+    (m + length first + length (all_of rounds) + length made) end.retired (state_after_made end made).retired) one
     ∙ ap (λ (k : ℕ). (here ++ rounds_text every (n + 1) (m + length first) t rounds) ++ round_text every (n + length (first ∷ rounds) + 1) k
-    end.retired (state_after end made).retired) all
+    end.retired (state_after_made end made).retired) all
 
 -- the moves of the rounds so far were counted
 counted-so : (rule : GuessRule) (limit : ℕ) (start now : RunPlace) (pace : PaceCount) (number : ℕ) → (c : Comes rule limit start now pace number) →
@@ -76,7 +76,7 @@ counted-so rule limit start now pace number c = ap (λ (t : Tally). t.moves) c.r
 rounds-on : (rule : GuessRule) (limit : ℕ) (start now new : RunPlace) (pace later : PaceCount) (number : ℕ) (c : Comes rule limit start now pace number) →
     RoundTurns limit now new pace later None →
     (made : List Made) × ((comes : Comes rule limit start new later (number + 1)) × (comes.rounds ≡ c.rounds ++ made ∷ []))
-    × (new.tally.moves ≡ now.tally.moves + length made) × (state_after now.core.state made ≡ new.core.state)
+    × (new.tally.moves ≡ now.tally.moves + length made) × (state_after_made now.core.state made ≡ new.core.state)
 unfolding RoundTurns
 rounds-on rule limit start now new pace later number c t = (
   t.fires.trace,
@@ -98,7 +98,8 @@ pub record SaidOn (every : Option ℕ) (rule : GuessRule) (limit : ℕ) (start n
   pub put : Writes blank half (rounds_text every 0 0 start.core.state earlier)
   pub last : rounds_text every 0 0 start.core.state comes.rounds ≡ rounds_text every 0 0 start.core.state earlier ++ text
 
-pub said-on : (every : Option ℕ) (rule : GuessRule) (limit : ℕ) (start now new : RunPlace) (pace later : PaceCount) (number : ℕ) (blank half : Option (List ℕ)) →
+pub said-on : (every : Option ℕ) (rule : GuessRule) (limit : ℕ) (start now new : RunPlace) (pace later : PaceCount) (number : ℕ)
+    (blank half : Option (List ℕ)) →
     SaidSo every rule limit start now pace number blank half → RoundTurns limit now new pace later None →
     SaidOn every rule limit start new later (number + 1) blank half
     (round_text every (number + 1) new.tally.moves now.core.state.retired new.core.state.retired)
@@ -111,9 +112,9 @@ said-on every rule limit start now new pace later number blank half (c, put) tur
     let said : rounds_text every 0 0 start.core.state (c.rounds ++ made ∷ []) ≡ rounds_text every 0 0 start.core.state c.rounds
     ++ round_text every (number + 1) new.tally.moves now.core.state.retired new.core.state.retired =
     texts ∙ ap (λ (k : ℕ). rounds_text every 0 0 start.core.state c.rounds
-    ++ round_text every k (0 + length (all_of c.rounds) + length made) now.core.state.retired (state_after now.core.state made).retired) n
+    ++ round_text every k (0 + length (all_of c.rounds) + length made) now.core.state.retired (state_after_made now.core.state made).retired) n
     ∙ ap (λ (k : ℕ). rounds_text every 0 0 start.core.state c.rounds
-    ++ round_text every (number + 1) k now.core.state.retired (state_after now.core.state made).retired) m
+    ++ round_text every (number + 1) k now.core.state.retired (state_after_made now.core.state made).retired) m
     ∙ ap (λ (q : State). rounds_text every 0 0 start.core.state c.rounds
     ++ round_text every (number + 1) new.tally.moves now.core.state.retired q.retired) on.3 in
     record {

@@ -23,13 +23,13 @@ abbrev pub shares_any : Plan → List Move → Move → Bool
 shares_any plan round mv = list_any (shares plan mv) round
 
 -- the taken moves, and after them each move of a list, in order, that shares no site with one already taken
-unfoldable pub taken : Plan → (round moves : List Move) → List Move
-taken plan round [] = round
-taken plan round (mv ∷ moves) = taken plan (if shares_any plan round mv then round else round ++ mv ∷ []) moves
+unfoldable pub taken_moves : Plan → (round moves : List Move) → List Move
+taken_moves plan round [] = round
+taken_moves plan round (mv ∷ moves) = taken_moves plan (if shares_any plan round mv then round else round ++ mv ∷ []) moves
 
 -- the round of some candidates: the first that must be made alone, where there is one; otherwise those that are taken
 unfoldable pub round_of : Plan → State → List Move → List Move
-round_of plan s moves = on (find (stands_alone plan s) moves) (taken plan [] moves) (λ mv. mv ∷ [])
+round_of plan s moves = on (find (stands_alone plan s) moves) (taken_moves plan [] moves) (λ mv. mv ∷ [])
 
 -- these are the candidates of the state that some guess rule keeps, Issue held back or not
 abbrev pub AreCandidates : Plan → State → List Move → Type 0

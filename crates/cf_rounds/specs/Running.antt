@@ -17,9 +17,9 @@ use Rattle.cf_rounds.specs.Firing.{paced_by}
 use Rattle.cf_rounds.specs.Rounds.{round_of}
 
 -- the state after some moves
-abbrev pub state_after : State → List Made → State
-state_after s [] = s
-state_after s (made ∷ trace) = state_after made.state trace
+abbrev pub state_after_made : State → List Made → State
+state_after_made s [] = s
+state_after_made s (made ∷ trace) = state_after_made made.state trace
 
 -- the moves of all rounds
 abbrev pub all_of : List (List Made) → List Made
@@ -32,7 +32,7 @@ unfoldable pub InRounds : GuessRule → Plan → ℕ → ℕ → State → List 
 InRounds rule plan limit count s [] last end = (last ≡ count) × (end ≡ s)
 InRounds rule plan limit count s (made ∷ rounds) last end =
     GoesOn limit s × (moves_of made ≡ round_of plan s (offered_by rule plan count s))
-    × InRounds rule plan limit (paced_by count made) (state_after s made) rounds last end
+    × InRounds rule plan limit (paced_by count made) (state_after_made s made) rounds last end
 
 -- the round there is Serve alone, whose call failed
 pub record FailsThere (rule : GuessRule) (limit count : ℕ) (now new : RunPlace) (answer : Answer) : Type 0 where

@@ -6,7 +6,7 @@ use Rattle.cf_report.specs.Progress.{is_step, rounds_line}
 use Rattle.cf_run.specs.Made.{Made}
 use Rattle.cf_rounds.specs.declared.answer.Clocked.{Clocked}
 use Rattle.cf_rounds.specs.declared.answer.Clocked.TheVariants.{ReportFault}
-use Rattle.cf_rounds.specs.Running.{state_after}
+use Rattle.cf_rounds.specs.Running.{state_after_made}
 
 -- behind the round of this number, with which this many moves have been made: a line, if an instruction retired in the
 -- round, and the retired ones are then a multiple of the step
@@ -18,8 +18,8 @@ round_text every number moves before after =
 unfoldable pub rounds_text : (every : Option ℕ) (number moves : ℕ) → State → List (List Made) → List ℕ
 rounds_text every number moves s [] = []
 rounds_text every number moves s (made ∷ rounds) =
-    round_text every (number + 1) (moves + length made) s.retired (state_after s made).retired
-    ++ rounds_text every (number + 1) (moves + length made) (state_after s made) rounds
+    round_text every (number + 1) (moves + length made) s.retired (state_after_made s made).retired
+    ++ rounds_text every (number + 1) (moves + length made) (state_after_made s made) rounds
 
 -- the report failed behind the last round: it got what is said behind the rounds before, and a prefix of what is said there
 pub record BreaksBehind (every : Option ℕ) (s : State) (rounds : List (List Made)) (blank full : Option (List ℕ)) : Type 0 where

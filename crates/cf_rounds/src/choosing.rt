@@ -5,7 +5,7 @@ ghost use Rattle.std.specs.List.{AllByRecursion, find};
 ghost use Rattle.cf_semantics.specs.moves.Sites.{ends_there as ends_there_of};
 ghost use Rattle.cf_index.specs.Sites.{HasSites};
 ghost use Rattle.cf_index.specs.Alone.{stands_alone};
-ghost use Rattle.cf_rounds.specs.Rounds.{AreCandidates, IsFull, IsRound, round_of, shares_any, taken};
+ghost use Rattle.cf_rounds.specs.Rounds.{AreCandidates, IsFull, IsRound, round_of, shares_any, taken_moves};
 
 use crate::round_set::RoundSet;
 use cf_bind::Move;
@@ -79,7 +79,7 @@ fn take(core: &Core, set: &mut RoundSet, mv: Move)
 fn take_all(core: &Core, c: &Candidates, set: &mut RoundSet)
     requires candidates { AreCandidates core.now.plan core.now.state c.now }
     requires empty { set.old ≡ [] }
-    ensures { set.new ≡ taken core.now.plan [] c.now }
+    ensures { set.new ≡ taken_moves core.now.plan [] c.now }
 {
     let _ = core.layout();
     for place in 0..c.len() {

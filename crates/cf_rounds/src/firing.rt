@@ -4,7 +4,7 @@
 ghost use Rattle.std.specs.Prelude.{◌≡◌, ◌+◌, ◌<◌, ◌^◌, None};
 ghost use Rattle.cf_io.specs.Causes.{HasCause};
 ghost use Rattle.rv_machine.specs.Streams.{streams_of};
-ghost use Rattle.cf_run.specs.Moving.{place_of};
+ghost use Rattle.cf_run.specs.Moving.{run_place_of};
 ghost use Rattle.cf_rounds.specs.Firing.{Fires, input_fired, output_fired, seen};
 ghost use Rattle.cf_rounds.specs.Rounds.{IsRound};
 
@@ -48,8 +48,8 @@ pub fn fire<S: Source, K: Sink>(
     requires kills { tally.old.kills < 2 ^ 63 }
     requires dead { tally.old.dead < 2 ^ 63 }
     ensures fires { Fires set.now
-        (place_of core.old (streams_of (S.left input.old) (K.written output.old)) None tally.old)
-        (place_of core.new (streams_of (S.left input.new) (K.written output.new)) None tally.new)
+        (run_place_of core.old (streams_of (S.left input.old) (K.written output.old)) None tally.old)
+        (run_place_of core.new (streams_of (S.left input.new) (K.written output.new)) None tally.new)
         pace.old pace.new result }
     ensures input { HasCause (S.faults input.old) (S.faults input.new) (input_fired result) }
     ensures output { HasCause (K.faults output.old) (K.faults output.new) (output_fired result) }

@@ -9,7 +9,7 @@ ghost use Rattle.rv_machine.specs.Streams.{streams_of};
 ghost use Rattle.cf_sched.specs.Paces.{HasCounted, offered_by};
 ghost use Rattle.run_finishes.specs.declared.finish.Scripted.TheVariants as scripted;
 ghost use Rattle.cf_run.specs.Ending.{EndsSequentially};
-ghost use Rattle.cf_run.specs.Moving.{place_of};
+ghost use Rattle.cf_run.specs.Moving.{run_place_of};
 ghost use Rattle.cf_core.specs.Processors.{IsOpened};
 ghost use Rattle.cf_run.specs.Policies.{most_moves};
 ghost use Rattle.cf_run.specs.Reaching.{GoesOn, IsOver, no_tally};
@@ -79,8 +79,8 @@ fn advance<S: Source, K: Sink>(
     requires kills { tally.old.kills < 2 ^ 63 }
     requires dead { tally.old.dead < 2 ^ 63 }
     ensures turns { RoundTurns limit
-        (place_of core.old (streams_of (S.left input.old) (K.written output.old)) None tally.old)
-        (place_of core.new (streams_of (S.left input.new) (K.written output.new)) None tally.new)
+        (run_place_of core.old (streams_of (S.left input.old) (K.written output.old)) None tally.old)
+        (run_place_of core.new (streams_of (S.left input.new) (K.written output.new)) None tally.new)
         pace.old pace.new result }
     ensures input { HasCause (S.faults input.old) (S.faults input.new) (input_turned result) }
     ensures output { HasCause (K.faults output.old) (K.faults output.new) (output_turned result) }
@@ -142,12 +142,12 @@ pub fn run_rounds<S: Source, K: Sink, R: Sink>(
     requires tally { tally.old ≡ no_tally }
     requires rounds { rounds.old ≡ 0 }
     ensures run { RoundsRunRight options.rule options.limit options.every
-        (place_of core.old (streams_of (S.left input.old) (K.written output.old)) None tally.old)
-        (place_of core.new (streams_of (S.left input.new) (K.written output.new)) None tally.new)
+        (run_place_of core.old (streams_of (S.left input.old) (K.written output.old)) None tally.old)
+        (run_place_of core.new (streams_of (S.left input.new) (K.written output.new)) None tally.new)
         (R.written report.old) (R.written report.new) rounds.new result }
     ensures ends { EndsSequentially options.limit
-        (place_of core.old (streams_of (S.left input.old) (K.written output.old)) None tally.old)
-        (place_of core.new (streams_of (S.left input.new) (K.written output.new)) None tally.new)
+        (run_place_of core.old (streams_of (S.left input.old) (K.written output.old)) None tally.old)
+        (run_place_of core.new (streams_of (S.left input.new) (K.written output.new)) None tally.new)
         (scripted.Ran (ran_of result)) }
     ensures bounded { tally.new.moves ≤ most_moves core.old.plan options.limit }
     ensures input { HasCause (S.faults input.old) (S.faults input.new) (input_turned (Some result)) }

@@ -15,7 +15,7 @@ use Rattle.cf_semantics.specs.runs.Runs.{IsRun, opened as opened_on, start as st
 use Rattle.cf_semantics.specs.state.State.{State, Moment}
 use Rattle.theory_refinement.proofs.claims.Runs.{opened_retired}
 use Rattle.theory_refinement.proofs.Theorems.{run_refines}
-use Rattle.cf_core.specs.Processors.{Processor, in_state, opened}
+use Rattle.cf_core.specs.Processors.{Processor, in_state, opened_processor}
 use Rattle.cf_run.specs.Going.{moment_of, Leads}
 use Rattle.cf_run.specs.Headline.{machine_on, moment_after, lines_after, IsRight, AreTexts}
 use Rattle.cf_run.specs.Made.{Made, moves_of, all_shown}
@@ -35,12 +35,12 @@ pub record Arrives (shows : Reporting) (x : Machine) (m : Moment) (n : ℕ) (wri
   pub report : Writes begin.report now.report (all_shown shows begin.core.plan 1 trace)
 
 -- an opened processor is at the start of the machine
-opened_same : (plan : Plan) (hart : Hart) (rest : List ℕ) → (opened plan hart).state ≡ opened_on plan (machine_on hart rest)
-unfolding opened opened_on
+opened_same : (plan : Plan) (hart : Hart) (rest : List ℕ) → (opened_processor plan hart).state ≡ opened_on plan (machine_on hart rest)
+unfolding opened_processor opened_on
 opened_same plan hart rest = refl
 
 -- and its moment, with this left of the input, is the start of a run
-pub begins : (core : Processor) (hart : Hart) (rest left : List ℕ) → core ≡ opened core.plan hart → left ≡ rest →
+pub begins : (core : Processor) (hart : Hart) (rest left : List ℕ) → core ≡ opened_processor core.plan hart → left ≡ rest →
     moment_of core left ≡ start_on core.plan (machine_on hart rest)
 begins core hart rest left is same =
     let state : core.state ≡ opened_on core.plan (machine_on hart rest) = ap (λ (p : Processor). p.state) is ∙ opened_same core.plan hart rest in
@@ -48,7 +48,8 @@ begins core hart rest left is same =
     ∙ ap (λ (r : List ℕ). record { state = opened_on core.plan (machine_on hart rest); rest = r; output = [] }) same
 
 -- every run from a machine is right
-pub right : (plan : Plan) (x : Machine) (moves : List Move) → IsAccepted plan → length x.hart.regs ≡ 32 → IsRun plan (start_on plan x) moves → IsRight plan x moves
+pub right : (plan : Plan) (x : Machine) (moves : List Move) → IsAccepted plan → length x.hart.regs ≡ 32 → IsRun plan (start_on plan x) moves →
+    IsRight plan x moves
 right plan x moves accepted wide allowed = record {
   allowed = allowed;
   refines = run_refines plan x moves accepted wide allowed;
@@ -62,7 +63,7 @@ pub record ArrivesBy (shows : Reporting) (x : Machine) (moves : List Move) (begi
 
 -- a run that leads to a moment has arrived there
 arrived : (limit : ℕ) (shows : Reporting) (hart : Hart) (rest left : List ℕ) (begin now : RunPlace) (trace : List Made) (last : Moment) →
-    IsAccepted begin.core.plan → length hart.regs ≡ 32 → begin.core ≡ opened begin.core.plan hart → begin.streams.input ≡ Some rest
+    IsAccepted begin.core.plan → length hart.regs ≡ 32 → begin.core ≡ opened_processor begin.core.plan hart → begin.streams.input ≡ Some rest
     → IsTold begin.streams.input left → Leads begin.core.plan limit begin.streams.input (moment_of begin.core left) trace last →
     now.core ≡ in_state begin.core last.state → Leaves begin.streams now.streams last.rest last.output
     → Writes begin.report now.report (all_shown shows begin.core.plan 1 trace) → ArrivesBy shows (machine_on hart rest) (moves_of trace) begin now
@@ -92,7 +93,7 @@ arrived limit shows hart rest left begin now trace last accepted wide opens tell
 
 -- so has a run that has reached a RunPlace
 pub arrives-by : (limit : ℕ) (shows : Reporting) (hart : Hart) (rest : List ℕ) (begin now : RunPlace) → IsAccepted begin.core.plan → length hart.regs ≡ 32 →
-    begin.core ≡ opened begin.core.plan hart → begin.streams.input ≡ Some rest → (h : Reaches limit shows begin now)
+    begin.core ≡ opened_processor begin.core.plan hart → begin.streams.input ≡ Some rest → (h : Reaches limit shows begin now)
     → ArrivesBy shows (machine_on hart rest) (moves_of h.trace) begin now
 arrives-by limit shows hart rest begin now accepted wide opens tells h =
     arrived limit shows hart rest h.rest begin now h.trace h.last accepted wide opens tells h.told h.leads h.core h.streams h.report

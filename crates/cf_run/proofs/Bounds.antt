@@ -19,13 +19,13 @@ use Rattle.theory_unknown_input.proofs.Invariant.{HoldsAnew}
 use Rattle.theory_unknown_input.specs.Paced.{PacesTo}
 use Rattle.theory_unknown_input.proofs.Pacing.{paces_leads, paced_bounded_anew}
 use Rattle.theory_unknown_input.proofs.Theorems.{anew_started, holds_anew}
-use Rattle.cf_core.specs.Processors.{Processor, in_state, opened, IsOpened}
+use Rattle.cf_core.specs.Processors.{Processor, in_state, opened_processor, IsOpened}
 use Rattle.cf_sched.specs.Paces.{offered_by}
 use Rattle.cf_run.specs.Going.{moment_of, Leads}
 use Rattle.cf_run.specs.Headline.{machine_on}
 use Rattle.cf_run.specs.Made.{Made, moves_of, tally_of}
 use Rattle.cf_run.specs.Moving.{RunPlace}
-use Rattle.cf_run.specs.Policies.{Chooser, fresh, Picks, most_moves}
+use Rattle.cf_run.specs.Policies.{Chooser, fresh_chooser, Picks, most_moves}
 use Rattle.cf_run.specs.Reaching.{Reaches}
 use Rattle.cf_run.proofs.Arrived.{begins}
 use Rattle.cf_run.proofs.ByRule.{ruled-some}
@@ -33,11 +33,11 @@ use Rattle.cf_run.proofs.Picking.{picks-paced}
 
 -- an opened processor has the registers and the count of its hart
 pub opened_wide : (core : Processor) (o : IsOpened core) → length core.state.regs ≡ 32 → length o.hart.regs ≡ 32
-unfolding opened opened_on
+unfolding opened_processor opened_on
 opened_wide core o wide = ap (λ (p : Processor). length p.state.regs) (sym o.is) ∙ wide
 
 opened_count : (core : Processor) (o : IsOpened core) → core.state.retired ≡ o.hart.retired
-unfolding opened opened_on
+unfolding opened_processor opened_on
 opened_count core o = ap (λ (p : Processor). p.state.retired) o.is
 
 -- the machine that the run of an opened processor is a run of, with some input
@@ -48,7 +48,7 @@ machine_of core o rest = machine_on o.hart rest
 reached-paced : {P : Type 0} (rule : GuessRule) (picked : P → List Move → ℕ) (onward : P → List Move → P) (limit : ℕ) (shows : Reporting) (begin now : RunPlace)
     (policy : P)
     (at : Chooser P) → IsAccepted begin.core.plan → length begin.core.state.regs ≡ 32 → (o : IsOpened begin.core) → (h : Reaches limit shows begin now) →
-    Picks picked onward begin.core.plan (fresh rule policy) begin.core.state h.trace at
+    Picks picked onward begin.core.plan (fresh_chooser rule policy) begin.core.state h.trace at
     → (written : List Line) × PacesTo begin.core.plan 0 (start_on begin.core.plan (machine_of begin.core o h.rest)) (moves_of h.trace) h.last written
 reached-paced {P} rule picked onward limit shows begin now policy at accepted wide o h picks =
     let plan : Plan = begin.core.plan in
@@ -57,9 +57,9 @@ reached-paced {P} rule picked onward limit shows begin now policy at accepted wi
     let same : m ≡ start_on plan x = begins begin.core o.hart h.rest h.rest o.is refl in
     let leads : Leads plan limit begin.streams.input (start_on plan x) h.trace h.last = subst
     (λ (q : Moment). Leads plan limit begin.streams.input q h.trace h.last) same h.leads in
-    let first : Picks picked onward plan (fresh rule policy) (start_on plan x).state h.trace at =
-    subst (λ (q : Moment). Picks picked onward plan (fresh rule policy) q.state h.trace at) same picks in
-    picks-paced picked onward plan limit begin.streams.input x [] (start_on plan x) h.trace h.last (fresh rule policy) at accepted
+    let first : Picks picked onward plan (fresh_chooser rule policy) (start_on plan x).state h.trace at =
+    subst (λ (q : Moment). Picks picked onward plan (fresh_chooser rule policy) q.state h.trace at) same picks in
+    picks-paced picked onward plan limit begin.streams.input x [] (start_on plan x) h.trace h.last (fresh_chooser rule policy) at accepted
     (anew_started plan x (opened_wide begin.core o wide)) leads first
 
 -- so it has a bounded number of moves
@@ -100,7 +100,7 @@ paced-offered limit shows begin now accepted wide o h written paces unended r co
 pub reached-bounded : {P : Type 0} (rule : GuessRule) (picked : P → List Move → ℕ) (onward : P → List Move → P) (limit : ℕ) (shows : Reporting)
     (begin now : RunPlace) (policy : P)
     (at : Chooser P) → IsAccepted begin.core.plan → length begin.core.state.regs ≡ 32 → IsOpened begin.core → (h : Reaches limit shows begin now) →
-    Picks picked onward begin.core.plan (fresh rule policy) begin.core.state h.trace at
+    Picks picked onward begin.core.plan (fresh_chooser rule policy) begin.core.state h.trace at
     → now.tally.moves ≤ most_moves begin.core.plan (now.core.state.retired - begin.core.state.retired)
 reached-bounded {P} rule picked onward limit shows begin now policy at accepted wide o h picks =
     let paces = reached-paced rule picked onward limit shows begin now policy at accepted wide o h picks in
@@ -109,7 +109,7 @@ reached-bounded {P} rule picked onward limit shows begin now policy at accepted 
 pub reached-offered : {P : Type 0} (rule : GuessRule) (picked : P → List Move → ℕ) (onward : P → List Move → P) (limit : ℕ) (shows : Reporting)
     (begin now : RunPlace) (policy : P)
     (at : Chooser P) → IsAccepted begin.core.plan → length begin.core.state.regs ≡ 32 → IsOpened begin.core → (h : Reaches limit shows begin now) →
-    Picks picked onward begin.core.plan (fresh rule policy) begin.core.state h.trace at
+    Picks picked onward begin.core.plan (fresh_chooser rule policy) begin.core.state h.trace at
     → now.core.state.ending ≡ None → (r : GuessRule) (count : ℕ) → 1 ≤ length (offered_by r now.core.plan count now.core.state)
 reached-offered {P} rule picked onward limit shows begin now policy at accepted wide o h picks =
     let paces = reached-paced rule picked onward limit shows begin now policy at accepted wide o h picks in

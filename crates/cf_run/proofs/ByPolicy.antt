@@ -17,7 +17,7 @@ use Rattle.cf_run.specs.Going.{moment_of}
 use Rattle.cf_run.specs.Headline.{RunsSequentially}
 use Rattle.cf_run.specs.Made.{Made, moves_of}
 use Rattle.cf_run.specs.Moving.{RunPlace, FailsBefore, MoveDoes, MoveGoes, shown_of}
-use Rattle.cf_run.specs.Policies.{Chooser, fresh, choice, offered_to, after_choice, Picks, TakesPick, StopsPolicy, RunsPolicy, ChoiceAsks, made_or_none, most_moves}
+use Rattle.cf_run.specs.Policies.{Chooser, fresh_chooser, choice, offered_to, after_choice, Picks, TakesPick, StopsPolicy, RunsPolicy, ChoiceAsks, made_or_none, most_moves}
 use Rattle.cf_run.specs.Reaching.{Reaches, GoesOn, IsOver}
 use Rattle.cf_run.proofs.Asked.{one-more}
 use Rattle.cf_run.proofs.Bounds.{reached-bounded}
@@ -29,7 +29,7 @@ use Rattle.cf_run.proofs.Stopping.{ComesTo, comes_over, comes_unread, comes_unwr
 -- the picks that lead here are picks of the policy
 abbrev pub PicksTo : {P : Type 0} → (rule : GuessRule) (picked : P → List Move → ℕ) → (onward : P → List Move → P) → (begin : RunPlace) → P → List Made →
     Chooser P → Type 0
-PicksTo rule picked onward begin policy trace at = Picks picked onward begin.core.plan (fresh rule policy) begin.core.state trace at
+PicksTo rule picked onward begin policy trace at = Picks picked onward begin.core.plan (fresh_chooser rule policy) begin.core.state trace at
 
 -- the move that was taken
 abbrev pub taken : {P : Type 0} (picked : P → List Move → ℕ) (limit : ℕ) (shows : Reporting) (at : Chooser P) (now new : RunPlace) →
@@ -89,7 +89,8 @@ turned-picks {P} rule picked onward limit shows begin now new policy at h t pick
     let C : Processor → Type 0 = λ p. choice picked p.plan at p.state ≡ Some t.move in
     let next : choice picked plan at h.last.state ≡ Some t.move = subst C h.core t.choice_is in
     let more : PicksTo rule picked onward begin policy (h.trace ++ made ∷ []) (after_choice onward plan at h.last.state made) =
-    picks-more picked onward plan limit begin.streams.input (moment_of begin.core h.rest) h.trace h.last (fresh rule policy) at made h.leads picks next in
+    picks-more picked onward plan limit begin.streams.input (moment_of begin.core h.rest) h.trace h.last (fresh_chooser rule policy) at made h.leads picks
+    next in
     let same : chooser_after picked onward limit shows at now new t ≡ after_choice onward plan at h.last.state made =
     ap (λ (p : Processor). after_choice onward p.plan at p.state made) h.core in
     let there : PicksTo rule picked onward begin policy (h.trace ++ made ∷ []) (chooser_after picked onward limit shows at now new t) =
@@ -130,7 +131,8 @@ reported-comes limit shows begin now new mv moves h goes (inr before) made =
     (comes_unpassed limit shows begin now new mv h before)
 
 -- whatever stops it, the run of a policy reached some RunPlace by the moves that it made and stopped there
-pub policy-comes : {P : Type 0} (rule : GuessRule) (picked : P → List Move → ℕ) (onward : P → List Move → P) (limit : ℕ) (shows : Reporting) (begin new : RunPlace)
+pub policy-comes : {P : Type 0} (rule : GuessRule) (picked : P → List Move → ℕ) (onward : P → List Move → P) (limit : ℕ) (shows : Reporting)
+    (begin new : RunPlace)
     (policy later : P)
     (moves : List Move) (answer : Answer) → IsAccepted begin.core.plan → RunsPolicy rule picked onward limit shows begin new policy later moves answer →
     ComesTo limit shows begin moves new (Ran answer)

@@ -21,7 +21,8 @@ unfolding tally_of
 followed_moves limit shows begin now f = rw f.reaches.tally f.moves
 
 -- the same moves by the count of another RunPlace that has counted as many
-by_count : (limit : ℕ) (shows : Reporting) (begin now new : ScriptRun) (answer : Scripted) (f : Follows limit shows begin now) → new.place.tally ≡ now.place.tally →
+by_count : (limit : ℕ) (shows : Reporting) (begin now new : ScriptRun) (answer : Scripted) (f : Follows limit shows begin now) →
+    new.place.tally ≡ now.place.tally →
     ComesTo limit shows begin.place (moves_of f.reaches.trace) new.place answer → ComesTo limit shows begin.place
     (first_moves begin.script new.place.tally) new.place answer
 by_count limit shows begin now new answer f same c =
@@ -68,7 +69,8 @@ reported_there limit shows begin now new f t (inr before) =
     (comes_unpassed limit shows begin.place now.place new.place t.move f.reaches before)
 
 -- whatever stops it, a run of a script reached some RunPlace and stopped there
-pub comes-to : (limit : ℕ) (shows : Reporting) (begin now new : ScriptRun) (answer : Scripted) → IsAccepted begin.place.core.plan → Follows limit shows begin now →
+pub comes-to : (limit : ℕ) (shows : Reporting) (begin now new : ScriptRun) (answer : Scripted) → IsAccepted begin.place.core.plan →
+    Follows limit shows begin now →
     ScriptStops limit shows now new answer → ComesTo limit shows begin.place (first_moves begin.script new.place.tally) new.place answer
 unfolding ScriptStops DoesLine MoveDoes StopsAt Gets
 comes-to limit shows begin now new ScriptEnd accepted f stops =

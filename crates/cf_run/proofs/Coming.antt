@@ -19,7 +19,7 @@ use Rattle.run_finishes.specs.declared.finish.Ran.TheVariants as ran
 use Rattle.cf_run.specs.Asking.{SomeAsks}
 use Rattle.cf_run.specs.Made.{Made, moves_of}
 use Rattle.cf_run.specs.Moving.{RunPlace, MoveDoes}
-use Rattle.cf_run.specs.Policies.{Chooser, chooser, fresh, choice, offered_to, Picks, TakesPick, Turned, StopsAtPick, StopsPolicy, RunsPolicy, ChoiceAsks, PolicyUnasked, made_last, most_moves}
+use Rattle.cf_run.specs.Policies.{Chooser, chooser, fresh_chooser, choice, offered_to, Picks, TakesPick, Turned, StopsAtPick, StopsPolicy, RunsPolicy, ChoiceAsks, PolicyUnasked, made_last, most_moves}
 use Rattle.cf_run.specs.Reaching.{no_tally, Reaches}
 use Rattle.cf_run.specs.Sweeps.{HasPicked}
 use Rattle.cf_run.proofs.Bounds.{bound_grows, bound_small, reached-bounded, reached-offered}
@@ -35,9 +35,10 @@ pub comes-first : {P : Type 0} (rule : GuessRule) (picked : P → List Move → 
     HasPicked rule picked onward limit shows begin begin policy policy held
 unfolding Picks
 comes-first rule picked onward limit shows begin policy held stages none beside zero_held = record {
-  at = fresh rule policy;
+  at = fresh_chooser rule policy;
   reached = reached-none limit shows begin none;
-  picks = subst (λ (trace : List Made). PicksTo rule picked onward begin policy trace (fresh rule policy)) (sym (none-trace limit shows begin none)) refl;
+  picks = subst (λ (trace : List Made). PicksTo rule picked onward begin policy trace (fresh_chooser rule policy)) (sym (none-trace limit shows begin none))
+      refl;
   rule_is = refl;
   policy_is = refl;
   count_is = zero_held ∙ ap (λ (n : ℕ). stopped n 0) beside;
@@ -80,7 +81,8 @@ onward_same {P} rule picked onward limit shows begin now first current held c =
 -- the move that is taken by the count that stops is taken
 took : {P : Type 0} (rule : GuessRule) (picked : P → List Move → ℕ) (onward : P → List Move → P) (limit : ℕ) (shows : Reporting) (begin now new : RunPlace)
     (first current : P)
-    (held : ℕ) → (c : HasPicked rule picked onward limit shows begin now first current held) → TakesPick picked limit shows (chooser rule current held) now new →
+    (held : ℕ) → (c : HasPicked rule picked onward limit shows begin now first current held) →
+    TakesPick picked limit shows (chooser rule current held) now new →
     TakesPick picked limit shows c.at now new
 took rule picked onward limit shows begin now new first current held c t = record {
   goes = t.goes;
@@ -91,9 +93,11 @@ took rule picked onward limit shows begin now new first current held c t = recor
 }
 
 -- one more pick
-pub comes-more : {P : Type 0} (rule : GuessRule) (picked : P → List Move → ℕ) (onward : P → List Move → P) (limit : ℕ) (shows : Reporting) (begin now new : RunPlace)
+pub comes-more : {P : Type 0} (rule : GuessRule) (picked : P → List Move → ℕ) (onward : P → List Move → P) (limit : ℕ) (shows : Reporting)
+    (begin now new : RunPlace)
     (first current : P) (held : ℕ) (later : Chooser P) → HasPicked rule picked onward limit shows begin now first current held →
-    Turned picked onward limit shows now new (chooser rule current held) later → HasPicked rule picked onward limit shows begin new first later.policy later.count
+    Turned picked onward limit shows now new (chooser rule current held) later →
+    HasPicked rule picked onward limit shows begin new first later.policy later.count
 unfolding took
 comes-more {P} rule picked onward limit shows begin now new first current held later c t =
     let takes : TakesPick picked limit shows c.at now new = took rule picked onward limit shows begin now new first current held c t.takes in
@@ -207,7 +211,8 @@ comes-nearer rule picked onward limit shows begin now new first current held lat
     less most now new e h = omega (arith, e, h)
 
 -- the run stops where it has arrived
-stops_same : {P : Type 0} (rule : GuessRule) (picked : P → List Move → ℕ) (onward : P → List Move → P) (limit : ℕ) (shows : Reporting) (begin now new : RunPlace)
+stops_same : {P : Type 0} (rule : GuessRule) (picked : P → List Move → ℕ) (onward : P → List Move → P) (limit : ℕ) (shows : Reporting)
+    (begin now new : RunPlace)
     (first current later : P) (held : ℕ) (answer : Answer) → (c : HasPicked rule picked onward limit shows begin now first current held) →
     StopsPolicy picked onward limit shows (chooser rule current held) now new later answer → StopsPolicy picked onward limit shows c.at now new later answer
 stops_same {P} rule picked onward limit shows begin now new first current later held answer c stops = go answer stops
@@ -232,14 +237,16 @@ stops_same {P} rule picked onward limit shows begin now new first current later 
     go ran.ReportFault h = chooses ran.ReportFault h
 
 -- the moves of a run that stops there
-pub all-made : {P : Type 0} (rule : GuessRule) (picked : P → List Move → ℕ) (onward : P → List Move → P) (limit : ℕ) (shows : Reporting) (begin now new : RunPlace)
+pub all-made : {P : Type 0} (rule : GuessRule) (picked : P → List Move → ℕ) (onward : P → List Move → P) (limit : ℕ) (shows : Reporting)
+    (begin now new : RunPlace)
     (first current later : P) (held : ℕ) (answer : Answer) → HasPicked rule picked onward limit shows begin now first current held →
     StopsPolicy picked onward limit shows (chooser rule current held) now new later answer → List Move
 all-made rule picked onward limit shows begin now new first current later held answer c stops =
     moves_of c.reached.trace ++ made_last picked onward limit shows c.at now new later answer
     (stops_same rule picked onward limit shows begin now new first current later held answer c stops)
 
-pub comes-runs : {P : Type 0} (rule : GuessRule) (picked : P → List Move → ℕ) (onward : P → List Move → P) (limit : ℕ) (shows : Reporting) (begin now new : RunPlace)
+pub comes-runs : {P : Type 0} (rule : GuessRule) (picked : P → List Move → ℕ) (onward : P → List Move → P) (limit : ℕ) (shows : Reporting)
+    (begin now new : RunPlace)
     (first current later : P) (held : ℕ) (answer : Answer) → (c : HasPicked rule picked onward limit shows begin now first current held) →
     (stops : StopsPolicy picked onward limit shows (chooser rule current held) now new later answer)
     → RunsPolicy rule picked onward limit shows begin new first later (all-made rule picked onward limit shows begin now new first current later held answer
@@ -270,7 +277,8 @@ turned-plan picked onward limit shows now new at later t = t.takes.does.makes.ma
 
 -- what uses the stream at the next pick by the count that stops uses it there
 choice-asks : {P : Type 0} (asks : Processor → Move → Type 0) (rule : GuessRule) (picked : P → List Move → ℕ) (onward : P → List Move →
-    P) (limit : ℕ) (shows : Reporting) (begin now : RunPlace) (first current : P) (held : ℕ) → (c : HasPicked rule picked onward limit shows begin now first current
+    P) (limit : ℕ) (shows : Reporting) (begin now : RunPlace) (first current : P) (held : ℕ) →
+    (c : HasPicked rule picked onward limit shows begin now first current
     held) →
     ChoiceAsks asks picked limit (chooser rule current held) now.core → ChoiceAsks asks picked limit c.at now.core
 choice-asks asks rule picked onward limit shows begin now first current held c a =

@@ -33,7 +33,7 @@ use Rattle.theory_refinement.proofs.Theorems.{run_refines}
 use Rattle.theory_unknown_input.specs.UnknownInput.{finding, GoesTo}
 use Rattle.theory_unknown_input.proofs.Invariant.{HoldsAnew}
 use Rattle.theory_unknown_input.proofs.Theorems.{holds_anew, refines_held}
-use Rattle.cf_core.specs.Processors.{Processor, in_state, opened}
+use Rattle.cf_core.specs.Processors.{Processor, in_state, opened_processor}
 use Rattle.run_finishes.specs.declared.finish.Ran.{Ran as Answer}
 use Rattle.run_finishes.specs.declared.finish.Ran.TheVariants as ran
 use Rattle.run_finishes.specs.declared.finish.Scripted.{Scripted}
@@ -170,15 +170,15 @@ over-started plan limit x accepted wide = record {
   below = λ e ended. absurd (let none = started_going plan x in cc);
 }
 
-pub over-opened : (limit : ℕ) (core : Processor) (hart : Hart) → IsAccepted core.plan → length hart.regs ≡ 32 → core ≡ opened core.plan hart →
+pub over-opened : (limit : ℕ) (core : Processor) (hart : Hart) → IsAccepted core.plan → length hart.regs ≡ 32 → core ≡ opened_processor core.plan hart →
     Over core.plan limit core.state
-unfolding opened
+unfolding opened_processor
 over-opened limit core hart accepted wide opens =
     subst (Over core.plan limit) (sym (ap (λ (p : Processor). p.state) opens)) (over-started core.plan limit (machine_on hart []) accepted wide)
 
 -- and where a run leads to
 over-reached : (limit : ℕ) (shows : Reporting) (begin now : RunPlace) (hart : Hart) → IsAccepted begin.core.plan → length hart.regs ≡ 32 →
-    begin.core ≡ opened begin.core.plan hart → Reaches limit shows begin now → Over begin.core.plan limit now.core.state
+    begin.core ≡ opened_processor begin.core.plan hart → Reaches limit shows begin now → Over begin.core.plan limit now.core.state
 over-reached limit shows begin now hart accepted wide opens h =
     subst (Over begin.core.plan limit) (sym (ap (λ (p : Processor). p.state) h.core))
     (over-led begin.core.plan limit begin.streams.input (moment_of begin.core h.rest) h.trace h.last
@@ -186,7 +186,7 @@ over-reached limit shows begin now hart accepted wide opens h =
 
 -- over an input whose remaining bytes are known
 ends_told : (bound limit : ℕ) (shows : Reporting) (begin now : RunPlace) (hart : Hart) (rest : List ℕ) (answer : Answer) → IsAccepted begin.core.plan →
-    length hart.regs ≡ 32 → begin.core ≡ opened begin.core.plan hart → begin.streams.input ≡ Some rest → Reaches bound shows begin now →
+    length hart.regs ≡ 32 → begin.core ≡ opened_processor begin.core.plan hart → begin.streams.input ≡ Some rest → Reaches bound shows begin now →
     Over begin.core.plan limit now.core.state → IsOver limit now.core.state answer
     → (at : Machine) × (after (isa_of begin.core.plan) (machine_on hart rest) (now.core.state.retired - hart.retired) ≡ Some at)
     × Level begin.core.plan limit begin now (record { state = now.core.state; rest = at.rest; output = at.output }) answer at
@@ -213,8 +213,10 @@ ends_told bound limit shows begin now hart rest answer accepted wide opens tells
     )
 
 -- over an input whose remaining bytes are unknown
-ends_untold : (bound limit : ℕ) (shows : Reporting) (begin now : RunPlace) (hart : Hart) (answer : Answer) → IsAccepted begin.core.plan → length hart.regs ≡ 32 →
-    begin.core ≡ opened begin.core.plan hart → begin.streams.input ≡ None → Reaches bound shows begin now → Over begin.core.plan limit now.core.state →
+ends_untold : (bound limit : ℕ) (shows : Reporting) (begin now : RunPlace) (hart : Hart) (answer : Answer) → IsAccepted begin.core.plan →
+    length hart.regs ≡ 32 →
+    begin.core ≡ opened_processor begin.core.plan hart → begin.streams.input ≡ None → Reaches bound shows begin now →
+    Over begin.core.plan limit now.core.state →
     IsOver limit now.core.state answer
     → (at : Machine) × ((written : List Line) × GoesTo (isa_of begin.core.plan) (machine_on hart []) (now.core.state.retired - hart.retired) at written)
     × Level begin.core.plan limit begin now (record { state = now.core.state; rest = at.rest; output = at.output }) answer at
@@ -246,8 +248,10 @@ ends_untold bound limit shows begin now hart answer accepted wide opens none h l
     )
 
 -- a run that is over where it is level ends as the machine does
-pub ends-level : (bound limit : ℕ) (shows : Reporting) (begin now : RunPlace) (hart : Hart) (answer : Answer) → IsAccepted begin.core.plan → length hart.regs ≡ 32 →
-    begin.core ≡ opened begin.core.plan hart → Reaches bound shows begin now → Over begin.core.plan limit now.core.state → IsOver limit now.core.state answer →
+pub ends-level : (bound limit : ℕ) (shows : Reporting) (begin now : RunPlace) (hart : Hart) (answer : Answer) → IsAccepted begin.core.plan →
+    length hart.regs ≡ 32 →
+    begin.core ≡ opened_processor begin.core.plan hart → Reaches bound shows begin now → Over begin.core.plan limit now.core.state →
+    IsOver limit now.core.state answer →
     EndsAsMachine limit hart begin now answer
 ends-level bound limit shows begin now hart answer accepted wide opens h level over = go begin.streams.input refl
   where
@@ -274,8 +278,10 @@ ends-level bound limit shows begin now hart answer accepted wide opens h level o
         }
 
 -- so does a run whose moves were all made below the limit
-pub ends-sequentially : (limit : ℕ) (shows : Reporting) (begin now : RunPlace) (hart : Hart) (answer : Answer) → IsAccepted begin.core.plan → length hart.regs ≡ 32 →
-    begin.core ≡ opened begin.core.plan hart → Reaches limit shows begin now → IsOver limit now.core.state answer → EndsAsMachine limit hart begin now answer
+pub ends-sequentially : (limit : ℕ) (shows : Reporting) (begin now : RunPlace) (hart : Hart) (answer : Answer) → IsAccepted begin.core.plan →
+    length hart.regs ≡ 32 →
+    begin.core ≡ opened_processor begin.core.plan hart → Reaches limit shows begin now → IsOver limit now.core.state answer →
+    EndsAsMachine limit hart begin now answer
 ends-sequentially limit shows begin now hart answer accepted wide opens h over =
     ends-level limit limit shows begin now hart answer accepted wide opens h (over-reached limit shows begin now hart accepted wide opens h) over
 
@@ -286,7 +292,7 @@ same_place limit hart begin now new answer same e = subst (λ (p : RunPlace). En
 
 -- so does the run of a script
 pub script-ends : (limit : ℕ) (shows : Reporting) (begin new : ScriptRun) (hart : Hart) (answer : Scripted) → IsAccepted begin.place.core.plan →
-    length hart.regs ≡ 32 → begin.place.core ≡ opened begin.place.core.plan hart → RunsScript limit shows begin new answer →
+    length hart.regs ≡ 32 → begin.place.core ≡ opened_processor begin.place.core.plan hart → RunsScript limit shows begin new answer →
     EndsAlike limit hart begin.place new.place answer
 unfolding ScriptStops
 script-ends limit shows begin new hart (Ran (ran.Exit status)) accepted wide opens r = same_place limit hart begin.place r.now.place new.place (ran.Exit status)
@@ -306,9 +312,11 @@ script-ends limit shows begin new hart (BadScript refusal) accepted wide opens r
 script-ends limit shows begin new hart (BarredAt line bar) accepted wide opens r = tt
 
 -- and of a policy
-pub policy-ends : {P : Type 0} (rule : GuessRule) (picked : P → List Move → ℕ) (onward : P → List Move → P) (limit : ℕ) (shows : Reporting) (begin new : RunPlace)
+pub policy-ends : {P : Type 0} (rule : GuessRule) (picked : P → List Move → ℕ) (onward : P → List Move → P) (limit : ℕ) (shows : Reporting)
+    (begin new : RunPlace)
     (policy later : P)
-    (moves : List Move) (hart : Hart) (answer : Answer) → IsAccepted begin.core.plan → length hart.regs ≡ 32 → begin.core ≡ opened begin.core.plan hart →
+    (moves : List Move) (hart : Hart) (answer : Answer) → IsAccepted begin.core.plan → length hart.regs ≡ 32 →
+    begin.core ≡ opened_processor begin.core.plan hart →
     RunsPolicy rule picked onward limit shows begin new policy later moves answer → EndsAlike limit hart begin new (Ran answer)
 policy-ends rule picked onward limit shows begin new policy later moves hart (ran.Exit status) accepted wide opens r =
     same_place limit hart begin r.now new (ran.Exit status) r.stops.1 (ends-sequentially limit shows begin r.now hart

@@ -8,7 +8,7 @@ use Rattle.cf_layout.specs.Accepted.{IsAccepted}
 use Rattle.cf_layout.specs.Layout.{Plan}
 use Rattle.cf_bind.specs.declared.moves.Move.{Move}
 use Rattle.cf_semantics.specs.runs.Runs.{opened as opened_on}
-use Rattle.cf_core.specs.Processors.{Processor, opened}
+use Rattle.cf_core.specs.Processors.{Processor, opened_processor}
 use Rattle.run_finishes.specs.declared.finish.Scripted.{Scripted}
 use Rattle.cf_run.specs.Headline.{machine_on, moment_after, lines_after, RunsAs, RunsOverUnknownInput, RunsOver, RunsSequentially}
 use Rattle.cf_run.specs.Moving.{RunPlace}
@@ -22,7 +22,7 @@ use Rattle.cf_run.proofs.UnknownInput.{ArrivesAnew, arrives-anew}
 
 -- a run on an opened processor, over an input whose remaining bytes are known
 run-told : (limit : ℕ) (shows : Reporting) (hart : Hart) (rest : List ℕ) (begin new : RunPlace) (moves : List Move) (answer : Scripted) →
-    IsAccepted begin.core.plan → length hart.regs ≡ 32 → begin.core ≡ opened begin.core.plan hart → begin.streams.input ≡ Some rest
+    IsAccepted begin.core.plan → length hart.regs ≡ 32 → begin.core ≡ opened_processor begin.core.plan hart → begin.streams.input ≡ Some rest
     → ComesTo limit shows begin moves new answer → RunsAs shows (machine_on hart rest) moves begin new answer
 run-told limit shows hart rest begin new moves answer accepted wide opens tells c =
     let plan : Plan = begin.core.plan in
@@ -40,7 +40,7 @@ run-told limit shows hart rest begin new moves answer accepted wide opens tells 
 
 -- and over one whose remaining bytes are unknown
 run-untold : (limit : ℕ) (shows : Reporting) (hart : Hart) (begin new : RunPlace) (moves : List Move) (answer : Scripted) → IsAccepted begin.core.plan →
-    length hart.regs ≡ 32 → begin.core ≡ opened begin.core.plan hart → begin.streams.input ≡ None
+    length hart.regs ≡ 32 → begin.core ≡ opened_processor begin.core.plan hart → begin.streams.input ≡ None
     → ComesTo limit shows begin moves new answer → RunsOverUnknownInput shows hart moves begin new answer
 run-untold limit shows hart begin new moves answer accepted wide opens none c =
     let plan : Plan = begin.core.plan in
@@ -57,18 +57,18 @@ run-untold limit shows hart begin new moves answer accepted wide opens none c =
     })
 
 -- a processor that was opened under a layout has it
-pub opened_here : (core : Processor) (plan : Plan) (hart : Hart) → core ≡ opened plan hart → core ≡ opened core.plan hart
-unfolding opened
-opened_here core plan hart is = is ∙ ap (λ (l : Plan). opened l hart) (sym (ap (λ (p : Processor). p.plan) is))
+pub opened_here : (core : Processor) (plan : Plan) (hart : Hart) → core ≡ opened_processor plan hart → core ≡ opened_processor core.plan hart
+unfolding opened_processor
+opened_here core plan hart is = is ∙ ap (λ (l : Plan). opened_processor l hart) (sym (ap (λ (p : Processor). p.plan) is))
 
 -- and the registers of the hart
-pub opened_regs : (core : Processor) (plan : Plan) (hart : Hart) → core ≡ opened plan hart → core.state.regs ≡ hart.regs
-unfolding opened opened_on
+pub opened_regs : (core : Processor) (plan : Plan) (hart : Hart) → core ≡ opened_processor plan hart → core.state.regs ≡ hart.regs
+unfolding opened_processor opened_on
 opened_regs core plan hart is = ap (λ (p : Processor). p.state.regs) is
 
 -- a run that reached some RunPlace is a run of that machine
 runs_over : (limit : ℕ) (shows : Reporting) (hart : Hart) (begin new : RunPlace) (moves : List Move) (answer : Scripted) → IsAccepted begin.core.plan →
-    length hart.regs ≡ 32 → begin.core ≡ opened begin.core.plan hart
+    length hart.regs ≡ 32 → begin.core ≡ opened_processor begin.core.plan hart
     → ComesTo limit shows begin moves new answer → RunsOver begin.streams.input shows hart moves begin new answer
 runs_over limit shows hart begin new moves answer accepted wide opens c = over begin.streams.input refl
   where

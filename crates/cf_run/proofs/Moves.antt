@@ -18,15 +18,15 @@ use Rattle.cf_report.proofs.Parts.{front-after, nothing-after, nothing-written, 
 use Rattle.run_finishes.specs.declared.finish.Ran.{Ran as Answer}
 use Rattle.run_finishes.specs.declared.finish.Ran.TheVariants as ran
 use Rattle.run_finishes.specs.declared.finish.Scripted.TheVariants.{Ran}
-use Rattle.cf_run.specs.Made.{counted, shown}
-use Rattle.cf_run.specs.Moving.{RunPlace, place_of, MakesMove, MakesAndShows, MakesUnshown, MoveDoes, MoveGoes, shown_of}
+use Rattle.cf_run.specs.Made.{counted_event, shown}
+use Rattle.cf_run.specs.Moving.{RunPlace, run_place_of, MakesMove, MakesAndShows, MakesUnshown, MoveDoes, MoveGoes, shown_of}
 use Rattle.cf_run.specs.Reaching.{GoesOn}
 use Rattle.cf_run.specs.Scripts.{ScriptRun, DoesLine, ScriptStops, ScriptTries}
 use Rattle.run_scripts.specs.Scripts.{next_of, after_next}
 
 -- the move was made and counted
 made : (mv : Move) (now new : RunPlace) (e : Event) → bar now.core.plan now.core.state mv ≡ None →
-    MakesOrFails now.core new.core mv now.streams new.streams (Ok e) → new.tally ≡ counted now.tally mv e → MakesMove mv e now new
+    MakesOrFails now.core new.core mv now.streams new.streams (Ok e) → new.tally ≡ counted_event now.tally mv e → MakesMove mv e now new
 unfolding MakesOrFails
 made mv now new e free h counts = record { allowed = free; makes = h.0; is_event = h.1; tally = counts }
 
@@ -36,7 +36,7 @@ unfolding MakesOrFails
 same_plan mv now new e h = h.0.plan
 
 pub made-shown : {E : Type 0} (show : Reporting) (mv : Move) (now new : RunPlace) (e : Event) (i j : ℕ) (done : Unit {0}) →
-    bar now.core.plan now.core.state mv ≡ None → MakesOrFails now.core new.core mv now.streams new.streams (Ok e) → new.tally ≡ counted now.tally mv e
+    bar now.core.plan now.core.state mv ≡ None → MakesOrFails now.core new.core mv now.streams new.streams (Ok e) → new.tally ≡ counted_event now.tally mv e
     → PutsText {E = E} now.report new.report i j (shown show new.core.plan new.tally.moves (record { move = mv; event = e; state = new.core.state }))
     (Ok done) → MakesAndShows show mv e now new
 unfolding MakesOrFails made
@@ -46,7 +46,7 @@ made-shown {E = E} show mv now new e i j done free h counts put =
     record { makes = made mv now new e free h counts; report = (subst P (same_plan mv now new e h) put).all }
 
 pub made-unshown : {T E : Type 0} (show : Reporting) (mv : Move) (now new : RunPlace) (e : Event) (i j : ℕ) (failed : E) →
-    bar now.core.plan now.core.state mv ≡ None → MakesOrFails now.core new.core mv now.streams new.streams (Ok e) → new.tally ≡ counted now.tally mv e
+    bar now.core.plan now.core.state mv ≡ None → MakesOrFails now.core new.core mv now.streams new.streams (Ok e) → new.tally ≡ counted_event now.tally mv e
     → PutsText {T = T} now.report new.report i j (shown show new.core.plan new.tally.moves (record { move = mv; event = e; state = new.core.state }))
     (Err failed) → MakesUnshown show mv e now new
 unfolding MakesOrFails made
@@ -58,39 +58,40 @@ made-unshown {T = T} {E = E} show mv now new e i j failed free h counts put =
 -- a stream failed the move
 pub does-read_fault : (show : Reporting) (mv : Move) (old new : Processor) (before after : Streams) (report : Option (List ℕ)) (tally : Tally) →
     bar old.plan old.state mv ≡ None → MakesOrFails old new mv before after (Err fault.Read) →
-    MoveDoes show mv (place_of old before report tally) (place_of new after report tally) (Err ran.ReadFault)
+    MoveDoes show mv (run_place_of old before report tally) (run_place_of new after report tally) (Err ran.ReadFault)
 unfolding MakesOrFails MoveDoes
 does-read_fault show mv old new before after report tally free h =
     (record { allowed = free; serves = h.0; report = nothing-written report; tally = refl }, h.1)
 
 pub does-write_fault : (show : Reporting) (mv : Move) (old new : Processor) (before after : Streams) (report : Option (List ℕ)) (tally : Tally) →
     bar old.plan old.state mv ≡ None → MakesOrFails old new mv before after (Err fault.Write) →
-    MoveDoes show mv (place_of old before report tally) (place_of new after report tally) (Err ran.WriteFault)
+    MoveDoes show mv (run_place_of old before report tally) (run_place_of new after report tally) (Err ran.WriteFault)
 unfolding MakesOrFails MoveDoes
 does-write_fault show mv old new before after report tally free h =
     (record { allowed = free; serves = h.0; report = nothing-written report; tally = refl }, h.1)
 
 -- the move was made after the report had passed on what it had gathered
 made_after : (mv : Move) (e : Event) (old new : Processor) (before after : Streams) (report mid later : Option (List ℕ)) (tally more : Tally) →
-    MakesMove mv e (place_of old before mid tally) (place_of new after later more) →
-    MakesMove mv e (place_of old before report tally) (place_of new after later more)
+    MakesMove mv e (run_place_of old before mid tally) (run_place_of new after later more) →
+    MakesMove mv e (run_place_of old before report tally) (run_place_of new after later more)
 made_after mv e old new before after report mid later tally more d =
     record { allowed = d.allowed; makes = d.makes; is_event = d.is_event; tally = d.tally }
 
 pub goes-after : (show : Reporting) (mv : Move) (old new : Processor) (before after : Streams) (report mid later : Option (List ℕ)) (tally more : Tally)
-    (result : Result Event Answer) → WritesNothing report mid → MoveDoes show mv (place_of old before mid tally) (place_of new after later more) result →
-    MoveGoes show mv (place_of old before report tally) (place_of new after later more) result
+    (result : Result Event Answer) → WritesNothing report mid → MoveDoes show mv (run_place_of old before mid tally) (run_place_of new after later more)
+    result →
+    MoveGoes show mv (run_place_of old before report tally) (run_place_of new after later more) result
 unfolding MoveDoes
 goes-after show mv old new before after report mid later tally more (Ok e) same d = record {
   makes = made_after mv e old new before after report mid later tally more d.makes;
-  report = text-after report mid later (shown_of show mv e (place_of old before report tally) (place_of new after later more)) same d.report;
+  report = text-after report mid later (shown_of show mv e (run_place_of old before report tally) (run_place_of new after later more)) same d.report;
 }
 goes-after show mv old new before after report mid later tally more (Err ran.ReportFault) same d =
     inl (
       d.0,
       record {
         makes = made_after mv d.0 old new before after report mid later tally more d.1.makes;
-        report = front-after report mid later (shown_of show mv d.0 (place_of old before report tally) (place_of new after later more)) same d.1.report;
+        report = front-after report mid later (shown_of show mv d.0 (run_place_of old before report tally) (run_place_of new after later more)) same d.1.report;
       },
     )
 goes-after show mv old new before after report mid later tally more (Err ran.ReadFault) same d = (
@@ -112,7 +113,7 @@ cause-after i j k r same h = subst (λ (n : ℕ). HasCause n k r) same h
 -- or the report failed to
 pub goes-unpassed : (show : Reporting) (mv : Move) (core : Processor) (streams : Streams) (report later : Option (List ℕ)) (tally : Tally) →
     bar core.plan core.state mv ≡ None → mv ≡ Serve → WritesNothing report later →
-    MoveGoes show mv (place_of core streams report tally) (place_of core streams later tally) (Err ran.ReportFault)
+    MoveGoes show mv (run_place_of core streams report tally) (run_place_of core streams later tally) (Err ran.ReportFault)
 goes-unpassed show mv core streams report later tally free serves same =
     inr (record { allowed = free; serves = serves; core = refl; streams = refl; report = same; tally = refl })
 

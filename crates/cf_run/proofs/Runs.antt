@@ -21,7 +21,7 @@ use Rattle.cf_core.specs.Stepping.{Makes}
 use Rattle.cf_report.specs.declared.tally.Tally.{Tally}
 use Rattle.run_scripts.specs.Scripts.{ScriptLines, next_of, first_of, after_next}
 use Rattle.run_scripts.specs.declared.refusal.ScriptErr.{ScriptErr}
-use Rattle.cf_run.specs.Made.{Made, moves_of, is_meeting, is_killed, is_died, tally_of, raised_if, counted, CanCount, shown, all_shown}
+use Rattle.cf_run.specs.Made.{Made, moves_of, is_meeting, is_killed, is_died, tally_of, raised_if, counted_event, CanCount, shown, all_shown}
 use Rattle.cf_run.specs.Going.{moment_of, Finds, IsMade, Leads, RunsTo}
 use Rattle.cf_run.specs.Moving.{RunPlace, MakesMove, MakesAndShows, MoveDoes}
 use Rattle.cf_run.specs.Reaching.{no_tally, Reaches}
@@ -170,7 +170,7 @@ raised-by false n = omega arith
 count-more : (p : Made → Bool) (trace : List Made) (made : Made) → count_by p (trace ++ made ∷ []) ≡ raised_if (p made) (count_by p trace)
 count-more p trace made = sum_by-append _ trace (made ∷ []) ∙ raised-by (p made) (count_by p trace)
 
-tally-more : (trace : List Made) (made : Made) → tally_of (trace ++ made ∷ []) ≡ counted (tally_of trace) made.move made.event
+tally-more : (trace : List Made) (made : Made) → tally_of (trace ++ made ∷ []) ≡ counted_event (tally_of trace) made.move made.event
 unfolding tally_of
 tally-more trace made =
     rw (
@@ -190,7 +190,8 @@ shown-more show plan n k (first ∷ trace) made e =
     ∙ sym (append_assoc (shown show plan n first) (all_shown show plan (n + 1) trace) (shown show plan k made))
 
 -- the count of a run so far
-moves-counted : (trace : List Made) (now new : Tally) (mv : Move) (e : Event) → now ≡ tally_of trace → new ≡ counted now mv e → new.moves ≡ 1 + length trace
+moves-counted : (trace : List Made) (now new : Tally) (mv : Move) (e : Event) → now ≡ tally_of trace → new ≡ counted_event now mv e →
+    new.moves ≡ 1 + length trace
 unfolding tally_of
 moves-counted trace now new mv e same counts = rw (counts, same) (omega arith)
 
@@ -217,7 +218,7 @@ reached-more limit show start now new mv e h below d =
       run = runs-to start.core.plan limit start.streams.input (moment_of start.core h.rest) trace l.last l.leads;
       core = l.core;
       streams = l.streams;
-      tally = o.tally ∙ ap (λ (tally : Tally). counted tally mv e) h.tally ∙ sym (tally-more h.trace made);
+      tally = o.tally ∙ ap (λ (tally : Tally). counted_event tally mv e) h.tally ∙ sym (tally-more h.trace made);
       report = subst (Writes start.report new.report) (sym (shown-more show start.core.plan 1 new.tally.moves h.trace made number))
           (writes-again start.report now.report new.report _ text h.report last);
     }
@@ -268,7 +269,8 @@ retired-within limit old new mv before after below makes =
     let m : Moment = record { state = old.state; rest = makes.rest; output = [] } in
     omega (arith, next-retired old.plan m mv, ap (λ (q : Moment). q.state.retired) makes.is)
 
-pub made-within : (limit : ℕ) (show : Reporting) (now new : RunPlace) (mv : Move) (e : Event) → now.core.state.retired < limit → MakesAndShows show mv e now new →
+pub made-within : (limit : ℕ) (show : Reporting) (now new : RunPlace) (mv : Move) (e : Event) → now.core.state.retired < limit →
+    MakesAndShows show mv e now new →
     new.core.state.retired ≤ limit
 made-within limit show now new mv e below d = retired-within limit now.core new.core mv now.streams new.streams below d.makes.makes
 
@@ -282,10 +284,12 @@ lengths : (moves : List (ℕ × Move)) (refused : Option ScriptErr) (line : ℕ)
 lengths [] refused line mv e = absurd (nothing-next refused line mv e)
 lengths (first ∷ moves) refused line mv e = add-one (length moves)
 
-pub tried-left : (limit : ℕ) (show : Reporting) (now new : ScriptRun) → ScriptTries limit show now new None → length new.script.moves + 1 ≡ length now.script.moves
+pub tried-left : (limit : ℕ) (show : Reporting) (now new : ScriptRun) → ScriptTries limit show now new None →
+    length new.script.moves + 1 ≡ length now.script.moves
 tried-left limit show now new t = rw t.script (lengths now.script.moves now.script.refused t.line t.move t.next)
 
-pub tried-counted : (limit : ℕ) (show : Reporting) (now new : ScriptRun) → ScriptTries limit show now new None → new.place.tally.moves ≡ now.place.tally.moves + 1
+pub tried-counted : (limit : ℕ) (show : Reporting) (now new : ScriptRun) → ScriptTries limit show now new None →
+    new.place.tally.moves ≡ now.place.tally.moves + 1
 unfolding DoesLine MoveDoes
 tried-counted limit show now new t = ap (λ (tally : Tally). tally.moves) t.does.1.makes.tally
 

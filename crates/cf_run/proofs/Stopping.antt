@@ -217,14 +217,16 @@ unfolding MoveDoes
 comes_unread limit shows begin now new mv h does = record { now = now; reaches = h; moves_are = refl; stops = unread_stop shows begin now new mv does.0 does.1 }
 
 -- or the output
-pub comes_unwritten : (limit : ℕ) (shows : Reporting) (begin now new : RunPlace) (mv : Move) → IsAccepted begin.core.plan → (h : Reaches limit shows begin now) →
+pub comes_unwritten : (limit : ℕ) (shows : Reporting) (begin now new : RunPlace) (mv : Move) → IsAccepted begin.core.plan →
+    (h : Reaches limit shows begin now) →
     MoveDoes shows mv now new (Err ran.WriteFault) → ComesTo limit shows begin (moves_of h.trace) new (Ran ran.WriteFault)
 unfolding MoveDoes
 comes_unwritten limit shows begin now new mv accepted h does =
     record { now = now; reaches = h; moves_are = refl; stops = unwritten_stop shows begin now new mv accepted does.0 does.1 }
 
 -- a run whose report failed, after a move that was made and counted
-pub comes_unshown : (limit : ℕ) (shows : Reporting) (begin now new : RunPlace) (mv : Move) (h : Reaches limit shows begin now) → now.core.state.retired < limit →
+pub comes_unshown : (limit : ℕ) (shows : Reporting) (begin now new : RunPlace) (mv : Move) (h : Reaches limit shows begin now) →
+    now.core.state.retired < limit →
     MoveDoes shows mv now new (Err ran.ReportFault) → ComesTo limit shows begin (moves_of h.trace ++ mv ∷ []) new (Ran ran.ReportFault)
 unfolding MoveDoes StopsAt Gets
 comes_unshown limit shows begin now new mv h below (e, d) =

@@ -35,8 +35,8 @@ use Rattle.cf_sched.specs.Policies.{round_on, round_pick}
 use Rattle.cf_semantics.specs.moves.Holding.{is_held, paced}
 use Rattle.cf_semantics.specs.state.Drained.{is_drained}
 use Rattle.cf_report.specs.declared.tally.Tally.{Tally}
-use Rattle.cf_run.specs.Made.{CanCount, Made, counted, shown}
-use Rattle.cf_run.specs.Moving.{RunPlace, MoveDoes, place_of}
+use Rattle.cf_run.specs.Made.{CanCount, Made, counted_event, shown}
+use Rattle.cf_run.specs.Moving.{RunPlace, MoveDoes, run_place_of}
 use Rattle.cf_run.specs.Policies.{Turned, chooser, choice, most_moves}
 use Rattle.cf_run.specs.Reaching.{GoesOn}
 use Rattle.cf_run.specs.Sweeps.{CanSweep, HasPicked, IsUnderway, Keeps, ShowsNothing, SweepsTo, TurnsTo}
@@ -208,8 +208,8 @@ unfolding shown
 unshown show plan n made none = rw (none.report, none.never) refl
 
 pub does_unshown : (show : Reporting) (m : Move) (old new : Processor) (before after : Streams) (report : Option (List ℕ)) (tally later : Tally) (e : Event) →
-    ShowsNothing show → bar old.plan old.state m ≡ None → MakesOrFails old new m before after (Ok e) → later ≡ counted tally m e →
-    MoveDoes show m (place_of old before report tally) (place_of new after report later) (Ok e)
+    ShowsNothing show → bar old.plan old.state m ≡ None → MakesOrFails old new m before after (Ok e) → later ≡ counted_event tally m e →
+    MoveDoes show m (run_place_of old before report tally) (run_place_of new after report later) (Ok e)
 unfolding MakesOrFails MoveDoes
 does_unshown show m old new before after report tally later e none free makes counts = record {
   makes = record { allowed = free; makes = makes.0; is_event = makes.1; tally = counts };

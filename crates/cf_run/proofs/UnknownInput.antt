@@ -17,7 +17,7 @@ use Rattle.theory_refinement.proofs.claims.Runs.{opened_retired}
 use Rattle.theory_unknown_input.specs.UnknownInput.{finding, LeadsTo}
 use Rattle.theory_unknown_input.proofs.Invariant.{HoldsAnew}
 use Rattle.theory_unknown_input.proofs.Theorems.{holds_anew}
-use Rattle.cf_core.specs.Processors.{opened}
+use Rattle.cf_core.specs.Processors.{opened_processor}
 use Rattle.cf_run.specs.Going.{moment_of, Leads}
 use Rattle.cf_run.specs.Headline.{machine_on, AreTexts, IsRightOverUnknownInput, IsRightOnTheWay}
 use Rattle.cf_run.specs.Made.{Made, moves_of, all_shown, shown}
@@ -68,7 +68,7 @@ pub record ArrivesAnew (shows : Reporting) (hart : Hart) (moves : List Move) (be
 
 -- a run has arrived there by the moves that it made
 pub arrives-anew : (limit : ℕ) (shows : Reporting) (hart : Hart) (begin now : RunPlace) → IsAccepted begin.core.plan → length hart.regs ≡ 32 →
-    begin.core ≡ opened begin.core.plan hart → begin.streams.input ≡ None → (h : Reaches limit shows begin now)
+    begin.core ≡ opened_processor begin.core.plan hart → begin.streams.input ≡ None → (h : Reaches limit shows begin now)
     → ArrivesAnew shows hart (moves_of h.trace) begin now
 arrives-anew limit shows hart begin now accepted wide opens none h =
     let plan : Plan = begin.core.plan in

@@ -12,7 +12,7 @@ use Rattle.cf_layout.specs.Layout.{Plan}
 use Rattle.cf_semantics.specs.state.Layouts.{isa_of}
 use Rattle.cf_semantics.specs.runs.Lines.{Line}
 use Rattle.theory_unknown_input.specs.UnknownInput.{GoesTo}
-use Rattle.cf_core.specs.Processors.{opened}
+use Rattle.cf_core.specs.Processors.{opened_processor}
 use Rattle.run_finishes.specs.declared.finish.Ran.{Ran as Answer}
 use Rattle.run_finishes.specs.declared.finish.Ran.TheVariants as ran
 use Rattle.run_finishes.specs.declared.finish.Scripted.{Scripted}
@@ -60,4 +60,4 @@ EndsAlike limit hart begin new (BarredAt line bar) = Unit {0}
 -- on whatever hart the processor was opened, the run ends as the machine that starts on it does
 unfoldable pub EndsSequentially : ℕ → (begin new : RunPlace) → Scripted → Type 0
 EndsSequentially limit begin new answer =
-    (plan : Plan) (hart : Hart) → begin.core ≡ opened plan hart → EndsAlike limit hart begin new answer
+    (plan : Plan) (hart : Hart) → begin.core ≡ opened_processor plan hart → EndsAlike limit hart begin new answer

@@ -24,7 +24,7 @@ use Rattle.cf_semantics.specs.runs.Runs.{IsRun, run, start as start_on}
 use Rattle.cf_semantics.specs.state.State.{State, Moment}
 use Rattle.cf_semantics.specs.claims.Weight.{issues, weight}
 use Rattle.theory_unknown_input.specs.UnknownInput.{finding, GoesTo, LeadsTo}
-use Rattle.cf_core.specs.Processors.{in_state, opened}
+use Rattle.cf_core.specs.Processors.{in_state, opened_processor}
 use Rattle.cf_core.specs.Stepping.{FailsToRead, FailsToWrite}
 use Rattle.cf_report.specs.Lines.{retired_line}
 use Rattle.cf_report.specs.Putting.{WritesPart}
@@ -197,4 +197,4 @@ RunsOver None shows hart moves begin new answer = RunsOverUnknownInput shows har
 -- whatever the input exposes, the run is a run of the machine that starts on that hart, at each of its moments.
 unfoldable pub RunsSequentially : Reporting → List Move → (begin new : RunPlace) → Scripted → Type 0
 RunsSequentially shows moves begin new answer =
-    (plan : Plan) (hart : Hart) → begin.core ≡ opened plan hart → RunsOver begin.streams.input shows hart moves begin new answer
+    (plan : Plan) (hart : Hart) → begin.core ≡ opened_processor plan hart → RunsOver begin.streams.input shows hart moves begin new answer

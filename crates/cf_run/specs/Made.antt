@@ -54,8 +54,8 @@ abbrev pub raised_if : Bool → ℕ → ℕ
 raised_if test n = if test then n + 1 else n
 
 -- the count with one more move
-abbrev pub counted : Tally → Move → Event → Tally
-counted tally mv e = record {
+abbrev pub counted_event : Tally → Move → Event → Tally
+counted_event tally mv e = record {
   moves = tally.moves + 1;
   meets = raised_if (is_meeting mv) tally.meets;
   kills = raised_if (is_killed e) tally.kills;
@@ -93,14 +93,14 @@ retirement_and_progress None retired n e = retirement retired e
 retirement_and_progress (Some every) retired n e = retirement retired e ++ progress (Some every) retired n e
 
 -- what is shown of the move of this number
-abbrev pub shown_by : Show → (every : Option ℕ) → Plan → ℕ → Made → List ℕ
-shown_by shows.Report every plan n made = progress every made.state.retired n made.event
-shown_by shows.Retired every plan n made = retirement_and_progress every made.state.retired n made.event
-shown_by shows.Moves every plan n made =
+abbrev pub shown_as : Show → (every : Option ℕ) → Plan → ℕ → Made → List ℕ
+shown_as shows.Report every plan n made = progress every made.state.retired n made.event
+shown_as shows.Retired every plan n made = retirement_and_progress every made.state.retired n made.event
+shown_as shows.Moves every plan n made =
     numbered_move n made.move ++ retirement_and_progress every made.state.retired n made.event ++ picture plan made.state
 
 unfoldable pub shown : Reporting → Plan → ℕ → Made → List ℕ
-shown reporting plan n made = shown_by reporting.show reporting.every plan n made
+shown reporting plan n made = shown_as reporting.show reporting.every plan n made
 
 -- what is shown of the move of this number, with its event, that left this processor
 abbrev pub shown_after : Reporting → Processor → ℕ → Move → Event → List ℕ

@@ -13,7 +13,7 @@ use Rattle.cf_core.specs.Stepping.{Makes, FailsToRead, FailsToWrite}
 use Rattle.cf_report.specs.declared.tally.Tally.{Tally}
 use Rattle.run_finishes.specs.declared.finish.Ran.{Ran as Answer}
 use Rattle.run_finishes.specs.declared.finish.Ran.TheVariants as ran
-use Rattle.cf_run.specs.Made.{counted, shown}
+use Rattle.cf_run.specs.Made.{counted_event, shown}
 
 -- where a run has arrived: the processor, what input and output expose, what the report exposes, and what was counted
 pub record RunPlace : Type 0 where
@@ -23,21 +23,21 @@ pub record RunPlace : Type 0 where
   pub tally : Tally
 
 -- the RunPlace with these parts
-abbrev pub place_of : Processor → Streams → Option (List ℕ) → Tally → RunPlace
-place_of core streams report tally = record { core = core; streams = streams; report = report; tally = tally }
+abbrev pub run_place_of : Processor → Streams → Option (List ℕ) → Tally → RunPlace
+run_place_of core streams report tally = record { core = core; streams = streams; report = report; tally = tally }
 
 -- the RunPlace with what these objects expose, given how a source and two sinks expose it
 abbrev pub place_by : {S K R : Type 0} → (S → Option (List ℕ)) → (K → Option (List ℕ)) → (R → Option (List ℕ)) →
     Processor → S → K → R → Tally → RunPlace
 place_by unread written reported core input output report tally =
-    place_of core (streams_of (unread input) (written output)) (reported report) tally
+    run_place_of core (streams_of (unread input) (written output)) (reported report) tally
 
 -- nothing barred the move; it was made and counted, with this event
 pub record MakesMove (mv : Move) (event : Event) (now new : RunPlace) : Type 0 where
   pub allowed : first_bar now.core.plan now.core.state mv ≡ None
   pub makes : Makes now.core new.core mv now.streams new.streams
   pub is_event : IsEvent now.core.plan now.core.state mv event
-  pub tally : new.tally ≡ counted now.tally mv event
+  pub tally : new.tally ≡ counted_event now.tally mv event
 
 -- what a report shows of it
 abbrev pub shown_of : Reporting → (mv : Move) → Event → (now new : RunPlace) → List ℕ

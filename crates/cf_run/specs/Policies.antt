@@ -42,8 +42,8 @@ abbrev pub chooser : {P : Type 0} → GuessRule → P → ℕ → Chooser P
 chooser rule policy count = record { rule = rule; policy = policy; count = count }
 
 -- a policy before its first pick
-abbrev pub fresh : {P : Type 0} → GuessRule → P → Chooser P
-fresh rule policy = chooser rule policy 0
+abbrev pub fresh_chooser : {P : Type 0} → GuessRule → P → Chooser P
+fresh_chooser rule policy = chooser rule policy 0
 
 -- the moves that it is offered in a state
 abbrev pub offered_to : {P : Type 0} → Plan → Chooser P → State → List Move
@@ -95,7 +95,8 @@ pub record StopsAtPick {P : Type 0} (picked : P → List Move → ℕ) (onward :
   pub does : MoveGoes show move now new (Err answer)
 
 -- the run stops here: it is over, and nothing changes; or the next move that the policy picks is the last that it tries
-abbrev pub StopsPolicy : {P : Type 0} → (picked : P → List Move → ℕ) → (onward : P → List Move → P) → ℕ → Reporting → Chooser P → (now new : RunPlace) → P → Answer →
+abbrev pub StopsPolicy : {P : Type 0} → (picked : P → List Move → ℕ) → (onward : P → List Move → P) → ℕ → Reporting → Chooser P → (now new : RunPlace) → P →
+    Answer →
     Type 0
 StopsPolicy picked onward limit show at now new later (ran.Exit status) = IsOver limit now.core.state (ran.Exit status) × (new ≡ now) × (later ≡ at.policy)
 StopsPolicy picked onward limit show at now new later (ran.Trap cause pc detail) = IsOver limit now.core.state (ran.Trap cause pc detail) × (new ≡ now)
@@ -114,7 +115,8 @@ pub record Turned {P : Type 0} (picked : P → List Move → ℕ) (onward : P �
   pub count_is : later.count ≡ stopped now.core.plan.stages (paced at.count takes.move takes.event (is_drained new.core.state))
 
 -- or the run stops
-abbrev pub PolicyTurns : {P : Type 0} → (picked : P → List Move → ℕ) → (onward : P → List Move → P) → ℕ → Reporting → (now new : RunPlace) → (at later : Chooser P) →
+abbrev pub PolicyTurns : {P : Type 0} → (picked : P → List Move → ℕ) → (onward : P → List Move → P) → ℕ → Reporting → (now new : RunPlace) →
+    (at later : Chooser P) →
     Option Answer → Type 0
 PolicyTurns picked onward limit show now new at later None = Turned picked onward limit show now new at later
 PolicyTurns picked onward limit show now new at later (Some answer) = StopsPolicy picked onward limit show at now new later.policy answer
@@ -141,7 +143,7 @@ pub record RunsPolicy {P : Type 0} (rule : GuessRule) (picked : P → List Move 
   pub now : RunPlace
   pub reaches : Reaches limit show start now
   pub at : Chooser P
-  pub picks : Picks picked onward start.core.plan (fresh rule policy) start.core.state reaches.trace at
+  pub picks : Picks picked onward start.core.plan (fresh_chooser rule policy) start.core.state reaches.trace at
   pub stops : StopsPolicy picked onward limit show at now new later answer
   pub made : moves ≡ moves_of reaches.trace ++ made_last picked onward limit show at now new later answer stops
 

@@ -19,8 +19,8 @@ pub record ScriptRun : Type 0 where
   pub script : ScriptLines
 
 -- the ScriptRun with these parts
-abbrev pub stand_of : RunPlace → ScriptLines → ScriptRun
-stand_of place script = record { place = place; script = script }
+abbrev pub script_run_of : RunPlace → ScriptLines → ScriptRun
+script_run_of place script = record { place = place; script = script }
 
 -- the first moves of a script, as many as were counted
 abbrev pub first_moves : ScriptLines → Tally → List Move

@@ -14,17 +14,18 @@ use Rattle.cf_core.specs.Processors.{IsOpened, Processor}
 use Rattle.cf_sched.specs.Paces.{PaceCount, stopped}
 use Rattle.cf_sched.specs.Policies.{round_on, round_pick}
 use Rattle.cf_run.specs.Moving.{RunPlace}
-use Rattle.cf_run.specs.Policies.{Chooser, Picks, Turned, chooser, fresh}
+use Rattle.cf_run.specs.Policies.{Chooser, Picks, Turned, chooser, fresh_chooser}
 use Rattle.cf_run.specs.Reaching.{GoesOn, Reaches}
 
 -- the picks so far lead from one RunPlace to another, and leave this policy, and this count, which stops where the
 -- candidates are held
-pub record HasPicked {P : Type 0} (rule : GuessRule) (picked : P → List Move → ℕ) (onward : P → List Move → P) (limit : ℕ) (shows : Reporting) (begin now : RunPlace)
+pub record HasPicked {P : Type 0} (rule : GuessRule) (picked : P → List Move → ℕ) (onward : P → List Move → P) (limit : ℕ) (shows : Reporting)
+    (begin now : RunPlace)
     (first current : P)
     (held : ℕ) : Type 0 where
   pub at : Chooser P
   pub reached : Reaches limit shows begin now
-  pub picks : Picks picked onward begin.core.plan (fresh rule first) begin.core.state reached.trace at
+  pub picks : Picks picked onward begin.core.plan (fresh_chooser rule first) begin.core.state reached.trace at
   pub rule_is : at.rule ≡ rule
   pub policy_is : current ≡ at.policy
   pub count_is : held ≡ stopped begin.core.plan.stages at.count

@@ -1,7 +1,7 @@
 //! Counting a move.
 
 ghost use Rattle.std.specs.Prelude.{◌≡◌};
-ghost use Rattle.cf_run.specs.Made.{CanCount, counted, is_meeting as meets, is_killed as kills, is_died as dies};
+ghost use Rattle.cf_run.specs.Made.{CanCount, counted_event, is_meeting as meets, is_killed as kills, is_died as dies};
 
 use cf_bind::Move;
 use cf_core::Event;
@@ -11,7 +11,7 @@ use cf_report::Tally;
 #[inline(always)]
 pub(crate) fn count(tally: &mut Tally, mv: Move, event: &Event)
     requires { CanCount tally.old }
-    ensures { tally.new ≡ counted tally.old mv event.now }
+    ensures { tally.new ≡ counted_event tally.old mv event.now }
 {
     tally.moves += 1;
     if matches!(mv, Move::Meet(_)) {

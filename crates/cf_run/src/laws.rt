@@ -10,14 +10,14 @@ ghost use Rattle.cf_layout.specs.Accepted.{IsAccepted};
 ghost use Rattle.cf_layout.specs.Layout.{Plan};
 ghost use Rattle.cf_semantics.specs.moves.Bars.{bar};
 ghost use Rattle.cf_semantics.specs.state.State.{State};
-ghost use Rattle.cf_core.specs.Processors.{opened, IsOpened};
+ghost use Rattle.cf_core.specs.Processors.{opened_processor, IsOpened};
 ghost use Rattle.run_finishes.specs.declared.finish.Ran.{Ran as Answer};
 ghost use Rattle.run_finishes.specs.declared.finish.Scripted.{Scripted};
 ghost use Rattle.run_finishes.specs.declared.finish.Scripted.TheVariants.{Ran};
 ghost use Rattle.cf_run.specs.Ending.{EndsAlike};
 ghost use Rattle.cf_run.specs.Headline.{RunsSequentially};
 ghost use Rattle.cf_run.specs.Moving.{RunPlace};
-ghost use Rattle.cf_run.specs.Policies.{Chooser, Picks, RunsPolicy, first_pick, fresh, later_picks, most_moves, offered_to};
+ghost use Rattle.cf_run.specs.Policies.{Chooser, Picks, RunsPolicy, first_pick, fresh_chooser, later_picks, most_moves, offered_to};
 ghost use Rattle.cf_run.specs.Reaching.{GoesOn, Reaches};
 ghost use Rattle.cf_run.specs.Scripts.{ScriptRun, RunsScript, first_moves};
 
@@ -38,10 +38,10 @@ pub fn t4_2()
 /// and what was taken of the input and written to the output are those of the sequential machine under the same limit.
 pub fn t4_5()
     ensures scripts { (limit : ℕ) (show : Reporting) (start new : ScriptRun) (hart : Hart) (answer : Scripted) →
-        IsAccepted start.place.core.plan → length hart.regs ≡ 32 → start.place.core ≡ opened start.place.core.plan hart →
+        IsAccepted start.place.core.plan → length hart.regs ≡ 32 → start.place.core ≡ opened_processor start.place.core.plan hart →
         RunsScript limit show start new answer → EndsAlike limit hart start.place new.place answer }
     ensures policies { (rule : GuessRule) (limit : ℕ) (show : Reporting) (start new : RunPlace) (picks later : List ℕ) (moves : List Move) (hart : Hart)
-        (answer : Answer) → IsAccepted start.core.plan → length hart.regs ≡ 32 → start.core ≡ opened start.core.plan hart →
+        (answer : Answer) → IsAccepted start.core.plan → length hart.regs ≡ 32 → start.core ≡ opened_processor start.core.plan hart →
         RunsPolicy rule first_pick later_picks limit show start new picks later moves answer →
         EndsAlike limit hart start new (Ran answer) }
 {}
@@ -56,7 +56,7 @@ pub fn t5_6()
     ensures offered { (rule : GuessRule) (limit : ℕ) (show : Reporting) (start now : RunPlace) (picks : List ℕ) (at : Chooser (List ℕ)) →
         IsAccepted start.core.plan → length start.core.state.regs ≡ 32 → IsOpened start.core →
         (reached : Reaches limit show start now) →
-        Picks first_pick later_picks start.core.plan (fresh rule picks) start.core.state reached.trace at →
+        Picks first_pick later_picks start.core.plan (fresh_chooser rule picks) start.core.state reached.trace at →
         GoesOn limit now.core.state → 0 < length (offered_to now.core.plan at now.core.state) }
     ensures allowed { (plan : Plan) (at : Chooser (List ℕ)) (s : State) (place : ℕ) (mv : Move) →
         slice_get (offered_to plan at s) place ≡ Some mv → bar plan s mv ≡ None }

@@ -12,7 +12,7 @@ ghost use Rattle.cf_run.specs.Moving.{place_by};
 ghost use Rattle.cf_run.specs.Ending.{EndsSequentially};
 ghost use Rattle.cf_run.specs.Headline.{RunsSequentially};
 ghost use Rattle.cf_run.specs.Reaching.{no_tally};
-ghost use Rattle.cf_run.specs.Scripts.{stand_of, first_moves, RunsScript, ScriptTurns, input_scripted, output_scripted, report_scripted};
+ghost use Rattle.cf_run.specs.Scripts.{script_run_of, first_moves, RunsScript, ScriptTurns, input_scripted, output_scripted, report_scripted};
 
 use crate::facts::known;
 use crate::finished::over;
@@ -54,8 +54,8 @@ fn advance<S: Source, K: Sink, R: ReportSink>(
     requires retired { core.old.state.retired ≤ limit }
     requires counts { CanCount tally.old }
     ensures turns { ScriptTurns limit reporting
-        (stand_of (place_by S.left K.written R.written core.old input.old output.old report.old tally.old) script.old)
-        (stand_of (place_by S.left K.written R.written core.new input.new output.new report.new tally.new) script.new)
+        (script_run_of (place_by S.left K.written R.written core.old input.old output.old report.old tally.old) script.old)
+        (script_run_of (place_by S.left K.written R.written core.new input.new output.new report.new tally.new) script.new)
         result }
     ensures few { IsNone result → length script.old.moves < 2 ^ 25 }
     ensures input { HasCause (S.faults input.old) (S.faults input.new) (input_scripted result) }
@@ -113,8 +113,8 @@ pub fn run_script<S: Source, K: Sink, R: ReportSink>(
     requires works { core.old.state.failed ≡ false }
     requires tally { tally.old ≡ no_tally }
     ensures run { RunsScript limit reporting
-        (stand_of (place_by S.left K.written R.written core.old input.old output.old report.old tally.old) script.old)
-        (stand_of (place_by S.left K.written R.written core.new input.new output.new report.new tally.new) script.new)
+        (script_run_of (place_by S.left K.written R.written core.old input.old output.old report.old tally.old) script.old)
+        (script_run_of (place_by S.left K.written R.written core.new input.new output.new report.new tally.new) script.new)
         result }
     ensures sequential { RunsSequentially reporting (first_moves script.old tally.new)
         (place_by S.left K.written R.written core.old input.old output.old report.old tally.old)
@@ -128,8 +128,8 @@ pub fn run_script<S: Source, K: Sink, R: ReportSink>(
     ensures output { HasCause (K.faults output.old) (K.faults output.new) (output_scripted (Some result)) }
     ensures report { HasCause (R.faults report.old) (R.faults report.new) (report_scripted (Some result)) }
     ensures asked { RunsUnasked limit reporting
-        (stand_of (place_by S.left K.written R.written core.old input.old output.old report.old tally.old) script.old)
-        (stand_of (place_by S.left K.written R.written core.new input.new output.new report.new tally.new) script.new)
+        (script_run_of (place_by S.left K.written R.written core.old input.old output.old report.old tally.old) script.old)
+        (script_run_of (place_by S.left K.written R.written core.new input.new output.new report.new tally.new) script.new)
         result (input.new ≡ input.old) (output.new ≡ output.old) }
 {
     known(core);

@@ -10,7 +10,7 @@ use Rattle.cf_semantics.specs.moves.Holding.{is_held, offered}
 use Rattle.cf_semantics.specs.state.State.{State}
 use Rattle.theory_confluence.proofs.Candidates.{Has, kept_passes}
 use Rattle.cf_index.specs.Allowed.{allowed_others, withheld}
-use Rattle.cf_index.specs.GuessRules.{guided, keeps}
+use Rattle.cf_index.specs.GuessRules.{guided, keeps_move}
 use Rattle.cf_index.proofs.Firsts.{any_guided, guided_others, others_are}
 use Rattle.cf_index.proofs.OneIssue.{some-left}
 use Rattle.cf_sched.specs.Paces.{offered_by}
@@ -23,7 +23,7 @@ any-offered plan count s = ap (withheld (is_held plan count)) (any_guided plan s
 -- a move that is left is a candidate
 left-candidate : (r : GuessRule) (plan : Plan) (s : State) (k : ℕ) (mv : Move) → slice_get (guided r plan s) k ≡ Some mv → Has (candidates plan s) mv
 unfolding guided
-left-candidate r plan s k mv there = (kept_passes (keeps r plan s) (candidates plan s) k mv there).1
+left-candidate r plan s k mv there = (kept_passes (keeps_move r plan s) (candidates plan s) k mv there).1
 
 -- the others are the same
 same-others : (r : GuessRule) (plan : Plan) (s : State) → other_moves (guided r plan s) ≡ other_moves (candidates plan s)

@@ -10,9 +10,9 @@ use Rattle.cf_index.specs.GuessRules.{guided}
 use Rattle.cf_index.specs.declared.rank.Rank.{Rank}
 use Rattle.cf_index.specs.Order.{first_after, slide_place}
 use Rattle.cf_index.specs.Ranks.{rank_of}
-use Rattle.cf_sched.specs.Paces.{PaceCount, holds, offers}
+use Rattle.cf_sched.specs.Paces.{PaceCount, holds_issue, offers}
 
-pub next_offered : (c : PaceCount) (r : GuessRule) (plan : Plan) (s : State) (held : Bool) (last next : Move) → r ≡ c.rule → held ≡ holds c →
+pub next_offered : (c : PaceCount) (r : GuessRule) (plan : Plan) (s : State) (held : Bool) (last next : Move) → r ≡ c.rule → held ≡ holds_issue c →
     Some next ≡ slice_get (withheld held (guided r plan s)) (first_after (Some last) (withheld held (guided r plan s))) →
     Some next ≡ slice_get (offers c plan s) (first_after (Some last) (offers c plan s))
 unfolding offers
@@ -20,7 +20,7 @@ next_offered c r plan s held last next same is e = rw (same, is) at e
 
 -- whatever was picked last; if nothing was, the rank is that of a Slide, after which no move is given
 pub next_picked : (c : PaceCount) (r : GuessRule) (plan : Plan) (s : State) (held : Bool) (last : Option Move) (rank : Rank) (o : Option Move) (next : Move) →
-    r ≡ c.rule → held ≡ holds c →
+    r ≡ c.rule → held ≡ holds_issue c →
     MatchOption last (rank.kind ≡ slide_place) (λ mv. rank ≡ rank_of mv) →
     ((mv : Move) → rank ≡ rank_of mv → IfSome o (λ first. Some first ≡ slice_get (withheld held (guided r plan s))
     (first_after (Some mv) (withheld held (guided r plan s))))) → (rank.kind ≡ slide_place → o ≡ None) → o ≡ Some next →

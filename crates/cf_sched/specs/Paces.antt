@@ -25,8 +25,8 @@ abbrev pub HasCounted : GuessRule → ℕ → ℕ → PaceCount → Type 0
 HasCounted r stages count c = (c.rule ≡ r) × (c.stages ≡ stages) × (c.count ≡ stopped stages count)
 
 -- Issue is held back
-abbrev pub holds : PaceCount → Bool
-holds c = nat_le (2 * c.stages) c.count
+abbrev pub holds_issue : PaceCount → Bool
+holds_issue c = nat_le (2 * c.stages) c.count
 
 -- the count after one more move
 abbrev pub saw : PaceCount → Move → Event → Bool → PaceCount
@@ -34,7 +34,7 @@ saw c mv e drained = record c { count = stopped c.stages (paced c.count mv e dra
 
 -- what a policy is offered
 unfoldable pub offers : PaceCount → Plan → State → List Move
-offers c plan s = withheld (holds c) (guided c.rule plan s)
+offers c plan s = withheld (holds_issue c) (guided c.rule plan s)
 
 -- the same by a whole count of Issue moves
 unfoldable pub offered_by : GuessRule → Plan → ℕ → State → List Move

@@ -15,8 +15,8 @@ abbrev pub round_on : Option Move → List Move → Option Move
 round_on last moves = slice_get moves (round_pick last moves)
 
 -- Drawn keeps a generator; it begins with the one of a seed
-abbrev pub drawn : ℕ → Lcg
-drawn seed = started 64 multiplier_64 seed (increment_of 64 1)
+abbrev pub drawn_from_seed : ℕ → Lcg
+drawn_from_seed seed = started 64 multiplier_64 seed (increment_of 64 1)
 
 -- it picks the generator's next word modulo the number of candidates
 abbrev pub drawn_pick : Lcg → List Move → ℕ

@@ -2,7 +2,7 @@
 
 ghost use Rattle.std.specs.Prelude.{◌≡◌, ◌<◌, length};
 ghost use Rattle.rand_pcg.specs.Pcg.{pcg32};
-ghost use Rattle.cf_sched.specs.Policies.{drawn, drawn_on, drawn_pick};
+ghost use Rattle.cf_sched.specs.Policies.{drawn_from_seed, drawn_on, drawn_pick};
 
 use crate::policy::Policy;
 use cf_index::Candidates;
@@ -28,7 +28,7 @@ impl Model for Drawn {
 impl Drawn {
     /// A generator that begins with the seed, in stream 1.
     pub fn new(seed: u32) -> Drawn
-        ensures { result ≡ drawn seed }
+        ensures { result ≡ drawn_from_seed seed }
     {
         Drawn {
             generator: Lcg64Xsh32::new(seed as u64, 1),

@@ -5,7 +5,7 @@ ghost use Rattle.cf_semantics.specs.moves.Holding.{is_held, is_retirement, paced
 ghost use Rattle.run_options.specs.declared.guess_rule.GuessRule.{GuessRule as Rule};
 ghost use Rattle.cf_layout.specs.Layout.{Plan};
 ghost use Rattle.cf_semantics.specs.claims.Weight.{is_issue};
-ghost use Rattle.cf_sched.specs.Paces.{HasCounted, holds, saw};
+ghost use Rattle.cf_sched.specs.Paces.{HasCounted, holds_issue, saw};
 
 use cf_bind::Move;
 use cf_semantics::Event;
@@ -71,7 +71,7 @@ impl Pace {
     /// Whether Issue is held back.
     #[inline(always)]
     pub fn held(&self) -> bool
-        ensures value { result ≡ holds self.now }
+        ensures value { result ≡ holds_issue self.now }
         ensures held { (r : Rule) (plan : Plan) (count : ℕ) → HasCounted r plan.stages count self.now → result ≡ is_held plan count }
     {
         2 * self.stages as u64 <= self.count

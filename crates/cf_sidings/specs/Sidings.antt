@@ -25,8 +25,8 @@ abbrev pub last_in : List (List (Option Op)) → ℕ → Option Op
 last_in sidings k = last_op (cells_in sidings k)
 
 -- the sidings with new cells in one of them
-abbrev pub with_cells : List (List (Option Op)) → ℕ → List (Option Op) → List (List (Option Op))
-with_cells sidings k cells = slice_set sidings k cells
+abbrev pub with_siding_cells : List (List (Option Op)) → ℕ → List (Option Op) → List (List (Option Op))
+with_siding_cells sidings k cells = slice_set sidings k cells
 
 -- a siding after the contents of a cell have moved to the next one
 unfoldable pub moved_on : List (Option Op) → ℕ → List (Option Op)
@@ -43,12 +43,12 @@ abbrev pub CanAccess : Option Op → Memory → Type 0
 CanAccess o mem = Where o ⊥ (λ op. IsReadyOperation op mem)
 
 -- the operation with the answer of memory
-abbrev pub answered : Op → Memory → Op
-answered op mem = record op { answer = Some (answer_of op.instr op.a op.b mem) }
+abbrev pub op_answered : Op → Memory → Op
+op_answered op mem = record op { answer = Some (answer_of op.instr op.a op.b mem) }
 
 -- a siding after the operation at its end was carried out
 unfoldable pub after_access : List (Option Op) → Memory → List (Option Op)
-after_access cells mem = on (last_op cells) cells (λ op. set_last cells (Some (answered op mem)))
+after_access cells mem = on (last_op cells) cells (λ op. set_last cells (Some (op_answered op mem)))
 
 -- memory after the operation at the end of a siding was carried out
 unfoldable pub mem_after_access : List (Option Op) → Memory → Memory

@@ -3,9 +3,9 @@
 ghost use Rattle.std.specs.List.{list_any};
 ghost use Rattle.cf_semantics.specs.state.Options.{is_some};
 ghost use Rattle.std.specs.Prelude.{◌≡◌, ◌+◌, ◌<◌, IfOk, IsSome, IsTrue, None, Some, length, map, slice_get, slice_set};
-ghost use Rattle.cf_semantics.specs.moves.Bars.{is_taken};
+ghost use Rattle.cf_semantics.specs.moves.Bars.{cell_is_taken};
 ghost use Rattle.cf_semantics.specs.moves.Moves.{set_last};
-ghost use Rattle.cf_sidings.specs.Sidings.{empty_sidings, cells_in, last_in, with_cells, moved_on, after_access, mem_after_access, CanAccess};
+ghost use Rattle.cf_sidings.specs.Sidings.{empty_sidings, cells_in, last_in, with_siding_cells, moved_on, after_access, mem_after_access, CanAccess};
 
 use crate::siding::SidingCells;
 use cf_bind::Op;
@@ -74,7 +74,7 @@ impl Sidings {
     #[inline(always)]
     pub fn launch(&mut self, k: u32, op: Op)
         requires { slice_get (cells_in self.old k) 0 ≡ Some None }
-        ensures sidings { self.new ≡ with_cells self.old k (slice_set (cells_in self.old k) 0 (Some op)) }
+        ensures sidings { self.new ≡ with_siding_cells self.old k (slice_set (cells_in self.old k) 0 (Some op)) }
         ensures cells { map length self.new ≡ map length self.old }
     {
         self.list[k as usize].enter(op);
@@ -83,9 +83,9 @@ impl Sidings {
     /// Moves the operation of a cell to the next one, which is empty.
     #[inline(always)]
     pub fn slide(&mut self, k: u32, c: u32)
-        requires there { IsTrue (is_taken (slice_get (cells_in self.old k) c)) }
+        requires there { IsTrue (cell_is_taken (slice_get (cells_in self.old k) c)) }
         requires room { slice_get (cells_in self.old k) (c + 1) ≡ Some None }
-        ensures sidings { self.new ≡ with_cells self.old k (moved_on (cells_in self.old k) c) }
+        ensures sidings { self.new ≡ with_siding_cells self.old k (moved_on (cells_in self.old k) c) }
         ensures cells { map length self.new ≡ map length self.old }
     {
         self.list[k as usize].move_on(c as usize);
@@ -96,7 +96,7 @@ impl Sidings {
     #[inline(always)]
     pub fn access(&mut self, k: u32, mem: &mut Regions)
         requires { CanAccess (last_in self.old k) mem.old }
-        ensures sidings { self.new ≡ with_cells self.old k (after_access (cells_in self.old k) mem.old) }
+        ensures sidings { self.new ≡ with_siding_cells self.old k (after_access (cells_in self.old k) mem.old) }
         ensures memory { mem.new ≡ mem_after_access (cells_in self.old k) mem.old }
         ensures cells { map length self.new ≡ map length self.old }
     {
@@ -108,7 +108,7 @@ impl Sidings {
     pub fn recover(&mut self, k: u32) -> Op
         requires { IsSome (last_in self.old k) }
         ensures op { Some result ≡ last_in self.old k }
-        ensures sidings { self.new ≡ with_cells self.old k (set_last (cells_in self.old k) None) }
+        ensures sidings { self.new ≡ with_siding_cells self.old k (set_last (cells_in self.old k) None) }
         ensures cells { map length self.new ≡ map length self.old }
     {
         self.list[k as usize].take_last()
@@ -119,7 +119,7 @@ impl Sidings {
     pub fn put_back(&mut self, k: u32, c: u32, op: Option<Op>)
         requires siding { k < length self.old }
         requires cell { c < length (cells_in self.old k) }
-        ensures sidings { self.new ≡ with_cells self.old k (slice_set (cells_in self.old k) c op) }
+        ensures sidings { self.new ≡ with_siding_cells self.old k (slice_set (cells_in self.old k) c op) }
         ensures cells { map length self.new ≡ map length self.old }
     {
         self.list[k as usize].set(c as usize, op);

@@ -16,7 +16,7 @@ use Rattle.cf_semantics.specs.state.Drained.{is_occupied}
 use Rattle.cf_semantics.specs.state.State.{cell_at}
 use Rattle.cf_semantics.specs.runs.Runs.{empty_cell}
 use Rattle.cf_stages.specs.Changes.{IsCell}
-use Rattle.cf_stages.specs.Parts.{AreParts, cells_from, cells_of}
+use Rattle.cf_stages.specs.Parts.{AreParts, cells_from, all_cells}
 use Rattle.cf_stages.specs.Words.{word_of, word_where, passenger_word, packet_word}
 use Rattle.cf_stages.proofs.Bits.{word-agrees, word-bit}
 use Rattle.cf_stages.proofs.Parts.{length-cells}
@@ -46,7 +46,7 @@ word_empty test n e = sym (word-agrees (λ i. on (cell_at (replicate n empty_cel
 all_empty : (n : ℕ) → All IsCell (replicate n empty_cell)
 all_empty n = λ k d within. rw (get_or-replicate n k empty_cell d (rw length-replicate at within)) (λ g. absurd (cc))
 
-pub empty-cells : (n : ℕ) → cells_of (replicate n None) (replicate n None) 0 ≡ replicate n empty_cell
+pub empty-cells : (n : ℕ) → all_cells (replicate n None) (replicate n None) 0 ≡ replicate n empty_cell
 empty-cells n = empty_cells 0 n
 
 pub empty-parts : (n : ℕ) → 2 ≤ n → n ≤ 32 → AreParts (replicate n None) (replicate n None) 0 0 0
@@ -121,17 +121,17 @@ pub none-answered : (cells : List Cell) → length cells ≤ 32 → (nat_eq (pas
 none-answered cells few = answered_as cells (nat_eq (passenger_word cells) 0) (nat_eq (packet_word cells) 0) (list_any is_occupied cells) refl few refl refl
 
 -- the same for the words that are kept
-kept : (ps : List (Option Passenger)) (qs : List (Option Packet)) (r f m : ℕ) (now : List Cell) → AreParts ps qs r f m → cells_of ps qs m ≡ now →
+kept : (ps : List (Option Passenger)) (qs : List (Option Packet)) (r f m : ℕ) (now : List Cell) → AreParts ps qs r f m → all_cells ps qs m ≡ now →
     (nat_eq r 0 && nat_eq f 0) ≡ not (list_any is_occupied now)
 kept ps qs r f m now h e =
     let n = length-cells 0 ps qs m h.pipes in
     let l = ap length e in
     rw (h.passenger_bits, h.packet_bits, e) (none-answered now (omega (arith, h.most)))
 
-pub empty-then : (ps : List (Option Passenger)) (qs : List (Option Packet)) (r f m : ℕ) (now : List Cell) → AreParts ps qs r f m → cells_of ps qs m ≡ now →
+pub empty-then : (ps : List (Option Passenger)) (qs : List (Option Packet)) (r f m : ℕ) (now : List Cell) → AreParts ps qs r f m → all_cells ps qs m ≡ now →
     r ≡ 0 → nat_eq f 0 ≡ not (list_any is_occupied now)
 empty-then ps qs r f m now h e none = let k = kept ps qs r f m now h e in grind (arith, nat_tests)
 
-pub empty-else : (ps : List (Option Passenger)) (qs : List (Option Packet)) (r f m : ℕ) (now : List Cell) → AreParts ps qs r f m → cells_of ps qs m ≡ now →
+pub empty-else : (ps : List (Option Passenger)) (qs : List (Option Packet)) (r f m : ℕ) (now : List Cell) → AreParts ps qs r f m → all_cells ps qs m ≡ now →
     (r ≡ 0 → ⊥) → nat_eq r 0 ≡ not (list_any is_occupied now)
 empty-else ps qs r f m now h e some = let k = kept ps qs r f m now h e in grind (arith, nat_tests)

@@ -7,7 +7,7 @@ use Rattle.cf_bind.specs.declared.passenger.Passenger.{Passenger}
 use Rattle.cf_semantics.specs.state.Options.{on}
 use Rattle.cf_semantics.specs.state.State.{cell_at, put_cell}
 use Rattle.cf_semantics.specs.moves.Moves.{without_passenger, without_packet}
-use Rattle.cf_stages.specs.Changes.{can_climb, can_fall, changed, passenger_at, packet_at, climbed, fallen, climbs, falls, with_new_passenger, with_new_packet}
+use Rattle.cf_stages.specs.Changes.{can_climb, can_fall, changed, passenger_at, packet_at, cells_climbed, cells_fallen, climbs, falls, with_new_passenger, with_new_packet}
 use Rattle.cf_stages.specs.Parts.{with_place}
 use Rattle.cf_stages.proofs.Parts.{cell-put-other, stage-low, stage-high}
 
@@ -19,13 +19,13 @@ two_changed cells i j c d f g off here there =
     rw here (rw e refl)
 
 climbed_there : (cells : List Cell) (i : ℕ) (c d : Cell) → cell_at cells i ≡ Some c → cell_at cells (i + 1) ≡ Some d →
-    climbed cells i ≡ put_cell (put_cell cells i (without_passenger c)) (i + 1) (with_new_passenger c.passenger d)
-unfolding climbed
+    cells_climbed cells i ≡ put_cell (put_cell cells i (without_passenger c)) (i + 1) (with_new_passenger c.passenger d)
+unfolding cells_climbed
 climbed_there cells i c d here there = rw (here, there) refl
 
 fallen_there : (cells : List Cell) (i : ℕ) (c d : Cell) → cell_at cells i ≡ Some c → cell_at cells (i - 1) ≡ Some d →
-    fallen cells i ≡ put_cell (put_cell cells i (without_packet c)) (i - 1) (with_new_packet c.packet d)
-unfolding fallen
+    cells_fallen cells i ≡ put_cell (put_cell cells i (without_packet c)) (i - 1) (with_new_packet c.packet d)
+unfolding cells_fallen
 fallen_there cells i c d here there = rw (here, there) refl
 
 -- the two stages of a move up
@@ -61,7 +61,7 @@ climbs-rider cells i h = rider_by (cell_at cells i) (cell_at cells (i + 1)) h
     rider_by (Some c) (Some d) g = grind arith
 
 pub climbed-is : (cells : List Cell) (i : ℕ) (p : Option Passenger) → IsTrue (climbs cells i) → p ≡ passenger_at cells i →
-    changed (changed cells i (with_new_passenger None)) (i + 1) (with_new_passenger p) ≡ climbed cells i
+    changed (changed cells i (with_new_passenger None)) (i + 1) (with_new_passenger p) ≡ cells_climbed cells i
 climbed-is cells i p h e =
     let r = climbs_from cells i h in
     let rides : p ≡ r.from.passenger = e ∙ ap (λ (o : Option Cell). on o None (λ c. c.passenger)) r.here in
@@ -103,7 +103,7 @@ falls-result cells i h = result_by (cell_at cells i) (cell_at cells (i - 1)) h
     result_by (Some c) (Some d) g = grind arith
 
 pub fallen-is : (cells : List Cell) (i : ℕ) (q : Option Packet) → IsTrue (falls cells i) → q ≡ packet_at cells i →
-    changed (changed cells i (with_place None false)) (i - 1) (with_place q false) ≡ fallen cells i
+    changed (changed cells i (with_place None false)) (i - 1) (with_place q false) ≡ cells_fallen cells i
 fallen-is cells i q h e =
     let r = falls_from cells i h in
     let low = falls-low cells i h in

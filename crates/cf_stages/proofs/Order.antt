@@ -9,12 +9,12 @@ use Rattle.cf_semantics.specs.state.Options.{on}
 use Rattle.cf_semantics.specs.state.State.{cell_at, put_cell}
 use Rattle.cf_semantics.specs.state.Column.{passenger_in, packet_in, in_order, items, column_from}
 use Rattle.cf_semantics.specs.moves.Moves.{without_passenger, without_packet}
-use Rattle.cf_stages.specs.Changes.{can_climb, can_fall, climbs, falls, climbed, fallen, with_new_passenger, with_new_packet}
-use Rattle.cf_stages.specs.Contents.{StageContent, content, contents}
+use Rattle.cf_stages.specs.Changes.{can_climb, can_fall, climbs, falls, cells_climbed, cells_fallen, with_new_passenger, with_new_packet}
+use Rattle.cf_stages.specs.Contents.{StageContent, stage_content, contents}
 
 -- the contents of a stage, without its number
 abbrev inside : Cell → List StageContent
-inside c = map content (items 1 c)
+inside c = map stage_content (items 1 c)
 
 -- the contents, by recursion on the stages
 abbrev stacked : List Cell → List StageContent
@@ -23,7 +23,7 @@ stacked (c ∷ cells) = stacked cells ++ inside c
 
 -- the number of a stage does not matter
 same_order : (i : ℕ) (met : Bool) (p : Option Passenger) (k : Option Packet) →
-    map content (in_order met (passenger_in i p) (packet_in i k)) ≡ map content (in_order met (passenger_in 1 p) (packet_in 1 k))
+    map stage_content (in_order met (passenger_in i p) (packet_in i k)) ≡ map stage_content (in_order met (passenger_in 1 p) (packet_in 1 k))
 same_order i true None None = refl
 same_order i true None (Some k) = refl
 same_order i true (Some p) None = refl
@@ -33,10 +33,10 @@ same_order i false None (Some k) = refl
 same_order i false (Some p) None = refl
 same_order i false (Some p) (Some k) = refl
 
-stacked-from : (i : ℕ) (cells : List Cell) → map content (column_from i cells) ≡ stacked cells
+stacked-from : (i : ℕ) (cells : List Cell) → map stage_content (column_from i cells) ≡ stacked cells
 stacked-from i [] = refl
 stacked-from i (c ∷ cells) =
-    rw (map-append content (column_from (suc i) cells) (items i c), stacked-from (suc i) cells, same_order i c.met c.passenger c.packet) refl
+    rw (map-append stage_content (column_from (suc i) cells) (items i c), stacked-from (suc i) cells, same_order i c.met c.passenger c.packet) refl
 
 -- two neighbours are changed so that together they hold what they held
 abbrev SamePair : Cell → Cell → Cell → Cell → Type 0
@@ -97,17 +97,17 @@ falls-high cells zero h = absurd (cc)
 falls-high cells (suc k) h = omega arith
 
 -- an instruction that moves up
-pub contents-climbed : (cells : List Cell) (i : ℕ) → IsTrue (climbs cells i) → contents (climbed cells i) ≡ contents cells
-unfolding contents climbs climbed
+pub contents-climbed : (cells : List Cell) (i : ℕ) → IsTrue (climbs cells i) → contents (cells_climbed cells i) ≡ contents cells
+unfolding contents climbs cells_climbed
 contents-climbed cells i h =
-    stacked-from 1 (climbed cells i) ∙ climb_step cells i (i + 1) (cell_at cells i) (cell_at cells (i + 1)) (omega arith) refl refl h
+    stacked-from 1 (cells_climbed cells i) ∙ climb_step cells i (i + 1) (cell_at cells i) (cell_at cells (i + 1)) (omega arith) refl refl h
     ∙ sym (stacked-from 1 cells)
 
 -- a result that moves down
-pub contents-fallen : (cells : List Cell) (i : ℕ) → IsTrue (falls cells i) → contents (fallen cells i) ≡ contents cells
-unfolding contents falls fallen
+pub contents-fallen : (cells : List Cell) (i : ℕ) → IsTrue (falls cells i) → contents (cells_fallen cells i) ≡ contents cells
+unfolding contents falls cells_fallen
 contents-fallen cells i h =
-    stacked-from 1 (fallen cells i) ∙ fall_step cells i (i - 1) (cell_at cells i) (cell_at cells (i - 1)) (falls-high cells i h) refl refl h
+    stacked-from 1 (cells_fallen cells i) ∙ fall_step cells i (i - 1) (cell_at cells i) (cell_at cells (i - 1)) (falls-high cells i h) refl refl h
     ∙ sym (stacked-from 1 cells)
 
 pub ruleset climbing = (contents-climbed)

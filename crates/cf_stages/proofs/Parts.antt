@@ -9,7 +9,7 @@ use Rattle.cf_bind.specs.declared.passenger.Passenger.{Passenger}
 use Rattle.cf_layout.specs.Words.{has_bit}
 use Rattle.cf_semantics.specs.state.Options.{on}
 use Rattle.cf_semantics.specs.state.State.{cell_at, put_cell}
-use Rattle.cf_stages.specs.Parts.{cells_from, cells_of}
+use Rattle.cf_stages.specs.Parts.{cells_from, all_cells}
 use Rattle.cf_stages.specs.Words.{word_of, word_where, with_bit}
 use Rattle.cf_stages.proofs.Bits.{word-agrees, word-with-bit}
 use Rattle.cf_stages.proofs.Cells.{length-put}
@@ -39,7 +39,7 @@ get_cells k (x ∷ ps) (y ∷ qs) met (suc j) p q e f =
     rw z (get_cells (suc k) ps qs met j p q e f)
 
 pub cell-parts : (ps : List (Option Passenger)) (qs : List (Option Packet)) (met i : ℕ) (p : Option Passenger) (q : Option Packet) → 0 < i →
-    slice_get ps (i - 1) ≡ Some p → slice_get qs (i - 1) ≡ Some q → cell_at (cells_of ps qs met) i
+    slice_get ps (i - 1) ≡ Some p → slice_get qs (i - 1) ≡ Some q → cell_at (all_cells ps qs met) i
     ≡ Some (record { passenger = p; packet = q; met = has_bit met (i - 1) })
 cell-parts ps qs met zero p q low e f = absurd (omega arith)
 cell-parts ps qs met (suc j) p q low e f =
@@ -83,7 +83,7 @@ set_cells k (x ∷ ps) (y ∷ qs) met other (suc j) p q within e most same =
 pub put-parts : (ps : List (Option Passenger)) (qs : List (Option Packet)) (met other i : ℕ) (p : Option Passenger) (q : Option Packet) → 0 < i →
     i ≤ length ps → length qs ≡ length ps → length ps ≤ 32 →
     ((k : ℕ) → k < 32 → k ≢ i - 1 → has_bit other k ≡ has_bit met k) →
-    cells_of (slice_set ps (i - 1) p) (slice_set qs (i - 1) q) other ≡ put_cell (cells_of ps qs met) i
+    all_cells (slice_set ps (i - 1) p) (slice_set qs (i - 1) q) other ≡ put_cell (all_cells ps qs met) i
     (record { passenger = p; packet = q; met = has_bit other (i - 1) })
 put-parts ps qs met other zero p q low within e most same = absurd (omega arith)
 put-parts ps qs met other (suc j) p q low within e most same =

@@ -57,15 +57,15 @@ abbrev pub with_new_packet : Option Packet → Cell → Cell
 with_new_packet k c = record c { packet = k; met = false }
 
 -- the instruction of the stage is now in the one above, and has met nothing there
-unfoldable pub climbed : List Cell → ℕ → List Cell
-climbed cells i =
+unfoldable pub cells_climbed : List Cell → ℕ → List Cell
+cells_climbed cells i =
     on (cell_at cells i) cells (λ c.
     on (cell_at cells (i + 1)) cells (λ d.
     put_cell (put_cell cells i (without_passenger c)) (i + 1) (with_new_passenger c.passenger d)))
 
 -- the result of the stage is now in the one below, and has met nothing there
-unfoldable pub fallen : List Cell → ℕ → List Cell
-fallen cells i =
+unfoldable pub cells_fallen : List Cell → ℕ → List Cell
+cells_fallen cells i =
     on (cell_at cells i) cells (λ c.
     on (cell_at cells (i - 1)) cells (λ d.
     put_cell (put_cell cells i (without_packet c)) (i - 1) (with_new_packet c.packet d)))

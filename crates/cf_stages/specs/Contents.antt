@@ -12,10 +12,10 @@ pub data StageContent : Type 0 where
   Outcome : Packet → StageContent
 
 -- an item of the column without the stage where it is
-abbrev pub content : Item → StageContent
-content (Up i p) = Instruction p
-content (Down i k) = Outcome k
+abbrev pub stage_content : Item → StageContent
+stage_content (Up i p) = Instruction p
+stage_content (Down i k) = Outcome k
 
 -- the column of the stages, from the top down, without the stages
 unfoldable pub contents : List Cell → List StageContent
-contents cells = map content (column_from 1 cells)
+contents cells = map stage_content (column_from 1 cells)

@@ -16,8 +16,8 @@ cells_from k (p ∷ passengers) (q ∷ packets) met =
     record { passenger = p; packet = q; met = has_bit met k } ∷ cells_from (suc k) passengers packets met
 
 -- the contents of all stages
-abbrev pub cells_of : List (Option Passenger) → List (Option Packet) → ℕ → List Cell
-cells_of passengers packets met = cells_from 0 passengers packets met
+abbrev pub all_cells : List (Option Passenger) → List (Option Packet) → ℕ → List Cell
+all_cells passengers packets met = cells_from 0 passengers packets met
 
 -- two pipes of 2 to 32 stages, and the bit words that record where an instruction is, where a result is, and where the
 -- two have met
@@ -25,10 +25,10 @@ pub record AreParts (passengers : List (Option Passenger)) (packets : List (Opti
   pub pipes : length packets ≡ length passengers
   pub least : 2 ≤ length passengers
   pub most : length passengers ≤ 32
-  pub cells : All IsCell (cells_of passengers packets met)
-  pub passenger_bits : riding ≡ passenger_word (cells_of passengers packets met)
-  pub packet_bits : flying ≡ packet_word (cells_of passengers packets met)
-  pub met_bits : met ≡ met_word (cells_of passengers packets met)
+  pub cells : All IsCell (all_cells passengers packets met)
+  pub passenger_bits : riding ≡ passenger_word (all_cells passengers packets met)
+  pub packet_bits : flying ≡ packet_word (all_cells passengers packets met)
+  pub met_bits : met ≡ met_word (all_cells passengers packets met)
 
 -- a stage with this for its result, which has met the instruction there or has not
 abbrev pub with_place : Option Packet → Bool → Cell → Cell

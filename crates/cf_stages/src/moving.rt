@@ -1,7 +1,7 @@
 //! Instructions move up, and results down, by one stage.
 
 ghost use Rattle.std.specs.Prelude.{◌≡◌, ◌<◌, ◌≤◌, IsTrue, length};
-ghost use Rattle.cf_stages.specs.Changes.{climbs, falls, climbed, fallen};
+ghost use Rattle.cf_stages.specs.Changes.{climbs, falls, cells_climbed, cells_fallen};
 ghost use Rattle.cf_stages.specs.Contents.{contents};
 
 use crate::stages::Stages;
@@ -27,7 +27,7 @@ impl Stages {
     #[tactic(auto, using(crate::proofs::Order::climbing))]
     pub fn climb(&mut self, i: u32)
         requires { IsTrue (climbs self.old i) }
-        ensures stages { self.new ≡ climbed self.old i }
+        ensures stages { self.new ≡ cells_climbed self.old i }
         ensures order { contents self.new ≡ contents self.old }
         ensures count { length self.new ≡ length self.old }
     {
@@ -54,7 +54,7 @@ impl Stages {
     #[tactic(auto, using(crate::proofs::Order::falling))]
     pub fn fall(&mut self, i: u32)
         requires { IsTrue (falls self.old i) }
-        ensures stages { self.new ≡ fallen self.old i }
+        ensures stages { self.new ≡ cells_fallen self.old i }
         ensures order { contents self.new ≡ contents self.old }
         ensures count { length self.new ≡ length self.old }
     {

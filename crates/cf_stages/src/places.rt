@@ -4,7 +4,7 @@ ghost use Rattle.std.specs.Prelude.{◌≡◌, ◌-◌, ◌<◌, ◌≤◌, IsSo
 ghost use Rattle.cf_semantics.specs.moves.Moves.{with_passenger};
 ghost use Rattle.cf_semantics.specs.state.Options.{is_some};
 ghost use Rattle.cf_semantics.specs.state.State.{put_cell};
-ghost use Rattle.cf_stages.specs.Changes.{IsCell, changed, climbed, climbs, fallen, falls, passenger_at, with_new_passenger};
+ghost use Rattle.cf_stages.specs.Changes.{IsCell, changed, cells_climbed, climbs, cells_fallen, falls, passenger_at, with_new_passenger};
 ghost use Rattle.cf_stages.specs.Parts.{with_place};
 
 use crate::stages::Stages;
@@ -43,7 +43,7 @@ impl Stages {
     #[tactic(auto, using(crate::proofs::Lifted::lifting, crate::proofs::Kept::counting))]
     pub(crate) fn lift_passenger(&mut self, i: u32)
         requires { IsTrue (climbs self.old i) }
-        ensures stages { self.new ≡ climbed self.old i }
+        ensures stages { self.new ≡ cells_climbed self.old i }
         ensures count { length self.new ≡ length self.old }
     {
         self.passenger_mask = with_bit(with_bit(self.passenger_mask, i, false), i + 1, true);
@@ -73,7 +73,7 @@ impl Stages {
     #[tactic(auto, using(crate::proofs::Lifted::dropping, crate::proofs::Kept::counting))]
     pub(crate) fn drop_packet(&mut self, i: u32)
         requires { IsTrue (falls self.old i) }
-        ensures stages { self.new ≡ fallen self.old i }
+        ensures stages { self.new ≡ cells_fallen self.old i }
         ensures count { length self.new ≡ length self.old }
     {
         self.packet_mask = with_bit(with_bit(self.packet_mask, i, false), i - 1, true);

@@ -27,11 +27,11 @@ pub struct Stages {
 impl Model for Stages {
     ghost use Rattle.std.specs.Prelude.{List};
     ghost use Rattle.cf_bind.specs.declared.cell.Cell.{Cell};
-    ghost use Rattle.cf_stages.specs.Parts.{cells_of, AreParts};
+    ghost use Rattle.cf_stages.specs.Parts.{all_cells, AreParts};
 
     ghost Value = { List Cell };
 
-    ghost view = { λ s. cells_of s.passengers.items s.packets.items s.met_mask };
+    ghost view = { λ s. all_cells s.passengers.items s.packets.items s.met_mask };
 
     ghost invariant = { λ s. AreParts s.passengers.items s.packets.items s.passenger_mask s.packet_mask s.met_mask };
 }

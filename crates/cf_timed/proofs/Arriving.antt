@@ -15,7 +15,7 @@ use Rattle.cf_timed.specs.Delays.{AreDelays}
 use Rattle.cf_timed.specs.DelayedRuns.{DelayRule, delay_at, delayed_at, timed_after, visits_of}
 use Rattle.cf_timed.specs.Times.{delayed, done_after, done_at, greatest_time}
 use Rattle.cf_timed.specs.Clocks.{SiteTimes, capped, clocked, stamped}
-use Rattle.cf_timed.specs.Earliest.{AreEarliest, TimedTurn, earliest, first_least, time_in, turned}
+use Rattle.cf_timed.specs.Earliest.{AreEarliest, TimedTurn, earliest, first_least, time_in, after_turn}
 use Rattle.cf_timed.specs.Turns.{timed_by}
 use Rattle.cf_timed.specs.Watching.{watched, watched_text}
 use Rattle.cf_timed.proofs.Delaying.{all_time, time_few}
@@ -26,19 +26,19 @@ use Rattle.cf_timed.proofs.Room.{offered_kept}
 -- where a run is after some moves
 abbrev pub turn_after : Plan → DelayRule → TimedTurn → List Made → TimedTurn
 turn_after plan rule t [] = t
-turn_after plan rule t (made ∷ trace) = turn_after plan rule (turned plan rule t made) trace
+turn_after plan rule t (made ∷ trace) = turn_after plan rule (after_turn plan rule t made) trace
 
 pub turn-last : (plan : Plan) (rule : DelayRule) (t : TimedTurn) (trace : List Made) (made : Made) →
-    turn_after plan rule t (trace ++ made ∷ []) ≡ turned plan rule (turn_after plan rule t trace) made
+    turn_after plan rule t (trace ++ made ∷ []) ≡ after_turn plan rule (turn_after plan rule t trace) made
 turn-last plan rule t [] made = refl
-turn-last plan rule t (first ∷ trace) made = turn-last plan rule (turned plan rule t first) trace made
+turn-last plan rule t (first ∷ trace) made = turn-last plan rule (after_turn plan rule t first) trace made
 
 -- its moves, each with its time
 pub timed-there : (plan : Plan) (rule : DelayRule) (t : TimedTurn) (trace : List Made) →
     timed_after plan rule t.earlier (visits_of t.state trace) ≡ (turn_after plan rule t trace).earlier
 unfolding timed_after
 timed-there plan rule t [] = refl
-timed-there plan rule t (made ∷ trace) = timed-there plan rule (turned plan rule t made) trace
+timed-there plan rule t (made ∷ trace) = timed-there plan rule (after_turn plan rule t made) trace
 
 -- one more pick, and one more move by it
 pub tried-last : (r : GuessRule) (plan : Plan) (rule : DelayRule) (t : TimedTurn) (picks : List ℕ) (trace : List Made) (place : ℕ) →
@@ -49,7 +49,7 @@ tried-last r plan rule t [] [] place h size e = e
 tried-last r plan rule t (p ∷ picks) [] place h size e = absurd (omega (arith, size))
 tried-last r plan rule t [] (made ∷ trace) place h size e = absurd h
 tried-last r plan rule t (p ∷ picks) (made ∷ trace) place h size e =
-    (h.0, tried-last r plan rule (turned plan rule t made) picks trace place h.1 (omega (arith, size)) e)
+    (h.0, tried-last r plan rule (after_turn plan rule t made) picks trace place h.1 (omega (arith, size)) e)
 
 made-last : (r : GuessRule) (plan : Plan) (rule : DelayRule) (t : TimedTurn) (picks : List ℕ) (trace : List Made) (place : ℕ) (made : Made) →
     AreEarliest r plan rule t picks trace → length picks ≡ length trace → place ≡ earliest r plan rule (turn_after plan rule t trace) →
@@ -59,7 +59,7 @@ made-last r plan rule t [] [] place made h size e = (e, tt)
 made-last r plan rule t (p ∷ picks) [] place made h size e = absurd (omega (arith, size))
 made-last r plan rule t [] (first ∷ trace) place made h size e = absurd h
 made-last r plan rule t (p ∷ picks) (first ∷ trace) place made h size e =
-    (h.0, made-last r plan rule (turned plan rule t first) picks trace place made h.1 (omega (arith, size)) e)
+    (h.0, made-last r plan rule (after_turn plan rule t first) picks trace place made h.1 (omega (arith, size)) e)
 
 -- one more move was noted
 pub watched-last : {W : Type 0} (noted : W → Made → TimedMove → W) (plan : Plan) (rule : DelayRule) (t : TimedTurn) (w : W) (trace : List Made) (made : Made) →
@@ -69,7 +69,7 @@ pub watched-last : {W : Type 0} (noted : W → Made → TimedMove → W) (plan :
 unfolding watched
 watched-last noted plan rule t w [] made = refl
 watched-last noted plan rule t w (first ∷ trace) made =
-    watched-last noted plan rule (turned plan rule t first)
+    watched-last noted plan rule (after_turn plan rule t first)
     (noted w first (done_after plan t.earlier (delayed_at rule t.state t.earlier first.move))) trace made
 
 -- and one more text written
@@ -82,12 +82,12 @@ text-after noted text plan rule t w [] made = append-nil (text w made (done_afte
 text-after {W} noted text plan rule t w (first ∷ trace) made =
     let next : W = noted w first (done_after plan t.earlier (delayed_at rule t.state t.earlier first.move)) in
     ap (λ (l : List ℕ). text w first (done_after plan t.earlier (delayed_at rule t.state t.earlier first.move)) ++ l)
-    (text-after noted text plan rule (turned plan rule t first) next trace made)
+    (text-after noted text plan rule (after_turn plan rule t first) next trace made)
     ∙ sym (append_assoc (text w first (done_after plan t.earlier (delayed_at rule t.state t.earlier first.move)))
-    (watched_text noted text plan rule (turned plan rule t first) next trace)
-    (text (watched noted plan rule (turned plan rule t first) next trace) made (done_after plan
-    (turn_after plan rule (turned plan rule t first) trace).earlier (delayed_at rule (turn_after plan rule (turned plan rule t first) trace).state
-    (turn_after plan rule (turned plan rule t first) trace).earlier made.move))))
+    (watched_text noted text plan rule (after_turn plan rule t first) next trace)
+    (text (watched noted plan rule (after_turn plan rule t first) next trace) made (done_after plan
+    (turn_after plan rule (after_turn plan rule t first) trace).earlier (delayed_at rule (turn_after plan rule (after_turn plan rule t first) trace).state
+    (turn_after plan rule (after_turn plan rule t first) trace).earlier made.move))))
 
 -- a watcher after a turn, and what it has written: the text of a move by the clock comes last
 pub watcher-more : {W : Type 0} (noted : W → Made → TimedMove → W) (plan : Plan) (rule : DelayRule) (begin turn : TimedTurn) (first watcher next : W)
@@ -132,7 +132,8 @@ capped-is plan rule t clock mv few h early kept =
     let g = time_few plan rule t.state t.earlier mv few in
     omega (arith, f, g, early)
 
-each_capped : (plan : Plan) (rule : DelayRule) (t : TimedTurn) (clock : SiteTimes) (moves : List Move) → AreDelays rule.spans → Follows plan rule t.earlier clock →
+each_capped : (plan : Plan) (rule : DelayRule) (t : TimedTurn) (clock : SiteTimes) (moves : List Move) → AreDelays rule.spans →
+    Follows plan rule t.earlier clock →
     greatest_time t.earlier + 1000 < 2 ^ 64 → AllByRecursion (AreKept plan) moves →
     AllByRecursion (λ mv. capped (clocked clock t.state) mv ≡ time_in plan rule t.state t.earlier mv) moves
 each_capped plan rule t clock [] few h early kept = tt
@@ -177,16 +178,16 @@ pub so-far-more : (r : GuessRule) (plan : Plan) (rule : DelayRule) (begin : Time
     (clock after : SiteTimes) (place : ℕ) (made : Made) → AreDelays rule.spans → SoFar r plan rule begin picks trace turn clock →
     greatest_time turn.earlier + 1000 < 2 ^ 64 → AreKept plan made.move → place ≡ earliest r plan rule turn →
     after ≡ stamped clock made.move (capped (clocked clock turn.state) made.move) →
-    SoFar r plan rule begin (picks ++ place ∷ []) (trace ++ made ∷ []) (turned plan rule turn made) after
+    SoFar r plan rule begin (picks ++ place ∷ []) (trace ++ made ∷ []) (after_turn plan rule turn made) after
 so-far-more r plan rule begin picks trace turn clock after place made few h early kept picked stamps =
     let there : place ≡ earliest r plan rule (turn_after plan rule begin trace) = picked ∙ ap (earliest r plan rule) h.turn_is in
     let c = capped-is plan rule turn clock made.move few h.follows early kept in
     let n = length-last trace made in
     record {
-      turn_is = ap (λ (t : TimedTurn). turned plan rule t made) h.turn_is ∙ sym (turn-last plan rule begin trace made);
+      turn_is = ap (λ (t : TimedTurn). after_turn plan rule t made) h.turn_is ∙ sym (turn-last plan rule begin trace made);
       are_earliest = made-last r plan rule begin picks trace place made h.are_earliest h.size there;
       size = let p = length-last picks place in let s = h.size in omega (arith, p, n, s);
-      follows = subst (λ (k : SiteTimes). Follows plan rule (turned plan rule turn made).earlier k)
+      follows = subst (λ (k : SiteTimes). Follows plan rule (after_turn plan rule turn made).earlier k)
           (sym (stamps ∙ ap (λ (n : ℕ). stamped clock made.move n) c))
           (follows_more plan rule turn.earlier clock (delayed_at rule turn.state turn.earlier made.move) h.follows kept);
       early =

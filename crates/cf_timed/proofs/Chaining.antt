@@ -6,7 +6,7 @@ use Rattle.cf_index.specs.Sites.{shares}
 use Rattle.cf_index.proofs.SharedSites.{shared_at, shared_place}
 use Rattle.cf_bind.specs.declared.moves.Move.{Move}
 use Rattle.cf_timed.specs.declared.timed_move.TimedMove.{TimedMove}
-use Rattle.cf_timed.specs.Times.{DelayedMove, before, delayed, done_at, done_after, greatest_time, time_after, times, times_after}
+use Rattle.cf_timed.specs.Times.{DelayedMove, before, delayed, done_at, done_after, greatest_time, finish_after, moves_with_times, times_after}
 use Rattle.cf_timed.specs.Chains.{AreLinked, ArePart, IsChain, IsLongest, sum_of_delays}
 use Rattle.cf_timed.proofs.Greatest.{where_more, where_none}
 
@@ -29,7 +29,8 @@ part_last (p ∷ part) (first ∷ moves) move (inl h) = inl (h.0, part_last part
 part_last (p ∷ part) (first ∷ moves) move (inr h) = inr (part_last (p ∷ part) moves move h)
 
 -- a chain that ends with a move, and a next one that shares a site with that
-pub linked_last : (plan : Plan) (chain : List DelayedMove) (last move : DelayedMove) → AreLinked plan (chain ++ last ∷ []) → shares plan last.mv move.mv ≡ true →
+pub linked_last : (plan : Plan) (chain : List DelayedMove) (last move : DelayedMove) → AreLinked plan (chain ++ last ∷ []) →
+    shares plan last.mv move.mv ≡ true →
     AreLinked plan ((chain ++ last ∷ []) ++ move ∷ [])
 linked_last plan [] last move h e = (e, tt)
 linked_last plan (c ∷ []) last move h e = (h.0, (e, tt))
@@ -104,8 +105,8 @@ latest_of plan moves test (done ∷ earlier) h = subst (λ (n : ℕ). Latest pla
 
 -- a further move ends a chain at its time
 ends_more : (plan : Plan) (moves : List DelayedMove) (earlier : List TimedMove) (move : DelayedMove) → AllEnd plan moves earlier →
-    EndsAt plan (moves ++ move ∷ []) move (time_after plan earlier move)
-unfolding time_after
+    EndsAt plan (moves ++ move ∷ []) move (finish_after plan earlier move)
+unfolding finish_after
 ends_more plan moves earlier move h = by (latest_of plan moves (shares plan move.mv) earlier h)
   where
     by : Latest plan moves (shares plan move.mv) (greatest_time (before plan move.mv earlier)) ⊎ (greatest_time (before plan move.mv earlier) ≡ 0) →
@@ -139,7 +140,8 @@ always [] = refl
 always (done ∷ moves) = ap (λ (l : List TimedMove). done ∷ l) (always moves)
 
 -- one more move lowers no greatest time
-time_grows : (test : TimedMove → Bool) (done : TimedMove) (moves : List TimedMove) → greatest_time (filter test moves) ≤ greatest_time (filter test (done ∷ moves))
+time_grows : (test : TimedMove → Bool) (done : TimedMove) (moves : List TimedMove) →
+    greatest_time (filter test moves) ≤ greatest_time (filter test (done ∷ moves))
 time_grows test done moves = let e = where_more test done moves in omega (arith, e)
 
 all_grows : (done : TimedMove) (moves : List TimedMove) → greatest_time moves ≤ greatest_time (done ∷ moves)
@@ -175,8 +177,8 @@ linked_rest plan move [] h = tt
 linked_rest plan move (next ∷ chain) h = h.1
 
 waits : (plan : Plan) (earlier : List TimedMove) (move : DelayedMove) (s : ℕ) → s ≤ greatest_time (before plan move.mv earlier) →
-    s + move.delay ≤ time_after plan earlier move
-unfolding time_after
+    s + move.delay ≤ finish_after plan earlier move
+unfolding finish_after
 waits plan earlier move s h = omega (arith, h)
 
 -- no chain has a greater sum
@@ -203,8 +205,8 @@ most_of plan earlier (move ∷ rest) (c ∷ chain) s most ready (inl h) linked =
     omega (arith, r, e, q)
 
 -- the greatest time of a run is that of its longest chain
-pub longest : (plan : Plan) (moves : List DelayedMove) → IsLongest plan moves (greatest_time (times plan moves))
-unfolding times
+pub longest : (plan : Plan) (moves : List DelayedMove) → IsLongest plan moves (greatest_time (moves_with_times plan moves))
+unfolding moves_with_times
 longest plan moves = by (latest_of plan moves (λ move. true) (times_after plan [] moves) (all_ends plan [] [] moves tt))
   where
     most : (other : List DelayedMove) → IsChain plan moves other → sum_of_delays other ≤ greatest_time (times_after plan [] moves)

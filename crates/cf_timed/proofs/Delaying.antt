@@ -10,9 +10,9 @@ use Rattle.cf_semantics.specs.state.State.{State}
 use Rattle.cf_timed.specs.declared.span.Span.{Span}
 use Rattle.cf_timed.specs.declared.timed_move.TimedMove.{TimedMove}
 use Rattle.cf_timed.specs.Delays.{AreDelays, IsSpan, one_tick, slot_of, span_of}
-use Rattle.cf_timed.specs.DelayedRuns.{DelayRule, class_at, delay_at, delayed_at, word_of}
+use Rattle.cf_timed.specs.DelayedRuns.{DelayRule, class_of_move, delay_at, delayed_at, word_of_move}
 use Rattle.cf_timed.specs.Drawing.{ticks_in}
-use Rattle.cf_timed.specs.Times.{greatest_time, time_after}
+use Rattle.cf_timed.specs.Times.{greatest_time, finish_after}
 use Rattle.cf_timed.proofs.Greatest.{where_more, where_none}
 
 -- each delay is a range
@@ -38,7 +38,8 @@ ticks_few span (Some word) (low, between, high) =
 
 pub delay_few : (rule : DelayRule) (s : State) (moves : List TimedMove) (mv : Move) → AreDelays rule.spans → delay_at rule s moves mv ≤ 1000
 unfolding delay_at
-delay_few rule s moves mv h = ticks_few (span_of rule.spans mv (class_at s mv)) (word_of rule.seed moves mv) (is_span rule.spans mv (class_at s mv) h)
+delay_few rule s moves mv h = ticks_few (span_of rule.spans mv (class_of_move s mv)) (word_of_move rule.seed moves mv)
+    (is_span rule.spans mv (class_of_move s mv) h)
 
 -- a move finishes at most its delay after all earlier ones
 pub all_time : (done : TimedMove) (moves : List TimedMove) → greatest_time (done ∷ moves) ≡ max done.time (greatest_time moves)
@@ -59,8 +60,8 @@ kept_time test (done ∷ moves) =
     few false = omega arith
 
 pub time_few : (plan : Plan) (rule : DelayRule) (s : State) (moves : List TimedMove) (mv : Move) → AreDelays rule.spans →
-    time_after plan moves (delayed_at rule s moves mv) ≤ greatest_time moves + 1000
-unfolding time_after
+    finish_after plan moves (delayed_at rule s moves mv) ≤ greatest_time moves + 1000
+unfolding finish_after
 time_few plan rule s moves mv h =
     let k = kept_time (λ done. shares plan mv done.mv) moves in
     let d = delay_few rule s moves mv h in

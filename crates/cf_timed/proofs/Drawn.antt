@@ -8,8 +8,8 @@ use Rattle.cf_bind.specs.declared.moves.Move.{Move}
 use Rattle.cf_semantics.specs.state.Options.{on}
 use Rattle.cf_timed.specs.declared.draws.DelayDraws.{DelayDraws}
 use Rattle.cf_timed.specs.declared.timed_move.TimedMove.{TimedMove}
-use Rattle.cf_timed.specs.DelayedRuns.{drawn_before, word_of}
-use Rattle.cf_timed.specs.Drawing.{after_word, drawn_from, generator, next_state, next_word, started_from, stream_count, stream_of, word_after}
+use Rattle.cf_timed.specs.DelayedRuns.{drawn_before, word_of_move}
+use Rattle.cf_timed.specs.Drawing.{after_word, drawn_from, generator, next_draw_state, next_word, started_from, stream_count, stream_of, drawn_word}
 use Rattle.cf_timed.specs.Numbers.{number_at}
 use Rattle.cf_timed.proofs.Numbered.{numbered_at, numbered_length, set_length}
 
@@ -24,8 +24,8 @@ HasDrawn (Some seed) moves draws = record {
 
 -- so the next word is the word after those
 pub word_drawn : (seed : Option ℕ) (moves : List TimedMove) (draws : DelayDraws) (mv : Move) → HasDrawn seed moves draws → stream_of mv < stream_count →
-    next_word draws (stream_of mv) ≡ word_of seed moves mv
-unfolding next_word word_of word_after
+    next_word draws (stream_of mv) ≡ word_of_move seed moves mv
+unfolding next_word word_of_move drawn_word
 word_drawn None moves draws mv h below = rw h refl
 word_drawn (Some seed) moves draws mv h below =
     let e = h.seeded in
@@ -71,27 +71,29 @@ drawn_more stream done moves = by (nat_eq stream (stream_of done.mv)) refl
 -- the draws after a word
 after_none : (draws : DelayDraws) (stream : ℕ) → draws.seed ≡ None → after_word draws stream ≡ draws
 unfolding after_word
-after_none draws stream e = ap (λ (o : Option ℕ). on o draws (λ n. record draws { states = slice_set draws.states stream (next_state draws stream) })) e
+after_none draws stream e = ap (λ (o : Option ℕ). on o draws (λ n. record draws { states = slice_set draws.states stream (next_draw_state draws stream) })) e
 
 after_some : (draws : DelayDraws) (stream seed : ℕ) → draws.seed ≡ Some seed →
-    after_word draws stream ≡ record draws { states = slice_set draws.states stream (next_state draws stream) }
+    after_word draws stream ≡ record draws { states = slice_set draws.states stream (next_draw_state draws stream) }
 unfolding after_word
-after_some draws stream seed e = ap (λ (o : Option ℕ). on o draws (λ n. record draws { states = slice_set draws.states stream (next_state draws stream) })) e
+after_some draws stream seed e = ap (λ (o : Option ℕ). on o draws (λ n. record draws { states = slice_set draws.states stream (next_draw_state draws stream) }))
+    e
 
 pub word_taken : (seed : Option ℕ) (moves : List TimedMove) (draws : DelayDraws) (done : TimedMove) → HasDrawn seed moves draws →
     stream_of done.mv < stream_count → HasDrawn seed (done ∷ moves) (after_word draws (stream_of done.mv))
 word_taken None moves draws done h below = subst (HasDrawn None (done ∷ moves)) (sym (after_none draws (stream_of done.mv) h)) h
-word_taken (Some seed) moves draws done h below = subst (HasDrawn (Some seed) (done ∷ moves)) (sym (after_some draws (stream_of done.mv) seed h.seeded)) (record {
-  seeded = h.seeded;
-  size = set_length draws.states (stream_of done.mv) (next_state draws (stream_of done.mv)) ∙ h.size;
-  states = λ stream within.
-      number_put draws.states (stream_of done.mv) stream (next_state draws (stream_of done.mv)) (let s = h.size in omega (arith, s, below))
-      ∙ by stream (nat_eq stream (stream_of done.mv)) refl within
-      ∙ sym (ap (λ (n : ℕ). (generator seed stream n).state) (drawn_more stream done moves));
-})
+word_taken (Some seed) moves draws done h below = subst (HasDrawn (Some seed) (done ∷ moves)) (sym (after_some draws (stream_of done.mv) seed h.seeded))
+    (record {
+      seeded = h.seeded;
+      size = set_length draws.states (stream_of done.mv) (next_draw_state draws (stream_of done.mv)) ∙ h.size;
+      states = λ stream within.
+          number_put draws.states (stream_of done.mv) stream (next_draw_state draws (stream_of done.mv)) (let s = h.size in omega (arith, s, below))
+          ∙ by stream (nat_eq stream (stream_of done.mv)) refl within
+          ∙ sym (ap (λ (n : ℕ). (generator seed stream n).state) (drawn_more stream done moves));
+    })
   where
     by : (stream : ℕ) (same : Bool) → nat_eq stream (stream_of done.mv) ≡ same → stream < stream_count →
-        cond same (next_state draws (stream_of done.mv)) (number_at draws.states stream)
+        cond same (next_draw_state draws (stream_of done.mv)) (number_at draws.states stream)
         ≡ (generator seed stream (cond same (suc (drawn_before stream moves)) (drawn_before stream moves))).state
     by stream true e within =
         let q : stream ≡ stream_of done.mv = grind (arith, nat_tests) in

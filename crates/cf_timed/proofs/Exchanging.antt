@@ -22,7 +22,7 @@ use Rattle.cf_bind.specs.declared.moves.Move.TheVariants.{Issue, Emit, Climb, Fa
 use Rattle.cf_semantics.specs.moves.Sites.{Site, Stage, OfStage, reads, writes}
 use Rattle.cf_semantics.specs.state.State.{cell_at}
 use Rattle.cf_index.specs.Sites.{HasSites}
-use Rattle.cf_timed.specs.DelayedRuns.{DelayRule, Visit, class_at, class_in, delayed_at, timed, visit, visits_from}
+use Rattle.cf_timed.specs.DelayedRuns.{DelayRule, Visit, class_of_move, class_in, delayed_at, timed_visits, visit, visits_from}
 use Rattle.cf_timed.specs.Exchanges.{CanExchange}
 use Rattle.cf_timed.specs.Times.{done_after}
 use Rattle.cf_timed.proofs.Following.{moves_kept}
@@ -100,17 +100,20 @@ cell_kept plan m mv i free none = by (writes plan m.state mv (Stage i)) refl
 
 class_kept : (plan : Plan) (m : Moment) (mv other : Move) → bar plan m.state mv ≡ None →
     ((x : Site) → writes plan m.state mv x ≡ true → (reads plan m.state other x || writes plan m.state other x) ≡ false) →
-    class_at (next plan m mv).state other ≡ class_at m.state other
-unfolding class_at
+    class_of_move (next plan m mv).state other ≡ class_of_move m.state other
+unfolding class_of_move
 class_kept plan m mv other free apart = by other apart
   where
     by : (other : Move) → ((x : Site) → writes plan m.state mv x ≡ true → (reads plan m.state other x || writes plan m.state other x) ≡ false) →
-        class_at (next plan m mv).state other ≡ class_at m.state other
-    by (Execute i) apart = ap class_in (cell_kept plan m mv i free (λ w. not_both (reads plan m.state (Execute i) (Stage i)) (writes plan m.state (Execute i) (Stage i))
+        class_of_move (next plan m mv).state other ≡ class_of_move m.state other
+    by (Execute i) apart = ap class_in (cell_kept plan m mv i free (λ w. not_both (reads plan m.state (Execute i) (Stage i))
+        (writes plan m.state (Execute i) (Stage i))
         (executes plan m.state i) (apart (Stage i) w)))
-    by (Launch i) apart = ap class_in (cell_kept plan m mv i free (λ w. not_both (reads plan m.state (Launch i) (Stage i)) (writes plan m.state (Launch i) (Stage i))
+    by (Launch i) apart = ap class_in (cell_kept plan m mv i free (λ w. not_both (reads plan m.state (Launch i) (Stage i))
+        (writes plan m.state (Launch i) (Stage i))
         (launches plan m.state i) (apart (Stage i) w)))
-    by (Recover i) apart = ap class_in (cell_kept plan m mv i free (λ w. not_both (reads plan m.state (Recover i) (Stage i)) (writes plan m.state (Recover i) (Stage i))
+    by (Recover i) apart = ap class_in (cell_kept plan m mv i free (λ w. not_both (reads plan m.state (Recover i) (Stage i))
+        (writes plan m.state (Recover i) (Stage i))
         (recovers plan m.state i) (apart (Stage i) w)))
     by (Issue g) apart = refl
     by Emit apart = refl
@@ -135,8 +138,8 @@ visits-after plan m (mv ∷ front) rest = ap (λ (l : List Visit). visit m.state
 record Exchanged (plan : Plan) (m : Moment) (a b : Move) (rest : List Move) : Type 0 where
   allowed : IsRun plan m (b ∷ a ∷ rest)
   leads : next plan (next plan m b) a ≡ next plan (next plan m a) b
-  class_a : class_at (next plan m b).state a ≡ class_at m.state a
-  class_b : class_at (next plan m a).state b ≡ class_at m.state b
+  class_a : class_of_move (next plan m b).state a ≡ class_of_move m.state a
+  class_b : class_of_move (next plan m a).state b ≡ class_of_move m.state b
 
 exchanged : (plan : Plan) (m : Moment) (a b : Move) (rest : List Move) → HasSidings plan m.state → IsRun plan m (a ∷ b ∷ rest) → shares plan a b ≡ false →
     stands_alone plan m.state a ≡ false → stands_alone plan (next plan m a).state b ≡ false → Exchanged plan m a b rest
@@ -165,7 +168,7 @@ can-exchange plan x rule front a b rest acc sites_a sites_b h apart first second
     let alone : stands_alone plan (next plan at a).state b ≡ false = subst (λ (q : Moment). stands_alone plan q.state b ≡ false)
     (run-after plan m front (a ∷ [])) second in
     let e = exchanged plan at a b rest (sidings-run plan m front begun (sidings-start plan x)) there apart first alone in
-    let early = timed plan rule (visits_from plan m front) in
+    let early = timed_visits plan rule (visits_from plan m front) in
     let later : List Visit = visits_from plan (next plan (next plan at a) b) rest in
     let s = swapped plan rule early at.state (next plan at a).state (next plan at b).state a b later (record {
       apart = apart;
@@ -183,10 +186,11 @@ can-exchange plan x rule front a b rest acc sites_a sites_b h apart first second
         second = done_after plan early (delayed_at rule at.state early b);
         first_is = refl;
         second_is = refl;
-        one = ap (timed plan rule) (visits-after plan m front (a ∷ b ∷ rest))
+        one = ap (timed_visits plan rule) (visits-after plan m front (a ∷ b ∷ rest))
             ∙ timed-front plan rule [] (visits_from plan m front) (visit at.state a ∷ visit (next plan at a).state b ∷ later) ∙ s.1;
-        other = ap (timed plan rule) (visits-after plan m front (b ∷ a ∷ rest))
-            ∙ ap (λ (q : Moment). timed plan rule (visits_from plan m front ++ visit at.state b ∷ visit (next plan at b).state a ∷ visits_from plan q rest))
+        other = ap (timed_visits plan rule) (visits-after plan m front (b ∷ a ∷ rest))
+            ∙ ap (λ (q : Moment). timed_visits plan rule (visits_from plan m front ++ visit at.state b ∷ visit (next plan at b).state a ∷ visits_from plan q
+            rest))
             e.leads
             ∙ timed-front plan rule [] (visits_from plan m front) (visit at.state b ∷ visit (next plan at b).state a ∷ later) ∙ s.2;
       };

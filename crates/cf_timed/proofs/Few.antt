@@ -14,7 +14,7 @@ use Rattle.cf_sched.specs.Paces.{offered_by}
 use Rattle.cf_run.specs.Going.{Leads, moment_of}
 use Rattle.cf_run.specs.Made.{Made, moves_of, tally_of}
 use Rattle.cf_run.specs.Moving.{RunPlace}
-use Rattle.cf_run.specs.Policies.{Chooser, Picks, after_choice, first_pick, fresh, later_picks}
+use Rattle.cf_run.specs.Policies.{Chooser, Picks, after_choice, first_pick, fresh_chooser, later_picks}
 use Rattle.cf_run.specs.Reaching.{Reaches}
 use Rattle.cf_run.proofs.AfterOutput.{next-retired}
 use Rattle.cf_run.proofs.Bounds.{bound_grows, bound_number, reached-bounded}
@@ -46,7 +46,7 @@ reached-within limit begin now h within =
 -- so few moves are made that no time is beyond 64 bits
 pub moves-few : (r : GuessRule) (limit : ℕ) (begin now : RunPlace) (picks : List ℕ) (last : Chooser (List ℕ)) → IsAccepted begin.core.plan →
     length begin.core.state.regs ≡ 32 → CanRunTimed limit begin.core → (reached : Reaches limit show.report begin now) →
-    Picks first_pick later_picks begin.core.plan (fresh r picks) begin.core.state reached.trace last → 1000 * (length reached.trace + 1) < 2 ^ 64
+    Picks first_pick later_picks begin.core.plan (fresh_chooser r picks) begin.core.state reached.trace last → 1000 * (length reached.trace + 1) < 2 ^ 64
 unfolding tally_of
 moves-few r limit begin now picks last acc wide can reached picked =
     let few = can.few in

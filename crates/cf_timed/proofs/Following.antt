@@ -15,11 +15,11 @@ use Rattle.cf_semantics.specs.state.State.{State}
 use Rattle.cf_timed.specs.declared.draws.DelayDraws.{DelayDraws}
 use Rattle.cf_timed.specs.declared.timed_move.TimedMove.{TimedMove}
 use Rattle.cf_timed.specs.Delays.{span_of}
-use Rattle.cf_timed.specs.DelayedRuns.{DelayRule, Visit, class_at, delay_at, delayed_at, timed_after, word_of}
+use Rattle.cf_timed.specs.DelayedRuns.{DelayRule, Visit, class_of_move, delay_at, delayed_at, timed_after, word_of_move}
 use Rattle.cf_timed.specs.Drawing.{after_word, drawn_from, stream_count, stream_of, ticks_in}
 use Rattle.cf_timed.specs.Numbers.{number_at}
-use Rattle.cf_timed.specs.Times.{DelayedMove, done_at, done_after, greatest, greatest_time, time_after}
-use Rattle.cf_timed.specs.Clocks.{SiteTimes, ClockKnows, allowed, clocked, delay_by, drawing, finish, made, made_all, put_time, put_times, row_at, rule_of, stamped, started, time_at}
+use Rattle.cf_timed.specs.Times.{DelayedMove, done_at, done_after, greatest, greatest_time, finish_after}
+use Rattle.cf_timed.specs.Clocks.{SiteTimes, ClockKnows, allowed, clocked, delay_by, drawing, finish_time, made, made_all, put_time, put_times, siding_row, rule_of_clock, stamped, started, time_at}
 use Rattle.cf_timed.proofs.Drawn.{HasDrawn, drawn_start, number_put, word_drawn, word_taken}
 use Rattle.cf_timed.proofs.SiteTimes.{at_start, put_delays, put_draws, put_latest, put_same, same_drawn, same_times}
 use Rattle.cf_timed.proofs.Greatest.{greatest_where, where_any, where_more, where_none}
@@ -42,7 +42,7 @@ AreKept plan mv = AllByRecursion IsKept (used plan mv)
 pub record HasRoom (c : SiteTimes) : Type 0 where
   pub stages : length c.stages ≡ 34
   pub sidings : length c.cells ≡ 8
-  pub cells : (k : ℕ) → k < 8 → length (row_at c.cells k) ≡ 8
+  pub cells : (k : ℕ) → k < 8 → length (siding_row c.cells k) ≡ 8
 
 -- the greatest time of the moves that use the site
 abbrev pub last_at : Plan → List TimedMove → Site → ℕ
@@ -51,7 +51,7 @@ last_at plan moves x = greatest_where (λ done. uses_place plan done.mv x) moves
 -- the clock has recorded the moves
 pub record Follows (plan : Plan) (rule : DelayRule) (moves : List TimedMove) (c : SiteTimes) : Type 0 where
   pub plan_is : c.plan ≡ plan
-  pub rule_is : rule_of c ≡ rule
+  pub rule_is : rule_of_clock c ≡ rule
   pub drawn : HasDrawn rule.seed moves c.draws
   pub room : HasRoom c
   pub latest_is : c.latest ≡ greatest_time moves
@@ -89,13 +89,13 @@ pub delay_follows : (plan : Plan) (rule : DelayRule) (moves : List TimedMove) (c
 unfolding delay_by delay_at
 delay_follows plan rule moves c s mv h kept =
     let w = word_drawn rule.seed moves c.draws mv h.drawn (stream_kept plan mv kept) in
-    ap (ticks_in (span_of c.delays mv (class_at s mv))) w
-    ∙ ap (λ (r : DelayRule). ticks_in (span_of r.spans mv (class_at s mv)) (word_of rule.seed moves mv)) h.rule_is
+    ap (ticks_in (span_of c.delays mv (class_of_move s mv))) w
+    ∙ ap (λ (r : DelayRule). ticks_in (span_of r.spans mv (class_of_move s mv)) (word_of_move rule.seed moves mv)) h.rule_is
 
 -- when a further move finishes
 pub finish_follows : (plan : Plan) (rule : DelayRule) (moves : List TimedMove) (c : SiteTimes) (s : State) (mv : Move) → Follows plan rule moves c →
-    AreKept plan mv → finish (clocked c s) mv ≡ time_after plan moves (delayed_at rule s moves mv)
-unfolding finish time_after shares delay_by greatest_time
+    AreKept plan mv → finish_time (clocked c s) mv ≡ finish_after plan moves (delayed_at rule s moves mv)
+unfolding finish_time finish_after shares delay_by greatest_time
 finish_follows plan rule moves c s mv h kept =
     let p = h.plan_is in
     let d = delay_follows plan rule moves c s mv h kept in
@@ -103,7 +103,7 @@ finish_follows plan rule moves c s mv h kept =
     (ap greatest (map_same (time_at c) (last_at plan moves) (used plan mv) kept h.times_are)
     ∙ where_any (λ x done. uses_place plan done.mv x) (used plan mv) moves))
 
-row_put : (rows : List (List ℕ)) (k m : ℕ) (row : List ℕ) → k < length rows → row_at (slice_set rows k row) m ≡ cond (nat_eq m k) row (row_at rows m)
+row_put : (rows : List (List ℕ)) (k m : ℕ) (row : List ℕ) → k < length rows → siding_row (slice_set rows k row) m ≡ cond (nat_eq m k) row (siding_row rows m)
 row_put [] k m row within = absurd (omega arith)
 row_put (r ∷ rows) zero zero row within = refl
 row_put (r ∷ rows) zero (suc m) row within = let e : nat_eq (suc m) 0 ≡ false = grind (arith, nat_tests) in rw e refl
@@ -111,13 +111,14 @@ row_put (r ∷ rows) (suc k) zero row within = let e : nat_eq 0 (suc k) ≡ fals
 row_put (r ∷ rows) (suc k) (suc m) row within = let e : nat_eq (suc m) (suc k) ≡ nat_eq m k = grind (arith, nat_tests) in
     rw e (row_put rows k m row (omega arith))
 
-cell_put : (rows : List (List ℕ)) (k i m j t : ℕ) → k < length rows → i < length (row_at rows k) →
-    number_at (row_at (slice_set rows k (slice_set (row_at rows k) i t)) m) j ≡ cond (nat_eq m k && nat_eq j i) t (number_at (row_at rows m) j)
-cell_put rows k i m j t within inside = ap (λ (row : List ℕ). number_at row j) (row_put rows k m (slice_set (row_at rows k) i t) within) ∙ by (nat_eq m k) refl
+cell_put : (rows : List (List ℕ)) (k i m j t : ℕ) → k < length rows → i < length (siding_row rows k) →
+    number_at (siding_row (slice_set rows k (slice_set (siding_row rows k) i t)) m) j ≡ cond (nat_eq m k && nat_eq j i) t (number_at (siding_row rows m) j)
+cell_put rows k i m j t within inside = ap (λ (row : List ℕ). number_at row j) (row_put rows k m (slice_set (siding_row rows k) i t) within)
+    ∙ by (nat_eq m k) refl
   where
-    by : (same : Bool) → nat_eq m k ≡ same → number_at (cond same (slice_set (row_at rows k) i t) (row_at rows m)) j
-        ≡ cond (same && nat_eq j i) t (number_at (row_at rows m) j)
-    by true e = let q : m ≡ k = grind (arith, nat_tests) in rw q (number_put (row_at rows k) i j t inside)
+    by : (same : Bool) → nat_eq m k ≡ same → number_at (cond same (slice_set (siding_row rows k) i t) (siding_row rows m)) j
+        ≡ cond (same && nat_eq j i) t (number_at (siding_row rows m) j)
+    by true e = let q : m ≡ k = grind (arith, nat_tests) in rw q (number_put (siding_row rows k) i j t inside)
     by false e = refl
 
 -- the time of a site after one was put
@@ -170,7 +171,7 @@ room_put c t (Stage i) room kept = record { stages = size c.stages i t ∙ room.
     size (x ∷ xs) zero t = refl
     size (x ∷ xs) (suc i) t = ap suc (size xs i t)
 room_put c t (SidingCell k i) room kept =
-    record { stages = room.stages; sidings = sizes c.cells k (slice_set (row_at c.cells k) i t) ∙ room.sidings; cells = cells }
+    record { stages = room.stages; sidings = sizes c.cells k (slice_set (siding_row c.cells k) i t) ∙ room.sidings; cells = cells }
   where
     size : (xs : List ℕ) (i t : ℕ) → length (slice_set xs i t) ≡ length xs
     size [] i t = refl
@@ -182,11 +183,11 @@ room_put c t (SidingCell k i) room kept =
     sizes (x ∷ xs) zero row = refl
     sizes (x ∷ xs) (suc i) row = ap suc (sizes xs i row)
 
-    cells : (m : ℕ) → m < 8 → length (row_at (slice_set c.cells k (slice_set (row_at c.cells k) i t)) m) ≡ 8
-    cells m small = ap length (row_put c.cells k m (slice_set (row_at c.cells k) i t) (omega (arith, room.sidings, kept.0))) ∙ by (nat_eq m k)
+    cells : (m : ℕ) → m < 8 → length (siding_row (slice_set c.cells k (slice_set (siding_row c.cells k) i t)) m) ≡ 8
+    cells m small = ap length (row_put c.cells k m (slice_set (siding_row c.cells k) i t) (omega (arith, room.sidings, kept.0))) ∙ by (nat_eq m k)
       where
-        by : (same : Bool) → length (cond same (slice_set (row_at c.cells k) i t) (row_at c.cells m)) ≡ 8
-        by true = size (row_at c.cells k) i t ∙ room.cells k kept.0
+        by : (same : Bool) → length (cond same (slice_set (siding_row c.cells k) i t) (siding_row c.cells m)) ≡ 8
+        by true = size (siding_row c.cells k) i t ∙ room.cells k kept.0
         by false = room.cells m small
 room_put c t Lane room kept = record { stages = room.stages; sidings = room.sidings; cells = room.cells }
 room_put c t Fetching room kept = record { stages = room.stages; sidings = room.sidings; cells = room.cells }
@@ -244,8 +245,8 @@ latest_more moves d t = omega arith
 
 -- no site that a move uses has a later time than the move
 pub no_later : (plan : Plan) (moves : List TimedMove) (d : DelayedMove) (x : Site) → uses_place plan d.mv x ≡ true →
-    last_at plan moves x ≤ time_after plan moves d
-unfolding time_after shares uses_place
+    last_at plan moves x ≤ finish_after plan moves d
+unfolding finish_after shares uses_place
 no_later plan moves d x e =
     let r = reaches (last_at plan moves) x (used plan d.mv) e in
     let a = where_any (λ y done. uses_place plan done.mv y) (used plan d.mv) moves in
@@ -262,9 +263,9 @@ seed_kept c mv = by c.draws.seed refl
 
 -- a clock that records one more move
 pub follows_more : (plan : Plan) (rule : DelayRule) (moves : List TimedMove) (c : SiteTimes) (d : DelayedMove) → Follows plan rule moves c →
-    AreKept plan d.mv → Follows plan rule (done_after plan moves d ∷ moves) (stamped c d.mv (time_after plan moves d))
+    AreKept plan d.mv → Follows plan rule (done_after plan moves d ∷ moves) (stamped c d.mv (finish_after plan moves d))
 follows_more plan rule moves c d h kept =
-    let t : ℕ = time_after plan moves d in
+    let t : ℕ = finish_after plan moves d in
     let put : SiteTimes = put_times (allowed c t) t (used plan d.mv) in
     let draws_are : put.draws ≡ c.draws = put_draws (allowed c t) t (used plan d.mv) in
     let spans_are : put.delays ≡ c.delays = put_delays (allowed c t) t (used plan d.mv) in
@@ -280,11 +281,11 @@ follows_more plan rule moves c d h kept =
       times_are = λ x here. same_drawn put d.mv x ∙ place_more plan moves c d t x h.room kept here (h.times_are x here) (no_later plan moves d x);
     })
   where
-    same_rule : (a b : SiteTimes) → a.delays ≡ b.delays → a.draws.seed ≡ b.draws.seed → rule_of a ≡ rule_of b
+    same_rule : (a b : SiteTimes) → a.delays ≡ b.delays → a.draws.seed ≡ b.draws.seed → rule_of_clock a ≡ rule_of_clock b
     same_rule a b e f = rw (e, f) refl
 
 -- the clock at the start
-zero_row : (m n k : ℕ) → k < m → length (row_at (replicate m (replicate n 0)) k) ≡ n
+zero_row : (m n k : ℕ) → k < m → length (siding_row (replicate m (replicate n 0)) k) ≡ n
 zero_row zero n k within = absurd (omega arith)
 zero_row (suc m) n zero within = size n
   where
@@ -344,9 +345,9 @@ follows_all plan rule earlier c (v ∷ visits) a there h =
     let d : DelayedMove = delayed_at rule v.state earlier v.mv in
     let kept = moves_kept plan v.mv a there.0 in
     let e = finish_follows plan rule earlier c v.state v.mv h kept in
-    let next : Follows plan rule (done_after plan earlier d ∷ earlier) (stamped c v.mv (finish (clocked c v.state) v.mv)) =
+    let next : Follows plan rule (done_after plan earlier d ∷ earlier) (stamped c v.mv (finish_time (clocked c v.state) v.mv)) =
     rw e (follows_more plan rule earlier c d h kept) in
-    follows_all plan rule (done_after plan earlier d ∷ earlier) (stamped c v.mv (finish (clocked c v.state) v.mv)) visits a there.1 next
+    follows_all plan rule (done_after plan earlier d ∷ earlier) (stamped c v.mv (finish_time (clocked c v.state) v.mv)) visits a there.1 next
 
 pub run_told : (plan : Plan) (rule : DelayRule) (visits : List Visit) → IsAccepted plan → AllByRecursion (λ v. HasSites plan v.mv) visits →
     ClockKnows plan rule (timed_after plan rule [] visits) (made_all (started plan rule) visits)

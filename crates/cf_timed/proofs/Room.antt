@@ -14,7 +14,7 @@ use Rattle.cf_semantics.specs.moves.Bars.{bar}
 use Rattle.cf_semantics.specs.state.Options.{is_some}
 use Rattle.cf_semantics.specs.moves.Candidates.{all_moves, at_stages, candidates, counted_from, held_back, other_moves, slides_from}
 use Rattle.cf_semantics.specs.moves.Holding.{is_held}
-use Rattle.cf_index.specs.GuessRules.{guided, keeps}
+use Rattle.cf_index.specs.GuessRules.{guided, keeps_move}
 use Rattle.cf_sched.specs.Paces.{offered_by}
 use Rattle.cf_semantics.specs.state.Layouts.{port}
 use Rattle.cf_semantics.specs.moves.Sites.{Site}
@@ -145,7 +145,7 @@ offered_kept r plan count s a = by (is_held plan count)
     all = all_passed (AreKept plan) (λ mv. not (is_some (bar plan s mv))) (all_moves plan) (all_moves_kept plan a)
 
     there : AllByRecursion (AreKept plan) (guided r plan s)
-    there = all_passed (AreKept plan) (keeps r plan s) (candidates plan s) all
+    there = all_passed (AreKept plan) (keeps_move r plan s) (candidates plan s) all
 
     others : AllByRecursion (AreKept plan) (other_moves (guided r plan s))
     others = all_passed (AreKept plan) (λ mv. not (is_issue mv)) (guided r plan s) there

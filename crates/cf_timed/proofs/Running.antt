@@ -17,8 +17,8 @@ use Rattle.cf_sched.specs.Paces.{offered_by, stopped}
 use Rattle.run_finishes.specs.declared.finish.Ran.{Ran as Answer}
 use Rattle.run_finishes.specs.declared.finish.Ran.TheVariants as ran
 use Rattle.cf_run.specs.Made.{Made, moves_of, tally_of}
-use Rattle.cf_run.specs.Moving.{RunPlace, place_of}
-use Rattle.cf_run.specs.Policies.{Chooser, Picks, RunsPolicy, StopsAtPick, StopsPolicy, TakesPick, chooser, first_pick, fresh, later_picks, made_last, most_moves}
+use Rattle.cf_run.specs.Moving.{RunPlace, run_place_of}
+use Rattle.cf_run.specs.Policies.{Chooser, Picks, RunsPolicy, StopsAtPick, StopsPolicy, TakesPick, chooser, first_pick, fresh_chooser, later_picks, made_last, most_moves}
 use Rattle.cf_run.specs.Reaching.{Reaches, no_tally}
 use Rattle.cf_run.proofs.Bounds.{bound_grows, bound_number, bound_small, reached-bounded, reached-offered}
 use Rattle.cf_run.proofs.ByPolicy.{policy-bounded, policy-sequential, turned-more, turned-picks, turned-trace}
@@ -29,13 +29,13 @@ use Rattle.cf_run.proofs.Stopped.{offered-stopped, paced-stopped}
 use Rattle.cf_timed.specs.declared.answer.Timed.{Timed}
 use Rattle.cf_timed.specs.declared.timed_move.TimedMove.{TimedMove}
 use Rattle.cf_timed.specs.Delays.{AreDelays}
-use Rattle.cf_timed.specs.DelayedRuns.{DelayRule, delayed_at, timed, visits_of}
+use Rattle.cf_timed.specs.DelayedRuns.{DelayRule, delayed_at, timed_visits, visits_of}
 use Rattle.cf_timed.specs.declared.step.TimedStep.{TimedStep}
 use Rattle.cf_semantics.specs.declared.event.Event.{Event}
 use Rattle.cf_timed.specs.Times.{done_after, greatest_time}
 use Rattle.cf_timed.specs.Clocks.{SiteTimes, ClockKnows, capped, clocked, stamped, started}
-use Rattle.cf_timed.specs.Earliest.{AreEarliest, TimedTurn, earliest, first_least, turned}
-use Rattle.cf_timed.specs.TimedRuns.{CanRunTimed, RunsTimed, answer_of, begins, first_turn}
+use Rattle.cf_timed.specs.Earliest.{AreEarliest, TimedTurn, earliest, first_least, after_turn}
+use Rattle.cf_timed.specs.TimedRuns.{CanRunTimed, RunsTimed, answer_of_timed, begins, timed_start}
 use Rattle.cf_timed.specs.Turns.{MakesEarliest, StopsEarliest, made_as, pick_by, timed_by}
 use Rattle.cf_timed.proofs.Arriving.{SoFar, pick-is, picks-longer, so-far-more, timed-is, timed-there, tried-last}
 use Rattle.cf_timed.proofs.Following.{AreKept, follows_start, follows_tells}
@@ -47,24 +47,25 @@ pub record ComesTimed (r : GuessRule) (rule : DelayRule) (limit : ℕ) (begin no
   pub reached : Reaches limit show.report begin now
   pub picks : List ℕ
   pub turn : TimedTurn
-  pub picked : Picks first_pick later_picks begin.core.plan (fresh r picks) begin.core.state reached.trace (chooser r [] turn.count)
-  pub so_far : SoFar r begin.core.plan rule (first_turn begin.core.state) picks reached.trace turn clock
+  pub picked : Picks first_pick later_picks begin.core.plan (fresh_chooser r picks) begin.core.state reached.trace (chooser r [] turn.count)
+  pub so_far : SoFar r begin.core.plan rule (timed_start begin.core.state) picks reached.trace turn clock
   pub held_is : held ≡ stopped begin.core.plan.stages turn.count
   pub state_is : now.core.state ≡ turn.state
 
 -- no pick yet
-pub timed-first : (r : GuessRule) (rule : DelayRule) (limit : ℕ) (begin : RunPlace) (clock : SiteTimes) (held stages : ℕ) → begin.tally ≡ no_tally → clock ≡ started begin.core.plan rule → stages ≡ begin.core.plan.stages →
+pub timed-first : (r : GuessRule) (rule : DelayRule) (limit : ℕ) (begin : RunPlace) (clock : SiteTimes) (held stages : ℕ) → begin.tally ≡ no_tally →
+    clock ≡ started begin.core.plan rule → stages ≡ begin.core.plan.stages →
     held ≡ stopped stages 0 → ComesTimed r rule limit begin begin clock held
 unfolding Picks AreEarliest greatest_time
 timed-first r rule limit begin clock held stages none begun beside zero_held =
     let plan : Plan = begin.core.plan in
-    let t : TimedTurn = first_turn begin.core.state in
+    let t : TimedTurn = timed_start begin.core.state in
     let e = none-trace limit show.report begin none in
     record {
       reached = reached-none limit show.report begin none;
       picks = [];
       turn = t;
-      picked = subst (λ (trace : List Made). Picks first_pick later_picks plan (fresh r []) begin.core.state trace (chooser r [] 0)) (sym e) refl;
+      picked = subst (λ (trace : List Made). Picks first_pick later_picks plan (fresh_chooser r []) begin.core.state trace (chooser r [] 0)) (sym e) refl;
       so_far = subst (λ (trace : List Made). SoFar r plan rule t [] trace t clock) (sym e) (record {
         turn_is = refl;
         are_earliest = tt;
@@ -196,11 +197,11 @@ timed-more r rule limit begin now new clock after step held later b c within m =
     record {
       reached = turned-more first_pick limit show.report begin now new at c.reached t;
       picks = c.picks ++ place ∷ [];
-      turn = turned plan rule c.turn made;
+      turn = after_turn plan rule c.turn made;
       picked = turned-picks r first_pick later_picks limit show.report begin now new (c.picks ++ place ∷ []) at c.reached t longer;
-      so_far = subst (λ (trace : List Made). SoFar r plan rule (first_turn begin.core.state) (c.picks ++ place ∷ []) trace (turned plan rule c.turn made)
+      so_far = subst (λ (trace : List Made). SoFar r plan rule (timed_start begin.core.state) (c.picks ++ place ∷ []) trace (after_turn plan rule c.turn made)
           after) (sym trace_is)
-          (so-far-more r plan rule (first_turn begin.core.state) c.picks c.reached.trace c.turn clock after place made b.delays
+          (so-far-more r plan rule (timed_start begin.core.state) c.picks c.reached.trace c.turn clock after place made b.delays
           c.so_far (timed-early r rule limit begin now clock held b c within)
           (move-kept r limit begin now held place mv b.accepted c.reached m.makes.takes.choice_is)
           (picks-earliest r rule limit begin now clock held b c within)
@@ -253,7 +254,8 @@ timed-nearer r rule limit begin now new clock after step held later b c within m
     let a = timed-bounded r rule limit begin new after later b
     (timed-more r rule limit begin now new clock after step held later b c within m)
     (timed-within r limit now new held later clock after step m) in
-    let k = turned-counted first_pick later_picks limit show.report now new (chooser r (pick_by clock r held now.core ∷ []) held) (chooser r [] later) m.makes in
+    let k = turned-counted first_pick later_picks limit show.report now new (chooser r (pick_by clock r held now.core ∷ []) held) (chooser r [] later)
+    m.makes in
     less (most_moves begin.core.plan limit) now.tally.moves new.tally.moves k a
   where
     less : (most now new : ℕ) → new ≡ now + 1 → new ≤ most → most - new < most - now
@@ -265,17 +267,17 @@ pub record EndsTimed (r : GuessRule) (rule : DelayRule) (limit : ℕ) (begin new
   pub picks : List ℕ
   pub moves : List Move
   pub runs : RunsPolicy r first_pick later_picks limit show.report begin new picks [] moves answer
-  pub are_earliest : AreEarliest r begin.core.plan rule (first_turn begin.core.state) picks runs.reaches.trace
-  pub told : ClockKnows begin.core.plan rule (timed begin.core.plan rule (visits_of begin.core.state runs.reaches.trace)) clock
+  pub are_earliest : AreEarliest r begin.core.plan rule (timed_start begin.core.state) picks runs.reaches.trace
+  pub told : ClockKnows begin.core.plan rule (timed_visits begin.core.plan rule (visits_of begin.core.state runs.reaches.trace)) clock
 
 -- what the clock has recorded
 clock-told : (r : GuessRule) (rule : DelayRule) (limit : ℕ) (begin now : RunPlace) (clock : SiteTimes)
     (held : ℕ) → IsAccepted begin.core.plan → (c : ComesTimed r rule limit begin now clock held) →
-    ClockKnows begin.core.plan rule (timed begin.core.plan rule (visits_of begin.core.state c.reached.trace)) clock
+    ClockKnows begin.core.plan rule (timed_visits begin.core.plan rule (visits_of begin.core.state c.reached.trace)) clock
 clock-told r rule limit begin now clock held acc c =
     subst (λ (moves : List TimedMove). ClockKnows begin.core.plan rule moves clock)
     (ap (λ (t : TimedTurn). t.earlier) c.so_far.turn_is
-    ∙ sym (timed-there begin.core.plan rule (first_turn begin.core.state) c.reached.trace))
+    ∙ sym (timed-there begin.core.plan rule (timed_start begin.core.state) c.reached.trace))
     (follows_tells begin.core.plan rule c.turn.earlier clock acc c.so_far.follows)
 
 -- it stops before a pick
@@ -309,7 +311,7 @@ ends-at r rule limit begin now new clock held place answer acc c picked stops = 
     stops = stops;
     made = refl;
   };
-  are_earliest = tried-last r begin.core.plan rule (first_turn begin.core.state) c.picks c.reached.trace place c.so_far.are_earliest c.so_far.size
+  are_earliest = tried-last r begin.core.plan rule (timed_start begin.core.state) c.picks c.reached.trace place c.so_far.are_earliest c.so_far.size
       (picked ∙ ap (earliest r begin.core.plan rule) c.so_far.turn_is);
   told = clock-told r rule limit begin now clock held acc c;
 }
@@ -366,11 +368,11 @@ ends-trace r rule limit begin now new clock held ran.ReportFault b c within stop
 -- so it meets its contract
 pub runs-timed : (r : GuessRule) (rule : DelayRule) (limit : ℕ) (core new : Processor) (before after : Streams) (tally : Tally) (clock last : SiteTimes)
     (answer : Timed) → IsBegun rule limit (begins core before) →
-    EndsTimed r rule limit (begins core before) (place_of new after None tally) clock (answer_of answer) → last ≡ clock →
+    EndsTimed r rule limit (begins core before) (run_place_of new after None tally) clock (answer_of_timed answer) → last ≡ clock →
     RunsTimed r rule limit (begins core before) new after last tally.moves answer
 runs-timed r rule limit core new before after tally clock last answer b h clock_is =
     let begin : RunPlace = begins core before in
-    let place : RunPlace = place_of new after None tally in
+    let place : RunPlace = run_place_of new after None tally in
     record {
       tally = tally;
       counted = refl;
@@ -378,17 +380,19 @@ runs-timed r rule limit core new before after tally clock last answer b h clock_
       right = record {
         moves = h.moves;
         runs = h.runs;
-        sequential = policy-sequential r first_pick later_picks limit show.report begin place h.picks [] h.moves (answer_of answer) b.accepted b.wide h.runs;
+        sequential = policy-sequential r first_pick later_picks limit show.report begin place h.picks [] h.moves (answer_of_timed answer) b.accepted b.wide
+            h.runs;
       };
       are_earliest = h.are_earliest;
       told = rw clock_is h.told;
-      ends = policy-ends-sequentially r first_pick later_picks limit show.report begin place h.picks [] h.moves (answer_of answer) b.accepted b.wide h.runs;
+      ends = policy-ends-sequentially r first_pick later_picks limit show.report begin place h.picks [] h.moves (answer_of_timed answer) b.accepted b.wide
+          h.runs;
     }
 
 -- with the same moves
 pub run-trace : (r : GuessRule) (rule : DelayRule) (limit : ℕ) (core new : Processor) (before after : Streams) (tally : Tally) (clock last : SiteTimes)
     (answer : Timed) (b : IsBegun rule limit (begins core before))
-    (ends : EndsTimed r rule limit (begins core before) (place_of new after None tally) clock (answer_of answer)) (clock_is : last ≡ clock) →
+    (ends : EndsTimed r rule limit (begins core before) (run_place_of new after None tally) clock (answer_of_timed answer)) (clock_is : last ≡ clock) →
     (runs-timed r rule limit core new before after tally clock last answer b ends clock_is).right.runs.reaches.trace ≡ ends.runs.reaches.trace
 unfolding runs-timed
 run-trace r rule limit core new before after tally clock last answer b ends clock_is = refl

@@ -15,9 +15,9 @@ use Rattle.cf_timed.specs.declared.move_lines.MoveLines.{MoveLines}
 use Rattle.cf_timed.specs.declared.timed_move.TimedMove.{TimedMove}
 use Rattle.cf_timed.specs.Clocks.{SiteTimes}
 use Rattle.cf_timed.specs.DelayedRuns.{DelayRule, delayed_at}
-use Rattle.cf_timed.specs.Earliest.{TimedTurn, turned}
-use Rattle.cf_timed.specs.MoveLines.{move_lines, timed_line}
-use Rattle.cf_timed.specs.TimedRuns.{BreaksTimed, BreaksWatched, CanRunTimed, GoesShown, GoesWatched, RunsShown, RunsWatched, begins, first_turn, lines_from}
+use Rattle.cf_timed.specs.Earliest.{TimedTurn, after_turn}
+use Rattle.cf_timed.specs.MoveLines.{timed_move_lines, timed_line}
+use Rattle.cf_timed.specs.TimedRuns.{BreaksTimed, BreaksWatched, CanRunTimed, GoesShown, GoesWatched, RunsShown, RunsWatched, begins, timed_start, timed_lines_from}
 use Rattle.cf_timed.specs.Times.{done_after}
 use Rattle.cf_timed.specs.Watching.{watched_text}
 use Rattle.cf_timed.proofs.Few.{moves-few}
@@ -30,15 +30,15 @@ abbrev pub writes : MoveLines → Made → TimedMove → List ℕ
 writes lines made done = timed_line (min (lines.count + 1) (2 ^ 64 - 1)) done
 
 lines-watched : (plan : Plan) (rule : DelayRule) (t : TimedTurn) (count : ℕ) (trace : List Made) → count + length trace < 2 ^ 64 →
-    watched_text counts writes plan rule t (record { count = count }) trace ≡ move_lines (count + 1) plan rule t trace
-unfolding watched_text move_lines
+    watched_text counts writes plan rule t (record { count = count }) trace ≡ timed_move_lines (count + 1) plan rule t trace
+unfolding watched_text timed_move_lines
 lines-watched plan rule t count [] few = refl
 lines-watched plan rule t count (made ∷ trace) few =
     let done = done_after plan t.earlier (delayed_at rule t.state t.earlier made.move) in
     let one : min (count + 1) (2 ^ 64 - 1) ≡ count + 1 = omega (arith, few) in
-    ap (λ (n : ℕ). timed_line n done ++ watched_text counts writes plan rule (turned plan rule t made) (record { count = n }) trace) one
+    ap (λ (n : ℕ). timed_line n done ++ watched_text counts writes plan rule (after_turn plan rule t made) (record { count = n }) trace) one
     ∙ ap (λ (text : List ℕ). timed_line (count + 1) done ++ text)
-    (lines-watched plan rule (turned plan rule t made) (count + 1) trace (omega (arith, few)))
+    (lines-watched plan rule (after_turn plan rule t made) (count + 1) trace (omega (arith, few)))
 
 -- so a run that it watched has the lines of its moves
 runs-shown : (r : GuessRule) (rule : DelayRule) (limit : ℕ) (core new : Processor) (before after : Streams) (clock : SiteTimes) (first later : MoveLines)
@@ -51,14 +51,14 @@ runs-shown r rule limit core new before after clock first later blank full moves
     record {
       run = h.run;
       put = subst (Writes blank full)
-          (ap (λ (w : MoveLines). watched_text counts writes core.plan rule (first_turn core.state) w runs.reaches.trace) fresh_is
-          ∙ lines-watched core.plan rule (first_turn core.state) 0 runs.reaches.trace (omega (arith, small))) h.put;
+          (ap (λ (w : MoveLines). watched_text counts writes core.plan rule (timed_start core.state) w runs.reaches.trace) fresh_is
+          ∙ lines-watched core.plan rule (timed_start core.state) 0 runs.reaches.trace (omega (arith, small))) h.put;
     }
 
 breaks-shown : (r : GuessRule) (rule : DelayRule) (limit : ℕ) (core : Processor) (before : Streams) (first : MoveLines)
     (blank full : Option (List ℕ)) → IsAccepted core.plan → length core.state.regs ≡ 32 → CanRunTimed limit core →
     first ≡ record { count = 0 } → BreaksWatched counts writes r rule limit (begins core before) first blank full →
-    BreaksTimed (lines_from (begins core before) rule) r rule limit (begins core before) blank full
+    BreaksTimed (timed_lines_from (begins core before) rule) r rule limit (begins core before) blank full
 breaks-shown r rule limit core before first blank full acc wide can fresh_is h =
     let small = moves-few r limit (begins core before) h.now h.picks h.last acc wide can h.reached h.picked in
     record {
@@ -71,8 +71,8 @@ breaks-shown r rule limit core before first blank full acc wide can fresh_is h =
       sequential = h.sequential;
       bounded = h.bounded;
       front = subst (WritesFront blank full)
-          (ap (λ (w : MoveLines). watched_text counts writes core.plan rule (first_turn core.state) w h.reached.trace) fresh_is
-          ∙ lines-watched core.plan rule (first_turn core.state) 0 h.reached.trace (omega (arith, small))) h.front;
+          (ap (λ (w : MoveLines). watched_text counts writes core.plan rule (timed_start core.state) w h.reached.trace) fresh_is
+          ∙ lines-watched core.plan rule (timed_start core.state) 0 h.reached.trace (omega (arith, small))) h.front;
     }
 
 -- both

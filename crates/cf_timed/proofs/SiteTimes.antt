@@ -12,10 +12,10 @@ use Rattle.cf_index.proofs.Counted.{counted_split}
 use Rattle.cf_timed.specs.Times.{greatest}
 use Rattle.cf_timed.specs.DelayedRuns.{DelayRule}
 use Rattle.cf_timed.specs.Numbers.{number_at}
-use Rattle.cf_timed.specs.Clocks.{NoneLater, SiteTimes, allowed, drawing, put_time, put_times, row_at, started, time_at}
+use Rattle.cf_timed.specs.Clocks.{NoneLater, SiteTimes, allowed, drawing, put_time, put_times, siding_row, started, time_at}
 
 -- a row of cells
-pub row-read : (rows : List (List ℕ)) (k : ℕ) → row_at rows k ≡ get_or rows k []
+pub row-read : (rows : List (List ℕ)) (k : ℕ) → siding_row rows k ≡ get_or rows k []
 row-read rows k = unwrap_or-slice_get rows k []
 
 -- a row beyond the last
@@ -133,8 +133,8 @@ number_within (x ∷ xs) zero (suc j) t most h g = h
 number_within (x ∷ xs) (suc i) zero t most h g = h
 number_within (x ∷ xs) (suc i) (suc j) t most h g = number_within xs i j t most h g
 
-cell_within : (rows : List (List ℕ)) (k m : ℕ) (row : List ℕ) (j most : ℕ) → number_at (row_at rows m) j ≤ most → number_at row j ≤ most →
-    number_at (row_at (slice_set rows k row) m) j ≤ most
+cell_within : (rows : List (List ℕ)) (k m : ℕ) (row : List ℕ) (j most : ℕ) → number_at (siding_row rows m) j ≤ most → number_at row j ≤ most →
+    number_at (siding_row (slice_set rows k row) m) j ≤ most
 cell_within [] k m row j most h g = h
 cell_within (r ∷ rows) zero zero row j most h g = g
 cell_within (r ∷ rows) zero (suc m) row j most h g = h
@@ -152,8 +152,8 @@ stage_put c i t h g _ = omega arith
 
 cell_put : (c : SiteTimes) (k i t : ℕ) → NoneLater c → t ≤ c.latest → (x : Site) → time_at (put_time c t (SidingCell k i)) x ≤ c.latest
 cell_put c k i t h g (Stage j) = h.each (Stage j)
-cell_put c k i t h g (SidingCell m j) = cell_within c.cells k m (slice_set (row_at c.cells k) i t) j c.latest (h.each (SidingCell m j))
-    (number_within (row_at c.cells k) i j t c.latest (h.each (SidingCell k j)) g)
+cell_put c k i t h g (SidingCell m j) = cell_within c.cells k m (slice_set (siding_row c.cells k) i t) j c.latest (h.each (SidingCell m j))
+    (number_within (siding_row c.cells k) i j t c.latest (h.each (SidingCell k j)) g)
 cell_put c k i t h g Lane = h.each Lane
 cell_put c k i t h g Fetching = h.each Fetching
 cell_put c k i t h g Memory = h.each Memory
@@ -222,7 +222,7 @@ zeros zero i = omega arith
 zeros (suc n) zero = omega arith
 zeros (suc n) (suc i) = zeros n i
 
-zero_rows : (m n k i : ℕ) → number_at (row_at (replicate m (replicate n 0)) k) i ≤ 0
+zero_rows : (m n k i : ℕ) → number_at (siding_row (replicate m (replicate n 0)) k) i ≤ 0
 zero_rows zero n k i = omega arith
 zero_rows (suc m) n zero i = zeros n i
 zero_rows (suc m) n (suc k) i = zero_rows m n k i

@@ -12,14 +12,14 @@ use Rattle.cf_bind.specs.declared.passenger.Guess.{Guess}
 use Rattle.cf_bind.specs.declared.passenger.Guess.TheVariants.{Next, Taken, Wait}
 use Rattle.cf_semantics.specs.state.State.{State}
 use Rattle.cf_index.specs.Allowed.{allowed_issues, allowed_others, is_allowed, kept_issues, unheld_issues, withheld}
-use Rattle.cf_index.specs.GuessRules.{guided, keeps}
+use Rattle.cf_index.specs.GuessRules.{guided, keeps_move}
 use Rattle.cf_index.proofs.Firsts.{guided_parts}
 use Rattle.cf_index.proofs.Others.{withheld_others}
 use Rattle.cf_index.proofs.Parts.{beyond}
-use Rattle.cf_sched.specs.Paces.{PaceCount, holds, offers}
-use Rattle.cf_timed.specs.Clocks.{ClockedState, capped, delay_by, finish}
+use Rattle.cf_sched.specs.Paces.{PaceCount, holds_issue, offers}
+use Rattle.cf_timed.specs.Clocks.{ClockedState, capped, delay_by, finish_time}
 use Rattle.cf_timed.specs.Delays.{span_of}
-use Rattle.cf_timed.specs.DelayedRuns.{class_at}
+use Rattle.cf_timed.specs.DelayedRuns.{class_of_move}
 use Rattle.cf_timed.specs.Drawing.{stream_of}
 use Rattle.cf_timed.specs.Earliest.{first_least}
 use Rattle.cf_timed.specs.Seeking.{Seeking, nothing, shown}
@@ -30,7 +30,7 @@ use Rattle.cf_timed.proofs.Sought.{found-bound, found-least}
 
 -- all Issues use the same sites, and are of one kind
 issue_time : (c : ClockedState) (g : Guess) → capped c (Issue g) ≡ capped c (Issue Next)
-unfolding finish delay_by span_of class_at stream_of
+unfolding finish_time delay_by span_of class_of_move stream_of
 issue_time c g = refl
 
 all_issues : (c : ClockedState) → All (λ mv. capped c mv ≡ capped c (Issue Next)) (Issue Next ∷ Issue Taken ∷ Issue Wait ∷ [])
@@ -42,7 +42,7 @@ all_issues c (suc (suc (suc k))) d below = absurd (omega arith)
 each_issue : (c : ClockedState) (r : GuessRule) (plan : Plan) (s : State) → All (λ mv. capped c mv ≡ capped c (Issue Next)) (kept_issues r plan s)
 each_issue c r plan s =
     let P : Move → Type 0 = λ mv. capped c mv ≡ capped c (Issue Next) in
-    All-filter (keeps r plan s) P (allowed_issues plan s) (All-filter (is_allowed plan s) P (Issue Next ∷ Issue Taken ∷ Issue Wait ∷ []) (all_issues c))
+    All-filter (keeps_move r plan s) P (allowed_issues plan s) (All-filter (is_allowed plan s) P (Issue Next ∷ Issue Taken ∷ Issue Wait ∷ []) (all_issues c))
 
 -- no Issue finishes by the time
 pub none_held : (c : ClockedState) (r : GuessRule) (plan : Plan) (s : State) (held : Bool) (by : ℕ) → held ≡ true → AreLater c (unheld_issues held r plan s) by
@@ -130,7 +130,7 @@ other_soonest c r plan s held seek few e later = by (nat_lt seek.time (2 ^ 64 - 
 
 -- what is offered, with Issue held back or not
 pub soonest_offered : (c : ClockedState) (count : PaceCount) (r : GuessRule) (plan : Plan) (s : State) (held : Bool) (due : Due) → r ≡ count.rule →
-    held ≡ holds count →
+    held ≡ holds_issue count →
     IsSoonest c (withheld held (guided r plan s)) due → IsSoonest c (offers count plan s) due
 unfolding offers
 soonest_offered c count r plan s held due same is h = rw (same, is) at h

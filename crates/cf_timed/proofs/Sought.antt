@@ -6,7 +6,7 @@ use Rattle.std.proofs.lemmas.Option.{get_or_from_slice_get}
 use Rattle.cf_bind.specs.declared.moves.Move.{Move}
 use Rattle.cf_timed.specs.Clocks.{ClockedState, capped}
 use Rattle.cf_timed.specs.Earliest.{first_least}
-use Rattle.cf_timed.specs.Seeking.{Seeking, counted, nothing, shown}
+use Rattle.cf_timed.specs.Seeking.{Seeking, counted_move, nothing, shown}
 use Rattle.cf_timed.proofs.Leasts.{IsLeast, least-of_all}
 
 -- of the moves that were shown the first with the least time is known, or none has a time below the greatest number
@@ -29,7 +29,7 @@ found-next clock moves s mv few at h = by (nat_lt (capped s.clock mv) s.time) re
     here : (d : Move) → get_or moves s.shown d ≡ mv
     here d = get_or_from_slice_get moves s.shown mv d at
 
-    by : (sooner : Bool) → nat_lt (capped s.clock mv) s.time ≡ sooner → Found clock moves (counted
+    by : (sooner : Bool) → nat_lt (capped s.clock mv) s.time ≡ sooner → Found clock moves (counted_move
         (cond sooner (record s { place = s.shown; time = capped s.clock mv; move = mv }) s))
     by true t =
         let e = h.same in
@@ -82,7 +82,7 @@ found-rest clock moves s (mv ∷ rest) few count left h =
     let e : s.shown + 1 ≡ suc s.shown = omega arith in
     found-rest clock moves (shown s mv) rest few (omega (arith, one, count)) (rw (one, e) (n.1)) (found-next clock moves s mv below (n.0) h)
   where
-    counts : (sooner : Bool) → s.shown < 2 ^ 64 - 1 → (counted (cond sooner (record s { place = s.shown; time = capped s.clock mv; move = mv }) s)).shown
+    counts : (sooner : Bool) → s.shown < 2 ^ 64 - 1 → (counted_move (cond sooner (record s { place = s.shown; time = capped s.clock mv; move = mv }) s)).shown
         ≡ s.shown + 1
     counts true below = grind arith
     counts false below = grind arith
@@ -145,7 +145,8 @@ found-first clock moves s few e below =
     (least-of_all (capped clock) moves s.place s.time s.move r.least, r.least.within, sym r.move)
 
 -- and where no move has, it is the first of all
-pub first-found : (clock : ClockedState) (moves : List Move) (s : Seeking) → length moves ≤ 2 ^ 64 - 1 → 0 < length moves → s ≡ fold shown (nothing clock) moves →
+pub first-found : (clock : ClockedState) (moves : List Move) (s : Seeking) → length moves ≤ 2 ^ 64 - 1 → 0 < length moves →
+    s ≡ fold shown (nothing clock) moves →
     2 ^ 64 - 1 ≤ s.time →
     0 ≡ first_least (capped clock) moves
 first-found clock moves s few some e above =

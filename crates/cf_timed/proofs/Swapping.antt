@@ -10,9 +10,9 @@ use Rattle.cf_index.proofs.Independence.{unshared_back}
 use Rattle.rv_inst.specs.declared.classes.Class.{Class}
 use Rattle.cf_timed.specs.declared.timed_move.TimedMove.{TimedMove}
 use Rattle.cf_timed.specs.Delays.{span_of}
-use Rattle.cf_timed.specs.DelayedRuns.{DelayRule, Visit, class_at, delay_at, delayed_at, drawn_before, timed_after, visit, word_of}
-use Rattle.cf_timed.specs.Drawing.{stream_of, ticks_in, word_after}
-use Rattle.cf_timed.specs.Times.{DelayedMove, before, delayed, done_at, done_after, greatest_time, time_after}
+use Rattle.cf_timed.specs.DelayedRuns.{DelayRule, Visit, class_of_move, delay_at, delayed_at, drawn_before, timed_after, visit, word_of_move}
+use Rattle.cf_timed.specs.Drawing.{stream_of, ticks_in, drawn_word}
+use Rattle.cf_timed.specs.Times.{DelayedMove, before, delayed, done_at, done_after, greatest_time, finish_after}
 use Rattle.cf_timed.proofs.Greatest.{where_more}
 
 -- what moves wait for after one list and after another is the same, and from each stream as many have drawn
@@ -47,24 +47,24 @@ alike_more plan done xs ys h = record {
 
 -- so the delays and the times after them are the same
 word_alike : (seed : Option ℕ) (xs ys : List TimedMove) (mv : Move) → drawn_before (stream_of mv) xs ≡ drawn_before (stream_of mv) ys →
-    word_of seed xs mv ≡ word_of seed ys mv
-unfolding word_of
+    word_of_move seed xs mv ≡ word_of_move seed ys mv
+unfolding word_of_move
 word_alike None xs ys mv e = refl
-word_alike (Some seed) xs ys mv e = ap (λ (n : ℕ). Some (word_after seed (stream_of mv) n)) e
+word_alike (Some seed) xs ys mv e = ap (λ (n : ℕ). Some (drawn_word seed (stream_of mv) n)) e
 
-delay_alike : (rule : DelayRule) (s t : State) (xs ys : List TimedMove) (mv : Move) → class_at s mv ≡ class_at t mv →
+delay_alike : (rule : DelayRule) (s t : State) (xs ys : List TimedMove) (mv : Move) → class_of_move s mv ≡ class_of_move t mv →
     drawn_before (stream_of mv) xs ≡ drawn_before (stream_of mv) ys → delay_at rule s xs mv ≡ delay_at rule t ys mv
 unfolding delay_at
 delay_alike rule s t xs ys mv c e =
-    ap (λ (k : Class). ticks_in (span_of rule.spans mv k) (word_of rule.seed xs mv)) c
-    ∙ ap (ticks_in (span_of rule.spans mv (class_at t mv))) (word_alike rule.seed xs ys mv e)
+    ap (λ (k : Class). ticks_in (span_of rule.spans mv k) (word_of_move rule.seed xs mv)) c
+    ∙ ap (ticks_in (span_of rule.spans mv (class_of_move t mv))) (word_alike rule.seed xs ys mv e)
 
 time_alike : (plan : Plan) (xs ys : List TimedMove) (d : DelayedMove) → greatest_time (before plan d.mv xs) ≡ greatest_time (before plan d.mv ys) →
-    time_after plan xs d ≡ time_after plan ys d
-unfolding time_after
+    finish_after plan xs d ≡ finish_after plan ys d
+unfolding finish_after
 time_alike plan xs ys d h = ap (λ (n : ℕ). n + d.delay) h
 
-done_alike : (plan : Plan) (rule : DelayRule) (s t : State) (xs ys : List TimedMove) (mv : Move) → class_at s mv ≡ class_at t mv →
+done_alike : (plan : Plan) (rule : DelayRule) (s t : State) (xs ys : List TimedMove) (mv : Move) → class_of_move s mv ≡ class_of_move t mv →
     drawn_before (stream_of mv) xs ≡ drawn_before (stream_of mv) ys → greatest_time (before plan mv xs) ≡ greatest_time (before plan mv ys) →
     done_after plan xs (delayed_at rule s xs mv) ≡ done_after plan ys (delayed_at rule t ys mv)
 done_alike plan rule s t xs ys mv c e h =
@@ -126,8 +126,8 @@ drawn_apart done xs mv other = drawn_one (stream_of mv) done xs ∙ by (stream_o
 pub record CanSwap (plan : Plan) (s after_a after_b : State) (a b : Move) : Type 0 where
   pub apart : shares plan a b ≡ false
   pub streams : stream_of a ≢ stream_of b
-  pub class_a : class_at after_b a ≡ class_at s a
-  pub class_b : class_at after_a b ≡ class_at s b
+  pub class_a : class_of_move after_b a ≡ class_of_move s a
+  pub class_b : class_of_move after_a b ≡ class_of_move s b
 
 pub swapped : (plan : Plan) (rule : DelayRule) (earlier : List TimedMove) (s after_a after_b : State) (a b : Move) (rest : List Visit) →
     CanSwap plan s after_a after_b a b →

@@ -19,7 +19,7 @@ use Rattle.run_finishes.specs.declared.finish.Ran.TheVariants as ran
 use Rattle.run_finishes.specs.declared.finish.Scripted.TheVariants.{Ran}
 use Rattle.cf_run.specs.Headline.{Gets, RunsSequentially, StopsAt}
 use Rattle.cf_run.specs.Made.{Made, moves_of}
-use Rattle.cf_run.specs.Moving.{RunPlace, place_of}
+use Rattle.cf_run.specs.Moving.{RunPlace, run_place_of}
 use Rattle.cf_run.specs.Policies.{chooser, first_pick, later_picks}
 use Rattle.cf_run.specs.Reaching.{Reaches, no_tally}
 use Rattle.cf_run.proofs.Bounds.{reached-bounded}
@@ -33,14 +33,15 @@ use Rattle.cf_timed.specs.declared.timed_move.TimedMove.{TimedMove}
 use Rattle.cf_timed.specs.Clocks.{SiteTimes, started}
 use Rattle.cf_timed.specs.DelayedRuns.{DelayRule}
 use Rattle.cf_timed.specs.Earliest.{TimedTurn}
-use Rattle.cf_timed.specs.TimedRuns.{BreaksWatched, GoesWatched, RunsWatched, answer_of, begins, first_turn}
+use Rattle.cf_timed.specs.TimedRuns.{BreaksWatched, GoesWatched, RunsWatched, answer_of_timed, begins, timed_start}
 use Rattle.cf_timed.specs.Turns.{MakesEarliest, StopsEarliest, made_as}
 use Rattle.cf_timed.specs.Watching.{watched, watched_text}
 use Rattle.cf_timed.proofs.Arriving.{text-more, watcher-more}
 use Rattle.cf_timed.proofs.Running.{ComesTimed, IsBegun, first-trace, ends-trace, run-trace, runs-timed, step-done, timed-ends, timed-first, timed-more, trace-more}
 
 -- what the watcher has noted of some moves, and written about them
-pub record HasWatched {W : Type 0} (noted : W → Made → TimedMove → W) (text : W → Made → TimedMove → List ℕ) (plan : Plan) (rule : DelayRule) (begin : TimedTurn)
+pub record HasWatched {W : Type 0} (noted : W → Made → TimedMove → W) (text : W → Made → TimedMove → List ℕ) (plan : Plan) (rule : DelayRule)
+    (begin : TimedTurn)
     (first watcher : W) (blank full : Option (List ℕ)) (trace : List Made) : Type 0 where
   pub watcher_is : watcher ≡ watched noted plan rule begin first trace
   pub put : Writes blank full (watched_text noted text plan rule begin first trace)
@@ -49,7 +50,7 @@ pub record HasWatched {W : Type 0} (noted : W → Made → TimedMove → W) (tex
 pub record ComesWatched {W : Type 0} (noted : W → Made → TimedMove → W) (text : W → Made → TimedMove → List ℕ) (r : GuessRule) (rule : DelayRule)
     (limit : ℕ) (begin now : RunPlace) (clock : SiteTimes) (first watcher : W) (blank full : Option (List ℕ)) (held : ℕ) : Type 0 where
   pub comes : ComesTimed r rule limit begin now clock held
-  pub watches : HasWatched noted text begin.core.plan rule (first_turn begin.core.state) first watcher blank full comes.reached.trace
+  pub watches : HasWatched noted text begin.core.plan rule (timed_start begin.core.state) first watcher blank full comes.reached.trace
 
 none-watched : {W : Type 0} (noted : W → Made → TimedMove → W) (text : W → Made → TimedMove → List ℕ) (plan : Plan) (rule : DelayRule) (begin : TimedTurn)
     (first : W) (blank : Option (List ℕ)) → HasWatched noted text plan rule begin first first blank blank []
@@ -62,9 +63,9 @@ pub watched-first : {W : Type 0} (noted : W → Made → TimedMove → W) (text 
     ComesWatched noted text r rule limit begin begin clock first first blank blank held
 watched-first noted text r rule limit begin clock first blank held stages none begun beside zero_held = record {
   comes = timed-first r rule limit begin clock held stages none begun beside zero_held;
-  watches = subst (HasWatched noted text begin.core.plan rule (first_turn begin.core.state) first first blank blank)
+  watches = subst (HasWatched noted text begin.core.plan rule (timed_start begin.core.state) first first blank blank)
       (sym (first-trace r rule limit begin clock held stages none begun beside zero_held))
-      (none-watched noted text begin.core.plan rule (first_turn begin.core.state) first blank);
+      (none-watched noted text begin.core.plan rule (timed_start begin.core.state) first blank);
 }
 
 -- one more move
@@ -76,7 +77,7 @@ pub watched-more : {W : Type 0} (noted : W → Made → TimedMove → W) (text :
     ComesWatched noted text r rule limit begin new after first next blank full later
 watched-more noted text r rule limit begin now new clock after step first watcher next blank told full held later b c within m next_is puts =
     let plan : Plan = begin.core.plan in
-    let t : TimedTurn = first_turn begin.core.state in
+    let t : TimedTurn = timed_start begin.core.state in
     let made : Made = made_as step.done.mv step.event new.core.state in
     let trace : List Made = c.comes.reached.trace in
     let done_is = step-done r rule limit begin now new clock after step held later b c.comes within m in
@@ -110,7 +111,7 @@ pub watched-breaks : {W : Type 0} (noted : W → Made → TimedMove → W) (text
     BreaksWatched noted text r rule limit begin first blank full
 watched-breaks noted text r rule limit begin now new clock after step first watcher blank told full held later b c within m front =
     let plan : Plan = begin.core.plan in
-    let t : TimedTurn = first_turn begin.core.state in
+    let t : TimedTurn = timed_start begin.core.state in
     let made : Made = made_as step.done.mv step.event new.core.state in
     let trace : List Made = c.comes.reached.trace in
     let done_is = step-done r rule limit begin now new clock after step held later b c.comes within m in
@@ -137,22 +138,22 @@ pub runs-watched : {W : Type 0} (noted : W → Made → TimedMove → W) (text :
     (core new : Processor) (before after : Streams) (now : RunPlace) (tally : Tally) (clock last : SiteTimes) (first watcher : W)
     (blank full : Option (List ℕ)) (held : ℕ) (answer : Answer) (timed : Timed) → IsBegun rule limit (begins core before) →
     ComesWatched noted text r rule limit (begins core before) now clock first watcher blank full held → now.core.state.retired ≤ limit →
-    StopsEarliest limit r now (place_of new after None tally) held clock answer → answer_of timed ≡ answer → last ≡ clock →
+    StopsEarliest limit r now (run_place_of new after None tally) held clock answer → answer_of_timed timed ≡ answer → last ≡ clock →
     RunsWatched noted text r rule limit (begins core before) new after last first watcher blank full tally.moves timed
 runs-watched noted text r rule limit core new before after now tally clock last first watcher blank full held answer timed b c within stops same clock_is =
     let begin : RunPlace = begins core before in
-    let place : RunPlace = place_of new after None tally in
-    let stops_so : StopsEarliest limit r now place held clock (answer_of timed) =
+    let place : RunPlace = run_place_of new after None tally in
+    let stops_so : StopsEarliest limit r now place held clock (answer_of_timed timed) =
     subst (λ (a : Answer). StopsEarliest limit r now place held clock a) (sym same) stops in
-    let ends = timed-ends r rule limit begin now place clock held (answer_of timed) b c.comes within stops_so in
-    let trace_is = ends-trace r rule limit begin now place clock held (answer_of timed) b c.comes within stops_so in
+    let ends = timed-ends r rule limit begin now place clock held (answer_of_timed timed) b c.comes within stops_so in
+    let trace_is = ends-trace r rule limit begin now place clock held (answer_of_timed timed) b c.comes within stops_so in
     let run = runs-timed r rule limit core new before after tally clock last timed b ends clock_is in
     let run_is : run.right.runs.reaches.trace ≡ c.comes.reached.trace =
     run-trace r rule limit core new before after tally clock last timed b ends clock_is ∙ trace_is in
     record {
       run = run;
-      noted_all = c.watches.watcher_is ∙ ap (watched noted core.plan rule (first_turn core.state) first) (sym run_is);
-      put = subst (λ (l : List Made). Writes blank full (watched_text noted text core.plan rule (first_turn core.state) first l)) (sym run_is) c.watches.put;
+      noted_all = c.watches.watcher_is ∙ ap (watched noted core.plan rule (timed_start core.state) first) (sym run_is);
+      put = subst (λ (l : List Made). Writes blank full (watched_text noted text core.plan rule (timed_start core.state) first l)) (sym run_is) c.watches.put;
     }
 
 -- it went one way or the other

@@ -9,7 +9,7 @@ use Rattle.cf_timed.specs.declared.draws.DelayDraws.{DelayDraws}
 use Rattle.cf_timed.specs.declared.span.Span.{Span}
 use Rattle.cf_timed.specs.declared.timed_move.TimedMove.{TimedMove}
 use Rattle.cf_timed.specs.Delays.{span_of}
-use Rattle.cf_timed.specs.DelayedRuns.{DelayRule, Visit, class_at, delayed_at}
+use Rattle.cf_timed.specs.DelayedRuns.{DelayRule, Visit, class_of_move, delayed_at}
 use Rattle.cf_timed.specs.Drawing.{after_word, drawn_from, next_word, stream_of, ticks_in}
 use Rattle.cf_timed.specs.Numbers.{number_at}
 use Rattle.cf_timed.specs.Times.{done_after, greatest, greatest_time}
@@ -44,13 +44,13 @@ started plan rule = record {
 }
 
 -- the cells of a siding
-abbrev pub row_at : List (List ℕ) → ℕ → List ℕ
-row_at rows k = unwrap_or (slice_get rows k) []
+abbrev pub siding_row : List (List ℕ) → ℕ → List ℕ
+siding_row rows k = unwrap_or (slice_get rows k) []
 
 -- the time of a site
 abbrev pub time_at : SiteTimes → Site → ℕ
 time_at c (Stage i) = number_at c.stages i
-time_at c (SidingCell k i) = number_at (row_at c.cells k) i
+time_at c (SidingCell k i) = number_at (siding_row c.cells k) i
 time_at c Lane = c.lane
 time_at c Fetching = c.fetch
 time_at c Memory = c.memory
@@ -64,7 +64,7 @@ pub record NoneLater (c : SiteTimes) : Type 0 where
 -- the clock with a new time at a site
 abbrev pub put_time : SiteTimes → ℕ → Site → SiteTimes
 put_time c t (Stage i) = record c { stages = slice_set c.stages i t }
-put_time c t (SidingCell k i) = record c { cells = slice_set c.cells k (slice_set (row_at c.cells k) i t) }
+put_time c t (SidingCell k i) = record c { cells = slice_set c.cells k (slice_set (siding_row c.cells k) i t) }
 put_time c t Lane = record c { lane = t }
 put_time c t Fetching = record c { fetch = t }
 put_time c t Memory = record c { memory = t }
@@ -87,19 +87,19 @@ clocked clock state = record { clock = clock; state = state }
 
 -- how long a move takes that is made now
 unfoldable pub delay_by : ClockedState → Move → ℕ
-delay_by c mv = ticks_in (span_of c.clock.delays mv (class_at c.state mv)) (next_word c.clock.draws (stream_of mv))
+delay_by c mv = ticks_in (span_of c.clock.delays mv (class_of_move c.state mv)) (next_word c.clock.draws (stream_of mv))
 
 -- the delays by which a clock goes, and the seed from which they are drawn
-abbrev pub rule_of : SiteTimes → DelayRule
-rule_of c = record { spans = c.delays; seed = c.draws.seed }
+abbrev pub rule_of_clock : SiteTimes → DelayRule
+rule_of_clock c = record { spans = c.delays; seed = c.draws.seed }
 
 -- when it finishes: at the greatest time of the sites that it uses, plus its delay
-unfoldable pub finish : ClockedState → Move → ℕ
-finish c mv = greatest (map (time_at c.clock) (used c.clock.plan mv)) + delay_by c mv
+unfoldable pub finish_time : ClockedState → Move → ℕ
+finish_time c mv = greatest (map (time_at c.clock) (used c.clock.plan mv)) + delay_by c mv
 
 -- the same, capped at the greatest number of 64 bits
 abbrev pub capped : ClockedState → Move → ℕ
-capped c mv = min (finish c mv) (2 ^ 64 - 1)
+capped c mv = min (finish_time c mv) (2 ^ 64 - 1)
 
 -- the clock with this greatest time, if it is later
 abbrev pub allowed : SiteTimes → ℕ → SiteTimes
@@ -115,7 +115,7 @@ stamped c mv t = drawing (put_times (allowed c t) t (used c.plan mv)) mv
 
 -- the clock after a move
 unfoldable pub made : ClockedState → Move → SiteTimes
-made c mv = stamped c.clock mv (finish c mv)
+made c mv = stamped c.clock mv (finish_time c mv)
 
 -- and after some moves
 abbrev pub made_all : SiteTimes → List Visit → SiteTimes
@@ -126,9 +126,9 @@ made_all c (v ∷ visits) = made_all (made (clocked c v.state) v.mv) visits
 pub record ClockKnows (plan : Plan) (rule : DelayRule) (moves : List TimedMove) (c : SiteTimes) : Type 0 where
   -- it is a clock of this layout and of these delays
   pub plan_is : c.plan ≡ plan
-  pub rule_is : rule_of c ≡ rule
+  pub rule_is : rule_of_clock c ≡ rule
   -- its greatest time is theirs
   pub latest_is : c.latest ≡ greatest_time moves
   -- it knows how long a further move takes in any state, and when it finishes
   pub delays : (s : State) (mv : Move) → HasSites plan mv → delay_by (clocked c s) mv ≡ (delayed_at rule s moves mv).delay
-  pub finishes : (s : State) (mv : Move) → HasSites plan mv → finish (clocked c s) mv ≡ (done_after plan moves (delayed_at rule s moves mv)).time
+  pub finishes : (s : State) (mv : Move) → HasSites plan mv → finish_time (clocked c s) mv ≡ (done_after plan moves (delayed_at rule s moves mv)).time

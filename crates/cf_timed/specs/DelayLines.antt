@@ -26,8 +26,8 @@ unfoldable pub ticks_word : List ℕ → Option ℕ
 ticks_word word = on (numeral 10 4 word) None (λ n. if nat_le 1 n && nat_le n 1000 then Some n else None)
 
 -- the range from one such number to another, which is no less
-unfoldable pub range_of : List ℕ → List ℕ → Option Span
-range_of first last =
+unfoldable pub delay_range : List ℕ → List ℕ → Option Span
+delay_range first last =
     on (ticks_word first) None (λ least.
     on (ticks_word last) None (λ greatest.
     if nat_le least greatest then Some (record { least = least; greatest = greatest }) else None))
@@ -39,8 +39,8 @@ hyphen_at word = position_or_len (λ byte. byte == 45) word
 -- the delay that a word spells: one number, or two with a hyphen between them
 unfoldable pub span_word : List ℕ → Option Span
 span_word word =
-    if nat_lt (hyphen_at word) (length word) then range_of (take (hyphen_at word) word) (drop (hyphen_at word + 1) word)
-    else range_of word word
+    if nat_lt (hyphen_at word) (length word) then delay_range (take (hyphen_at word) word) (drop (hyphen_at word + 1) word)
+    else delay_range word word
 
 -- the class that a word names, of those that are computed
 unfoldable pub class_named : List ℕ → Option Class
@@ -70,8 +70,8 @@ span_told_there named slot word rest =
     if length rest == 0 then Ok (slice_set named slot (Some span)) else Err ExtraWords)
 
 -- what the words after a kind add: the first may be a class
-unfoldable pub kind_told : List (Option Span) → ℕ → List (List ℕ) → Result (List (Option Span)) DelayKind
-kind_told named kind words =
+unfoldable pub told_after_kind : List (Option Span) → ℕ → List (List ℕ) → Result (List (Option Span)) DelayKind
+told_after_kind named kind words =
     on (slot_named kind (first_word words))
     (span_told_there named kind (first_word words) (drop 1 words))
     (λ slot. span_told_there named slot (first_word (drop 1 words)) (drop 1 (drop 1 words)))
@@ -79,7 +79,7 @@ kind_told named kind words =
 -- what some words add
 unfoldable pub words_told : List (Option Span) → List (List ℕ) → Result (List (Option Span)) DelayKind
 words_told named words =
-    and_then (needed UnknownKind (place_named (first_word words))) (λ kind. kind_told named kind (drop 1 words))
+    and_then (needed UnknownKind (place_named (first_word words))) (λ kind. told_after_kind named kind (drop 1 words))
 
 -- what a line gives
 unfoldable pub line_told : List (Option Span) → List ℕ → Result (List (Option Span)) DelayKind

@@ -15,7 +15,7 @@ use Rattle.cf_run.specs.Made.{Made}
 use Rattle.cf_timed.specs.declared.span.Span.{Span}
 use Rattle.cf_timed.specs.declared.timed_move.TimedMove.{TimedMove}
 use Rattle.cf_timed.specs.Delays.{span_of}
-use Rattle.cf_timed.specs.Drawing.{stream_of, ticks_in, word_after}
+use Rattle.cf_timed.specs.Drawing.{stream_of, ticks_in, drawn_word}
 use Rattle.cf_timed.specs.Times.{DelayedMove, delayed, done_after, times_after}
 
 -- the delays of a run, and the seed from which they are drawn, if there is one
@@ -28,24 +28,24 @@ unfoldable pub class_in : Option Cell → Class
 class_in cell = on cell Free (λ c. on c.passenger Free (λ p. on p.what Free class_of))
 
 -- the class of the instruction that the move executes, launches or recovers; Free for any other move
-unfoldable pub class_at : State → Move → Class
-class_at s (Execute i) = class_in (cell_at s.cells i)
-class_at s (Launch i) = class_in (cell_at s.cells i)
-class_at s (Recover i) = class_in (cell_at s.cells i)
-class_at s mv = Free
+unfoldable pub class_of_move : State → Move → Class
+class_of_move s (Execute i) = class_in (cell_at s.cells i)
+class_of_move s (Launch i) = class_in (cell_at s.cells i)
+class_of_move s (Recover i) = class_in (cell_at s.cells i)
+class_of_move s mv = Free
 
 -- how many of the earlier moves drew from a stream
 unfoldable pub drawn_before : ℕ → List TimedMove → ℕ
 drawn_before stream earlier = length (filter (λ done. stream_of done.mv == stream) earlier)
 
 -- the word that a move draws after earlier ones
-unfoldable pub word_of : Option ℕ → List TimedMove → Move → Option ℕ
-word_of None earlier mv = None
-word_of (Some seed) earlier mv = Some (word_after seed (stream_of mv) (drawn_before (stream_of mv) earlier))
+unfoldable pub word_of_move : Option ℕ → List TimedMove → Move → Option ℕ
+word_of_move None earlier mv = None
+word_of_move (Some seed) earlier mv = Some (drawn_word seed (stream_of mv) (drawn_before (stream_of mv) earlier))
 
 -- how long a move takes in a state after earlier ones
 unfoldable pub delay_at : DelayRule → State → List TimedMove → Move → ℕ
-delay_at rule s earlier mv = ticks_in (span_of rule.spans mv (class_at s mv)) (word_of rule.seed earlier mv)
+delay_at rule s earlier mv = ticks_in (span_of rule.spans mv (class_of_move s mv)) (word_of_move rule.seed earlier mv)
 
 -- the move with that delay
 abbrev pub delayed_at : DelayRule → State → List TimedMove → Move → DelayedMove
@@ -86,5 +86,5 @@ unfoldable pub delays_of : Plan → DelayRule → List Visit → List DelayedMov
 delays_of plan rule visits = delays_after plan rule [] visits
 
 -- and with its time; the last comes first
-abbrev pub timed : Plan → DelayRule → List Visit → List TimedMove
-timed plan rule visits = timed_after plan rule [] visits
+abbrev pub timed_visits : Plan → DelayRule → List Visit → List TimedMove
+timed_visits plan rule visits = timed_after plan rule [] visits

@@ -38,8 +38,8 @@ unfoldable pub generator : (seed stream n : ℕ) → Lcg
 generator seed stream n = advance 64 multiplier_64 n (started 64 multiplier_64 seed (increment_of 64 stream))
 
 -- the word after n words
-unfoldable pub word_after : (seed stream n : ℕ) → ℕ
-word_after seed stream n = output_xsh_rr (generator seed stream n).state
+unfoldable pub drawn_word : (seed stream n : ℕ) → ℕ
+drawn_word seed stream n = output_xsh_rr (generator seed stream n).state
 
 -- the ticks within a range that a word chooses; without one, the middle
 unfoldable pub ticks_in : Span → Option ℕ → ℕ
@@ -63,9 +63,9 @@ unfoldable pub next_word : DelayDraws → ℕ → Option ℕ
 next_word draws stream = on draws.seed None (λ seed. Some (output_xsh_rr (generator_at draws stream).state))
 
 -- its state once that word was taken
-abbrev pub next_state : DelayDraws → ℕ → ℕ
-next_state draws stream = (next 64 multiplier_64 (generator_at draws stream)).state
+abbrev pub next_draw_state : DelayDraws → ℕ → ℕ
+next_draw_state draws stream = (next 64 multiplier_64 (generator_at draws stream)).state
 
 -- the states once it was taken
 unfoldable pub after_word : DelayDraws → ℕ → DelayDraws
-after_word draws stream = on draws.seed draws (λ seed. record draws { states = slice_set draws.states stream (next_state draws stream) })
+after_word draws stream = on draws.seed draws (λ seed. record draws { states = slice_set draws.states stream (next_draw_state draws stream) })

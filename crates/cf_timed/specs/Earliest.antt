@@ -11,7 +11,7 @@ use Rattle.cf_sched.specs.Paces.{offered_by}
 use Rattle.cf_run.specs.Made.{Made}
 use Rattle.cf_timed.specs.declared.timed_move.TimedMove.{TimedMove}
 use Rattle.cf_timed.specs.DelayedRuns.{DelayRule, delayed_at}
-use Rattle.cf_timed.specs.Times.{done_after, time_after}
+use Rattle.cf_timed.specs.Times.{done_after, finish_after}
 
 -- the index of the first move whose time is no greater than any other
 unfoldable pub first_least : (Move → ℕ) → List Move → ℕ
@@ -19,7 +19,7 @@ first_least time moves = position_or_len (λ mv. list_all (λ other. nat_le (tim
 
 -- when a move that is made in a state after earlier ones finishes
 abbrev pub time_in : Plan → DelayRule → State → List TimedMove → Move → ℕ
-time_in plan rule s earlier mv = time_after plan earlier (delayed_at rule s earlier mv)
+time_in plan rule s earlier mv = finish_after plan earlier (delayed_at rule s earlier mv)
 
 -- where a run is: how many Issue moves the hold rule has counted, the state, and the earlier moves, the last first
 pub record TimedTurn : Type 0 where
@@ -32,8 +32,8 @@ unfoldable pub earliest : GuessRule → Plan → DelayRule → TimedTurn → ℕ
 earliest r plan rule t = first_least (time_in plan rule t.state t.earlier) (offered_by r plan t.count t.state)
 
 -- where the run is after one more move
-abbrev pub turned : Plan → DelayRule → TimedTurn → Made → TimedTurn
-turned plan rule t made = record {
+abbrev pub after_turn : Plan → DelayRule → TimedTurn → Made → TimedTurn
+after_turn plan rule t made = record {
   count = paced t.count made.move made.event (is_drained made.state);
   state = made.state;
   earlier = done_after plan t.earlier (delayed_at rule t.state t.earlier made.move) ∷ t.earlier;
@@ -51,4 +51,4 @@ unfoldable pub AreEarliest : GuessRule → Plan → DelayRule → TimedTurn → 
 AreEarliest r plan rule t places [] = IsLastEarliest r plan rule t places
 AreEarliest r plan rule t [] (made ∷ trace) = ⊥
 AreEarliest r plan rule t (place ∷ places) (made ∷ trace) =
-    (place ≡ earliest r plan rule t) × AreEarliest r plan rule (turned plan rule t made) places trace
+    (place ≡ earliest r plan rule t) × AreEarliest r plan rule (after_turn plan rule t made) places trace

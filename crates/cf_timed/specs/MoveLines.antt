@@ -6,7 +6,7 @@ use Rattle.cf_bind.specs.MoveTexts.{move_line}
 use Rattle.cf_run.specs.Made.{Made}
 use Rattle.cf_timed.specs.declared.timed_move.TimedMove.{TimedMove}
 use Rattle.cf_timed.specs.DelayedRuns.{DelayRule, delayed_at}
-use Rattle.cf_timed.specs.Earliest.{TimedTurn, turned}
+use Rattle.cf_timed.specs.Earliest.{TimedTurn, after_turn}
 use Rattle.cf_timed.specs.Times.{done_after}
 
 -- the number of the move, when it starts, and when it finishes
@@ -19,7 +19,8 @@ unfoldable pub timed_line : ℕ → TimedMove → List ℕ
 timed_line number done = place_text number done ++ line (move_line done.mv)
 
 -- the lines of the moves of a run from there, the first of which has this number
-unfoldable pub move_lines : ℕ → Plan → DelayRule → TimedTurn → List Made → List ℕ
-move_lines number plan rule t [] = []
-move_lines number plan rule t (made ∷ trace) =
-    timed_line number (done_after plan t.earlier (delayed_at rule t.state t.earlier made.move)) ++ move_lines (number + 1) plan rule (turned plan rule t made) trace
+unfoldable pub timed_move_lines : ℕ → Plan → DelayRule → TimedTurn → List Made → List ℕ
+timed_move_lines number plan rule t [] = []
+timed_move_lines number plan rule t (made ∷ trace) =
+    timed_line number (done_after plan t.earlier (delayed_at rule t.state t.earlier made.move)) ++ timed_move_lines (number + 1) plan rule
+    (after_turn plan rule t made) trace

@@ -13,12 +13,12 @@ pub record Seeking : Type 0 where
   pub move : Move
 
 -- one more move was counted
-abbrev pub counted : Seeking → Seeking
-counted s = record s { shown = min (s.shown + 1) (2 ^ 64 - 1) }
+abbrev pub counted_move : Seeking → Seeking
+counted_move s = record s { shown = min (s.shown + 1) (2 ^ 64 - 1) }
 
 -- it is taken where it has a lesser time than those before it
 abbrev pub shown : Seeking → Move → Seeking
-shown s mv = counted (if nat_lt (capped s.clock mv) s.time then record s { place = s.shown; time = capped s.clock mv; move = mv } else s)
+shown s mv = counted_move (if nat_lt (capped s.clock mv) s.time then record s { place = s.shown; time = capped s.clock mv; move = mv } else s)
 
 -- before the first move
 abbrev pub nothing : ClockedState → Seeking

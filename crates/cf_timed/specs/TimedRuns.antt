@@ -17,26 +17,26 @@ use Rattle.run_finishes.specs.Stopped.{input_stopped, output_stopped}
 use Rattle.cf_run.specs.Ending.{EndsSequentially}
 use Rattle.cf_run.specs.Headline.{RunsSequentially}
 use Rattle.cf_run.specs.Made.{Made, moves_of}
-use Rattle.cf_run.specs.Moving.{RunPlace, place_of}
-use Rattle.cf_run.specs.Policies.{CanRun, Chooser, Picks, RunsRight, first_pick, fresh, later_picks, most_moves}
+use Rattle.cf_run.specs.Moving.{RunPlace, run_place_of}
+use Rattle.cf_run.specs.Policies.{CanRun, Chooser, Picks, RunsRight, first_pick, fresh_chooser, later_picks, most_moves}
 use Rattle.cf_run.specs.Reaching.{Reaches, no_tally}
 use Rattle.cf_timed.specs.declared.answer.Timed.{Timed}
 use Rattle.cf_timed.specs.declared.answer.TimedRun.{TimedRun}
 use Rattle.cf_timed.specs.declared.answer.Timed.TheVariants.{Exit, Trap, Limit, ReadFault, WriteFault}
 use Rattle.cf_timed.specs.declared.timed_move.TimedMove.{TimedMove}
-use Rattle.cf_timed.specs.Clocks.{SiteTimes, ClockKnows, rule_of, started}
-use Rattle.cf_timed.specs.DelayedRuns.{DelayRule, timed, visits_of}
+use Rattle.cf_timed.specs.Clocks.{SiteTimes, ClockKnows, rule_of_clock, started}
+use Rattle.cf_timed.specs.DelayedRuns.{DelayRule, timed_visits, visits_of}
 use Rattle.cf_timed.specs.Earliest.{AreEarliest, TimedTurn}
-use Rattle.cf_timed.specs.MoveLines.{move_lines}
+use Rattle.cf_timed.specs.MoveLines.{timed_move_lines}
 use Rattle.cf_timed.specs.Watching.{watched, watched_text}
 
 -- the answer of a timed run as that of any run
-abbrev pub answer_of : Timed → Answer
-answer_of (Exit status) = ran.Exit status
-answer_of (Trap cause pc detail) = ran.Trap cause pc detail
-answer_of Limit = ran.Limit
-answer_of ReadFault = ran.ReadFault
-answer_of WriteFault = ran.WriteFault
+abbrev pub answer_of_timed : Timed → Answer
+answer_of_timed (Exit status) = ran.Exit status
+answer_of_timed (Trap cause pc detail) = ran.Trap cause pc detail
+answer_of_timed Limit = ran.Limit
+answer_of_timed ReadFault = ran.ReadFault
+answer_of_timed WriteFault = ran.WriteFault
 
 -- a run may begin, with so small a limit that no time leaves 62 bits
 pub record CanRunTimed (limit : ℕ) (core : Processor) : Type 0 where
@@ -46,7 +46,7 @@ pub record CanRunTimed (limit : ℕ) (core : Processor) : Type 0 where
 -- a timed run may begin: a run may, and no move has been recorded by the clock
 pub record CanBegin (limit : ℕ) (core : Processor) (clock : SiteTimes) : Type 0 where
   pub can_run : CanRunTimed limit core
-  pub clock_is : clock ≡ started core.plan (rule_of clock)
+  pub clock_is : clock ≡ started core.plan (rule_of_clock clock)
 
 -- the counts of the faults of the input and of the output, before and after: that of whichever failed the run
 -- rose
@@ -56,11 +56,11 @@ pub record HasCauses (input input_after output output_after : ℕ) (answer : Opt
 
 -- where a timed run begins, which reports nothing
 abbrev pub begins : Processor → Streams → RunPlace
-begins core streams = place_of core streams None no_tally
+begins core streams = run_place_of core streams None no_tally
 
 -- no move was made yet
-abbrev pub first_turn : State → TimedTurn
-first_turn s = record { count = 0; state = s; earlier = [] }
+abbrev pub timed_start : State → TimedTurn
+timed_start s = record { count = 0; state = s; earlier = [] }
 
 -- from there it is a run that makes, of what its guess rule offers, the move that finishes earliest, and a run of the
 -- sequential machine; this many moves were made, and the clock has recorded exactly these
@@ -70,11 +70,11 @@ pub record RunsTimed (r : GuessRule) (rule : DelayRule) (limit : ℕ) (begin : R
   pub counted : tally.moves ≡ moves
   -- its picks, each by its place among what was offered
   pub picks : List ℕ
-  pub right : RunsRight r first_pick later_picks limit show.report begin (place_of core streams None tally) picks [] (answer_of answer)
-  pub are_earliest : AreEarliest r begin.core.plan rule (first_turn begin.core.state) picks right.runs.reaches.trace
-  pub told : ClockKnows begin.core.plan rule (timed begin.core.plan rule (visits_of begin.core.state right.runs.reaches.trace)) clock
+  pub right : RunsRight r first_pick later_picks limit show.report begin (run_place_of core streams None tally) picks [] (answer_of_timed answer)
+  pub are_earliest : AreEarliest r begin.core.plan rule (timed_start begin.core.state) picks right.runs.reaches.trace
+  pub told : ClockKnows begin.core.plan rule (timed_visits begin.core.plan rule (visits_of begin.core.state right.runs.reaches.trace)) clock
   -- it ends as the sequential machine does under the same limit
-  pub ends : EndsSequentially limit begin (place_of core streams None tally) (Ran (answer_of answer))
+  pub ends : EndsSequentially limit begin (run_place_of core streams None tally) (Ran (answer_of_timed answer))
 
 -- it is such a run, and a watcher has noted each move of it and written about each, given how it notes a move and what it
 -- writes about it; this is what the report exposed before and after
@@ -82,27 +82,28 @@ pub record RunsWatched {W : Type 0} (noted : W → Made → TimedMove → W) (te
     (begin : RunPlace) (core : Processor) (streams : Streams) (clock : SiteTimes) (first later : W) (blank full : Option (List ℕ)) (moves : ℕ)
     (answer : Timed) : Type 0 where
   pub run : RunsTimed r rule limit begin core streams clock moves answer
-  pub noted_all : later ≡ watched noted begin.core.plan rule (first_turn begin.core.state) first run.right.runs.reaches.trace
-  pub put : Writes blank full (watched_text noted text begin.core.plan rule (first_turn begin.core.state) first run.right.runs.reaches.trace)
+  pub noted_all : later ≡ watched noted begin.core.plan rule (timed_start begin.core.state) first run.right.runs.reaches.trace
+  pub put : Writes blank full (watched_text noted text begin.core.plan rule (timed_start begin.core.state) first run.right.runs.reaches.trace)
 
 -- the report failed after a move of such a run: a part of this text about its moves so far was written; by these moves it
 -- is a run of the sequential machine, and they are at most a stated number
-pub record BreaksTimed (text : List Made → List ℕ) (r : GuessRule) (rule : DelayRule) (limit : ℕ) (begin : RunPlace) (blank full : Option (List ℕ)) : Type 0 where
-  pub now : RunPlace
-  pub reached : Reaches limit show.report begin now
-  pub picks : List ℕ
-  pub last : Chooser (List ℕ)
-  pub picked : Picks first_pick later_picks begin.core.plan (fresh r picks) begin.core.state reached.trace last
-  pub are_earliest : AreEarliest r begin.core.plan rule (first_turn begin.core.state) picks reached.trace
-  pub sequential : RunsSequentially show.report (moves_of reached.trace) begin now (Ran ran.ReportFault)
-  pub bounded : now.tally.moves ≤ most_moves begin.core.plan (now.core.state.retired - begin.core.state.retired)
-  pub front : WritesFront blank full (text reached.trace)
+pub record BreaksTimed (text : List Made → List ℕ) (r : GuessRule) (rule : DelayRule) (limit : ℕ) (begin : RunPlace) (blank full : Option (List ℕ)) : Type 0
+  where
+    pub now : RunPlace
+    pub reached : Reaches limit show.report begin now
+    pub picks : List ℕ
+    pub last : Chooser (List ℕ)
+    pub picked : Picks first_pick later_picks begin.core.plan (fresh_chooser r picks) begin.core.state reached.trace last
+    pub are_earliest : AreEarliest r begin.core.plan rule (timed_start begin.core.state) picks reached.trace
+    pub sequential : RunsSequentially show.report (moves_of reached.trace) begin now (Ran ran.ReportFault)
+    pub bounded : now.tally.moves ≤ most_moves begin.core.plan (now.core.state.retired - begin.core.state.retired)
+    pub front : WritesFront blank full (text reached.trace)
 
 -- the text is what a watcher writes
 abbrev pub BreaksWatched : {W : Type 0} → (noted : W → Made → TimedMove → W) → (text : W → Made → TimedMove → List ℕ) → GuessRule → DelayRule → ℕ →
     RunPlace → W → (blank full : Option (List ℕ)) → Type 0
 BreaksWatched noted text r rule limit begin first blank full =
-    BreaksTimed (watched_text noted text begin.core.plan rule (first_turn begin.core.state) first) r rule limit begin blank full
+    BreaksTimed (watched_text noted text begin.core.plan rule (timed_start begin.core.state) first) r rule limit begin blank full
 
 -- a watched run comes to its end, or its report fails
 abbrev pub GoesWatched : {W : Type 0} → (noted : W → Made → TimedMove → W) → (text : W → Made → TimedMove → List ℕ) → GuessRule → DelayRule → ℕ →
@@ -113,21 +114,21 @@ GoesWatched noted text r rule limit begin core streams clock first later blank f
     BreaksWatched noted text r rule limit begin first blank full
 
 -- the lines of the moves of a run from its start
-abbrev pub lines_from : RunPlace → DelayRule → List Made → List ℕ
-lines_from begin rule trace = move_lines 1 begin.core.plan rule (first_turn begin.core.state) trace
+abbrev pub timed_lines_from : RunPlace → DelayRule → List Made → List ℕ
+timed_lines_from begin rule trace = timed_move_lines 1 begin.core.plan rule (timed_start begin.core.state) trace
 
 -- a timed run whose moves have their lines
 pub record RunsShown (r : GuessRule) (rule : DelayRule) (limit : ℕ) (begin : RunPlace) (core : Processor) (streams : Streams) (clock : SiteTimes)
     (blank full : Option (List ℕ)) (moves : ℕ) (answer : Timed) : Type 0 where
   pub run : RunsTimed r rule limit begin core streams clock moves answer
-  pub put : Writes blank full (lines_from begin rule run.right.runs.reaches.trace)
+  pub put : Writes blank full (timed_lines_from begin rule run.right.runs.reaches.trace)
 
 -- it comes to its end, or its report fails
 abbrev pub GoesShown : GuessRule → DelayRule → ℕ → RunPlace → Processor → Streams → SiteTimes → (blank full : Option (List ℕ)) → Result TimedRun Failed → Type 0
 GoesShown r rule limit begin core streams clock blank full (Ok run) = RunsShown r rule limit begin core streams clock blank full run.moves run.answer
-GoesShown r rule limit begin core streams clock blank full (Err failed) = BreaksTimed (lines_from begin rule) r rule limit begin blank full
+GoesShown r rule limit begin core streams clock blank full (Err failed) = BreaksTimed (timed_lines_from begin rule) r rule limit begin blank full
 
 -- its answer, if it came to its end
-abbrev pub answered : Result TimedRun Failed → Option Answer
-answered (Ok run) = Some (answer_of run.answer)
-answered (Err failed) = None
+abbrev pub answer_at_end : Result TimedRun Failed → Option Answer
+answer_at_end (Ok run) = Some (answer_of_timed run.answer)
+answer_at_end (Err failed) = None

@@ -33,12 +33,12 @@ before plan mv earlier = filter (λ done. shares plan mv done.mv) earlier
 
 -- when a move that takes so long finishes after earlier ones: at the greatest time of those that share a site with it,
 -- plus its delay
-unfoldable pub time_after : Plan → List TimedMove → DelayedMove → ℕ
-time_after plan earlier d = greatest_time (before plan d.mv earlier) + d.delay
+unfoldable pub finish_after : Plan → List TimedMove → DelayedMove → ℕ
+finish_after plan earlier d = greatest_time (before plan d.mv earlier) + d.delay
 
 -- the move after earlier ones, with its time
 abbrev pub done_after : Plan → List TimedMove → DelayedMove → TimedMove
-done_after plan earlier d = done_at d (time_after plan earlier d)
+done_after plan earlier d = done_at d (finish_after plan earlier d)
 
 -- moves after earlier ones, each with its time; the last comes first
 abbrev pub times_after : Plan → List TimedMove → List DelayedMove → List TimedMove
@@ -46,5 +46,5 @@ times_after plan earlier [] = earlier
 times_after plan earlier (d ∷ moves) = times_after plan (done_after plan earlier d ∷ earlier) moves
 
 -- the moves of a run, each with its time; the last comes first
-unfoldable pub times : Plan → List DelayedMove → List TimedMove
-times plan moves = times_after plan [] moves
+unfoldable pub moves_with_times : Plan → List DelayedMove → List TimedMove
+moves_with_times plan moves = times_after plan [] moves

@@ -2,7 +2,7 @@
 
 ghost use Rattle.std.specs.Prelude.{◌≡◌};
 ghost use Rattle.cf_semantics.specs.state.State.{cell_at};
-ghost use Rattle.cf_timed.specs.DelayedRuns.{class_at, class_in};
+ghost use Rattle.cf_timed.specs.DelayedRuns.{class_of_move, class_in};
 
 use cf_bind::Move;
 use cf_core::Core;
@@ -28,9 +28,9 @@ fn class_in(core: &Core, i: u32) -> Class
 
 /// The class of the instruction that the move executes, launches or recovers; `Free` for any other move.
 #[inline(always)]
-#[tactic(auto, unfolding(crate::specs::DelayedRuns::class_at))]
+#[tactic(auto, unfolding(crate::specs::DelayedRuns::class_of_move))]
 pub(crate) fn class_at(core: &Core, mv: Move) -> Class
-    ensures { result ≡ class_at core.now.state mv }
+    ensures { result ≡ class_of_move core.now.state mv }
 {
     match mv {
         Move::Execute(i) | Move::Launch(i) | Move::Recover(i) => class_in(core, i),

@@ -3,7 +3,7 @@
 ghost use Rattle.std.specs.Prelude.{◌≡◌, ℕ, ◌+◌, ◌-◌, ◌<◌, ◌≤◌, ◌^◌, min};
 ghost use Rattle.cf_index.specs.Sites.{HasSites};
 ghost use Rattle.cf_timed.specs.Delays.{AreDelays};
-ghost use Rattle.cf_timed.specs.Clocks.{NoneLater, allowed, capped, clocked, delay_by, drawing, finish, made, stamped, started};
+ghost use Rattle.cf_timed.specs.Clocks.{NoneLater, allowed, capped, clocked, delay_by, drawing, finish_time, made, stamped, started};
 
 use crate::class_at::class_at;
 use crate::delays::Delays;
@@ -98,7 +98,7 @@ impl Clock {
 
     /// When the move finishes if it is made now, capped at the greatest `u64`.
     #[inline(always)]
-    #[tactic(auto, unfolding(crate::specs::Clocks::finish))]
+    #[tactic(auto, unfolding(crate::specs::Clocks::finish_time))]
     pub(crate) fn capped(&self, core: &Core, mv: Move) -> u64
         ensures { result ≡ capped (clocked self.now core.now.state) mv }
     {
@@ -133,11 +133,11 @@ impl Clock {
 
     /// When the move finishes if it is made now: the greatest time of the sites that it uses, plus its delay. The
     /// layout has each stage and each cell that the move uses.
-    #[tactic(auto, using(crate::proofs::SiteTimes::reach_within), unfolding(crate::specs::Clocks::finish))]
+    #[tactic(auto, using(crate::proofs::SiteTimes::reach_within), unfolding(crate::specs::Clocks::finish_time))]
     pub fn finish(&self, core: &Core, mv: Move) -> u64
         requires sites { HasSites self.now.plan mv }
         requires early { self.now.latest < 2 ^ 62 }
-        ensures { result ≡ finish (clocked self.now core.now.state) mv }
+        ensures { result ≡ finish_time (clocked self.now core.now.state) mv }
     {
         let _latest = self.greatest();
         self.reach(mv) + self.delay(core, mv)

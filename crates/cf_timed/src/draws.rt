@@ -1,7 +1,7 @@
 //! The words from which the delays of a run are drawn.
 
 ghost use Rattle.std.specs.Prelude.{◌≡◌, ◌<◌};
-ghost use Rattle.cf_timed.specs.Drawing.{after_word, drawn_from, generator_at, next_state, next_word, started_from, stream_of};
+ghost use Rattle.cf_timed.specs.Drawing.{after_word, drawn_from, generator_at, next_draw_state, next_word, started_from, stream_of};
 
 use cf_bind::Move;
 use rand_core::utils::NextWord;
@@ -88,7 +88,7 @@ impl DelayDraws {
     /// The state of the stream once its next word was taken.
     #[inline(always)]
     fn next_state(&self, stream: usize) -> u64
-        ensures { result ≡ next_state self.now stream }
+        ensures { result ≡ next_draw_state self.now stream }
     {
         let mut generator = self.generator(stream);
         let _word = generator.next_word();

@@ -12,17 +12,17 @@ ghost use Rattle.cf_index.specs.Alone.{stands_alone};
 ghost use Rattle.cf_index.specs.Sites.{HasSites, shares};
 ghost use Rattle.cf_timed.specs.Chains.{IsLongest};
 ghost use Rattle.cf_timed.specs.Clocks.{ClockKnows, made_all, started};
-ghost use Rattle.cf_timed.specs.DelayedRuns.{DelayRule, Visit, timed};
+ghost use Rattle.cf_timed.specs.DelayedRuns.{DelayRule, Visit, timed_visits};
 ghost use Rattle.cf_timed.specs.Exchanges.{CanExchange};
-ghost use Rattle.cf_timed.specs.Times.{DelayedMove, greatest_time, times};
+ghost use Rattle.cf_timed.specs.Times.{DelayedMove, greatest_time, moves_with_times};
 
 /// A clock that has recorded the moves of a run has their greatest time, and knows how long a further move takes and when
 /// it finishes. That time is the sum of the delays of some chain of the run, and no chain has a greater sum.
 pub fn t7_1()
     ensures clock { (plan : Plan) (rule : DelayRule) (visits : List Visit) → IsAccepted plan →
         AllByRecursion (λ v. HasSites plan v.mv) visits →
-        ClockKnows plan rule (timed plan rule visits) (made_all (started plan rule) visits) }
-    ensures longest { (plan : Plan) (moves : List DelayedMove) → IsLongest plan moves (greatest_time (times plan moves)) }
+        ClockKnows plan rule (timed_visits plan rule visits) (made_all (started plan rule) visits) }
+    ensures longest { (plan : Plan) (moves : List DelayedMove) → IsLongest plan moves (greatest_time (moves_with_times plan moves)) }
 {}
 
 /// Two neighbouring moves of a run that have no site in common can be exchanged, unless one of them is a Serve or the

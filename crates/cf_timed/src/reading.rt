@@ -2,7 +2,7 @@
 
 ghost use Rattle.std.specs.Prelude.{◌≡◌, ◌<◌, ◌≤◌, All, IfOk, IfSome, MatchResult, Ok, Err, length};
 ghost use Rattle.cf_timed.specs.Delays.{IsSpan, span_count};
-ghost use Rattle.cf_timed.specs.DelayLines.{class_first, class_named, delays_in, kind_told, line_told, range_of, slot_named, span_told_there, span_word, ticks_word, words_told};
+ghost use Rattle.cf_timed.specs.DelayLines.{class_first, class_named, delays_in, told_after_kind, line_told, delay_range, slot_named, span_told_there, span_word, ticks_word, words_told};
 ghost use Rattle.cf_timed.specs.Limits.{most_delays};
 
 use crate::delays::{Delays, class_slot};
@@ -29,9 +29,9 @@ fn ticks_word(word: &[u8]) -> Option<u32>
 }
 
 /// The range between the numbers that two words spell, if the second is no less than the first.
-#[tactic(auto, unfolding(crate::specs::DelayLines::range_of))]
+#[tactic(auto, unfolding(crate::specs::DelayLines::delay_range))]
 fn range_of(first: &[u8], last: &[u8]) -> Option<Span>
-    ensures range { result ≡ range_of first.now last.now }
+    ensures range { result ≡ delay_range first.now last.now }
     ensures is_span { IfSome result IsSpan }
 {
     let least = ticks_word(first)?;
@@ -119,14 +119,14 @@ fn read_span(
 }
 
 /// Records what the words after a kind give.
-#[tactic(auto, unfolding(crate::specs::DelayLines::kind_told))]
+#[tactic(auto, unfolding(crate::specs::DelayLines::told_after_kind))]
 fn read_kind(
     named: &mut [Option<Span>; 41],
     kind: usize,
     mut words: Words<'_>,
 ) -> Result<(), DelayKind>
     requires { kind < 14 }
-    ensures told { MatchResult result (λ _. kind_told named.old kind words.entry ≡ Ok named.new) (λ e. kind_told named.old kind words.entry ≡ Err e) }
+    ensures told { MatchResult result (λ _. told_after_kind named.old kind words.entry ≡ Ok named.new) (λ e. told_after_kind named.old kind words.entry ≡ Err e) }
     ensures spans { All (λ span. IfSome span IsSpan) named.old → All (λ span. IfSome span IsSpan) named.new }
 {
     let word = words.next();

@@ -7,10 +7,10 @@ ghost use Rattle.cf_sched.specs.Paces.{offered_by};
 ghost use Rattle.run_finishes.specs.declared.finish.Ran.TheVariants as answers;
 ghost use Rattle.run_finishes.specs.Stopped.{input_stopped, output_stopped};
 ghost use Rattle.cf_run.specs.Made.{CanCount};
-ghost use Rattle.cf_run.specs.Moving.{place_of};
+ghost use Rattle.cf_run.specs.Moving.{run_place_of};
 ghost use Rattle.cf_run.specs.Policies.{most_moves};
-ghost use Rattle.cf_timed.specs.Clocks.{rule_of};
-ghost use Rattle.cf_timed.specs.TimedRuns.{CanBegin, GoesShown, GoesWatched, HasCauses, RunsTimed, answer_of, answered, begins};
+ghost use Rattle.cf_timed.specs.Clocks.{rule_of_clock};
+ghost use Rattle.cf_timed.specs.TimedRuns.{CanBegin, GoesShown, GoesWatched, HasCauses, RunsTimed, answer_of_timed, answer_at_end, begins};
 ghost use Rattle.cf_timed.specs.Turns.{TurnsTimed, stop_of};
 
 use crate::answer::{Timed, TimedRun};
@@ -45,8 +45,8 @@ fn advance<S: Source, K: Sink>(
     requires some { core.old.state.ending ≡ None → 0 < length (offered_by pace.old.rule core.old.plan pace.old.count core.old.state) }
     requires counts { CanCount tally.old }
     ensures turns { TurnsTimed limit pace.old.rule
-        (place_of core.old (streams_of (S.left input.old) (K.written output.old)) None tally.old)
-        (place_of core.new (streams_of (S.left input.new) (K.written output.new)) None tally.new)
+        (run_place_of core.old (streams_of (S.left input.old) (K.written output.old)) None tally.old)
+        (run_place_of core.new (streams_of (S.left input.new) (K.written output.new)) None tally.new)
         pace.old.count pace.new.count clock.old clock.new result }
     ensures rule { pace.new.rule ≡ pace.old.rule }
     ensures stages { pace.new.stages ≡ pace.old.stages }
@@ -85,7 +85,7 @@ fn advance<S: Source, K: Sink>(
 
 /// The answer of a run whose report never fails.
 fn timed(ran: Ran) -> Timed
-    ensures { ran ≢ answers.ReportFault → answer_of result ≡ ran }
+    ensures { ran ≢ answers.ReportFault → answer_of_timed result ≡ ran }
 {
     match ran {
         Ran::Exit(status) => Timed::Exit(status),
@@ -116,12 +116,12 @@ pub fn run_watched<W: Watcher, S: Source, K: Sink, R: Sink>(
     report: &mut R,
 ) -> Result<TimedRun, Failed>
     requires begins { CanBegin options.limit core.old clock.old }
-    ensures run { GoesWatched W.noted W.text options.rule (rule_of clock.old) options.limit
+    ensures run { GoesWatched W.noted W.text options.rule (rule_of_clock clock.old) options.limit
         (begins core.old (streams_of (S.left input.old) (K.written output.old)))
         core.new (streams_of (S.left input.new) (K.written output.new)) clock.new watcher.old watcher.new
         (R.written report.old) (R.written report.new) result }
     ensures bounded { IfOk result (λ run. run.moves ≤ most_moves core.old.plan (core.new.state.retired - core.old.state.retired)) }
-    ensures causes { HasCauses (S.faults input.old) (S.faults input.new) (K.faults output.old) (K.faults output.new) (answered result) }
+    ensures causes { HasCauses (S.faults input.old) (S.faults input.new) (K.faults output.old) (K.faults output.new) (answer_at_end result) }
     ensures report { HasCause (R.faults report.old) (R.faults report.new) result }
 {
     known(core);
@@ -166,11 +166,11 @@ pub fn run_timed<S: Source, K: Sink>(
     output: &mut K,
 ) -> TimedRun
     requires begins { CanBegin options.limit core.old clock.old }
-    ensures run { RunsTimed options.rule (rule_of clock.old) options.limit
+    ensures run { RunsTimed options.rule (rule_of_clock clock.old) options.limit
         (begins core.old (streams_of (S.left input.old) (K.written output.old)))
         core.new (streams_of (S.left input.new) (K.written output.new)) clock.new result.moves result.answer }
     ensures bounded { result.moves ≤ most_moves core.old.plan (core.new.state.retired - core.old.state.retired) }
-    ensures causes { HasCauses (S.faults input.old) (S.faults input.new) (K.faults output.old) (K.faults output.new) (Some (answer_of result.answer)) }
+    ensures causes { HasCauses (S.faults input.old) (S.faults input.new) (K.faults output.old) (K.faults output.new) (Some (answer_of_timed result.answer)) }
 {
     let ran = run_watched(
         core,
@@ -201,12 +201,12 @@ pub fn run_shown<S: Source, K: Sink, R: Sink>(
     report: &mut R,
 ) -> Result<TimedRun, Failed>
     requires begins { CanBegin options.limit core.old clock.old }
-    ensures run { GoesShown options.rule (rule_of clock.old) options.limit
+    ensures run { GoesShown options.rule (rule_of_clock clock.old) options.limit
         (begins core.old (streams_of (S.left input.old) (K.written output.old)))
         core.new (streams_of (S.left input.new) (K.written output.new)) clock.new
         (R.written report.old) (R.written report.new) result }
     ensures bounded { IfOk result (λ run. run.moves ≤ most_moves core.old.plan (core.new.state.retired - core.old.state.retired)) }
-    ensures causes { HasCauses (S.faults input.old) (S.faults input.new) (K.faults output.old) (K.faults output.new) (answered result) }
+    ensures causes { HasCauses (S.faults input.old) (S.faults input.new) (K.faults output.old) (K.faults output.new) (answer_at_end result) }
     ensures report { HasCause (R.faults report.old) (R.faults report.new) result }
 {
     known(core);

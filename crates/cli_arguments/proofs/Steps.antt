@@ -5,7 +5,7 @@ use Rattle.std.specs.Prelude.{is_some, nat_le, nat_lt}
 use Rattle.std.specs.Str.Parse.{digits_value}
 use Rattle.std.proofs.lemmas.Bool.Decides.{nat_tests}
 use Rattle.run_options.specs.Limits.{most_issues, most_limit, most_states}
-use Rattle.order_rules.specs.Rules.{name_of, rule_named}
+use Rattle.order_rules.specs.Rules.{rule_name, rule_named}
 use Rattle.order_rules.proofs.Named.{named, named_once}
 use Rattle.cli_arguments.specs.declared.names.CommandName.{CommandName}
 use Rattle.cli_arguments.specs.declared.names.PlaceKind.{PlaceKind}
@@ -337,7 +337,7 @@ value-read keys.States subject given word later h =
     record { key_is = refl; word_is = refl; allowed = t.0; more_is = ap (λ (m : ℕ). record given { states = Some m }) t.1 }) h
 value-read keys.Without subject given word later h =
     value-found (rule_named word) (λ rule. record given { without = Some rule }) do_without subject given keys.Without word later
-    (λ rule e. record { key_is = refl; word_is = one-word word (name_of rule) (sym (named_once word rule e)); allowed = refl; more_is = refl }) h
+    (λ rule e. record { key_is = refl; word_is = one-word word (rule_name rule) (sym (named_once word rule e)); allowed = refl; more_is = refl }) h
 value-read keys.Mul subject given word later h = absurd (cc)
 value-read keys.Run subject given word later h = absurd (cc)
 
@@ -373,7 +373,7 @@ value_of (guess_by rule) = rule_word rule
 value_of (input_from file) = file
 value_of (issue_at_most digits) = digits
 value_of (reach_at_most digits) = digits
-value_of (do_without rule) = name_of rule
+value_of (do_without rule) = rule_name rule
 value_of with_mul = []
 value_of with_run = []
 

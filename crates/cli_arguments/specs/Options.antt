@@ -5,7 +5,7 @@ use Rattle.run_options.specs.Limits.{most_issues, most_limit, most_states, most_
 use Rattle.run_options.specs.declared.guess_rule.GuessRule.{GuessRule}
 use Rattle.run_options.specs.declared.guess_rule.GuessRule.TheVariants as rules
 use Rattle.order_rules.specs.declared.rule.Rule.{Rule}
-use Rattle.order_rules.specs.Rules.{name_of}
+use Rattle.order_rules.specs.Rules.{rule_name}
 use Rattle.cli_arguments.specs.declared.names.CommandName.{CommandName}
 use Rattle.cli_arguments.specs.declared.names.CommandName.TheVariants as names
 use Rattle.cli_arguments.specs.declared.options.Key.{Key}
@@ -86,7 +86,7 @@ value_words (guess_by rule) = rule_word rule ∷ []
 value_words (input_from file) = file ∷ []
 value_words (issue_at_most digits) = digits ∷ []
 value_words (reach_at_most digits) = digits ∷ []
-value_words (do_without rule) = name_of rule ∷ []
+value_words (do_without rule) = rule_name rule ∷ []
 value_words with_mul = []
 value_words with_run = []
 

@@ -3,7 +3,7 @@ use Rattle.std.proofs.Common.{◌≡◌, ℕ, List, [], Option, Some, None, Ok, 
 use Rattle.std.specs.Prelude.{codes}
 use Rattle.rv_machine.specs.Hart.{Hart}
 use Rattle.cf_layout.specs.Layout.{Plan}
-use Rattle.cf_core.specs.Processors.{Processor, opened}
+use Rattle.cf_core.specs.Processors.{Processor, opened_processor}
 use Rattle.cf_audit.specs.declared.answer.Audit.{Audit}
 use Rattle.cf_audit.specs.declared.answer.Audit.TheVariants as found
 use Rattle.cf_audit.specs.Audits.{AgreesSequentially, AgreesWithAll, AreFound, Audits, IsAgreement}
@@ -18,8 +18,8 @@ use Rattle.cli_audit.specs.Reports.{trace_of}
 
 -- the run of a trace that agrees is one of the machine on whose hart the processor was opened
 traced : (plan : Plan) (hart : Hart) (new : Processor) (before after : Option (List ℕ)) (text : List ℕ) (n : ℕ) →
-    AgreesSequentially (opened plan hart) new before after text (found.Agrees n) → IsTraceOf plan hart new text before after n
-unfolding AgreesSequentially opened
+    AgreesSequentially (opened_processor plan hart) new before after text (found.Agrees n) → IsTraceOf plan hart new text before after n
+unfolding AgreesSequentially opened_processor
 traced plan hart new before after text n e = record {
   last = e.last;
   is = e.is;
@@ -29,7 +29,7 @@ traced plan hart new before after text n e = record {
 }
 
 answers : (plan : Plan) (hart : Hart) (new : Processor) (text : List ℕ) (before after : Option (List ℕ)) (a : Audit) →
-    Audits (opened plan hart) new before after text a → AgreesSequentially (opened plan hart) new before after text a →
+    Audits (opened_processor plan hart) new before after text a → AgreesSequentially (opened_processor plan hart) new before after text a →
     AnswersText plan hart new text before after (audit_status a) (audit_report a)
 unfolding Audits
 answers plan hart new text before after (found.Agrees n) is machine = (n, traced plan hart new before after text n machine, refl)
@@ -43,25 +43,26 @@ accepted n (found.Wrong number kind) h = h
 accepted n found.ReadFault h = tt
 
 -- what the moves of an audit found, by its status
-found_by : (plan : Plan) (hart : Hart) (new : Processor) (text : List ℕ) (finds : Findings) (a : Audit) → AreFound finds (opened plan hart) new text a →
+found_by : (plan : Plan) (hart : Hart) (new : Processor) (text : List ℕ) (finds : Findings) (a : Audit) →
+    AreFound finds (opened_processor plan hart) new text a →
     IsWhatWasFound finds plan hart new text (audit_status a) (audit_report a)
 found_by plan hart new text finds (found.Agrees n) (last, is, reaches) = (n, last, is, reaches, refl)
 found_by plan hart new text finds (found.Wrong number kind) (stop, wrong, reaches) = (stop, wrong, reaches)
 found_by plan hart new text finds found.ReadFault h = tt
 
 accepts : (plan : Plan) (hart : Hart) (new : Processor) (text : List ℕ) (told : Option (List ℕ)) (a : Audit) →
-    AgreesWithAll (opened plan hart) new told text a → AcceptsRuns plan hart new text told (audit_status a) (audit_report a)
+    AgreesWithAll (opened_processor plan hart) new told text a → AcceptsRuns plan hart new text told (audit_status a) (audit_report a)
 accepts plan hart new text None a (finds, are, h) = (finds, found_by plan hart new text finds a are, λ n last is. accepted n a (h n last is))
 accepts plan hart new text (Some rest) a h = λ n last is. accepted n a (h n last is)
 
 pub comes : (core new : Processor) (plan : Plan) (hart : Hart) (text : List ℕ) (before after : Option (List ℕ)) (a : Audit)
-    (answer : Status) (report : List ℕ) → core ≡ opened plan hart → Audits core new before after text a →
+    (answer : Status) (report : List ℕ) → core ≡ opened_processor plan hart → Audits core new before after text a →
     AgreesWithAll core new before text a → AgreesSequentially core new before after text a → answer ≡ audit_status a → report ≡ audit_report a →
     ComesOfTrace plan hart text before after answer report
 comes core new plan hart text before after a answer report is audits agrees machine said told =
-    let audited : Audits (opened plan hart) new before after text a = rw is at audits in
-    let all : AgreesWithAll (opened plan hart) new before text a = rw is at agrees in
-    let traces : AgreesSequentially (opened plan hart) new before after text a = rw is at machine in
+    let audited : Audits (opened_processor plan hart) new before after text a = rw is at audits in
+    let all : AgreesWithAll (opened_processor plan hart) new before text a = rw is at agrees in
+    let traces : AgreesSequentially (opened_processor plan hart) new before after text a = rw is at machine in
     rw (said, told) (record {
       new = new;
       answers = answers plan hart new text before after a audited traces;
@@ -77,7 +78,7 @@ none_found plan hart new text (Some rest) = λ n last is. tt
 pub comes-no-memory : (plan : Plan) (hart : Hart) (text : List ℕ) (told : Option (List ℕ)) (answer : Status) (report : List ℕ) → answer ≡ status.NoMemory →
     report ≡ line (codes "no memory") → ComesOfTrace plan hart text told told answer report
 comes-no-memory plan hart text told answer report is says =
-    rw (is, says) (record { new = opened plan hart; answers = (refl, refl); accepts = none_found plan hart (opened plan hart) text told })
+    rw (is, says) (record { new = opened_processor plan hart; answers = (refl, refl); accepts = none_found plan hart (opened_processor plan hart) text told })
 
 -- what was found says of no file that it failed, nor of the output, and of the input exactly where the call did
 pub files-left : (a : Audit) → files_answered (audit_status a) ≡ Ok tt

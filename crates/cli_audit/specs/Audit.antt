@@ -5,7 +5,7 @@ use Rattle.rv_machine.specs.Hart.{Hart}
 use Rattle.rv_machine.specs.Streams.{Becomes}
 use Rattle.cf_layout.specs.Layout.{Plan}
 use Rattle.cf_semantics.specs.state.State.{Moment}
-use Rattle.cf_core.specs.Processors.{Processor, in_state, opened}
+use Rattle.cf_core.specs.Processors.{Processor, in_state, opened_processor}
 use Rattle.cf_audit.specs.declared.answer.Audit.{Audit}
 use Rattle.cf_audit.specs.declared.answer.Audit.TheVariants as found
 use Rattle.run_scripts.specs.declared.trace_refusal.TraceKind.{TraceKind}
@@ -47,7 +47,7 @@ audit_report found.ReadFault = line (codes "read fault input")
 
 -- the processor of the layout, opened on the hart, has come to this moment
 abbrev pub HasComeTo : Plan → Hart → (new : Processor) → Moment → Type 0
-HasComeTo plan hart new m = new ≡ in_state (opened plan hart) m.state
+HasComeTo plan hart new m = new ≡ in_state (opened_processor plan hart) m.state
 
 -- the text is the trace of a run of n moves of the layout's processor, opened on the hart, which it leaves as it is now; the
 -- run leaves this of the input; it is one of the sequential machine that starts on the hart, at each of its moments, and the
@@ -55,17 +55,17 @@ HasComeTo plan hart new m = new ≡ in_state (opened plan hart) m.state
 pub record IsTraceOf (plan : Plan) (hart : Hart) (new : Processor) (text : List ℕ) (before after : Option (List ℕ)) (n : ℕ) :
     Type 0 where
   pub last : Moment
-  pub is : IsTrace (opened plan hart) before text n last
+  pub is : IsTrace (opened_processor plan hart) before text n last
   pub reached : HasComeTo plan hart new last
   pub input : Becomes before after last.rest
-  pub machine : TracesMachine (opened plan hart) hart before text n last is
+  pub machine : TracesMachine (opened_processor plan hart) hart before text n last is
 
 -- the text is the trace of no run, which is seen in this line, for this reason; the moves that were made leave the processor
 -- as it is now, and this of the input
 pub record IsNoTraceOf (plan : Plan) (hart : Hart) (new : Processor) (text : List ℕ) (before after : Option (List ℕ)) (number : ℕ)
     (kind : TraceKind) : Type 0 where
   pub stop : Moment
-  pub wrong : GoesWrong (opened plan hart) before text number kind stop
+  pub wrong : GoesWrong (opened_processor plan hart) before text number kind stop
   pub reached : HasComeTo plan hart new stop
   pub input : Becomes before after stop.rest
 
@@ -77,7 +77,7 @@ AnswersText plan hart new text before after status.Done report =
 AnswersText plan hart new text before after (status.BadTrace (fault.Line number kind)) report =
     IsNoTraceOf plan hart new text before after number kind × (report ≡ bad_trace (fault.Line number kind))
 AnswersText plan hart new text before after (status.ReadFault which.Input) report =
-    StopsAtCall (opened plan hart) new before after text × (report ≡ line (codes "read fault input"))
+    StopsAtCall (opened_processor plan hart) new before after text × (report ≡ line (codes "read fault input"))
 AnswersText plan hart new text before after status.NoMemory report =
     (after ≡ before) × (report ≡ line (codes "no memory"))
 AnswersText plan hart new text before after _ report = ⊥
@@ -92,9 +92,9 @@ AcceptsTrace n _ report = Unit {0}
 -- it they lead to the processor as it is now
 abbrev pub IsWhatWasFound : Findings → Plan → Hart → (new : Processor) → List ℕ → Status → List ℕ → Type 0
 IsWhatWasFound found plan hart new text status.Done report =
-    (n : ℕ) × (last : Moment) × IsTraceFinding found (opened plan hart) text n last × HasComeTo plan hart new last × (report ≡ trace_of n)
+    (n : ℕ) × (last : Moment) × IsTraceFinding found (opened_processor plan hart) text n last × HasComeTo plan hart new last × (report ≡ trace_of n)
 IsWhatWasFound found plan hart new text (status.BadTrace (fault.Line number kind)) report =
-    (stop : Moment) × GoesWrongFinding found (opened plan hart) text number kind stop × HasComeTo plan hart new stop
+    (stop : Moment) × GoesWrongFinding found (opened_processor plan hart) text number kind stop × HasComeTo plan hart new stop
 IsWhatWasFound found plan hart new text _ report = Unit {0}
 
 -- over an input that tells what it has left, each trace of a run is answered in this way; over another one each trace of a
@@ -102,9 +102,9 @@ IsWhatWasFound found plan hart new text _ report = Unit {0}
 abbrev pub AcceptsRuns : Plan → Hart → (new : Processor) → List ℕ → Option (List ℕ) → Status → List ℕ → Type 0
 AcceptsRuns plan hart new text None answer report =
     (found : Findings) × IsWhatWasFound found plan hart new text answer report
-    × ((n : ℕ) (last : Moment) → IsTraceFinding found (opened plan hart) text n last → AcceptsTrace n answer report)
+    × ((n : ℕ) (last : Moment) → IsTraceFinding found (opened_processor plan hart) text n last → AcceptsTrace n answer report)
 AcceptsRuns plan hart new text (Some rest) answer report =
-    (n : ℕ) (last : Moment) → IsTrace (opened plan hart) (Some rest) text n last → AcceptsTrace n answer report
+    (n : ℕ) (last : Moment) → IsTrace (opened_processor plan hart) (Some rest) text n last → AcceptsTrace n answer report
 
 -- what comes of a layout, a hart and a text: the answer and what was found of the input are of one audit, which leaves this
 -- processor

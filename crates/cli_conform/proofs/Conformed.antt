@@ -4,7 +4,7 @@ use Rattle.cf_io.specs.Causes.{HasCause}
 use Rattle.rv_machine.specs.Hart.{Hart}
 use Rattle.rv_machine.specs.Streams.{Streams}
 use Rattle.cf_layout.specs.Layout.{Plan}
-use Rattle.cf_core.specs.Processors.{Processor, opened}
+use Rattle.cf_core.specs.Processors.{Processor, opened_processor}
 use Rattle.run_finishes.specs.declared.finish.Ran.TheVariants as ran
 use Rattle.cf_conform.specs.declared.answer.Conformed.{Conformed}
 use Rattle.cf_conform.specs.declared.answer.Conformed.TheVariants.{Ran, LogEnd, BadLog, Differs}
@@ -74,7 +74,7 @@ log-files limit moves found said is = rw is (files_found limit moves found)
 
 -- on the processor of a layout, opened on a hart, it is what comes of both
 pub log-comes : (limit : ℕ) (core last : Processor) (plan : Plan) (hart : Hart) (before after : Streams) (blank full : Report) (reported : Reported) →
-    core ≡ opened plan hart → ReportsAlone (JudgesCore limit core last before after) blank full reported →
+    core ≡ opened_processor plan hart → ReportsAlone (JudgesCore limit core last before after) blank full reported →
     ReportsAlone (ComesOfLog limit plan hart before after) blank full reported
 log-comes limit core last plan hart before after blank full reported is (text, judges, puts) =
     (text, inl (last, subst (λ (p : Processor). JudgesCore limit p last before after reported.status text) is judges), puts)
@@ -94,7 +94,8 @@ pub log-refused : (asked : ConformAsked) (before after : Outside) (blank full : 
 log-refused asked before after blank full answer text reported same refused puts =
     answer-put (λ answer text. AnswersConform asked before after answer text) answer text blank full reported same (inr refused) puts
 
-output_found : (limit moves : ℕ) (found : Conformed) (before now : ℕ) → (found ≡ Ran ran.ReportFault → ⊥) → HasCause before now (output_stopped_log (Some found)) →
+output_found : (limit moves : ℕ) (found : Conformed) (before now : ℕ) → (found ≡ Ran ran.ReportFault → ⊥) →
+    HasCause before now (output_stopped_log (Some found)) →
     HasCause before now (output_answered (log_status limit moves found))
 output_found limit moves (Ran (ran.Exit status)) before now sound h = h
 output_found limit moves (Ran (ran.Trap cause pc detail)) before now sound h = h

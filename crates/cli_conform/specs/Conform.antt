@@ -3,7 +3,7 @@ use Rattle.std.specs.Prelude.{◌≡◌, ◌⊎◌, ℕ, List}
 use Rattle.rv_machine.specs.Hart.{Hart}
 use Rattle.rv_machine.specs.Streams.{Streams}
 use Rattle.cf_layout.specs.Layout.{Plan}
-use Rattle.cf_core.specs.Processors.{Processor, opened}
+use Rattle.cf_core.specs.Processors.{Processor, opened_processor}
 use Rattle.cf_log.specs.declared.kind.LogKind.TheVariants as kind
 use Rattle.cf_conform.specs.declared.answer.Conformed.{Conformed}
 use Rattle.cf_conform.specs.declared.answer.Conformed.TheVariants.{Ran, LogEnd, BadLog, Differs}
@@ -55,7 +55,7 @@ pub record JudgesCore (limit : ℕ) (core last : Processor) (before after : Stre
 -- it was refused
 abbrev pub ComesOfLog : ℕ → Plan → Hart → Streams → Streams → Status → List ℕ → Type 0
 ComesOfLog limit plan hart before after answer report =
-    ((last : Processor) × JudgesCore limit (opened plan hart) last before after answer report) ⊎ LacksProcessor before after answer report
+    ((last : Processor) × JudgesCore limit (opened_processor plan hart) last before after answer report) ⊎ LacksProcessor before after answer report
 
 -- the layout and the program were read, and this comes of them
 pub record ConformsLoaded (asked : ConformAsked) (before after : Outside) (answer : Status) (report : List ℕ) : Type 0 where

@@ -6,7 +6,7 @@ use Rattle.rv_machine.specs.Hart.{Hart}
 use Rattle.rv_machine.specs.Streams.{Streams}
 use Rattle.cf_layout.specs.Layout.{Plan}
 use Rattle.cf_semantics.specs.moves.Kept.{Kept}
-use Rattle.cf_core.specs.Processors.{Processor, opened}
+use Rattle.cf_core.specs.Processors.{Processor, opened_processor}
 use Rattle.cf_debug.specs.declared.answer.Debugged.{Debugged}
 use Rattle.cf_debug.specs.declared.answer.Debugged.TheVariants.{Done, Limit, ReadFault, WriteFault, ReportFault}
 use Rattle.cf_debug.specs.Making.{processor_state}
@@ -111,11 +111,11 @@ session-closed core last ring kept before after blank half full ended result emp
 
 -- on the processor of a layout, opened on a hart, it is what comes of both
 pub session-comes : (core : Processor) (plan : Plan) (hart : Hart) (before after : Streams) (blank full : Report) (result : Result Reported Failed) →
-    core ≡ opened plan hart →
+    core ≡ opened_processor plan hart →
     Comes (λ answer shown closing. AnswersSession core before after answer (shown ++ closing))
     (BreaksSession core before after blank.written full.written) blank full result →
     Comes (λ answer shown closing. ComesOfCommands plan hart before after answer (shown ++ closing))
-    (BreaksSession (opened plan hart) before after blank.written full.written) blank full result
+    (BreaksSession (opened_processor plan hart) before after blank.written full.written) blank full result
 session-comes core plan hart before after blank full (Ok reported) is (shown, closing, answers, puts) =
     (shown, closing, inl (subst (λ (p : Processor). AnswersSession p before after reported.status (shown ++ closing)) is answers), puts)
 session-comes core plan hart before after blank full (Err failed) is (breaks, rose) =
@@ -136,7 +136,7 @@ session-lacking plan hart before after blank full answer text reported same lack
 pub loaded-session : (layout : NamedLayout) (program : List ℕ) (before after : Outside) (plan : Plan) (hart : Hart) (blank full : Report)
     (result : Result Reported Failed) → IsLoaded layout program before.files after.files plan hart →
     Comes (λ answer shown closing. ComesOfCommands plan hart before.streams after.streams answer (shown ++ closing))
-    (BreaksSession (opened plan hart) before.streams after.streams blank.written full.written) blank full result →
+    (BreaksSession (opened_processor plan hart) before.streams after.streams blank.written full.written) blank full result →
     Comes (λ answer shown closing. AnswersDebug layout program before after answer (shown ++ closing))
     (BreaksDebug layout program before after blank.written full.written) blank full result
 loaded-session layout program before after plan hart blank full (Ok reported) loaded (shown, closing, comes, puts) =

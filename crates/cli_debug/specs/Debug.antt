@@ -4,7 +4,7 @@ use Rattle.rv_machine.specs.Hart.{Hart}
 use Rattle.rv_machine.specs.Streams.{Streams}
 use Rattle.cf_layout.specs.Layout.{Plan}
 use Rattle.cf_semantics.specs.moves.Kept.{Kept}
-use Rattle.cf_core.specs.Processors.{Processor, opened}
+use Rattle.cf_core.specs.Processors.{Processor, opened_processor}
 use Rattle.cf_debug.specs.declared.answer.Debugged.{Debugged}
 use Rattle.cf_debug.specs.declared.answer.Debugged.TheVariants.{ReportFault}
 use Rattle.cf_debug.specs.Making.{processor_state}
@@ -39,7 +39,7 @@ pub record AnswersSession (core : Processor) (before after : Streams) (answer : 
 -- what comes of a layout and a hart: a session on the processor of that layout, opened on the hart
 abbrev pub ComesOfCommands : Plan → Hart → (before after : Streams) → Status → List ℕ → Type 0
 ComesOfCommands plan hart before after answer report =
-    AnswersSession (opened plan hart) before after answer report ⊎ LacksProcessor before after answer report
+    AnswersSession (opened_processor plan hart) before after answer report ⊎ LacksProcessor before after answer report
 
 -- the report failed during the session
 abbrev pub BreaksSession : Processor → (before after : Streams) → (blank full : Option (List ℕ)) → Type 0
@@ -70,4 +70,4 @@ pub record BreaksDebug (layout : NamedLayout) (program : List ℕ) (before after
   pub plan : Plan
   pub hart : Hart
   pub loaded : IsLoaded layout program before.files after.files plan hart
-  pub breaks : BreaksSession (opened plan hart) before.streams after.streams blank full
+  pub breaks : BreaksSession (opened_processor plan hart) before.streams after.streams blank full

@@ -1,7 +1,7 @@
 //! The command `debug`.
 
 ghost use Rattle.std.specs.Prelude.{◌≡◌, ◌≤◌, ◌++◌, []};
-ghost use Rattle.cf_core.specs.Processors.{IsOpened, opened};
+ghost use Rattle.cf_core.specs.Processors.{IsOpened, opened_processor};
 ghost use Rattle.cf_debug.specs.Limits.{most_retired};
 ghost use Rattle.cli_arguments.specs.Views.{layout_of};
 ghost use Rattle.cli_debug.specs.Debug.{AnswersDebug, AnswersSession, BreaksDebug, BreaksSession, ComesOfCommands};
@@ -56,7 +56,7 @@ fn debug_loaded<S: Source, K: Sink, R: Sink>(
     requires count { loaded.machine.retired ≡ 0 }
     ensures { CarriesOutRun
         (λ before after blank answer shown closing. ComesOfCommands loaded.layout loaded.machine before after answer (shown ++ closing))
-        (BreaksSession (opened loaded.layout loaded.machine)) (run_change S.Source K.Sink R.Sink streams.entry streams.exit) result }
+        (BreaksSession (opened_processor loaded.layout loaded.machine)) (run_change S.Source K.Sink R.Sink streams.entry streams.exit) result }
 {
     let Ok(mut ring) = Ring::new(alloc) else {
         return Ok(put_answer(no_memory(), streams.report));

@@ -7,7 +7,7 @@ use Rattle.mem_regions.specs.declared.refusal.LoadErr.{LoadErr}
 use Rattle.mem_regions.specs.declared.refusal.LoadErr.TheVariants.{NoMemory}
 use Rattle.mem_regions.specs.Causes.{AreAccepted, IsLoadCause}
 use Rattle.cli_files.specs.Files.{IsFrontOf}
-use Rattle.cli_files.specs.Image.{most_bytes, IsProgramFile, elf_parts, flat_part, opened, stack_part}
+use Rattle.cli_files.specs.Image.{most_bytes, IsProgramFile, elf_parts, flat_part, hart_at_start, stack_part}
 use Rattle.cli_files.specs.Programs.{IsProgramAt, IsNoProgram, LacksProgram}
 use Rattle.cli_files.specs.declared.answer.Answer.{Answer}
 use Rattle.cli_files.specs.declared.images.ProgramImages.{ProgramImages}
@@ -36,7 +36,7 @@ pub ruleset images = (elf-accepted, flat-accepted-too)
 -- images of a file that was read are those of the program that it holds
 pub images-found : (before after : Option FilesSeen) (name image : List ℕ) (r : Result ProgramImages Answer) →
     IsFrontOf (most_bytes + 1) before after name image →
-    IfOk r (λ images. IsProgramFile image) → IfOk r (λ images. images.machine ≡ opened image) →
+    IfOk r (λ images. IsProgramFile image) → IfOk r (λ images. images.machine ≡ hart_at_start image) →
     IfOk r (λ images. IsProgramAt name before after images.machine)
 images-found before after name image (Ok images) front program begins = record {
   image = image;

@@ -3,14 +3,14 @@ use Rattle.std.proofs.Common.{◌≡◌, ℕ, ◌+◌, List, Option, Result, Ok,
 use Rattle.cf_io.specs.Reads.{FilesSeen}
 use Rattle.rv_machine.specs.Hart.{Hart}
 use Rattle.cli_files.specs.Files.{IsFrontOf}
-use Rattle.cli_files.specs.Image.{most_bytes, IsProgramFile, opened}
+use Rattle.cli_files.specs.Image.{most_bytes, IsProgramFile, hart_at_start}
 use Rattle.cli_files.specs.Programs.{IsProgramAt, IsNoProgram, LacksProgram}
 use Rattle.cli_files.specs.declared.answer.Answer.{Answer}
 
 -- an image that was read and is a program is in its file
 pub program-found : (before after : Option FilesSeen) (name image : List ℕ) (r : Result Hart Answer) →
     IsFrontOf (most_bytes + 1) before after name image →
-    IfOk r (λ hart. IsProgramFile image) → IfOk r (λ hart. hart ≡ opened image) →
+    IfOk r (λ hart. IsProgramFile image) → IfOk r (λ hart. hart ≡ hart_at_start image) →
     IfOk r (IsProgramAt name before after)
 program-found before after name image (Ok hart) front program begins = record {
   image = image;

@@ -67,8 +67,8 @@ abbrev pub image_entry : List ℕ → ℕ
 image_entry image = if starts_with_elf image then (file_header image).entry else flat_base
 
 -- the hart at the start of a program
-unfoldable pub opened : List ℕ → Hart
-opened image = start_hart (loaded image (parts_of image)) (image_entry image)
+unfoldable pub hart_at_start : List ℕ → Hart
+hart_at_start image = start_hart (loaded image (parts_of image)) (image_entry image)
 
 -- the file is a program: it is not too long, is a sound ELF file if it begins as one, and its parts can be loaded
 pub record IsProgramFile (image : List ℕ) : Type 0 where

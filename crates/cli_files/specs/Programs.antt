@@ -3,7 +3,7 @@ use Rattle.std.specs.Prelude.{◌≡◌, ◌+◌, ◌⊎◌, ℕ, List, codes, O
 use Rattle.cf_io.specs.Reads.{FilesSeen}
 use Rattle.rv_machine.specs.Hart.{Hart}
 use Rattle.cli_files.specs.Files.{IsFrontOf, LacksBytes}
-use Rattle.cli_files.specs.Image.{most_bytes, IsProgramFile, IsRefused, opened}
+use Rattle.cli_files.specs.Image.{most_bytes, IsProgramFile, IsRefused, hart_at_start}
 use Rattle.cli_files.specs.Memory.{SaysNoMemory}
 use Rattle.report_refusals.specs.Programs.{bad_program}
 use Rattle.report_refusals.specs.declared.faults.ProgramErr.{ProgramErr}
@@ -16,7 +16,7 @@ pub record IsProgramAt (name : List ℕ) (before after : Option FilesSeen) (hart
   pub image : List ℕ
   pub front : IsFrontOf (most_bytes + 1) before after name image
   pub program : IsProgramFile image
-  pub begins : hart ≡ opened image
+  pub begins : hart ≡ hart_at_start image
 
 -- the image is no program, and the status and the report say why; or it is one, and memory for it was refused
 abbrev pub IsNoProgram : List ℕ → Status → List ℕ → Type 0

@@ -4,7 +4,7 @@ ghost use Rattle.std.specs.Prelude.{◌≡◌, IfOk, IfErr, All, true, false};
 ghost use Rattle.elf_view.specs.Refusal.{starts_with_elf};
 ghost use Rattle.mem_regions.specs.Causes.{AreAccepted};
 ghost use Rattle.mem_regions.specs.Loading.{LiesIn, loaded};
-ghost use Rattle.cli_files.specs.Image.{IsProgramFile, opened};
+ghost use Rattle.cli_files.specs.Image.{IsProgramFile, hart_at_start};
 ghost use Rattle.cli_files.specs.Programs.{IsNoProgram, IsProgramAt, LacksProgram};
 ghost use Rattle.cli_files.specs.ReadsFiles.{ReadsFiles};
 
@@ -48,21 +48,21 @@ fn load(alloc: Global, file: &[u8], parts: &[Part]) -> Result<Image, AllocError>
 }
 
 /// The memory of a flat image.
-#[tactic(auto, using(crate::proofs::LoadedAgain::images), unfolding(crate::specs::Image::opened))]
+#[tactic(auto, using(crate::proofs::LoadedAgain::images), unfolding(crate::specs::Image::hart_at_start))]
 fn load_flat(alloc: Global, file: &[u8]) -> Result<Image, AllocError>
     requires program { IsProgramFile file.now }
     requires flat { starts_with_elf file.now ≡ false }
-    ensures { IfOk result (λ image. image ≡ (opened file.now).mem) }
+    ensures { IfOk result (λ image. image ≡ (hart_at_start file.now).mem) }
 {
     load(alloc, file, &[flat_part(file.len() as u32), STACK])
 }
 
 /// The memory of an ELF file.
-#[tactic(auto, using(crate::proofs::LoadedAgain::images, crate::proofs::Segments::segment_parts), unfolding(crate::specs::Image::opened))]
+#[tactic(auto, using(crate::proofs::LoadedAgain::images, crate::proofs::Segments::segment_parts), unfolding(crate::specs::Image::hart_at_start))]
 fn load_elf(alloc: Global, file: &[u8]) -> Result<Image, AllocError>
     requires program { IsProgramFile file.now }
     requires elf { starts_with_elf file.now ≡ true }
-    ensures { IfOk result (λ image. image ≡ (opened file.now).mem) }
+    ensures { IfOk result (λ image. image ≡ (hart_at_start file.now).mem) }
 {
     let elf = match Elf::view(file) {
         Ok(elf) => elf,
@@ -75,7 +75,7 @@ fn load_elf(alloc: Global, file: &[u8]) -> Result<Image, AllocError>
 /// The memory of a program file as it is loaded.
 fn image_again(alloc: Global, file: &[u8]) -> Result<Image, AllocError>
     requires { IsProgramFile file.now }
-    ensures { IfOk result (λ image. image ≡ (opened file.now).mem) }
+    ensures { IfOk result (λ image. image ≡ (hart_at_start file.now).mem) }
 {
     if is_elf(file) {
         load_elf(alloc, file)
@@ -98,10 +98,10 @@ fn load_twice_more(
     machine: Machine,
 ) -> Result<ProgramImages, AllocError>
     requires program { IsProgramFile file.now }
-    requires machine { machine ≡ opened file.now }
-    ensures machine { IfOk result (λ images. images.machine ≡ opened file.now) }
-    ensures image { IfOk result (λ images. images.image ≡ (opened file.now).mem) }
-    ensures memory { IfOk result (λ images. images.mem ≡ (opened file.now).mem) }
+    requires machine { machine ≡ hart_at_start file.now }
+    ensures machine { IfOk result (λ images. images.machine ≡ hart_at_start file.now) }
+    ensures image { IfOk result (λ images. images.image ≡ (hart_at_start file.now).mem) }
+    ensures memory { IfOk result (λ images. images.mem ≡ (hart_at_start file.now).mem) }
 {
     let image = image_again(alloc, file)?;
     let again = open_again(alloc, file)?;
@@ -115,7 +115,7 @@ fn load_twice_more(
 /// The images of a program file, or the answer where it is no program.
 fn open_images(alloc: Global, file: &[u8]) -> Result<ProgramImages, Answer>
     ensures program { IfOk result (λ images. IsProgramFile file.now) }
-    ensures machine { IfOk result (λ images. images.machine ≡ opened file.now) }
+    ensures machine { IfOk result (λ images. images.machine ≡ hart_at_start file.now) }
     ensures image { IfOk result (λ images. images.machine.mem ≡ images.image) }
     ensures memory { IfOk result (λ images. images.mem ≡ images.image) }
     ensures count { IfOk result (λ images. images.machine.retired ≡ 0) }

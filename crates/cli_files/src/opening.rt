@@ -6,7 +6,7 @@ ghost use Rattle.mem_regions.specs.Causes.{AreAccepted};
 ghost use Rattle.mem_regions.specs.Loading.{LiesIn, loaded};
 ghost use Rattle.mem_regions.specs.Refusal.{refusal, refusal_told};
 ghost use Rattle.rv_machine.specs.Machine.{start_hart};
-ghost use Rattle.cli_files.specs.Image.{IsProgramFile, most_bytes, opened};
+ghost use Rattle.cli_files.specs.Image.{IsProgramFile, most_bytes, hart_at_start};
 ghost use Rattle.cli_files.specs.Opening.{IsNotOpened};
 
 use crate::parts::{FLAT_BASE, MOST_PARTS, STACK, count_parts, flat_part, parts_of};
@@ -48,12 +48,12 @@ fn load(alloc: Global, image: &[u8], parts: &[Part], entry: u32) -> Result<Machi
     Ok(Machine::new(memory, entry))
 }
 
-#[tactic(auto, using(crate::proofs::Flat::flat), unfolding(crate::specs::Image::opened))]
+#[tactic(auto, using(crate::proofs::Flat::flat), unfolding(crate::specs::Image::hart_at_start))]
 fn open_flat(alloc: Global, image: &[u8]) -> Result<Machine, OpenErr>
     requires fits { length image.now ≤ most_bytes }
     requires flat { starts_with_elf image.now ≡ false }
     ensures program { IfOk result (λ machine. IsProgramFile image.now) }
-    ensures machine { IfOk result (λ machine. machine ≡ opened image.now) }
+    ensures machine { IfOk result (λ machine. machine ≡ hart_at_start image.now) }
     ensures refused { IfErr result (IsNotOpened image.now) }
 {
     let flat = flat_part(image.len() as u32);
@@ -64,12 +64,12 @@ fn open_flat(alloc: Global, image: &[u8]) -> Result<Machine, OpenErr>
     }
 }
 
-#[tactic(auto, using(crate::proofs::Segments::segment_parts), unfolding(crate::specs::Image::opened))]
+#[tactic(auto, using(crate::proofs::Segments::segment_parts), unfolding(crate::specs::Image::hart_at_start))]
 fn open_elf(alloc: Global, image: &[u8]) -> Result<Machine, OpenErr>
     requires fits { length image.now ≤ most_bytes }
     requires elf { starts_with_elf image.now ≡ true }
     ensures program { IfOk result (λ machine. IsProgramFile image.now) }
-    ensures machine { IfOk result (λ machine. machine ≡ opened image.now) }
+    ensures machine { IfOk result (λ machine. machine ≡ hart_at_start image.now) }
     ensures refused { IfErr result (IsNotOpened image.now) }
 {
     let elf = match Elf::view(image) {
@@ -92,10 +92,10 @@ fn open_elf(alloc: Global, image: &[u8]) -> Result<Machine, OpenErr>
 /// The machine that a program file starts. A file that begins as an ELF file is one: its segments that take room in
 /// memory are loaded, and the machine begins at its entry. Any other file is a flat image, in one region that may be
 /// read, written and executed, and begins there. The stack comes after them.
-#[tactic(auto, unfolding(crate::specs::Image::opened))]
+#[tactic(auto, unfolding(crate::specs::Image::hart_at_start))]
 pub fn open(alloc: Global, image: &[u8]) -> Result<Machine, OpenErr>
     ensures program { IfOk result (λ machine. IsProgramFile image.now) }
-    ensures machine { IfOk result (λ machine. machine ≡ opened image.now) }
+    ensures machine { IfOk result (λ machine. machine ≡ hart_at_start image.now) }
     ensures count { IfOk result (λ machine. machine.retired ≡ 0) }
     ensures refused { IfErr result (IsNotOpened image.now) }
 {
@@ -112,7 +112,7 @@ pub fn open(alloc: Global, image: &[u8]) -> Result<Machine, OpenErr>
 /// The machine that a file starts that was opened before, and so is a program: nothing but memory can be refused for it.
 pub fn open_again(alloc: Global, image: &[u8]) -> Result<Machine, AllocError>
     requires { IsProgramFile image.now }
-    ensures machine { IfOk result (λ machine. machine ≡ opened image.now) }
+    ensures machine { IfOk result (λ machine. machine ≡ hart_at_start image.now) }
     ensures count { IfOk result (λ machine. machine.retired ≡ 0) }
 {
     match open(alloc, image) {

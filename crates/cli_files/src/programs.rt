@@ -1,7 +1,7 @@
 //! The programs that words of the command line name.
 
 ghost use Rattle.std.specs.Prelude.{◌≡◌, IfOk, IfErr};
-ghost use Rattle.cli_files.specs.Image.{IsProgramFile, opened};
+ghost use Rattle.cli_files.specs.Image.{IsProgramFile, hart_at_start};
 ghost use Rattle.cli_files.specs.Programs.{IsProgramAt, LacksProgram, IsNoProgram};
 ghost use Rattle.cli_files.specs.ReadsFiles.{ReadsFiles};
 
@@ -15,7 +15,7 @@ use std::alloc::Global;
 /// The machine that a program file starts, or the answer where it starts none.
 pub fn open_image(alloc: Global, image: &[u8]) -> Result<Machine, Answer>
     ensures program { IfOk result (λ machine. IsProgramFile image.now) }
-    ensures machine { IfOk result (λ machine. machine ≡ opened image.now) }
+    ensures machine { IfOk result (λ machine. machine ≡ hart_at_start image.now) }
     ensures count { IfOk result (λ machine. machine.retired ≡ 0) }
     ensures refused { IfErr result (λ answer. IsNoProgram image.now answer.status answer.closing) }
 {

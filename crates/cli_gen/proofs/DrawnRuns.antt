@@ -5,7 +5,7 @@ use Rattle.run_options.specs.declared.guess_rule.GuessRule.TheVariants as rules
 use Rattle.cf_io.specs.declared.failed.Failed.{Failed}
 use Rattle.rv_machine.specs.Hart.{Hart}
 use Rattle.rv_machine.specs.Streams.{Streams}
-use Rattle.cf_core.specs.Processors.{opened}
+use Rattle.cf_core.specs.Processors.{opened_processor}
 use Rattle.cf_layout.specs.Layout.{Plan}
 use Rattle.cf_layout.specs.Plain.{plain}
 use Rattle.cli_arguments.specs.Options.{default_limit}
@@ -23,7 +23,8 @@ use Rattle.cli_reports.proofs.PutReports.{shows-none}
 pub drawn-comes : (number : ℕ) (plan : Plan) (hart : Hart) (before after : Streams) (blank full : Report)
     (result : Result Reported Failed) → plan ≡ plain → StartsDrawn number hart →
     Comes (ComesOf default_limit show.report Nothing plan hart (drawn_from number rules.Any) before after blank.written)
-    (BreaksCore default_limit show.report (opened plan hart) (chosen_by default_limit show.report (drawn_from number rules.Any)) before after blank.written
+    (BreaksCore default_limit show.report (opened_processor plan hart) (chosen_by default_limit show.report (drawn_from number rules.Any)) before after
+    blank.written
     full.written)
     blank full result →
     Comes (AnswersDrawn number before after blank.written) (BreaksDrawn number before after blank.written full.written) blank full result

@@ -4,11 +4,11 @@ use Rattle.run_options.specs.Reportings as show
 use Rattle.rv_machine.specs.Hart.{Hart}
 use Rattle.rv_machine.specs.Streams.{Streams}
 use Rattle.run_options.specs.declared.guess_rule.GuessRule.TheVariants as rules
-use Rattle.cf_core.specs.Processors.{opened as opened_on}
+use Rattle.cf_core.specs.Processors.{opened_processor as opened_on}
 use Rattle.cf_gen.specs.Program.{program_text}
 use Rattle.cf_layout.specs.Plain.{plain}
 use Rattle.cli_arguments.specs.Options.{default_limit}
-use Rattle.cli_files.specs.Image.{IsProgramFile, opened}
+use Rattle.cli_files.specs.Image.{IsProgramFile, hart_at_start}
 use Rattle.cli_files.specs.Memory.{SaysNoMemory}
 use Rattle.cli_run.specs.Run.{chosen_by, BreaksCore, ComesOf}
 use Rattle.cli_files.specs.Schedules.{drawn_from}
@@ -21,7 +21,7 @@ pub record StartsDrawn (number : ℕ) (hart : Hart) : Type 0 where
   pub file : List ℕ
   pub assembly : IsAssembly (program_text number) file
   pub program : IsProgramFile file
-  pub begins : hart ≡ opened file
+  pub begins : hart ≡ hart_at_start file
 
 -- the program was run on the built-in layout, by moves that are drawn from its number
 pub record RunsDrawn (number : ℕ) (before after : Streams) (blank : Option (List ℕ)) (answer : Status)

@@ -15,11 +15,11 @@ use Rattle.cf_semantics.specs.state.Options.{on}
 use Rattle.cf_semantics.specs.state.State.{State}
 use Rattle.order_rules.specs.declared.rule.Rule.{Rule}
 use Rattle.order_model.specs.RuleMoves.{retires_without}
-use Rattle.order_keys.specs.Situations.{bare}
+use Rattle.order_keys.specs.Situations.{without_memory}
 use Rattle.order_graph.specs.declared.found.OrdersFound.{OrdersFound}
 use Rattle.order_graph.specs.declared.found.OrdersFound.TheVariants.{Wrong, Reached, TooMany}
 use Rattle.order_graph.specs.OrderAnswers.{AreOrdersFound}
-use Rattle.order_claims.specs.MoveLists.{moment_after}
+use Rattle.order_claims.specs.MoveLists.{moment_after_without}
 use Rattle.order_graph.specs.OrderTrial.{OrderTrial, first_moment, reached_by}
 use Rattle.order_report.specs.Drawing.{IsDrawable, IsShort}
 use Rattle.order_shapes.specs.Shapes.{IsEncodable, IsShaped}
@@ -49,7 +49,7 @@ as_short (o ∷ os) (k ∷ ks) e h =
     All-cons IsShort o os (omega (arith, first, few)) (as_short os ks rest (All-tail (λ (k : SidingPlan). k.cells ≤ 8) k ks h))
 
 -- so a state of the layout's shape can be drawn
-pub drawable : (plan : Plan) (s : State) → IsEquipped plan → IsShaped plan s → IsDrawable (bare s)
+pub drawable : (plan : Plan) (s : State) → IsEquipped plan → IsShaped plan s → IsDrawable (without_memory s)
 drawable plan s equipped shaped = record {
   stages = omega (arith, shaped.stages, equipped.stages.1);
   sidings = omega (arith, as_many s.sidings plan.sidings shaped.as_long, equipped.few_sidings);
@@ -69,17 +69,18 @@ seen_encodable away plan s mv (Some p) shaped is =
     = subst (λ (o : Option Line). IfSome o (λ line. Fits line.what)) (sym is) (retires_encodable away plan s mv shaped) in encodable p.what retires
 
 -- what a wrong list of moves shows
-shown_drawable : (t : OrderTrial) (moves : List Move) (reached : State) → IsEquipped t.plan → reached ≡ bare (reached_by t moves).state → IsDrawable reached
+shown_drawable : (t : OrderTrial) (moves : List Move) (reached : State) → IsEquipped t.plan → reached ≡ without_memory (reached_by t moves).state →
+    IsDrawable reached
 unfolding reached_by
 shown_drawable t moves reached equipped is =
-    let last : State = (moment_after t.away t.plan (first_moment t) moves).state in
+    let last : State = (moment_after_without t.away t.plan (first_moment t) moves).state in
     subst IsDrawable (sym is) (drawable t.plan last equipped (all_shaped t.away t.plan t.machine moves))
 
 shown_encodable : (t : OrderTrial) (before : List Move) (mv : Move) (seen : Option Passenger) →
     on seen None (λ p. Some (line_of p)) ≡ retires_without t.away t.plan (reached_by t before).state mv → IfSome seen IsEncodable
 unfolding reached_by
 shown_encodable t before mv seen is =
-    let last : State = (moment_after t.away t.plan (first_moment t) before).state in
+    let last : State = (moment_after_without t.away t.plan (first_moment t) before).state in
     seen_encodable t.away t.plan last mv seen (all_shaped t.away t.plan t.machine before) is
 
 -- no list of moves goes on without end

@@ -76,7 +76,8 @@ PutsNothing before after answer report = (after ≡ before) × SaysNoMemory answ
 
 -- what comes of a search that has found something, or for which there was no memory
 abbrev pub ComesOfFound : {E : Type 0} → OrdersOptions → Plan → Result OrdersFound E → (before after : Option (List ℕ)) → Status → List ℕ → Type 0
-ComesOfFound options plan (Ok found) before after answer report = PutsFound options plan found before after answer report ⊎ PutsNothing before after answer report
+ComesOfFound options plan (Ok found) before after answer report = PutsFound options plan found before after answer report ⊎
+    PutsNothing before after answer report
 ComesOfFound options plan (Err error) before after answer report = PutsNothing before after answer report
 
 -- what is needed of it: the state that a wrong list leads to can be drawn, and its last instruction encoded; the states

@@ -9,7 +9,7 @@ use Rattle.rv_machine.specs.Step.{step}
 use Rattle.rv_machine.specs.Streams.{Streams, Leaves}
 use Rattle.rv_machine.specs.declared.outcome.Retired.{Retired}
 use Rattle.cf_layout.specs.Layout.{Plan, has_mul}
-use Rattle.cf_core.specs.Processors.{Processor, opened}
+use Rattle.cf_core.specs.Processors.{Processor, opened_processor}
 use Rattle.cf_semantics.specs.moves.Instructions.{Goes, step_at, step_here, stepped}
 use Rattle.cf_semantics.specs.state.Layouts.{isa_of}
 use Rattle.cf_semantics.specs.runs.Lines.{Line}
@@ -19,7 +19,7 @@ use Rattle.run_finishes.specs.declared.finish.Ran.TheVariants as ran
 use Rattle.run_finishes.specs.declared.finish.Scripted.{Scripted}
 use Rattle.run_finishes.specs.declared.finish.Scripted.TheVariants.{Ran, ScriptEnd, BadScript, BarredAt}
 use Rattle.cf_run.specs.Ending.{EndsAsMachine, EndsSequentially, EndsUnderLimit, IsAfterSteps}
-use Rattle.cf_run.specs.Moving.{RunPlace, place_of}
+use Rattle.cf_run.specs.Moving.{RunPlace, run_place_of}
 use Rattle.theory_unknown_input.specs.UnknownInput.{GoesTo}
 use Rattle.report_closing.specs.Closing.{head_text, machine_closing}
 use Rattle.report_closing.specs.Lines.{first_line}
@@ -185,26 +185,28 @@ limit_agrees limit plan hart begin new fresh same e =
       };
     }
 
-opened_plan : (plan : Plan) (hart : Hart) → (opened plan hart).plan ≡ plan
-unfolding opened
+opened_plan : (plan : Plan) (hart : Hart) → (opened_processor plan hart).plan ≡ plan
+unfolding opened_processor
 opened_plan plan hart = refl
 
 pub agrees : (limit : ℕ) (plan : Plan) (hart : Hart) (before after : Streams) (blank told : Option (List ℕ)) (last : Processor) (tally : Tally)
     (finish : Scripted) (answer : Status) → hart.retired ≡ 0
-    → EndsSequentially limit (run_start (opened plan hart) before blank) (place_of last after told tally) finish → answer ≡ status_of limit tally.moves finish →
+    → EndsSequentially limit (run_start (opened_processor plan hart) before blank) (run_place_of last after told tally) finish →
+    answer ≡ status_of limit tally.moves finish →
     AgreesWithMachine limit plan hart before after finish last tally answer
 unfolding EndsSequentially
 agrees limit plan hart before after blank told last tally (Ran (ran.Exit code)) answer fresh ends said =
     subst (λ (s : Status). IsMachines limit plan hart before after s (head_of limit (Ran (ran.Exit code)) last tally)) (sym said)
-    (exit_agrees limit plan hart (run_start (opened plan hart) before blank) (place_of last after told tally) code fresh (opened_plan plan hart)
+    (exit_agrees limit plan hart (run_start (opened_processor plan hart) before blank) (run_place_of last after told tally) code fresh (opened_plan plan hart)
     (ends plan hart refl))
 agrees limit plan hart before after blank told last tally (Ran (ran.Trap cause pc detail)) answer fresh ends said =
     subst (λ (s : Status). IsMachines limit plan hart before after s (head_of limit (Ran (ran.Trap cause pc detail)) last tally)) (sym said)
-    (trap_agrees limit plan hart (run_start (opened plan hart) before blank) (place_of last after told tally) cause pc detail fresh (opened_plan plan hart)
+    (trap_agrees limit plan hart (run_start (opened_processor plan hart) before blank) (run_place_of last after told tally) cause pc detail fresh
+    (opened_plan plan hart)
     (ends plan hart refl))
 agrees limit plan hart before after blank told last tally (Ran ran.Limit) answer fresh ends said =
     subst (λ (s : Status). IsMachines limit plan hart before after s (head_of limit (Ran ran.Limit) last tally)) (sym said)
-    (limit_agrees limit plan hart (run_start (opened plan hart) before blank) (place_of last after told tally) fresh (opened_plan plan hart)
+    (limit_agrees limit plan hart (run_start (opened_processor plan hart) before blank) (run_place_of last after told tally) fresh (opened_plan plan hart)
     (ends plan hart refl))
 agrees limit plan hart before after blank told last tally (Ran ran.ReadFault) answer fresh ends said = tt
 agrees limit plan hart before after blank told last tally (Ran ran.WriteFault) answer fresh ends said = tt

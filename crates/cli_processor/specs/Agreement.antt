@@ -9,7 +9,7 @@ use Rattle.cf_report.specs.Lines.{registers_text}
 use Rattle.run_finishes.specs.declared.finish.Ran.TheVariants as ran
 use Rattle.run_finishes.specs.declared.finish.Scripted.{Scripted}
 use Rattle.run_finishes.specs.declared.finish.Scripted.TheVariants.{Ran}
-use Rattle.cf_run.specs.Moving.{RunPlace, place_of}
+use Rattle.cf_run.specs.Moving.{RunPlace, run_place_of}
 use Rattle.cf_run.specs.Reaching.{no_tally}
 use Rattle.report_closing.specs.Closing.{head_text}
 use Rattle.cli_files.specs.declared.status.Status.{Status}
@@ -18,7 +18,7 @@ use Rattle.cli_machine.specs.Options.{chosen_of}
 
 -- where the run begins: before its first move
 abbrev pub run_start : Processor → Streams → Option (List ℕ) → RunPlace
-run_start core streams report = place_of core streams report no_tally
+run_start core streams report = run_place_of core streams report no_tally
 
 -- the answer is that of `machine` on the hart, under the same limit and with multiplication where the layout has it; it
 -- takes the same from the input and writes the same to the output, and this text closes its report

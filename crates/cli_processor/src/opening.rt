@@ -1,7 +1,7 @@
 //! The processor of a run, opened on its machine, before its first move.
 
 ghost use Rattle.std.specs.Prelude.{◌≡◌, IfOk};
-ghost use Rattle.cf_core.specs.Processors.{opened};
+ghost use Rattle.cf_core.specs.Processors.{opened_processor};
 ghost use Rattle.cf_run.specs.Reaching.{no_tally};
 
 use cf_core::Core;
@@ -20,7 +20,7 @@ pub struct Opened {
 
 /// Opens the processor of the layout on the machine.
 pub fn open(alloc: Global, layout: Layout, machine: Machine) -> Result<Opened, AllocError>
-    ensures { IfOk result (λ run. run.core ≡ opened layout machine) }
+    ensures { IfOk result (λ run. run.core ≡ opened_processor layout machine) }
 {
     let candidates = Candidates::new(alloc)?;
     let core = Core::new(alloc, layout, machine)?;

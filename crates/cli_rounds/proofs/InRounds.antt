@@ -7,7 +7,7 @@ use Rattle.cf_io.specs.declared.failed.Failed.{Failed}
 use Rattle.rv_machine.specs.Hart.{Hart}
 use Rattle.rv_machine.specs.Streams.{Streams}
 use Rattle.cf_layout.specs.Layout.{Plan}
-use Rattle.cf_core.specs.Processors.{Processor, opened}
+use Rattle.cf_core.specs.Processors.{Processor, opened_processor}
 use Rattle.cf_semantics.specs.state.State.{State}
 use Rattle.cf_report.specs.declared.tally.Tally.{Tally}
 use Rattle.cf_rounds.specs.declared.answer.Clocked.{Clocked}
@@ -20,7 +20,7 @@ use Rattle.run_finishes.specs.declared.finish.Ran.{Ran as Answer}
 use Rattle.run_finishes.specs.declared.finish.Scripted.TheVariants.{Ran}
 use Rattle.cf_run.specs.Ending.{EndsSequentially}
 use Rattle.cf_run.specs.Made.{Made}
-use Rattle.cf_run.specs.Moving.{place_of}
+use Rattle.cf_run.specs.Moving.{run_place_of}
 use Rattle.cf_run.specs.Policies.{most_moves}
 use Rattle.report_closing.specs.Closing.{closing_in_rounds, is_report_fault}
 use Rattle.cli_files.specs.Causes.{files_answered, input_answered, output_answered}
@@ -40,8 +40,8 @@ use Rattle.cli_reports.proofs.PutReports.{closed-tells, shows-none}
 -- a run, and where it ends
 run_of : (rule : GuessRule) (limit : ℕ) (every : Option ℕ) (core last : Processor) (before after : Streams) (blank told : Option (List ℕ))
     (tally : Tally) (rounds : ℕ) (c : Clocked) →
-    RoundsRunRight rule limit every (run_start core before None) (place_of last after None tally) blank told rounds c →
-    EndsSequentially limit (run_start core before None) (place_of last after None tally) (Ran (ran_of c)) →
+    RoundsRunRight rule limit every (run_start core before None) (run_place_of last after None tally) blank told rounds c →
+    EndsSequentially limit (run_start core before None) (run_place_of last after None tally) (Ran (ran_of c)) →
     tally.moves ≤ most_moves core.plan limit → RunInRounds rule limit every core last before after blank
 run_of rule limit every core last before after blank told tally rounds c runs ends bounded =
     record { tally = tally; rounds = rounds; clocked = c; told = told; runs = runs; ends = ends; bounded = bounded }
@@ -76,8 +76,8 @@ report-rose before now clocked.WriteFault cut h = absurd (cc)
 -- its closing lines were put, or failed, or its report had failed behind a round
 closed-so : (rule : GuessRule) (limit : ℕ) (every : Option ℕ) (core last : Processor) (before after : Streams) (blank half full : Report)
     (tally : Tally) (rounds : ℕ) (c : Clocked) (result : Result Reported Failed) →
-    RoundsRunRight rule limit every (run_start core before None) (place_of last after None tally) blank.written half.written rounds c →
-    EndsSequentially limit (run_start core before None) (place_of last after None tally) (Ran (ran_of c)) →
+    RoundsRunRight rule limit every (run_start core before None) (run_place_of last after None tally) blank.written half.written rounds c →
+    EndsSequentially limit (run_start core before None) (run_place_of last after None tally) (Ran (ran_of c)) →
     tally.moves ≤ most_moves core.plan limit → HasCause blank.faults half.faults (report_turned (Some c)) →
     ClosesRounds limit (ran_of c) rounds last tally half full result →
     Comes (RunsCoreInRounds rule limit every core last before after blank.written)
@@ -113,8 +113,8 @@ closed-so rule limit every core last before after blank half full tally rounds c
 
 pub rounds-closed : (rule : GuessRule) (limit : ℕ) (every : Option ℕ) (core last : Processor) (before after : Streams) (blank half full : Report)
     (tally : Tally) (rounds : ℕ) (c : Clocked) (end : Answer) (result : Result Reported Failed) →
-    RoundsRunRight rule limit every (run_start core before None) (place_of last after None tally) blank.written half.written rounds c →
-    EndsSequentially limit (run_start core before None) (place_of last after None tally) (Ran (ran_of c)) →
+    RoundsRunRight rule limit every (run_start core before None) (run_place_of last after None tally) blank.written half.written rounds c →
+    EndsSequentially limit (run_start core before None) (run_place_of last after None tally) (Ran (ran_of c)) →
     tally.moves ≤ most_moves core.plan limit → HasCause blank.faults half.faults (report_turned (Some c)) → end ≡ ran_of c →
     ClosesRounds limit end rounds last tally half full result →
     Comes (RunsCoreInRounds rule limit every core last before after blank.written)
@@ -172,7 +172,8 @@ pub rounds-input : (limit : ℕ) (c : Clocked) (end : Answer) (rounds : ℕ) (la
     HasCause before now (input_turned (Some c)) → FaultsReported input_answered before now result
 rounds-input limit c end rounds last tally half full result before now same closes h =
     closed-tells input_answered (is_report_fault (Ran (ran_of c))) (status_of_run limit (ran_of c)) _
-    (closing_in_rounds limit (Ran (ran_of c)) rounds last.plan last.state tally) half full result before now (λ sound. input-clocked limit c) (λ cut. input-works c cut)
+    (closing_in_rounds limit (Ran (ran_of c)) rounds last.plan last.state tally) half full result before now (λ sound. input-clocked limit c)
+    (λ cut. input-works c cut)
     (subst (λ (e : Answer). ClosesRounds limit e rounds last tally half full result) same closes) h
 
 pub rounds-output : (limit : ℕ) (c : Clocked) (end : Answer) (rounds : ℕ) (last : Processor) (tally : Tally) (half full : Report)
@@ -180,7 +181,8 @@ pub rounds-output : (limit : ℕ) (c : Clocked) (end : Answer) (rounds : ℕ) (l
     HasCause before now (output_turned (Some c)) → FaultsReported output_answered before now result
 rounds-output limit c end rounds last tally half full result before now same closes h =
     closed-tells output_answered (is_report_fault (Ran (ran_of c))) (status_of_run limit (ran_of c)) _
-    (closing_in_rounds limit (Ran (ran_of c)) rounds last.plan last.state tally) half full result before now (λ sound. output-clocked limit c sound) (λ cut. output-works c cut)
+    (closing_in_rounds limit (Ran (ran_of c)) rounds last.plan last.state tally) half full result before now (λ sound. output-clocked limit c sound)
+    (λ cut. output-works c cut)
     (subst (λ (e : Answer). ClosesRounds limit e rounds last tally half full result) same closes) h
 
 pub rounds-files : (limit : ℕ) (c : Clocked) (end : Answer) (rounds : ℕ) (last : Processor) (tally : Tally) (half full : Report)
@@ -191,11 +193,11 @@ rounds-files limit c end rounds last tally half full (Err failed) same closes = 
 
 -- on the processor of a layout, opened on a hart, it is what comes of both
 pub rounds-come : (rule : GuessRule) (limit : ℕ) (every : Option ℕ) (core last : Processor) (plan : Plan) (hart : Hart) (before after : Streams)
-    (blank full : Report) (result : Result Reported Failed) → core ≡ opened plan hart → hart.retired ≡ 0 →
+    (blank full : Report) (result : Result Reported Failed) → core ≡ opened_processor plan hart → hart.retired ≡ 0 →
     Comes (RunsCoreInRounds rule limit every core last before after blank.written)
     (BreaksInRounds rule limit every core before after blank.written full.written) blank full result →
     Comes (ComesInRounds rule limit every plan hart before after blank.written)
-    (BreaksInRounds rule limit every (opened plan hart) before after blank.written full.written) blank full result
+    (BreaksInRounds rule limit every (opened_processor plan hart) before after blank.written full.written) blank full result
 rounds-come rule limit every core last plan hart before after blank full (Ok reported) is fresh (shown, closing, runs, puts) =
     let run = subst (λ (p : Processor). RunsCoreInRounds rule limit every p last before after blank.written reported.status shown closing) is runs in (
       shown,
@@ -229,7 +231,7 @@ rounds-lacking rule limit every plan hart before after blank full answer text re
 pub loaded-rounds : (asked : RoundsAsked) (before after : Outside) (plan : Plan) (hart : Hart) (blank full : Report)
     (result : Result Reported Failed) → IsLoaded asked.layout asked.program before.files after.files plan hart →
     Comes (ComesInRounds asked.rule asked.limit asked.every plan hart before.streams after.streams blank.written)
-    (BreaksInRounds asked.rule asked.limit asked.every (opened plan hart) before.streams after.streams blank.written full.written) blank full result →
+    (BreaksInRounds asked.rule asked.limit asked.every (opened_processor plan hart) before.streams after.streams blank.written full.written) blank full result →
     Comes (AnswersRounds asked before after blank.written) (BreaksRounds asked before after blank.written full.written) blank full result
 loaded-rounds asked before after plan hart blank full (Ok reported) loaded (shown, closing, comes, puts) =
     (shown, closing, inl (record { plan = plan; hart = hart; loaded = loaded; comes = comes }), puts)

@@ -4,7 +4,7 @@ use Rattle.run_options.specs.declared.guess_rule.GuessRule.{GuessRule}
 use Rattle.rv_machine.specs.Hart.{Hart}
 use Rattle.rv_machine.specs.Streams.{Streams}
 use Rattle.cf_layout.specs.Layout.{Plan}
-use Rattle.cf_core.specs.Processors.{Processor, opened}
+use Rattle.cf_core.specs.Processors.{Processor, opened_processor}
 use Rattle.cf_report.specs.declared.tally.Tally.{Tally}
 use Rattle.cf_rounds.specs.declared.answer.Clocked.{Clocked}
 use Rattle.cf_rounds.specs.Running.{ran_of}
@@ -12,7 +12,7 @@ use Rattle.cf_rounds.specs.RunsRight.{RoundsRunRight}
 use Rattle.cf_rounds.specs.Saying.{rounds_text}
 use Rattle.run_finishes.specs.declared.finish.Scripted.TheVariants.{Ran}
 use Rattle.cf_run.specs.Ending.{EndsSequentially}
-use Rattle.cf_run.specs.Moving.{place_of}
+use Rattle.cf_run.specs.Moving.{run_place_of}
 use Rattle.cf_run.specs.Policies.{most_moves}
 use Rattle.report_closing.specs.Closing.{closing_in_rounds, is_report_fault}
 use Rattle.cli_arguments.specs.Words.{NamedLayout}
@@ -44,8 +44,8 @@ pub record RunInRounds (rule : GuessRule) (limit : ℕ) (every : Option ℕ) (co
   pub rounds : ℕ
   pub clocked : Clocked
   pub told : Option (List ℕ)
-  pub runs : RoundsRunRight rule limit every (run_start core before None) (place_of last after None tally) blank told rounds clocked
-  pub ends : EndsSequentially limit (run_start core before None) (place_of last after None tally) (Ran (ran_of clocked))
+  pub runs : RoundsRunRight rule limit every (run_start core before None) (run_place_of last after None tally) blank told rounds clocked
+  pub ends : EndsSequentially limit (run_start core before None) (run_place_of last after None tally) (Ran (ran_of clocked))
   pub bounded : tally.moves ≤ most_moves core.plan limit
 
 -- the processor was run in rounds; the status says how the run finished, this was shown of its rounds, and these lines close the report
@@ -61,7 +61,7 @@ pub record RunsCoreInRounds (rule : GuessRule) (limit : ℕ) (every : Option ℕ
 -- status, its output, its first line, its `retired` line and its registers are those of `machine`
 pub record RunsInRounds (rule : GuessRule) (limit : ℕ) (every : Option ℕ) (plan : Plan) (hart : Hart) (last : Processor)
     (before after : Streams) (blank : Option (List ℕ)) (answer : Status) (shown closing : List ℕ) : Type 0 where
-  pub runs : RunsCoreInRounds rule limit every (opened plan hart) last before after blank answer shown closing
+  pub runs : RunsCoreInRounds rule limit every (opened_processor plan hart) last before after blank answer shown closing
   pub agrees : AgreesWithMachine limit plan hart before after (Ran (ran_of runs.run.clocked)) last runs.run.tally answer
 
 -- what comes of a layout and a hart
@@ -102,5 +102,5 @@ AnswersRounds asked before after blank answer shown closing =
 -- both files are there, and the report failed during the run
 abbrev pub BreaksRounds : RoundsAsked → Outside → Outside → Option (List ℕ) → Option (List ℕ) → Type 0
 BreaksRounds asked before after blank full =
-    RunsLoaded (λ plan hart. BreaksInRounds asked.rule asked.limit asked.every (opened plan hart) before.streams after.streams blank full)
+    RunsLoaded (λ plan hart. BreaksInRounds asked.rule asked.limit asked.every (opened_processor plan hart) before.streams after.streams blank full)
     asked before after

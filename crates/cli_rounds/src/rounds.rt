@@ -4,7 +4,7 @@ ghost use Rattle.std.specs.Prelude.{◌≡◌, ◌≤◌};
 ghost use Rattle.run_options.specs.Limits.{most_limit};
 ghost use Rattle.cli_arguments.specs.Views.{layout_of};
 ghost use Rattle.cf_rounds.specs.Running.{ran_of as ran_for};
-ghost use Rattle.cf_core.specs.Processors.{opened, IsOpened};
+ghost use Rattle.cf_core.specs.Processors.{opened_processor, IsOpened};
 ghost use Rattle.cli_reports.specs.Reporting.{CarriesOutCommand, CarriesOutRun};
 ghost use Rattle.cli_reports.specs.OutsideChanges.{run_change, outside_change};
 ghost use Rattle.cli_rounds.specs.Rounds.{rounds_asked, RunsCoreInRounds, ComesInRounds, BreaksInRounds, AnswersRounds, BreaksRounds};
@@ -85,7 +85,7 @@ fn run_loaded<S: Source, K: Sink, R: Sink>(
     requires count { loaded.machine.retired ≡ 0 }
     requires limit { options.limit ≤ most_limit }
     ensures { CarriesOutRun (ComesInRounds options.rule options.limit options.every loaded.layout loaded.machine)
-        (BreaksInRounds options.rule options.limit options.every (opened loaded.layout loaded.machine))
+        (BreaksInRounds options.rule options.limit options.every (opened_processor loaded.layout loaded.machine))
         (run_change S.Source K.Sink R.Sink streams.entry streams.exit) result }
 {
     match open(alloc, loaded.layout, loaded.machine) {

@@ -6,7 +6,7 @@ use Rattle.rv_machine.specs.Streams.{Streams}
 use Rattle.cf_io.specs.declared.failed.Failed.{Failed}
 use Rattle.cf_bind.specs.declared.moves.Move.{Move}
 use Rattle.cf_layout.specs.Layout.{Plan}
-use Rattle.cf_core.specs.Processors.{Processor, opened}
+use Rattle.cf_core.specs.Processors.{Processor, opened_processor}
 use Rattle.run_finishes.specs.declared.finish.Ran.{Ran as RunAnswer}
 use Rattle.run_finishes.specs.declared.finish.Ran.TheVariants as ran
 use Rattle.run_finishes.specs.declared.finish.Scripted.{Scripted}
@@ -62,7 +62,7 @@ complete limit show (in_turn rule) start new finish trace moves answer by said =
 -- a run of the processor that was opened, and its tail
 runs-opened : (limit : ℕ) (show : Reporting) (tail : Tail) (last : Processor) (plan : Plan) (hart : Hart) (schedule : ReadySchedule) (before after : Streams)
     (blank : Option (List ℕ)) (answer : Status) (shown closing : List ℕ) → hart.retired ≡ 0
-    → RunsWithTail limit show tail (opened plan hart) last (chosen_by limit show schedule) before after blank answer shown closing
+    → RunsWithTail limit show tail (opened_processor plan hart) last (chosen_by limit show schedule) before after blank answer shown closing
     → RunsOpened limit show tail plan hart last schedule before after blank answer shown closing
 runs-opened limit show tail last plan hart schedule before after blank answer shown closing fresh r = record {
   text = r.text;
@@ -87,7 +87,8 @@ OpensWithTail limit show tail core last schedule before after blank full result 
     (BreaksCore limit show core (chosen_by limit show schedule) before after blank.written full.written) blank full result
 
 -- once that was put
-pub tail-comes : (limit : ℕ) (show : Reporting) (tail : Tail) (core last : Processor) (schedule : ReadySchedule) (before after : Streams) (blank half full : Report)
+pub tail-comes : (limit : ℕ) (show : Reporting) (tail : Tail) (core last : Processor) (schedule : ReadySchedule) (before after : Streams)
+    (blank half full : Report)
     (reported later : Reported)
     → Opens limit show core last schedule before after blank half (Ok reported) → later.status ≡ reported.status →
     Adds reported.put half full (tail_text tail reported.status last) later.put
@@ -105,17 +106,17 @@ tail-comes limit show tail core last schedule before after blank half full repor
 -- is what comes of the layout, the hart and the schedule
 on-opened : (limit : ℕ) (show : Reporting) (tail : Tail) (last : Processor) (plan : Plan) (hart : Hart) (schedule : ReadySchedule) (before after : Streams)
     (blank full : Report) (result : Result Reported Failed) → hart.retired ≡ 0
-    → OpensWithTail limit show tail (opened plan hart) last schedule before after blank full result
-    → Comes (ComesOf limit show tail plan hart schedule before after blank.written) (BreaksCore limit show (opened plan hart)
+    → OpensWithTail limit show tail (opened_processor plan hart) last schedule before after blank full result
+    → Comes (ComesOf limit show tail plan hart schedule before after blank.written) (BreaksCore limit show (opened_processor plan hart)
     (chosen_by limit show schedule) before after blank.written full.written) blank full result
 on-opened limit show tail last plan hart schedule before after blank full (Ok reported) fresh (shown, closing, runs, puts) =
     (shown, closing, inl (last, runs-opened limit show tail last plan hart schedule before after blank.written reported.status shown closing fresh runs), puts)
 on-opened limit show tail last plan hart schedule before after blank full (Err failed) fresh (breaks, rose) = (breaks, rose)
 
 pub opened-comes : (limit : ℕ) (show : Reporting) (tail : Tail) (core last : Processor) (plan : Plan) (hart : Hart) (schedule : ReadySchedule)
-    (before after : Streams) (blank full : Report) (result : Result Reported Failed) → core ≡ opened plan hart → hart.retired ≡ 0
+    (before after : Streams) (blank full : Report) (result : Result Reported Failed) → core ≡ opened_processor plan hart → hart.retired ≡ 0
     → OpensWithTail limit show tail core last schedule before after blank full result
-    → Comes (ComesOf limit show tail plan hart schedule before after blank.written) (BreaksCore limit show (opened plan hart)
+    → Comes (ComesOf limit show tail plan hart schedule before after blank.written) (BreaksCore limit show (opened_processor plan hart)
     (chosen_by limit show schedule) before after blank.written full.written) blank full result
 opened-comes limit show tail core last plan hart schedule before after blank full result is fresh opens =
     on-opened limit show tail last plan hart schedule before after blank full result fresh

@@ -18,10 +18,10 @@ use Rattle.run_scripts.specs.Scripts.{ScriptLines, script_of}
 use Rattle.cf_run.specs.Ending.{EndsSequentially}
 use Rattle.cf_run.specs.Headline.{RunsSequentially}
 use Rattle.cf_run.specs.Made.{Made, all_shown}
-use Rattle.cf_run.specs.Moving.{RunPlace, place_of, MoveDoes}
+use Rattle.cf_run.specs.Moving.{RunPlace, run_place_of, MoveDoes}
 use Rattle.cf_run.specs.Policies.{RunsPolicy, RunsRight, most_moves}
 use Rattle.run_finishes.specs.Stopped.{input_stopped, output_stopped, report_stopped}
-use Rattle.cf_run.specs.Scripts.{ScriptRun, stand_of, first_moves, RunsScript, DoesLine, ScriptStops, input_scripted, output_scripted, report_scripted}
+use Rattle.cf_run.specs.Scripts.{ScriptRun, script_run_of, first_moves, RunsScript, DoesLine, ScriptStops, input_scripted, output_scripted, report_scripted}
 use Rattle.report_closing.specs.Closing.{closing, is_report_fault}
 use Rattle.cli_files.specs.Causes.{files_answered, input_answered, output_answered}
 use Rattle.cli_files.specs.Outside.{Report, report_of}
@@ -85,9 +85,9 @@ policy-shown rule picked onward limit show start new policy later moves ran.Limi
 -- a run, and where it ends
 run_of : (limit : ℕ) (show : Reporting) (core last : Processor) (by : RunRelation) (before after : Streams)
     (blank told : Option (List ℕ)) (tally : Tally) (finish : Scripted) (trace : List Made) (moves : List Move) →
-    by (run_start core before blank) (place_of last after told tally) finish trace moves →
-    RunsSequentially show moves (run_start core before blank) (place_of last after told tally) finish →
-    EndsSequentially limit (run_start core before blank) (place_of last after told tally) finish →
+    by (run_start core before blank) (run_place_of last after told tally) finish trace moves →
+    RunsSequentially show moves (run_start core before blank) (run_place_of last after told tally) finish →
+    EndsSequentially limit (run_start core before blank) (run_place_of last after told tally) finish →
     ProcessorRun limit show core last by before after blank
 run_of limit show core last by before after blank told tally finish trace moves runs sequential ends = record {
   tally = tally;
@@ -137,9 +137,9 @@ stopped-report ran.ReportFault = refl
 run-closed : (limit : ℕ) (show : Reporting) (core last : Processor) (by : RunRelation) (before after : Streams)
     (blank half full : Report) (tally : Tally) (finish : Scripted) (trace : List Made) (moves : List Move)
     (result : Result Reported Failed) →
-    by (run_start core before blank.written) (place_of last after half.written tally) finish trace moves →
-    RunsSequentially show moves (run_start core before blank.written) (place_of last after half.written tally) finish →
-    EndsSequentially limit (run_start core before blank.written) (place_of last after half.written tally) finish →
+    by (run_start core before blank.written) (run_place_of last after half.written tally) finish trace moves →
+    RunsSequentially show moves (run_start core before blank.written) (run_place_of last after half.written tally) finish →
+    EndsSequentially limit (run_start core before blank.written) (run_place_of last after half.written tally) finish →
     (is_report_fault finish ≡ false → Writes blank.written half.written (all_shown show core.plan 1 trace)) →
     HasCause blank.faults half.faults (report_scripted (Some finish)) →
     ClosesCore limit finish last tally half full result →
@@ -175,15 +175,16 @@ run-closed limit show core last by before after blank half full tally finish tra
 
 -- by a script
 by_script : (limit : ℕ) (show : Reporting) (text : List ℕ) (start new : RunPlace) (left : ScriptLines) (finish : Scripted) →
-    (r : RunsScript limit show (stand_of start (script_of text)) (stand_of new left) finish) →
+    (r : RunsScript limit show (script_run_of start (script_of text)) (script_run_of new left) finish) →
     ByScript limit show text start new finish r.follows.reaches.trace (first_moves (script_of text) new.tally)
 by_script limit show text start new left finish r = record { left = left; runs = r; trace_is = refl; moves_are = refl }
 
 pub script-closed : (limit : ℕ) (show : Reporting) (core last : Processor) (text : List ℕ) (before after : Streams)
     (blank half full : Report) (tally : Tally) (left : ScriptLines) (finish : Scripted) (result : Result Reported Failed) →
-    RunsScript limit show (stand_of (run_start core before blank.written) (script_of text)) (stand_of (place_of last after half.written tally) left) finish →
-    RunsSequentially show (first_moves (script_of text) tally) (run_start core before blank.written) (place_of last after half.written tally) finish →
-    EndsSequentially limit (run_start core before blank.written) (place_of last after half.written tally) finish →
+    RunsScript limit show (script_run_of (run_start core before blank.written) (script_of text))
+    (script_run_of (run_place_of last after half.written tally) left) finish →
+    RunsSequentially show (first_moves (script_of text) tally) (run_start core before blank.written) (run_place_of last after half.written tally) finish →
+    EndsSequentially limit (run_start core before blank.written) (run_place_of last after half.written tally) finish →
     HasCause blank.faults half.faults (report_scripted (Some finish)) → ClosesCore limit finish last tally half full result →
     Comes (RunsCore limit show core last (ByScript limit show text) before after blank.written)
     (BreaksCore limit show core (ByScript limit show text) before after blank.written full.written) blank full result
@@ -203,8 +204,8 @@ by_policy rule picked onward limit show start new policy later moves answer r bo
 pub policy-closed : {P : Type 0} (rule : GuessRule) (picked : P → List Move → ℕ) (onward : P → List Move → P) (limit : ℕ) (show : Reporting)
     (core last : Processor) (policy later : P) (before after : Streams) (blank half full : Report)
     (tally : Tally) (answer : RunAnswer) (result : Result Reported Failed) →
-    RunsRight rule picked onward limit show (run_start core before blank.written) (place_of last after half.written tally) policy later answer →
-    EndsSequentially limit (run_start core before blank.written) (place_of last after half.written tally) (Ran answer) →
+    RunsRight rule picked onward limit show (run_start core before blank.written) (run_place_of last after half.written tally) policy later answer →
+    EndsSequentially limit (run_start core before blank.written) (run_place_of last after half.written tally) (Ran answer) →
     tally.moves ≤ most_moves core.plan (last.state.retired - core.state.retired) →
     HasCause blank.faults half.faults (report_stopped (Some answer)) → ClosesCore limit (Ran answer) last tally half full result →
     Comes (RunsCore limit show core last (ByPolicy rule picked onward limit show policy) before after blank.written)

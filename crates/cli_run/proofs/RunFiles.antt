@@ -2,7 +2,7 @@
 use Rattle.std.proofs.Common.{◌≡◌, ℕ, List, [], Option, Ok, Result, Err, sym, subst, inl, inr}
 use Rattle.cf_io.specs.declared.failed.Failed.{Failed}
 use Rattle.rv_machine.specs.Hart.{Hart}
-use Rattle.cf_core.specs.Processors.{opened}
+use Rattle.cf_core.specs.Processors.{opened_processor}
 use Rattle.cf_layout.specs.Layout.{Plan}
 use Rattle.cli_files.specs.Outside.{Outside, Report}
 use Rattle.cli_files.specs.RunFiles.{RunAsked, RunFilesRead, RefusesRun}
@@ -19,7 +19,8 @@ pub run-comes : (tail : Tail) (asked : RunAsked) (before after : Outside) (plan 
     (schedule : ReadySchedule) (blank full : Report) (result : Result Reported Failed) →
     RunFilesRead asked before.files after.files plan hart schedule →
     Comes (ComesOf asked.limit asked.reporting tail plan hart schedule before.streams after.streams blank.written)
-    (BreaksCore asked.limit asked.reporting (opened plan hart) (chosen_by asked.limit asked.reporting schedule) before.streams after.streams blank.written full.written)
+    (BreaksCore asked.limit asked.reporting (opened_processor plan hart) (chosen_by asked.limit asked.reporting schedule) before.streams after.streams
+    blank.written full.written)
     blank full result →
     Comes (AnswersRun tail asked before after blank.written) (BreaksRun asked before after blank.written full.written) blank full result
 run-comes tail asked before after plan hart schedule blank full (Ok reported) ready (shown, closing, comes, puts) =

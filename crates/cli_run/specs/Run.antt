@@ -6,9 +6,9 @@ use Rattle.rv_machine.specs.Hart.{Hart}
 use Rattle.rv_machine.specs.Streams.{Streams}
 use Rattle.cf_layout.specs.Layout.{Plan}
 use Rattle.cf_bind.specs.declared.moves.Move.{Move}
-use Rattle.cf_core.specs.Processors.{Processor, opened}
+use Rattle.cf_core.specs.Processors.{Processor, opened_processor}
 use Rattle.cf_report.specs.declared.tally.Tally.{Tally}
-use Rattle.cf_sched.specs.Policies.{drawn, drawn_pick, drawn_on, round_pick, round_on}
+use Rattle.cf_sched.specs.Policies.{drawn_from_seed, drawn_pick, drawn_on, round_pick, round_on}
 use Rattle.run_scripts.specs.Scripts.{ScriptLines, script_of}
 use Rattle.run_finishes.specs.declared.finish.Ran.{Ran as Answer}
 use Rattle.run_finishes.specs.declared.finish.Scripted.{Scripted}
@@ -16,9 +16,9 @@ use Rattle.run_finishes.specs.declared.finish.Scripted.TheVariants.{Ran}
 use Rattle.cf_run.specs.Ending.{EndsSequentially}
 use Rattle.cf_run.specs.Headline.{RunsSequentially}
 use Rattle.cf_run.specs.Made.{Made, all_shown}
-use Rattle.cf_run.specs.Moving.{RunPlace, place_of}
+use Rattle.cf_run.specs.Moving.{RunPlace, run_place_of}
 use Rattle.cf_run.specs.Policies.{RunsPolicy, most_moves}
-use Rattle.cf_run.specs.Scripts.{stand_of, first_moves, RunsScript}
+use Rattle.cf_run.specs.Scripts.{script_run_of, first_moves, RunsScript}
 use Rattle.report_closing.specs.Closing.{closing, is_report_fault}
 use Rattle.cli_files.specs.Memory.{LacksProcessor}
 use Rattle.cli_processor.specs.Agreement.{run_start, AgreesWithMachine}
@@ -40,7 +40,7 @@ RunRelation = (start new : RunPlace) → Scripted → List Made → List Move �
 pub record ByScript (limit : ℕ) (show : Reporting) (text : List ℕ) (start new : RunPlace) (finish : Scripted)
     (trace : List Made) (moves : List Move) : Type 0 where
   pub left : ScriptLines
-  pub runs : RunsScript limit show (stand_of start (script_of text)) (stand_of new left) finish
+  pub runs : RunsScript limit show (script_run_of start (script_of text)) (script_run_of new left) finish
   pub trace_is : trace ≡ runs.follows.reaches.trace
   pub moves_are : moves ≡ first_moves (script_of text) new.tally
 
@@ -58,7 +58,7 @@ pub record ByPolicy {P : Type 0} (rule : GuessRule) (picked : P → List Move �
 -- by what was read: the moves of the text, those that are drawn from the seed, or those of the fixed rule
 abbrev pub chosen_by : ℕ → Reporting → ReadySchedule → RunRelation
 chosen_by limit show (in_script text) = ByScript limit show text
-chosen_by limit show (drawn_from seed rule) = ByPolicy rule drawn_pick (λ g moves. drawn_on g) limit show (drawn seed)
+chosen_by limit show (drawn_from seed rule) = ByPolicy rule drawn_pick (λ g moves. drawn_on g) limit show (drawn_from_seed seed)
 chosen_by limit show (in_turn rule) = ByPolicy rule round_pick round_on limit show None
 
 -- a run from one processor to another: what was counted, how it finished, and what the report tells before and after
@@ -71,9 +71,9 @@ pub record ProcessorRun (limit : ℕ) (show : Reporting) (core last : Processor)
   pub finish : Scripted
   pub trace : List Made
   pub moves : List Move
-  pub runs : by (run_start core before blank) (place_of last after told tally) finish trace moves
-  pub sequential : RunsSequentially show moves (run_start core before blank) (place_of last after told tally) finish
-  pub ends : EndsSequentially limit (run_start core before blank) (place_of last after told tally) finish
+  pub runs : by (run_start core before blank) (run_place_of last after told tally) finish trace moves
+  pub sequential : RunsSequentially show moves (run_start core before blank) (run_place_of last after told tally) finish
+  pub ends : EndsSequentially limit (run_start core before blank) (run_place_of last after told tally) finish
 
 -- the processor was run in this way; the status says how the run finished, this was shown of its moves, and these lines close the report
 pub record RunsCore (limit : ℕ) (show : Reporting) (core last : Processor) (by : RunRelation)
@@ -106,7 +106,7 @@ pub record RunsOpened (limit : ℕ) (show : Reporting) (tail : Tail) (plan : Pla
     (schedule : ReadySchedule) (before after : Streams) (blank : Option (List ℕ)) (answer : Status)
     (shown closing : List ℕ) : Type 0 where
   pub text : List ℕ
-  pub runs : RunsCore limit show (opened plan hart) last (chosen_by limit show schedule) before after blank answer shown text
+  pub runs : RunsCore limit show (opened_processor plan hart) last (chosen_by limit show schedule) before after blank answer shown text
   pub agrees : AgreesWithMachine limit plan hart before after runs.run.finish last runs.run.tally answer
   pub complete : IsComplete schedule answer
   pub closes : closing ≡ text ++ tail_text tail answer last
@@ -137,5 +137,5 @@ AnswersRun tail asked before after blank answer shown closing =
 abbrev pub BreaksRun : RunAsked → Outside → Outside → Option (List ℕ) → Option (List ℕ) → Type 0
 BreaksRun asked before after blank full =
     ReadsRunFiles (λ plan hart schedule.
-    BreaksCore asked.limit asked.reporting (opened plan hart) (chosen_by asked.limit asked.reporting schedule)
+    BreaksCore asked.limit asked.reporting (opened_processor plan hart) (chosen_by asked.limit asked.reporting schedule)
     before.streams after.streams blank full) asked before after

@@ -3,7 +3,7 @@
 ghost use Rattle.std.specs.Prelude.{◌≡◌, ◌≤◌};
 ghost use Rattle.run_options.specs.Limits.{most_limit};
 ghost use Rattle.cli_arguments.specs.Views.{layout_of, schedule_view as asked_schedule};
-ghost use Rattle.cf_core.specs.Processors.{opened};
+ghost use Rattle.cf_core.specs.Processors.{opened_processor};
 ghost use Rattle.cf_run.specs.Policies.{CanRun};
 ghost use Rattle.cli_files.specs.RunFiles.{run_asked};
 ghost use Rattle.cli_reports.specs.Reporting.{CarriesOutCommand, CarriesOutRun};
@@ -106,7 +106,7 @@ pub fn run_ready<S: Source, K: Sink, R: ReportSink>(
     requires fits { FitsScript (ready_schedule_view ready.schedule) }
     ensures { CarriesOutRun
         (ComesOf options.entry.limit options.entry.reporting tail ready.layout ready.machine (ready_schedule_view ready.schedule))
-        (BreaksCore options.entry.limit options.entry.reporting (opened ready.layout ready.machine) (chosen_by options.entry.limit options.entry.reporting (ready_schedule_view ready.schedule)))
+        (BreaksCore options.entry.limit options.entry.reporting (opened_processor ready.layout ready.machine) (chosen_by options.entry.limit options.entry.reporting (ready_schedule_view ready.schedule)))
         (run_change S.Source K.Sink R.Sink streams.entry streams.exit) result }
 {
     match open(alloc, ready.layout, ready.machine) {

@@ -6,19 +6,19 @@ use Rattle.cf_io.specs.Causes.{HasCause}
 use Rattle.rv_machine.specs.Hart.{Hart}
 use Rattle.rv_machine.specs.Machine.{Machine}
 use Rattle.cf_layout.specs.Layout.{Plan}
-use Rattle.cf_core.specs.Processors.{Processor, opened}
+use Rattle.cf_core.specs.Processors.{Processor, opened_processor}
 use Rattle.cf_run.specs.Ending.{EndsAlike, EndsAsMachine, EndsSequentially}
-use Rattle.cf_run.specs.Moving.{RunPlace, place_of}
+use Rattle.cf_run.specs.Moving.{RunPlace, run_place_of}
 use Rattle.cf_run.specs.Policies.{most_moves}
 use Rattle.run_finishes.specs.declared.finish.Scripted.TheVariants.{Ran}
 use Rattle.cf_timed.specs.declared.answer.Timed.{Timed}
 use Rattle.cf_timed.specs.declared.answer.Timed.TheVariants as timed
 use Rattle.cf_timed.specs.declared.span.Span.{Span}
-use Rattle.cf_timed.specs.Clocks.{ClockKnows, SiteTimes, rule_of, started}
-use Rattle.cf_timed.specs.DelayedRuns.{DelayRule, delays_of, timed as timed_moves, timed_after, visits_of}
+use Rattle.cf_timed.specs.Clocks.{ClockKnows, SiteTimes, rule_of_clock, started}
+use Rattle.cf_timed.specs.DelayedRuns.{DelayRule, delays_of, timed_visits as timed_moves, timed_after, visits_of}
 use Rattle.cf_timed.specs.Drawing.{drawn_from}
-use Rattle.cf_timed.specs.Times.{greatest_time, times}
-use Rattle.cf_timed.specs.TimedRuns.{CanBegin, HasCauses, RunsShown, RunsTimed, answer_of, begins, lines_from}
+use Rattle.cf_timed.specs.Times.{greatest_time, moves_with_times}
+use Rattle.cf_timed.specs.TimedRuns.{CanBegin, HasCauses, RunsShown, RunsTimed, answer_of_timed, begins, timed_lines_from}
 use Rattle.cf_timed.proofs.Chaining.{longest}
 use Rattle.cf_io.proofs.Owing.{writes-nothing}
 use Rattle.cf_run.specs.Made.{Made}
@@ -41,8 +41,8 @@ never-rises u (Err v) e h = let rose = h.rose in absurd (omega (arith, rose))
 
 -- a run whose input and output cannot fail ends as the sequential machine does
 as-machine : (limit : ℕ) (hart : Hart) (begin new : RunPlace) (answer : Timed) →
-    HasCauses 0 0 0 0 (Some (answer_of answer)) →
-    EndsAlike limit hart begin new (Ran (answer_of answer)) → EndsAsMachine limit hart begin new (answer_of answer)
+    HasCauses 0 0 0 0 (Some (answer_of_timed answer)) →
+    EndsAlike limit hart begin new (Ran (answer_of_timed answer)) → EndsAsMachine limit hart begin new (answer_of_timed answer)
 as-machine limit hart begin new (timed.Exit status) causes h = h
 as-machine limit hart begin new (timed.Trap cause pc detail) causes h = h
 as-machine limit hart begin new timed.Limit causes h = h
@@ -52,8 +52,8 @@ as-machine limit hart begin new timed.WriteFault causes h = absurd (never-rises 
 -- the greatest time is the last of the moves
 time-told : (rule : DelayRule) (core : Processor) (trace : List Made) (clock : SiteTimes) →
     ClockKnows core.plan rule (timed_moves core.plan rule (visits_of core.state trace)) clock →
-    clock.latest ≡ greatest_time (times core.plan (moves_by rule core.plan core trace))
-unfolding times timed_after delays_of
+    clock.latest ≡ greatest_time (moves_with_times core.plan (moves_by rule core.plan core trace))
+unfolding moves_with_times timed_after delays_of
 time-told rule core trace clock told = told.latest_is
 
 -- so this was taken of an opened processor
@@ -113,8 +113,8 @@ pub takes-moves : (rule : DelayRule) (options : RunChoices) (core last : Process
 takes-moves rule options core last bytes left clock blank full measured shown runs time retired bounded none =
     let trace : List Made = runs.run.right.runs.reaches.trace in
     record {
-      shown = lines_from (begins core (over bytes)) rule trace;
-      takes = takes rule options core last bytes left clock measured (lines_from (begins core (over bytes)) rule trace) runs.run time retired bounded
+      shown = timed_lines_from (begins core (over bytes)) rule trace;
+      takes = takes rule options core last bytes left clock measured (timed_lines_from (begins core (over bytes)) rule trace) runs.run time retired bounded
           (none ∙ ap (λ (show : TimeShow). made_of show core.plan (seen_by rule core.plan core trace)) (sym shown))
           (ap (λ (show : TimeShow). lines_of show rule (begins core (over bytes)) trace) (sym shown));
       put = runs.put;
@@ -127,53 +127,54 @@ puts-nothing rule options plan core bytes blank measured taken = record { shown 
 
 -- and so it was measured
 of-opened : (delays : List Span) (options : RunChoices) (plan : Plan) (start : Machine) (taken : TakenRun) →
-    MeasuresRun (rule_by delays options) options plan (opened plan start.hart) start.rest taken →
-    HasCauses 0 0 0 0 (Some (answer_of taken.measured.answer)) →
+    MeasuresRun (rule_by delays options) options plan (opened_processor plan start.hart) start.rest taken →
+    HasCauses 0 0 0 0 (Some (answer_of_timed taken.measured.answer)) →
     Measures delays options plan start taken
-unfolding EndsSequentially opened
+unfolding EndsSequentially opened_processor
 of-opened delays options plan start taken takes causes = record {
   takes = takes;
-  longest = rw takes.time_is (longest plan (moves_by (rule_by delays options) plan (opened plan start.hart) takes.runs.right.runs.reaches.trace));
-  machine = as-machine options.limit start.hart (begins (opened plan start.hart) (over start.rest))
-      (place_of takes.last (over takes.left) None takes.runs.tally) taken.measured.answer causes (takes.runs.ends plan start.hart refl);
+  longest = rw takes.time_is (longest plan (moves_by (rule_by delays options) plan (opened_processor plan start.hart) takes.runs.right.runs.reaches.trace));
+  machine = as-machine options.limit start.hart (begins (opened_processor plan start.hart) (over start.rest))
+      (run_place_of takes.last (over takes.left) None takes.runs.tally) taken.measured.answer causes (takes.runs.ends plan start.hart refl);
 }
 
-opened-plan : (core : Processor) (plan : Plan) (hart : Hart) → core ≡ opened plan hart → core.plan ≡ plan
-unfolding opened
+opened-plan : (core : Processor) (plan : Plan) (hart : Hart) → core ≡ opened_processor plan hart → core.plan ≡ plan
+unfolding opened_processor
 opened-plan core plan hart is = ap (λ (p : Processor). p.plan) is
 
 pub measures : (used : DelayRule) (delays : List Span) (options : RunChoices) (core : Processor) (plan : Plan) (start : Machine)
-    (blank full : Option (List ℕ)) (measured : Measured) → used ≡ rule_by delays options → core ≡ opened plan start.hart →
-    PutsRun used options core.plan core start.rest blank full measured → HasCauses 0 0 0 0 (Some (answer_of measured.answer)) →
+    (blank full : Option (List ℕ)) (measured : Measured) → used ≡ rule_by delays options → core ≡ opened_processor plan start.hart →
+    PutsRun used options core.plan core start.rest blank full measured → HasCauses 0 0 0 0 (Some (answer_of_timed measured.answer)) →
     PutsMoves delays options plan start blank full measured
 measures used delays options core plan start blank full measured same is puts causes =
-    let there : PutsRun (rule_by delays options) options plan (opened plan start.hart) start.rest blank full measured =
-    subst (λ (r : DelayRule). PutsRun r options plan (opened plan start.hart) start.rest blank full measured) same
+    let there : PutsRun (rule_by delays options) options plan (opened_processor plan start.hart) start.rest blank full measured =
+    subst (λ (r : DelayRule). PutsRun r options plan (opened_processor plan start.hart) start.rest blank full measured) same
     (subst (λ (p : Processor). PutsRun used options plan p start.rest blank full measured) is
     (subst (λ (l : Plan). PutsRun used options l core start.rest blank full measured) (opened-plan core plan start.hart is) puts)) in
     record { shown = there.shown; measures = of-opened delays options plan start _ there.takes causes; put = there.put }
 
 -- or its report failed
 pub breaks : (used : DelayRule) (delays : List Span) (options : RunChoices) (core : Processor) (plan : Plan) (start : Machine)
-    (blank full : Option (List ℕ)) → used ≡ rule_by delays options → core ≡ opened plan start.hart →
-    BreaksTaking used options core start.rest blank full → BreaksTaking (rule_by delays options) options (opened plan start.hart) start.rest blank full
+    (blank full : Option (List ℕ)) → used ≡ rule_by delays options → core ≡ opened_processor plan start.hart →
+    BreaksTaking used options core start.rest blank full → BreaksTaking (rule_by delays options) options (opened_processor plan start.hart) start.rest blank
+    full
 breaks used delays options core plan start blank full same is h =
-    subst (λ (r : DelayRule). BreaksTaking r options (opened plan start.hart) start.rest blank full) same
+    subst (λ (r : DelayRule). BreaksTaking r options (opened_processor plan start.hart) start.rest blank full) same
     (subst (λ (p : Processor). BreaksTaking used options p start.rest blank full) is h)
 
 -- the clock is a clock of the processor's layout and of the delays that was told of no move
-pub clock-rule : (plan : Plan) (rule : DelayRule) (clock : SiteTimes) → clock ≡ started plan rule → rule_of clock ≡ rule
+pub clock-rule : (plan : Plan) (rule : DelayRule) (clock : SiteTimes) → clock ≡ started plan rule → rule_of_clock clock ≡ rule
 unfolding started drawn_from
-clock-rule plan rule clock e = ap rule_of e
+clock-rule plan rule clock e = ap rule_of_clock e
 
 clock-started : (core : Processor) (plan : Plan) (hart : Hart) (rule : DelayRule) (clock : SiteTimes) →
-    core ≡ opened plan hart → clock ≡ started plan rule → clock ≡ started core.plan (rule_of clock)
+    core ≡ opened_processor plan hart → clock ≡ started plan rule → clock ≡ started core.plan (rule_of_clock clock)
 clock-started core plan hart rule clock is e =
     e ∙ ap (λ (l : Plan). started l rule) (sym (opened-plan core plan hart is)) ∙ ap (started core.plan) (sym (clock-rule plan rule clock e))
 
 -- so a timed run may begin
 pub can-begin : (limit : ℕ) (core : Processor) (plan : Plan) (hart : Hart) (rule : DelayRule) (clock : SiteTimes) →
-    limit ≤ most_timed_limit → hart.retired ≡ 0 → core ≡ opened plan hart → clock ≡ started plan rule → CanBegin limit core clock
+    limit ≤ most_timed_limit → hart.retired ≡ 0 → core ≡ opened_processor plan hart → clock ≡ started plan rule → CanBegin limit core clock
 can-begin limit core plan hart rule clock few none is begun = record {
   can_run = record { can_run = can-run limit core plan hart (omega (arith, few)) none is; few = few };
   clock_is = clock-started core plan hart rule clock is begun;

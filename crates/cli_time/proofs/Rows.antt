@@ -9,7 +9,7 @@ use Rattle.cf_io.specs.Puts.{Writes}
 use Rattle.cf_io.proofs.Owing.{front-again, writes-again, writes-nothing}
 use Rattle.rv_machine.specs.Machine.{Machine}
 use Rattle.cf_layout.specs.Layout.{Plan}
-use Rattle.cf_core.specs.Processors.{opened}
+use Rattle.cf_core.specs.Processors.{opened_processor}
 use Rattle.cf_report.specs.Putting.{PutsText}
 use Rattle.cli_time.specs.declared.choices.RunChoices.{RunChoices}
 use Rattle.cli_arguments.specs.Words.{NamedLayout}
@@ -163,7 +163,8 @@ rows-break words options delays plans start blank told between full before now m
 pub rows-cut : (words : List NamedLayout) (options : RunChoices) (delays : List Span) (plans : List Plan) (start : Machine)
     (blank told full : Option (List ℕ)) (before now : ℕ) (place : ℕ) (times : List ℕ) (plan : Plan) →
     RowsPut words options delays plans start blank told before now place times → slice_get plans place ≡ Some plan →
-    BreaksTaking (rule_by delays options) options (opened plan start.hart) start.rest told full → BreaksAtLayout words options delays plans start blank full
+    BreaksTaking (rule_by delays options) options (opened_processor plan start.hart) start.rest told full →
+    BreaksAtLayout words options delays plans start blank full
 rows-cut words options delays plans start blank told full before now place times plan h at_plan cut = inr (record {
   measured = h.measured;
   each = h.each;

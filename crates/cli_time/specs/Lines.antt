@@ -3,7 +3,7 @@ use Rattle.std.specs.Prelude.{ℕ, ◌-◌, List, [], ◌∷◌, ◌++◌, codes
 use Rattle.report_closing.specs.Lines.{line_of_run}
 use Rattle.texts.specs.Lines.{counted_line, line}
 use Rattle.cf_timed.specs.declared.answer.Timed.{Timed}
-use Rattle.cf_timed.specs.TimedRuns.{answer_of}
+use Rattle.cf_timed.specs.TimedRuns.{answer_of_timed}
 use Rattle.cli_arguments.specs.Words.{NamedLayout}
 use Rattle.cli_time.specs.Asked.{layout_name}
 use Rattle.cli_time.specs.Measures.{TakenRun}
@@ -16,7 +16,7 @@ unended text = take (length text - 1) text
 
 -- how the run ended: the first line of the report of `run`, without its line feed
 unfoldable pub run_ending_text : ℕ → Timed → List ℕ
-run_ending_text limit answer = unended (line_of_run limit (answer_of answer))
+run_ending_text limit answer = unended (line_of_run limit (answer_of_timed answer))
 
 -- a number after its name
 unfoldable pub number_text : List ℕ → ℕ → List ℕ

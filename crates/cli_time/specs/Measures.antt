@@ -4,17 +4,17 @@ use Rattle.std.specs.Prelude.{◌≡◌, ◌≤◌, ◌-◌, ℕ, List, [], ◌�
 use Rattle.rv_machine.specs.Machine.{Machine}
 use Rattle.rv_machine.specs.Streams.{Streams, streams_of}
 use Rattle.cf_layout.specs.Layout.{Plan}
-use Rattle.cf_core.specs.Processors.{Processor, opened}
+use Rattle.cf_core.specs.Processors.{Processor, opened_processor}
 use Rattle.cf_run.specs.Ending.{EndsAsMachine}
 use Rattle.cf_run.specs.Made.{Made}
-use Rattle.cf_run.specs.Moving.{RunPlace, place_of}
+use Rattle.cf_run.specs.Moving.{RunPlace, run_place_of}
 use Rattle.cf_run.specs.Policies.{most_moves}
 use Rattle.cf_timed.specs.Chains.{IsLongest}
 use Rattle.cf_timed.specs.Clocks.{SiteTimes}
 use Rattle.cf_timed.specs.DelayedRuns.{DelayRule, delays_of, visits_of}
 use Rattle.cf_timed.specs.declared.span.Span.{Span}
-use Rattle.cf_timed.specs.TimedRuns.{BreaksTimed, RunsTimed, answer_of, begins, lines_from}
-use Rattle.cf_timed.specs.Times.{DelayedMove, greatest_time, times}
+use Rattle.cf_timed.specs.TimedRuns.{BreaksTimed, RunsTimed, answer_of_timed, begins, timed_lines_from}
+use Rattle.cf_timed.specs.Times.{DelayedMove, greatest_time, moves_with_times}
 use Rattle.run_ledger.specs.Breakdowns.{breakdown}
 use Rattle.run_ledger.specs.SeenMoves.{SeenMove, seen_in}
 use Rattle.run_ledger.specs.declared.breakdown.Breakdown.{Breakdown}
@@ -49,7 +49,7 @@ made_of shows.Moves plan moves = None
 abbrev pub lines_of : TimeShow → DelayRule → RunPlace → List Made → List ℕ
 lines_of shows.Nothing rule begin trace = []
 lines_of shows.Sites rule begin trace = []
-lines_of shows.Moves rule begin trace = lines_from begin rule trace
+lines_of shows.Moves rule begin trace = timed_lines_from begin rule trace
 
 -- what was measured, and what was shown of the moves
 pub record TakenRun : Type 0 where
@@ -65,7 +65,7 @@ pub record MeasuresRun (rule : DelayRule) (options : RunChoices) (plan : Plan) (
   pub left : List ℕ
   pub clock : SiteTimes
   pub runs : RunsTimed options.rule rule options.limit (begins core (over bytes)) last (over left) clock taken.measured.moves taken.measured.answer
-  pub time_is : taken.measured.time ≡ greatest_time (times plan (moves_by rule plan core runs.right.runs.reaches.trace))
+  pub time_is : taken.measured.time ≡ greatest_time (moves_with_times plan (moves_by rule plan core runs.right.runs.reaches.trace))
   pub retired_is : taken.measured.retired ≡ last.state.retired
   pub bounded : taken.measured.moves ≤ most_moves plan (last.state.retired - core.state.retired)
   pub sites_are : taken.measured.sites ≡ made_of options.show plan (seen_by rule plan core runs.right.runs.reaches.trace)
@@ -73,18 +73,19 @@ pub record MeasuresRun (rule : DelayRule) (options : RunChoices) (plan : Plan) (
 
 -- the same of the layout's processor, opened on the hart of the machine at its start, over the whole of its input
 pub record Measures (delays : List Span) (options : RunChoices) (plan : Plan) (start : Machine) (taken : TakenRun) : Type 0 where
-  pub takes : MeasuresRun (rule_by delays options) options plan (opened plan start.hart) start.rest taken
+  pub takes : MeasuresRun (rule_by delays options) options plan (opened_processor plan start.hart) start.rest taken
   -- the time is the sum of the delays of a longest chain of the run
-  pub longest : IsLongest plan (moves_by (rule_by delays options) plan (opened plan start.hart) takes.runs.right.runs.reaches.trace) taken.measured.time
+  pub longest : IsLongest plan (moves_by (rule_by delays options) plan (opened_processor plan start.hart) takes.runs.right.runs.reaches.trace)
+      taken.measured.time
   -- ending, count and what is left of the input are those of the sequential machine over the same input, so the run ended
   -- by itself or at the limit
-  pub machine : EndsAsMachine options.limit start.hart (begins (opened plan start.hart) (over start.rest))
-      (place_of takes.last (over takes.left) None takes.runs.tally) (answer_of taken.measured.answer)
+  pub machine : EndsAsMachine options.limit start.hart (begins (opened_processor plan start.hart) (over start.rest))
+      (run_place_of takes.last (over takes.left) None takes.runs.tally) (answer_of_timed taken.measured.answer)
 
 -- the report failed after a move of such a run: a part of the lines of the moves so far was written
 abbrev pub BreaksTaking : DelayRule → RunChoices → Processor → List ℕ → (blank full : Option (List ℕ)) → Type 0
 BreaksTaking rule options core bytes blank full =
-    BreaksTimed (lines_from (begins core (over bytes)) rule) options.rule rule options.limit (begins core (over bytes)) blank full
+    BreaksTimed (timed_lines_from (begins core (over bytes)) rule) options.rule rule options.limit (begins core (over bytes)) blank full
 
 -- the same of the first layouts
 abbrev pub MeasuresFirst : List Span → RunChoices → Machine → List Plan → List TakenRun → Type 0

@@ -4,7 +4,7 @@ use Rattle.cf_timed.specs.declared.span.Span.{Span}
 use Rattle.cf_io.specs.Puts.{Writes}
 use Rattle.rv_machine.specs.Machine.{Machine}
 use Rattle.cf_layout.specs.Layout.{Plan}
-use Rattle.cf_core.specs.Processors.{Processor, opened}
+use Rattle.cf_core.specs.Processors.{Processor, opened_processor}
 use Rattle.cli_time.specs.declared.choices.RunChoices.{RunChoices}
 use Rattle.cli_arguments.specs.Words.{NamedLayout}
 use Rattle.cli_time.specs.Lines.{time_lines}
@@ -45,18 +45,21 @@ stopped_by_report (Err (stop.NoMemory place)) = Ok tt
 stopped_by_report (Err stop.Failed) = Err tt
 
 -- a run of an opened processor was measured, and the report got the lines of its moves where these are shown
-pub record PutsRun (rule : DelayRule) (options : RunChoices) (plan : Plan) (core : Processor) (bytes : List ℕ) (blank full : Option (List ℕ)) (measured : Measured) : Type 0 where
+pub record PutsRun (rule : DelayRule) (options : RunChoices) (plan : Plan) (core : Processor) (bytes : List ℕ) (blank full : Option (List ℕ))
+    (measured : Measured) : Type 0 where
   pub shown : List ℕ
   pub takes : MeasuresRun rule options plan core bytes (record { measured = measured; shown = shown })
   pub put : Writes blank full shown
 
 -- the same of the processor of a layout
-pub record PutsMoves (delays : List Span) (options : RunChoices) (plan : Plan) (start : Machine) (blank full : Option (List ℕ)) (measured : Measured) : Type 0 where
-  pub shown : List ℕ
-  pub measures : Measures delays options plan start (record { measured = measured; shown = shown })
-  pub put : Writes blank full shown
+pub record PutsMoves (delays : List Span) (options : RunChoices) (plan : Plan) (start : Machine) (blank full : Option (List ℕ)) (measured : Measured) : Type 0
+  where
+    pub shown : List ℕ
+    pub measures : Measures delays options plan start (record { measured = measured; shown = shown })
+    pub put : Writes blank full shown
 
 -- why the layout with this index was not measured: memory was refused for its run, or the report failed
 abbrev pub MeasuringStops : (place : ℕ) → List Span → RunChoices → Plan → Machine → (blank full : Option (List ℕ)) → Stop → Type 0
 MeasuringStops place delays options plan start blank full (stop.NoMemory at) = (at ≡ place) × (full ≡ blank)
-MeasuringStops place delays options plan start blank full stop.Failed = BreaksTaking (rule_by delays options) options (opened plan start.hart) start.rest blank full
+MeasuringStops place delays options plan start blank full stop.Failed =
+    BreaksTaking (rule_by delays options) options (opened_processor plan start.hart) start.rest blank full

@@ -6,7 +6,7 @@ use Rattle.cf_io.specs.Reads.{FilesSeen}
 use Rattle.rv_machine.specs.Hart.{Hart}
 use Rattle.rv_machine.specs.Machine.{Machine}
 use Rattle.cf_layout.specs.Layout.{Plan}
-use Rattle.cf_core.specs.Processors.{opened}
+use Rattle.cf_core.specs.Processors.{opened_processor}
 use Rattle.cf_run.specs.Headline.{machine_on}
 use Rattle.texts.specs.Lines.{line}
 use Rattle.cli_time.specs.declared.choices.RunChoices.{RunChoices}
@@ -76,7 +76,7 @@ pub record BreaksAtMove (words : List NamedLayout) (options : RunChoices) (delay
   pub plan_is : slice_get plans (length measured) ≡ Some plan
   pub told : Option (List ℕ)
   pub put : Writes blank told (time_lines options.limit words measured)
-  pub front : BreaksTaking (rule_by delays options) options (opened plan start.hart) start.rest told full
+  pub front : BreaksTaking (rule_by delays options) options (opened_processor plan start.hart) start.rest told full
 
 -- one or the other
 abbrev pub BreaksAtLayout : List NamedLayout → RunChoices → List Span → List Plan → Machine → Option (List ℕ) → Option (List ℕ) → Type 0

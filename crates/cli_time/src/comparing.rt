@@ -8,7 +8,7 @@ ghost use Rattle.cli_arguments.specs.Words.{layout_in};
 ghost use Rattle.cf_run.specs.Headline.{machine_on};
 ghost use Rattle.cli_files.specs.Causes.{output_answered};
 ghost use Rattle.cli_files.specs.Deciding.{Decides, reading_decided};
-ghost use Rattle.cli_files.specs.Image.{IsProgramFile, opened};
+ghost use Rattle.cli_files.specs.Image.{IsProgramFile, hart_at_start};
 ghost use Rattle.cli_time.specs.Asked.{time_asked};
 ghost use Rattle.cli_time.specs.Effects.{CarriesOutOverFiles};
 ghost use Rattle.cli_time.specs.Runs.{PutsAll, TimingStops, stopped_by_report};
@@ -45,9 +45,9 @@ fn time_each<R: Sink>(
     requires few { length words.now ≤ 8 }
     ensures put { MatchResult result
         (λ times. PutsAll (map layout_in (map string_bytes words.now)) options ready.now.delays (vec_items ready.now.layouts)
-        (machine_on (opened (vec_items ready.now.image)) input.now) (R.written report.old) (R.written report.new) times.items)
+        (machine_on (hart_at_start (vec_items ready.now.image)) input.now) (R.written report.old) (R.written report.new) times.items)
         (λ stop. TimingStops (map layout_in (map string_bytes words.now)) options ready.now.delays (vec_items ready.now.layouts)
-        (machine_on (opened (vec_items ready.now.image)) input.now) (R.written report.old) (R.written report.new) stop) }
+        (machine_on (hart_at_start (vec_items ready.now.image)) input.now) (R.written report.old) (R.written report.new) stop) }
     ensures cause { HasCause (R.faults report.old) (R.faults report.new) (stopped_by_report result) }
 {
     let limit = options.limit;
@@ -82,9 +82,9 @@ fn compare_ready<R: Sink>(
     requires some { 1 ≤ length words.now }
     requires few { length words.now ≤ 8 }
     ensures comes { Decides
-        (TimesOf (map layout_in (map string_bytes words.now)) options ready.now.delays (vec_items ready.now.layouts) (machine_on (opened (vec_items ready.now.image)) input.now))
+        (TimesOf (map layout_in (map string_bytes words.now)) options ready.now.delays (vec_items ready.now.layouts) (machine_on (hart_at_start (vec_items ready.now.image)) input.now))
         (BreaksTimes (map layout_in (map string_bytes words.now)) options ready.now.delays (vec_items ready.now.layouts)
-        (machine_on (opened (vec_items ready.now.image)) input.now) (R.written report.old) (R.written report.new))
+        (machine_on (hart_at_start (vec_items ready.now.image)) input.now) (R.written report.old) (R.written report.new))
         (R.written report.old) (R.written report.new) result }
     ensures files { reading_decided result ≡ Ok tt }
     ensures output { IfOk result (λ answer. output_answered answer.status ≡ Ok tt) }

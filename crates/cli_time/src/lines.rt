@@ -3,7 +3,7 @@
 
 ghost use Rattle.std.specs.Prelude.{◌≡◌, ◌+◌, ◌≤◌, ◌++◌, length};
 ghost use Rattle.cli_reports.specs.Reporting.{PutsInto};
-ghost use Rattle.cf_timed.specs.TimedRuns.{answer_of};
+ghost use Rattle.cf_timed.specs.TimedRuns.{answer_of_timed};
 ghost use Rattle.cli_arguments.specs.Views.{layout_of};
 ghost use Rattle.cli_time.specs.Asked.{layout_name};
 ghost use Rattle.cli_time.specs.Lines.{closing_lines, run_ending_text, least_line, measured_text, number_text};
@@ -20,7 +20,7 @@ use texts::Page;
 
 /// The answer of a timed run as that of any run.
 fn ran(answer: Timed) -> Ran
-    ensures { result ≡ answer_of answer }
+    ensures { result ≡ answer_of_timed answer }
 {
     match answer {
         Timed::Exit(status) => Ran::Exit(status),

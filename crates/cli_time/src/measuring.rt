@@ -4,11 +4,11 @@ ghost use Rattle.std.specs.Prelude.{◌≡◌, ◌≤◌, [], IfOk, MatchResult,
 ghost use Rattle.run_options.specs.Limits.{most_timed_limit};
 ghost use Rattle.cf_io.specs.Causes.{HasCause};
 ghost use Rattle.cf_run.specs.Headline.{machine_on};
-ghost use Rattle.cf_timed.specs.Clocks.{rule_of};
-ghost use Rattle.cf_timed.specs.TimedRuns.{CanBegin, HasCauses, answer_of};
-ghost use Rattle.cli_files.specs.Image.{IsProgramFile, opened};
+ghost use Rattle.cf_timed.specs.Clocks.{rule_of_clock};
+ghost use Rattle.cf_timed.specs.TimedRuns.{CanBegin, HasCauses, answer_of_timed};
+ghost use Rattle.cli_files.specs.Image.{IsProgramFile, hart_at_start};
 ghost use Rattle.cli_time.specs.Measures.{BreaksTaking, MeasuresRun};
-ghost use Rattle.cf_core.specs.Processors.{opened as opened_core};
+ghost use Rattle.cf_core.specs.Processors.{opened_processor as opened_core};
 ghost use Rattle.cli_time.specs.Runs.{MeasuringStops, PutsMoves, PutsRun, stopped_by_report};
 ghost use Rattle.run_options.specs.declared.time_show.TimeShow.TheVariants as shows;
 
@@ -74,8 +74,8 @@ fn take_time(
 ) -> Measured
     requires begins { CanBegin options.limit core.old clock }
     requires shown { options.show ≡ shows.Nothing }
-    ensures takes { MeasuresRun (rule_of clock) options core.old.plan core.old input.now (record { measured = result; shown = [] }) }
-    ensures causes { HasCauses 0 0 0 0 (Some (answer_of result.answer)) }
+    ensures takes { MeasuresRun (rule_of_clock clock) options core.old.plan core.old input.now (record { measured = result; shown = [] }) }
+    ensures causes { HasCauses 0 0 0 0 (Some (answer_of_timed result.answer)) }
 {
     let mut clock = clock;
     let run = run_timed(
@@ -99,8 +99,8 @@ fn take_sites(
 ) -> Measured
     requires begins { CanBegin options.limit core.old clock }
     requires shown { options.show ≡ shows.Sites }
-    ensures takes { MeasuresRun (rule_of clock) options core.old.plan core.old input.now (record { measured = result; shown = [] }) }
-    ensures causes { HasCauses 0 0 0 0 (Some (answer_of result.answer)) }
+    ensures takes { MeasuresRun (rule_of_clock clock) options core.old.plan core.old input.now (record { measured = result; shown = [] }) }
+    ensures causes { HasCauses 0 0 0 0 (Some (answer_of_timed result.answer)) }
 {
     let mut clock = clock;
     let mut ledger = RunLedger::new(core.layout());
@@ -128,9 +128,9 @@ fn take_moves<R: Sink>(
     requires begins { CanBegin options.limit core.old clock }
     requires shown { options.show ≡ shows.Moves }
     ensures takes { MatchResult result
-        (PutsRun (rule_of clock) options core.old.plan core.old input.now (R.written report.old) (R.written report.new))
-        (λ failed. BreaksTaking (rule_of clock) options core.old input.now (R.written report.old) (R.written report.new)) }
-    ensures causes { IfOk result (λ measured. HasCauses 0 0 0 0 (Some (answer_of measured.answer))) }
+        (PutsRun (rule_of_clock clock) options core.old.plan core.old input.now (R.written report.old) (R.written report.new))
+        (λ failed. BreaksTaking (rule_of_clock clock) options core.old input.now (R.written report.old) (R.written report.new)) }
+    ensures causes { IfOk result (λ measured. HasCauses 0 0 0 0 (Some (answer_of_timed measured.answer))) }
     ensures report { HasCause (R.faults report.old) (R.faults report.new) result }
 {
     let mut clock = clock;
@@ -157,9 +157,9 @@ fn take_run<R: Sink>(
 ) -> Result<Measured, Failed>
     requires begins { CanBegin options.limit core.old clock }
     ensures takes { MatchResult result
-        (PutsRun (rule_of clock) options core.old.plan core.old input.now (R.written report.old) (R.written report.new))
-        (λ failed. BreaksTaking (rule_of clock) options core.old input.now (R.written report.old) (R.written report.new)) }
-    ensures causes { IfOk result (λ measured. HasCauses 0 0 0 0 (Some (answer_of measured.answer))) }
+        (PutsRun (rule_of_clock clock) options core.old.plan core.old input.now (R.written report.old) (R.written report.new))
+        (λ failed. BreaksTaking (rule_of_clock clock) options core.old input.now (R.written report.old) (R.written report.new)) }
+    ensures causes { IfOk result (λ measured. HasCauses 0 0 0 0 (Some (answer_of_timed measured.answer))) }
     ensures report { HasCause (R.faults report.old) (R.faults report.new) result }
 {
     match options.show {
@@ -180,8 +180,8 @@ struct LoadedCore {
 #[tactic(auto, using(cf_run::proofs::Opened::opened_cores))]
 fn load(alloc: Global, image: &[u8], layout: &Layout) -> Result<LoadedCore, AllocError>
     requires program { IsProgramFile image.now }
-    ensures core { IfOk result (λ loaded. loaded.core ≡ opened_core layout.now (opened image.now)) }
-    ensures count { IfOk result (λ loaded. (opened image.now).retired ≡ 0) }
+    ensures core { IfOk result (λ loaded. loaded.core ≡ opened_core layout.now (hart_at_start image.now)) }
+    ensures count { IfOk result (λ loaded. (hart_at_start image.now).retired ≡ 0) }
 {
     let machine = open_again(alloc, image)?;
     let candidates = Candidates::new(alloc)?;
@@ -204,9 +204,9 @@ pub(crate) fn measure<R: Sink>(
     requires limit { options.limit ≤ most_timed_limit }
     requires program { IsProgramFile (vec_items ready.now.image) }
     ensures measured { MatchResult result
-        (PutsMoves ready.now.delays options layout.now (machine_on (opened (vec_items ready.now.image)) input.now)
+        (PutsMoves ready.now.delays options layout.now (machine_on (hart_at_start (vec_items ready.now.image)) input.now)
         (R.written report.old) (R.written report.new))
-        (MeasuringStops place ready.now.delays options layout.now (machine_on (opened (vec_items ready.now.image)) input.now)
+        (MeasuringStops place ready.now.delays options layout.now (machine_on (hart_at_start (vec_items ready.now.image)) input.now)
         (R.written report.old) (R.written report.new)) }
     ensures cause { HasCause (R.faults report.old) (R.faults report.new) (stopped_by_report result) }
 {

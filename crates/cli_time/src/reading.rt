@@ -2,7 +2,7 @@
 
 ghost use Rattle.std.specs.Prelude.{◌≡◌, IfOk, map, string_bytes, vec_items};
 ghost use Rattle.cli_arguments.specs.Words.{layout_in};
-ghost use Rattle.cli_files.specs.Image.{IsProgramFile, opened};
+ghost use Rattle.cli_files.specs.Image.{IsProgramFile, hart_at_start};
 ghost use Rattle.cli_files.specs.Programs.{IsProgramAt, LacksProgram};
 ghost use Rattle.cli_files.specs.ReadsFiles.{ReadsFiles};
 ghost use Rattle.cli_time.specs.Asked.{files_asked};
@@ -26,7 +26,7 @@ pub(crate) struct ReadyTimes {
 
 /// The bytes of the file of this name, which are a program, or the answer where they are no program.
 fn image_at<F: Files>(alloc: Global, name: &str, files: &mut F) -> Result<Vec<u8>, Answer>
-    ensures reads { ReadsFiles (λ before after image. IsProgramAt name.now before after (opened (vec_items image))) (LacksProgram name.now)
+    ensures reads { ReadsFiles (λ before after image. IsProgramAt name.now before after (hart_at_start (vec_items image))) (LacksProgram name.now)
         F.Files files.old files.new result }
     ensures program { IfOk result (λ image. IsProgramFile (vec_items image)) }
 {
@@ -77,7 +77,7 @@ pub(crate) fn read_files<F: Files>(
     files: &mut F,
 ) -> Result<ReadyTimes, Answer>
     ensures reads { ReadsFiles (λ before after ready. TimeFilesRead (files_asked delays.now program.now (map layout_in (map string_bytes layouts.now)))
-        before after ready.delays (vec_items ready.layouts) (opened (vec_items ready.image)))
+        before after ready.delays (vec_items ready.layouts) (hart_at_start (vec_items ready.image)))
         (LacksTimeFile (files_asked delays.now program.now (map layout_in (map string_bytes layouts.now)))) F.Files files.old files.new result }
     ensures program { IfOk result (λ ready. IsProgramFile (vec_items ready.image)) }
 {

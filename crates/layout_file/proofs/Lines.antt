@@ -3,7 +3,7 @@ use Rattle.std.proofs.Common.{◌≡◌, ℕ, zero, suc, ◌+◌, ◌<◌, ◌�
 use Rattle.std.specs.Prelude.{decimal, slice_get, unwrap_or}
 use Rattle.std.proofs.lemmas.List.{drop_all}
 use Rattle.rv_inst.specs.declared.classes.Class.{Class}
-use Rattle.cf_layout.specs.Layout.{Plan, SidingPlan, no_siding, siding_at}
+use Rattle.cf_layout.specs.Layout.{Plan, SidingPlan, no_siding, siding_plan_at}
 use Rattle.layout_file.specs.Names.{class_name}
 use Rattle.layout_file.specs.Text.{pair_line, array_text, unit_line, siding_text, siding_texts}
 
@@ -19,7 +19,7 @@ next_at [] i within = absurd (omega arith)
 next_at (s ∷ ss) zero within = refl
 next_at (s ∷ ss) (suc i) within = next_at ss i (omega arith)
 
-pub next_siding : (plan : Plan) (i : ℕ) → i < length plan.sidings → siding_texts (drop i plan.sidings) ≡ siding_text (siding_at plan i)
+pub next_siding : (plan : Plan) (i : ℕ) → i < length plan.sidings → siding_texts (drop i plan.sidings) ≡ siding_text (siding_plan_at plan i)
     ++ siding_texts (drop (i + 1) plan.sidings)
 next_siding plan i within = rw (add-one) (next_at plan.sidings i within)
 

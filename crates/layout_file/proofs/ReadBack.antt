@@ -13,7 +13,7 @@ use Rattle.rv_inst.specs.declared.classes.Class.TheVariants.{Add, Logic, Shift, 
 use Rattle.cf_layout.specs.Layout.{Plan, SidingPlan, same_class, computed_classes, stages_of, serves, unit_homes, homes, has_mul}
 use Rattle.cf_layout.specs.Accepted.{IsSiding, IsAccepted}
 use Rattle.cf_layout.specs.Acceptable.{IsComputed}
-use Rattle.cf_layout.specs.Asked.{names, plan_of}
+use Rattle.cf_layout.specs.Asked.{lists_class, plan_of}
 use Rattle.cf_layout.proofs.Counts.{same_self, any_kept}
 use Rattle.cf_layout.proofs.Passing.{lt_true}
 use Rattle.cf_layout.proofs.Ordered.{few_classes}
@@ -126,7 +126,7 @@ siding_needs plan a k d within c served =
     homed_needs plan a c (omega arith)
 
 -- the words of classes that are named
-named_words : (format : Format) (classes : List Class) → All IsComputed classes → ((c : Class) → names classes c ≡ true → NeedsSecond format c) →
+named_words : (format : Format) (classes : List Class) → All IsComputed classes → ((c : Class) → lists_class classes c ≡ true → NeedsSecond format c) →
     AreWords format classes
 named_words format [] small needs = tt
 named_words format (c ∷ cs) small needs = (

@@ -7,8 +7,8 @@ use Rattle.rv_inst.specs.declared.classes.Class.TheVariants.{Add}
 use Rattle.cf_layout.specs.declared.parts.Siding.{Siding}
 use Rattle.cf_layout.specs.declared.parts.Parts.{Parts}
 use Rattle.cf_layout.specs.Layout.{computed_classes}
-use Rattle.cf_layout.specs.Asked.{is_number}
-use Rattle.cf_layout.specs.Refusal.{loose_refusal, refusal}
+use Rattle.cf_layout.specs.Asked.{is_integer}
+use Rattle.cf_layout.specs.Refusal.{loose_refusal, first_refusal}
 use Rattle.layout_file.specs.declared.format.Format.{Format}
 use Rattle.layout_file.specs.declared.format.Format.TheVariants.{First, Second}
 use Rattle.layout_file.specs.declared.kinds.TableKind.TheVariants as kind
@@ -103,14 +103,14 @@ sidings_in format (item d ds) = sidings_of format (as_table d) ++ sidings_in for
 
 -- the format: 2 where the document says so, otherwise 1
 abbrev pub format_of : ℤ → Format
-format_of z = if is_number 2 z then Second else First
+format_of z = if is_integer 2 z then Second else First
 
 unfoldable pub format_in : Members → Format
 format_in ms = format_of (integer_at (codes "format") ms)
 
 -- the fault of the number at `format`: a document that is read in format 1 has to say 1
 abbrev pub format_fault : Format → ℤ → Option FileErr
-format_fault First z = if is_number 1 z then None else Some (UnknownFormat z)
+format_fault First z = if is_integer 1 z then None else Some (UnknownFormat z)
 format_fault Second z = None
 
 -- the first fault of the tables, in a format
@@ -142,7 +142,7 @@ requested_parts ms = parts_in (format_in ms) ms
 
 -- the first fault of a document: of its tables, or else of the layout that they request
 unfoldable pub fault_of : Members → Option FileErr
-fault_of ms = option_or (tables_fault (format_in ms) ms) (option_map Refused (refusal (requested_parts ms)))
+fault_of ms = option_or (tables_fault (format_in ms) ms) (option_map Refused (first_refusal (requested_parts ms)))
 
 -- the same, where the layout may break the rule on where control turns
 unfoldable pub loose_fault_of : Members → Option FileErr

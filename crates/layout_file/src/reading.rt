@@ -12,7 +12,7 @@ ghost use Rattle.layout_file.specs.declared.fault.FileErr.TheVariants.{UnknownCl
 ghost use Rattle.cf_layout.specs.Layout.{computed_classes};
 ghost use Rattle.cf_layout.specs.Asked.{plan_of};
 ghost use Rattle.cf_layout.specs.Acceptable.{IsComputed, AreComputed};
-ghost use Rattle.cf_layout.specs.Refusal.{loose_refusal, refusal};
+ghost use Rattle.cf_layout.specs.Refusal.{loose_refusal, first_refusal};
 ghost use Rattle.toml.specs.Data.{get_member, no_members};
 ghost use Rattle.toml.specs.View.{view, table_view, items_view};
 

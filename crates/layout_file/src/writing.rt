@@ -5,7 +5,7 @@ ghost use Rattle.std.specs.Prelude.{◌≡◌, ◌<◌, ◌≤◌, ◌++◌, IfO
 ghost use Rattle.layout_file.specs.Names.{class_name};
 ghost use Rattle.layout_file.specs.Answers.{ReadsAs};
 ghost use Rattle.layout_file.specs.Text.{pair_line, array_rest, array_text, quoted_name, unit_line, unit_lines, numbers_text, siding_text, siding_texts, needed_format, truth_text, cache_key_line, format_text, top_text, body_text, layout_text};
-ghost use Rattle.cf_layout.specs.Layout.{computed_classes, siding_at, stages_of};
+ghost use Rattle.cf_layout.specs.Layout.{computed_classes, siding_plan_at, stages_of};
 ghost use Rattle.cf_layout.specs.Accepted.{IsAccepted};
 
 use crate::classes::class_name;
@@ -143,7 +143,7 @@ fn push_classes(text: &mut String, classes: &[Class]) -> Result<(), AllocError>
 #[tactic(auto, using(std::proofs::lemmas::List::append_assoc), unfolding(crate::specs::Text::numbers_text, cf_layout::specs::Layout::launch_stage, cf_layout::specs::Layout::recover_stage, cf_layout::specs::Layout::cells_of))]
 fn push_siding_numbers(text: &mut String, layout: &Layout, siding: u32) -> Result<(), AllocError>
     requires { siding < length layout.now.sidings }
-    ensures { IfOk result (λ done. string_bytes text.new ≡ string_bytes text.old ++ numbers_text (siding_at layout.now siding)) }
+    ensures { IfOk result (λ done. string_bytes text.new ≡ string_bytes text.old ++ numbers_text (siding_plan_at layout.now siding)) }
 {
     push_pair(text, "launch", layout.launch_stage(siding))?;
     push_pair(text, "recover", layout.recover_stage(siding))?;
@@ -159,7 +159,7 @@ fn push_siding(
     siding: u32,
 ) -> Result<(), AllocError>
     requires { siding < length layout.now.sidings }
-    ensures { IfOk result (λ done. string_bytes text.new ≡ string_bytes text.old ++ siding_text (siding_at layout.now siding)) }
+    ensures { IfOk result (λ done. string_bytes text.new ≡ string_bytes text.old ++ siding_text (siding_plan_at layout.now siding)) }
 {
     let classes = layout.siding_classes(alloc, siding)?;
     text.push_str("\n[[siding]]\n")?;

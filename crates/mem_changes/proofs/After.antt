@@ -33,11 +33,12 @@ byte_after-avoids (c ∷ cs) y o h = rw (changed_elsewhere c.addr c.byte y o h.0
 pub byte_after-filter : (test : Change → Bool) (cs : List Change) (y o : ℕ) → ((c : Change) → c.addr ≡ y → test c ≡ true) →
     byte_after (filter test cs) y o ≡ byte_after cs y o
 byte_after-filter test [] y o h = refl
-byte_after-filter test (c ∷ cs) y o h = go (test c) refl (byte_after-filter test cs y (if c.addr == y then c.byte else o) h) (byte_after-filter test cs y o h) where
-  go : (t : Bool) → test c ≡ t → byte_after (filter test cs) y (if c.addr == y then c.byte else o) ≡ byte_after cs y (if c.addr == y then c.byte else o) →
-      byte_after (filter test cs) y o ≡ byte_after cs y o → byte_after (filter test (c ∷ cs)) y o ≡ byte_after (c ∷ cs) y o
-  go true e here later = rw e here
-  go false e here later = rw e (later ∙ ap (byte_after cs y) (sym (changed_elsewhere c.addr c.byte y o (λ f. let k : test c ≡ true = h c f in cc))))
+byte_after-filter test (c ∷ cs) y o h = go (test c) refl (byte_after-filter test cs y (if c.addr == y then c.byte else o) h) (byte_after-filter test cs y o h)
+  where
+    go : (t : Bool) → test c ≡ t → byte_after (filter test cs) y (if c.addr == y then c.byte else o) ≡ byte_after cs y (if c.addr == y then c.byte else o) →
+        byte_after (filter test cs) y o ≡ byte_after cs y o → byte_after (filter test (c ∷ cs)) y o ≡ byte_after (c ∷ cs) y o
+    go true e here later = rw e here
+    go false e here later = rw e (later ∙ ap (byte_after cs y) (sym (changed_elsewhere c.addr c.byte y o (λ f. let k : test c ≡ true = h c f in cc))))
 
 pub length-bytes_after : (cs : List Change) (addr : ℕ) (bytes : List ℕ) → length (bytes_after cs addr bytes) ≡ length bytes
 length-bytes_after cs addr [] = refl
@@ -55,7 +56,8 @@ pub bytes_agree : (cs ds : List Change) (addr : ℕ) (bytes : List ℕ) →
 bytes_agree cs ds addr [] h = refl
 bytes_agree cs ds addr (b ∷ bytes) h =
     let here : byte_after cs addr b ≡ byte_after ds addr b = h addr b (omega arith) (omega arith) in
-    let later : bytes_after cs (suc addr) bytes ≡ bytes_after ds (suc addr) bytes = bytes_agree cs ds (suc addr) bytes (λ y o f g. h y o (omega arith) (omega arith)) in
+    let later : bytes_after cs (suc addr) bytes ≡ bytes_after ds (suc addr) bytes =
+    bytes_agree cs ds (suc addr) bytes (λ y o f g. h y o (omega arith) (omega arith)) in
     cc
 
 -- no changes

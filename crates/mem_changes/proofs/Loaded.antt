@@ -39,7 +39,8 @@ area_apart file p q h g never addr a b =
     let q2 : addr < q.base + q.size = grind (arith, nat_tests) in
     never (addr, (p1, p2), (q1, q2))
 
-areas_apart_from : (file : List ℕ) (p : Part) (parts : List Part) → LiesIn file p → AllByRecursion (LiesIn file) parts → AllByRecursion (λ q. ¬ Share p q) parts →
+areas_apart_from : (file : List ℕ) (p : Part) (parts : List Part) → LiesIn file p → AllByRecursion (LiesIn file) parts →
+    AllByRecursion (λ q. ¬ Share p q) parts →
     AllByRecursion (IsApart (area_of file p)) (map (area_of file) (filter has_room parts))
 areas_apart_from file p [] h lie never = tt
 areas_apart_from file p (q ∷ parts) h lie never = go (has_room q) (areas_apart_from file p parts h lie.1 never.1) where
@@ -48,10 +49,12 @@ areas_apart_from file p (q ∷ parts) h lie never = go (has_room q) (areas_apart
   go true later = (area_apart file p q h lie.0 never.0, later)
   go false later = later
 
-areas_apart : (file : List ℕ) (parts : List Part) → AllByRecursion (LiesIn file) parts → PartsApart parts → ShareNoByte (map (area_of file) (filter has_room parts))
+areas_apart : (file : List ℕ) (parts : List Part) → AllByRecursion (LiesIn file) parts → PartsApart parts →
+    ShareNoByte (map (area_of file) (filter has_room parts))
 areas_apart file [] lie apart = tt
 areas_apart file (p ∷ parts) lie apart = go (has_room p) (areas_apart file parts lie.1 apart.1) where
-  go : (t : Bool) → ShareNoByte (map (area_of file) (filter has_room parts)) → ShareNoByte (map (area_of file) (cond t (p ∷ filter has_room parts) (filter has_room parts)))
+  go : (t : Bool) → ShareNoByte (map (area_of file) (filter has_room parts)) →
+      ShareNoByte (map (area_of file) (cond t (p ∷ filter has_room parts) (filter has_room parts)))
   go true later = (areas_apart_from file p parts lie.0 lie.1 apart.0, later)
   go false later = later
 
@@ -71,7 +74,8 @@ runs_as : (file : List ℕ) (parts : List Part) (addr : ℕ) → AllByRecursion 
 runs_as file [] addr lie = refl
 runs_as file (p ∷ parts) addr lie = go (has_room p) refl (runs_as file parts addr lie.1) where
   go : (t : Bool) → has_room p ≡ t → list_any (part_runs addr) parts ≡ list_any (runs_in addr) (map area_bounds (map (area_of file) (filter has_room parts))) →
-      (part_runs addr p || list_any (part_runs addr) parts) ≡ list_any (runs_in addr) (map area_bounds (map (area_of file) (cond t (p ∷ filter has_room parts) (filter has_room parts))))
+      (part_runs addr p || list_any (part_runs addr) parts) ≡ list_any (runs_in addr)
+      (map area_bounds (map (area_of file) (cond t (p ∷ filter has_room parts) (filter has_room parts))))
   go true e later = rw (part_area file p addr lie.0, later) refl
   go false e later = rw (no_room p addr e) later
 

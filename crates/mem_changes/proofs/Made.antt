@@ -38,7 +38,8 @@ all_written-after m k cs (c ∷ ds) apart are =
     let one : memory_with (memory_after (record k { bytes = cs }) m) c.addr 1 (c.byte ∷ []) ≡ memory_after (record k { bytes = cs ++ c ∷ [] }) m
     = memory_written m (record k { bytes = cs }) (record k { bytes = cs ++ c ∷ [] }) c.addr 1 (c.byte ∷ []) (are.0.loaded ∷ []) apart
     (one_more cs c k) refl (omega arith) are.0.was (one_byte cs c are.0.loaded) in
-    rw one (all_written-after m k (cs ++ c ∷ []) ds apart are.1 ∙ ap (λ (l : List Change). memory_after (record k { bytes = l }) m) (append_assoc cs (c ∷ []) ds))
+    rw one (all_written-after m k (cs ++ c ∷ []) ds apart are.1 ∙ ap (λ (l : List Change). memory_after (record k { bytes = l }) m)
+    (append_assoc cs (c ∷ []) ds))
 
 -- nothing below an address in a list that rises from it
 pub avoids : (x y : ℕ) (cs : List Change) → y ≤ x → AllByRecursion (λ d. x < d.addr) cs → AllByRecursion (λ d. d.addr ≢ y) cs
@@ -66,9 +67,11 @@ all_restored-after m k [] apart are rise = refl
 all_restored-after m k (c ∷ cs) apart are rise =
     let b : ℕ = are.0.loaded in
     let there : byte_at m c.addr ≡ b = loaded_there m c.addr b are.0.was in
-    let alone : bytes_after cs c.addr (b ∷ []) ≡ b ∷ [] = ap (λ (z : ℕ). z ∷ []) (byte_after-avoids cs c.addr b (avoids c.addr c.addr cs (omega arith) rise.0)) in
+    let alone : bytes_after cs c.addr (b ∷ []) ≡ b ∷ [] = ap (λ (z : ℕ). z ∷ [])
+    (byte_after-avoids cs c.addr b (avoids c.addr c.addr cs (omega arith) rise.0)) in
     let one : memory_with (memory_after (record k { bytes = c ∷ cs }) m) c.addr 1 (b ∷ []) ≡ memory_after (record k { bytes = cs }) m
-    = memory_written m (record k { bytes = c ∷ cs }) (record k { bytes = cs }) c.addr 1 (b ∷ []) (b ∷ []) apart (one_less cs c k b) refl (omega arith) are.0.was alone in
+    = memory_written m (record k { bytes = c ∷ cs }) (record k { bytes = cs }) c.addr 1 (b ∷ []) (b ∷ []) apart (one_less cs c k b) refl (omega arith) are.0.was
+    alone in
     rw (there, one) (all_restored-after m k cs apart are.1 rise.1)
 
 -- code that is brought up to date has the changes of the bytes
@@ -82,7 +85,8 @@ area_synced k a h = go a.exec refl h where
   go true e f = ap made (ap (bytes_after k.bytes a.base) (sym f))
   go false e f = ap made (ap (bytes_after k.code a.base) f ∙ sym (ap (bytes_after k.bytes a.base) f))
 
-areas_synced : (k : MemoryChanges) (areas : List Area) → AllByRecursion HasCode areas → map synced_area (map (area_after k) areas) ≡ map (area_after (record k { code = k.bytes })) areas
+areas_synced : (k : MemoryChanges) (areas : List Area) → AllByRecursion HasCode areas →
+    map synced_area (map (area_after k) areas) ≡ map (area_after (record k { code = k.bytes })) areas
 areas_synced k [] h = refl
 areas_synced k (a ∷ areas) h =
     let head : synced_area (area_after k a) ≡ area_after (record k { code = k.bytes }) a = area_synced k a h.0 in
@@ -112,7 +116,8 @@ unfolding memory_after
 break-after m k b = refl
 
 -- the changes of the code, made by synchronizing it with bytes that are put back
-pub code_none : (m : Memory) (k : MemoryChanges) → length k.code ≡ 0 → m ≡ memory_after (record { bytes = []; code = k.code; program_break = m.program_break }) m
+pub code_none : (m : Memory) (k : MemoryChanges) → length k.code ≡ 0 →
+    m ≡ memory_after (record { bytes = []; code = k.code; program_break = m.program_break }) m
 code_none m k e = go k.code e where
   go : (cs : List Change) → length cs ≡ 0 → m ≡ memory_after (record { bytes = []; code = cs; program_break = m.program_break }) m
   go [] f = sym (none-after m)
@@ -130,7 +135,8 @@ code_made m k is lists =
 
 -- then those of the bytes, and the break
 pub all_made : (m : Memory) (k : MemoryChanges) → IsAsLoaded m → AreChanges m k →
-    record (all_written k.bytes (memory_after (record { bytes = []; code = k.code; program_break = m.program_break }) m)) { program_break = k.program_break } ≡ memory_after k m
+    record (all_written k.bytes (memory_after (record { bytes = []; code = k.code; program_break = m.program_break }) m)) { program_break = k.program_break } ≡
+    memory_after k m
 all_made m k is lists =
     let code : MemoryChanges = record { bytes = []; code = k.code; program_break = m.program_break } in
     ap (λ (p : Memory). record p { program_break = k.program_break }) (all_written-after m code [] k.bytes is.apart lists.differ)
@@ -139,16 +145,19 @@ all_made m k is lists =
 pub ruleset making = (code_none, code_made, all_made)
 
 -- taking them back
-pub code_back_none : (m : Memory) (k : MemoryChanges) → length k.code ≡ 0 → memory_after (record k { bytes = [] }) m ≡ memory_after (record k { bytes = []; code = [] }) m
+pub code_back_none : (m : Memory) (k : MemoryChanges) → length k.code ≡ 0 →
+    memory_after (record k { bytes = [] }) m ≡ memory_after (record k { bytes = []; code = [] }) m
 code_back_none m k e = go k.code e where
   go : (cs : List Change) → length cs ≡ 0 → memory_after (record k { bytes = []; code = cs }) m ≡ memory_after (record k { bytes = []; code = [] }) m
   go [] f = refl
   go (c ∷ cs) f = absurd (omega arith)
 
-pub code_back : (m : Memory) (k : MemoryChanges) → IsAsLoaded m → synced (memory_after (record k { bytes = [] }) m) ≡ memory_after (record k { bytes = []; code = [] }) m
+pub code_back : (m : Memory) (k : MemoryChanges) → IsAsLoaded m → synced (memory_after (record k { bytes = [] }) m) ≡ memory_after
+    (record k { bytes = []; code = [] }) m
 code_back m k is = synced-after m (record k { bytes = [] }) is.code
 
-pub bytes_back : (m : Memory) (k : MemoryChanges) → IsAsLoaded m → AreChanges m k → all_restored m k.bytes (memory_after k m) ≡ memory_after (record k { bytes = [] }) m
+pub bytes_back : (m : Memory) (k : MemoryChanges) → IsAsLoaded m → AreChanges m k →
+    all_restored m k.bytes (memory_after k m) ≡ memory_after (record k { bytes = [] }) m
 bytes_back m k is lists = all_restored-after m k k.bytes is.apart lists.differ lists.ascend
 
 pub all_back : (m : Memory) (k : MemoryChanges) → record (memory_after (record k { bytes = []; code = [] }) m) { program_break = m.program_break } ≡ m
@@ -159,7 +168,15 @@ pub ruleset taking = (code_back_none, code_back, bytes_back, all_back)
 -- no changes
 pub no_changes : (m : Memory) → IsAsLoaded m → AreChangesOf m m (record { bytes = []; code = []; program_break = m.program_break })
 no_changes m is = record {
-  lists = record { ascend = tt; differ = tt; code_ascends = tt; code_differs = tt; code_runs = tt; break_from = rw is.no_heap (omega arith); break_to = rw is.no_heap (omega arith) };
+  lists = record {
+    ascend = tt;
+    differ = tt;
+    code_ascends = tt;
+    code_differs = tt;
+    code_runs = tt;
+    break_from = rw is.no_heap (omega arith);
+    break_to = rw is.no_heap (omega arith);
+  };
   makes = sym (none-after m);
 }
 

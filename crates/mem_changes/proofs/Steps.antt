@@ -26,20 +26,24 @@ restored_next loaded cs i d m h = rw (dropped cs i (i + 1) d (omega arith) h) re
 -- one byte is compared, and the others are left
 pub differences_next : (start : List Change) (addr i width bytes olds : ℕ) → i < width →
     start ++ differences (addr + i) (le_bytes (width - i) bytes) (le_bytes (width - i) olds)
-    ≡ (start ++ difference (addr + i) (bytes % 256) (olds % 256)) ++ differences (addr + (i + 1)) (le_bytes (width - (i + 1)) (bytes / 256)) (le_bytes (width - (i + 1)) (olds / 256))
+    ≡ (start ++ difference (addr + i) (bytes % 256) (olds % 256)) ++ differences (addr + (i + 1)) (le_bytes (width - (i + 1)) (bytes / 256))
+    (le_bytes (width - (i + 1)) (olds / 256))
 differences_next start addr i width bytes olds h =
     let e : width - i ≡ suc (width - (i + 1)) = omega arith in
     let f : suc (addr + i) ≡ addr + (i + 1) = omega arith in
-    rw e (ap (λ (a : ℕ). start ++ (difference (addr + i) (bytes % 256) (olds % 256) ++ differences a (le_bytes (width - (i + 1)) (bytes / 256)) (le_bytes (width - (i + 1)) (olds / 256)))) f
+    rw e (ap (λ (a : ℕ). start ++ (difference (addr + i) (bytes % 256) (olds % 256) ++ differences a (le_bytes (width - (i + 1)) (bytes / 256))
+    (le_bytes (width - (i + 1)) (olds / 256)))) f
     ∙ sym (append_assoc start (difference (addr + i) (bytes % 256) (olds % 256)) _))
 
-pub differences_last : (start : List Change) (addr width bytes olds : ℕ) → start ++ differences (addr + width) (le_bytes (width - width) bytes) (le_bytes (width - width) olds) ≡ start
+pub differences_last : (start : List Change) (addr width bytes olds : ℕ) →
+    start ++ differences (addr + width) (le_bytes (width - width) bytes) (le_bytes (width - width) olds) ≡ start
 differences_last start addr width bytes olds = let e : width - width ≡ 0 = omega arith in rw e (append-nil start)
 
 -- changes with the same parts are the same
 pub same_parts : (j k : MemoryChanges) → j.bytes ≡ k.bytes → j.code ≡ k.code → j.program_break ≡ k.program_break → j ≡ k
 same_parts j k e f g =
-    ap (λ (l : List Change). let n : MemoryChanges = record j { bytes = l } in n) e ∙ ap (λ (l : List Change). let n : MemoryChanges = record j { bytes = k.bytes; code = l } in n) f
+    ap (λ (l : List Change). let n : MemoryChanges = record j { bytes = l } in n) e
+    ∙ ap (λ (l : List Change). let n : MemoryChanges = record j { bytes = k.bytes; code = l } in n) f
     ∙ ap (λ (b : ℕ). let n : MemoryChanges = record k { program_break = b } in n) g
 
 pub ruleset written_steps = (written_next)

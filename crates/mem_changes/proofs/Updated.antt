@@ -49,18 +49,23 @@ all_weaker P Q (c ∷ cs) h a = (h c a.0, all_weaker P Q cs h a.1)
 ascend_filter : (test : Change → Bool) (cs : List Change) → AddressesRise cs → AddressesRise (filter test cs)
 ascend_filter test [] a = tt
 ascend_filter test (c ∷ cs) a = go (test c) (ascend_filter test cs a.1) (all_filter (λ d. c.addr < d.addr) test cs a.0) where
-  go : (t : Bool) → AddressesRise (filter test cs) → AllByRecursion (λ d. c.addr < d.addr) (filter test cs) → AddressesRise (cond t (c ∷ filter test cs) (filter test cs))
+  go : (t : Bool) → AddressesRise (filter test cs) → AllByRecursion (λ d. c.addr < d.addr) (filter test cs) →
+      AddressesRise (cond t (c ∷ filter test cs) (filter test cs))
   go true later above = (above, later)
   go false later above = later
 
-ascend_append : (x : ℕ) (cs ds : List Change) → AddressesRise cs → AddressesRise ds → AllByRecursion (λ c. c.addr < x) cs → AllByRecursion (λ d. x ≤ d.addr) ds → AddressesRise (cs ++ ds)
+ascend_append : (x : ℕ) (cs ds : List Change) → AddressesRise cs → AddressesRise ds → AllByRecursion (λ c. c.addr < x) cs →
+    AllByRecursion (λ d. x ≤ d.addr) ds → AddressesRise (cs ++ ds)
 ascend_append x [] ds a b l u = b
 ascend_append x (c ∷ cs) ds a b l u =
-    let h : c.addr < x = l.0 in
-    (all_append (λ d. c.addr < d.addr) cs ds a.0 (all_weaker (λ d. x ≤ d.addr) (λ d. c.addr < d.addr) ds (λ d k. omega arith) u), ascend_append x cs ds a.1 b l.1 u)
+    let h : c.addr < x = l.0 in (
+      all_append (λ d. c.addr < d.addr) cs ds a.0 (all_weaker (λ d. x ≤ d.addr) (λ d. c.addr < d.addr) ds (λ d k. omega arith) u),
+      ascend_append x cs ds a.1 b l.1 u,
+    )
 
 -- the differences of bytes: where they are, and what they make of the bytes that were loaded
-difference_at : (P : Change → Type 0) (addr byte old : ℕ) → ((c : Change) → c.addr ≡ addr → c.byte ≡ byte → byte ≢ old → P c) → AllByRecursion P (difference addr byte old)
+difference_at : (P : Change → Type 0) (addr byte old : ℕ) → ((c : Change) → c.addr ≡ addr → c.byte ≡ byte → byte ≢ old → P c) →
+    AllByRecursion P (difference addr byte old)
 difference_at P addr byte old h = go (byte == old) refl where
   go : (t : Bool) → t ≡ (byte == old) → AllByRecursion P (if t then [] else (record { addr = addr; byte = byte }) ∷ [])
   go true e = tt
@@ -89,7 +94,8 @@ ascend_difference addr byte old = go (byte == old) where
 ascend_differences : (x : ℕ) (w olds : List ℕ) → AddressesRise (differences x w olds)
 ascend_differences x [] olds = tt
 ascend_differences x (n ∷ ns) [] = tt
-ascend_differences x (n ∷ ns) (o ∷ os) = ascend_append (suc x) (difference x n o) (differences (suc x) ns os) (ascend_difference x n o) (ascend_differences (suc x) ns os)
+ascend_differences x (n ∷ ns) (o ∷ os) = ascend_append (suc x) (difference x n o) (differences (suc x) ns os) (ascend_difference x n o)
+    (ascend_differences (suc x) ns os)
     (difference_at (λ c. c.addr < suc x) x n o (λ c e f g. omega arith)) (from_start (suc x) ns os)
 
 byte_made : (x n o : ℕ) → byte_after (difference x n o) x o ≡ n
@@ -112,7 +118,8 @@ bytes_made x (n ∷ ns) (o ∷ os) e =
     let D : List Change = differences (suc x) ns os in
     let head : byte_after (difference x n o ++ D) x o ≡ n = byte_after-append (difference x n o) D x o
     ∙ byte_after-avoids D x (byte_after (difference x n o) x o) (avoid_above (suc x) x D (omega arith) (from_start (suc x) ns os)) ∙ byte_made x n o in
-    let agree : bytes_after (difference x n o ++ D) (suc x) os ≡ bytes_after D (suc x) os = bytes_agree (difference x n o ++ D) D (suc x) os (λ y b l u. byte_after-append (difference x n o) D y b
+    let agree : bytes_after (difference x n o ++ D) (suc x) os ≡ bytes_after D (suc x) os =
+    bytes_agree (difference x n o ++ D) D (suc x) os (λ y b l u. byte_after-append (difference x n o) D y b
     ∙ ap (byte_after D y) (byte_after-avoids (difference x n o) y b (difference_at (λ c. c.addr ≢ y) x n o (λ c f g h k. omega arith)))) in
     let tail : bytes_after (difference x n o ++ D) (suc x) os ≡ ns = agree ∙ bytes_made (suc x) ns os (omega arith) in
     cc
@@ -135,9 +142,11 @@ rewritten_below cs x n w olds y o h = sym (rewritten_at cs x n w olds y o
     ∙ byte_after-avoids (differences x w olds) y _ (avoid_above x y (differences x w olds) h (from_start x w olds))
     ∙ byte_after-filter (λ c. nat_lt c.addr x) cs y o (λ c e. grind (arith, nat_tests)))
 
-rewritten_above : (cs : List Change) (x n : ℕ) (w olds : List ℕ) (y o : ℕ) → length w ≡ n → x + n ≤ y → byte_after cs y o ≡ byte_after (rewritten cs x n w olds) y o
+rewritten_above : (cs : List Change) (x n : ℕ) (w olds : List ℕ) (y o : ℕ) → length w ≡ n → x + n ≤ y →
+    byte_after cs y o ≡ byte_after (rewritten cs x n w olds) y o
 rewritten_above cs x n w olds y o e h = sym (rewritten_at cs x n w olds y o
-    ∙ ap (byte_after (from (x + n) cs) y) (byte_after-avoids (differences x w olds) y _ (avoid_below (x + length w) y (differences x w olds) (omega arith) (to_end x w olds))
+    ∙ ap (byte_after (from (x + n) cs) y) (byte_after-avoids (differences x w olds) y _
+    (avoid_below (x + length w) y (differences x w olds) (omega arith) (to_end x w olds))
     ∙ byte_after-avoids (below x cs) y o (avoid_below x y (below x cs) (omega arith) (below_passes x cs)))
     ∙ byte_after-filter (λ c. nat_le (x + n) c.addr) cs y o (λ c e. grind (arith, nat_tests)))
 
@@ -148,7 +157,8 @@ rewritten_in cs x n w olds e f = bytes_agree (rewritten cs x n w olds) (differen
     ∙ bytes_made x w olds (omega arith)
 
 -- a store into the changed memory
-pub store_made : (m : Memory) (k : MemoryChanges) (x n : ℕ) (w olds : List ℕ) → ShareNoByte m.areas → length w ≡ n → length olds ≡ n → 0 < n → writable_of m x n ≡ Some olds →
+pub store_made : (m : Memory) (k : MemoryChanges) (x n : ℕ) (w olds : List ℕ) → ShareNoByte m.areas → length w ≡ n → length olds ≡ n → 0 < n →
+    writable_of m x n ≡ Some olds →
     memory_with (memory_after k m) x n w ≡ memory_after (record k { bytes = rewritten k.bytes x n w olds }) m
 store_made m k x n w olds apart e f some found = memory_written m k (record k { bytes = rewritten k.bytes x n w olds }) x n w olds apart
     (record {
@@ -192,7 +202,8 @@ first_of_range l (b ∷ bytes) (suc i) o os e =
     let h = first_of_range l bytes i o os e in
     (h.0, ap (λ (j : ℕ). take l (drop j (b ∷ bytes))) (let f : suc i + 1 ≡ suc (i + 1) = omega arith in f) ∙ h.1)
 
-found_byte : (areas : List Area) (x n y : ℕ) (a : Area) → ShareNoByte areas → find (writes_in x n) areas ≡ Some a → x ≤ y → y < x + n → find (writes_in y 1) areas ≡ Some a
+found_byte : (areas : List Area) (x n y : ℕ) (a : Area) → ShareNoByte areas → find (writes_in x n) areas ≡ Some a → x ≤ y → y < x + n →
+    find (writes_in y 1) areas ≡ Some a
 found_byte [] x n y a apart e l u = absurd (cc)
 found_byte (b ∷ areas) x n y a apart e l u = go (writes_in x n b) refl e (writes_in y 1 b) refl (λ h. found_byte areas x n y a apart.1 h l u) where
   go : (t : Bool) → writes_in x n b ≡ t → cond t (Some b) (find (writes_in x n) areas) ≡ Some a → (s : Bool) → writes_in y 1 b ≡ s →
@@ -203,11 +214,13 @@ found_byte (b ∷ areas) x n y a apart e l u = go (writes_in x n b) refl e (writ
   go false w h true v later = absurd (all_found (IsApart b) (writes_in x n) areas a apart.0 h y (writes-lies y 1 b v)
       (in_range a x n y (writes-lies x n a (found_passes (writes_in x n) areas a h)) l u))
 
-byte_there : (m : Memory) (y o : ℕ) (a : Area) → find (writes_in y 1) m.areas ≡ Some a → take 1 (drop (y - a.base) a.bytes) ≡ o ∷ [] → writable_of m y 1 ≡ Some (o ∷ [])
+byte_there : (m : Memory) (y o : ℕ) (a : Area) → find (writes_in y 1) m.areas ≡ Some a → take 1 (drop (y - a.base) a.bytes) ≡ o ∷ [] →
+    writable_of m y 1 ≡ Some (o ∷ [])
 unfolding writable_of
 byte_there m y o a e f = rw e (ap (λ (l : List ℕ). let r : Option (List ℕ) = Some l in r) f)
 
-changes_of_range : (m : Memory) (x n y : ℕ) (a : Area) (w olds : List ℕ) → ShareNoByte m.areas → find (writes_in x n) m.areas ≡ Some a → x ≤ y → y + length olds ≤ x + n →
+changes_of_range : (m : Memory) (x n y : ℕ) (a : Area) (w olds : List ℕ) → ShareNoByte m.areas → find (writes_in x n) m.areas ≡ Some a → x ≤ y →
+    y + length olds ≤ x + n →
     take (length olds) (drop (y - a.base) a.bytes) ≡ olds → AllByRecursion (IsChange m) (differences y w olds)
 changes_of_range m x n y a [] olds apart e l u f = tt
 changes_of_range m x n y a (b ∷ bs) [] apart e l u f = tt
@@ -218,27 +231,35 @@ changes_of_range m x n y a (b ∷ bs) (o ∷ os) apart e l u f =
     let next : (y - a.base) + 1 ≡ suc y - a.base = omega arith in
     let rest : take (length os) (drop (suc y - a.base) a.bytes) ≡ os = rw (← next) here.1 in
     all_append (IsChange m) (difference y b o) (differences (suc y) bs os)
-    (difference_at (IsChange m) y b o (λ c p q d. record { loaded = o; was = subst (λ (z : ℕ). writable_of m z 1 ≡ Some (o ∷ [])) (sym p) (byte_there m y o a found here.0); differs = λ r. d (sym q ∙ sym r) }))
+    (difference_at (IsChange m) y b o (λ c p q d. record {
+      loaded = o;
+      was = subst (λ (z : ℕ). writable_of m z 1 ≡ Some (o ∷ [])) (sym p) (byte_there m y o a found here.0);
+      differs = λ r. d (sym q ∙ sym r);
+    }))
     (changes_of_range m x n (suc y) a bs os apart e (omega arith) (omega arith) rest)
 
-range_changes : (m : Memory) (x n : ℕ) (w olds : List ℕ) → ShareNoByte m.areas → length olds ≡ n → writable_of m x n ≡ Some olds → AllByRecursion (IsChange m) (differences x w olds)
+range_changes : (m : Memory) (x n : ℕ) (w olds : List ℕ) → ShareNoByte m.areas → length olds ≡ n → writable_of m x n ≡ Some olds →
+    AllByRecursion (IsChange m) (differences x w olds)
 unfolding writable_of
 range_changes m x n w olds apart e f = go (find (writes_in x n) m.areas) refl f where
   go : (r : Option Area) → find (writes_in x n) m.areas ≡ r → option_map (bytes_in x n) r ≡ Some olds → AllByRecursion (IsChange m) (differences x w olds)
   go None h k = absurd (cc)
   go (Some a) h k = changes_of_range m x n x a w olds apart h (omega arith) (omega arith) (rw e (let b : bytes_in x n a ≡ olds = cc in b))
 
-pub rewritten_lists : (m : Memory) (k : MemoryChanges) (x n : ℕ) (w olds : List ℕ) → ShareNoByte m.areas → AreChanges m k → length w ≡ n → length olds ≡ n → writable_of m x n ≡ Some olds →
+pub rewritten_lists : (m : Memory) (k : MemoryChanges) (x n : ℕ) (w olds : List ℕ) → ShareNoByte m.areas → AreChanges m k → length w ≡ n → length olds ≡ n →
+    writable_of m x n ≡ Some olds →
     AreChanges m (record k { bytes = rewritten k.bytes x n w olds })
 rewritten_lists m k x n w olds apart is e f found =
     let low : List Change = below x k.bytes in
     let mid : List Change = differences x w olds in
     let high : List Change = from (x + n) k.bytes in
-    let start : AllByRecursion (λ c. c.addr < x + n) low = all_weaker (λ c. c.addr < x) (λ c. c.addr < x + n) low (λ c h. omega arith) (below_passes x k.bytes) in
+    let start : AllByRecursion (λ c. c.addr < x + n) low = all_weaker (λ c. c.addr < x) (λ c. c.addr < x + n) low (λ c h. omega arith)
+    (below_passes x k.bytes) in
     let middle : AllByRecursion (λ c. c.addr < x + n) mid = rw (← e) (to_end x w olds) in
     record {
       ascend = ascend_append (x + n) (low ++ mid) high
-          (ascend_append x low mid (ascend_filter (λ c. nat_lt c.addr x) k.bytes is.ascend) (ascend_differences x w olds) (below_passes x k.bytes) (from_start x w olds))
+          (ascend_append x low mid (ascend_filter (λ c. nat_lt c.addr x) k.bytes is.ascend) (ascend_differences x w olds) (below_passes x k.bytes)
+          (from_start x w olds))
           (ascend_filter (λ c. nat_le (x + n) c.addr) k.bytes is.ascend) (all_append (λ c. c.addr < x + n) low mid start middle) (from_passes (x + n) k.bytes);
       differ = all_append (IsChange m) (low ++ mid) high (all_append (IsChange m) low mid (all_filter (IsChange m) (λ c. nat_lt c.addr x) k.bytes is.differ)
           (range_changes m x n w olds apart f found)) (all_filter (IsChange m) (λ c. nat_le (x + n) c.addr) k.bytes is.differ);
@@ -343,7 +364,8 @@ lists_synced m k lists = record {
   break_to = lists.break_to;
 }
 
-synced_as : (m : Memory) (k n : MemoryChanges) → n.bytes ≡ k.bytes → n.code ≡ filter (λ c. runs_at (bounds_of m) c.addr) k.bytes → n.program_break ≡ k.program_break →
+synced_as : (m : Memory) (k n : MemoryChanges) → n.bytes ≡ k.bytes → n.code ≡ filter (λ c. runs_at (bounds_of m) c.addr) k.bytes →
+    n.program_break ≡ k.program_break →
     record k { code = filter (λ c. runs_at (bounds_of m) c.addr) k.bytes } ≡ n
 synced_as m k n e f g = sym (same_parts n (record k { code = filter (λ c. runs_at (bounds_of m) c.addr) k.bytes }) e f g)
 

@@ -28,12 +28,14 @@ pieces cs ds base p m q w e same f =
     let P : List ℕ = bytes_after cs base p in
     let M : List ℕ = bytes_after cs (base + length p) m in
     let Q : List ℕ = bytes_after cs (base + length (p ++ m)) q in
-    let split : (ks : List Change) → bytes_after ks base ((p ++ m) ++ q) ≡ (bytes_after ks base p ++ bytes_after ks (base + length p) m) ++ bytes_after ks (base + length (p ++ m)) q
+    let split : (ks : List Change) → bytes_after ks base ((p ++ m) ++ q) ≡ (bytes_after ks base p ++ bytes_after ks (base + length p) m) ++ bytes_after ks
+    (base + length (p ++ m)) q
     = λ ks. bytes_after-append ks base (p ++ m) q ∙ ap (λ (l : List ℕ). l ++ bytes_after ks (base + length (p ++ m)) q) (bytes_after-append ks base p m) in
     let front : P ≡ bytes_after ds base p = bytes_agree cs ds base p (λ y o g h. same.below y o h) in
     let back : Q ≡ bytes_after ds (base + length (p ++ m)) q = bytes_agree cs ds (base + length (p ++ m)) q
     (λ y o g h. same.above y o (let l : length (p ++ m) ≡ length p + length m = length-append p m in omega arith)) in
-    let written : overwritten ((P ++ M) ++ Q) (length P) w ≡ (P ++ w) ++ Q = overwritten-between P M Q w (e ∙ sym (length-bytes_after cs (base + length p) m)) in
+    let written : overwritten ((P ++ M) ++ Q) (length P) w ≡ (P ++ w) ++ Q =
+    overwritten-between P M Q w (e ∙ sym (length-bytes_after cs (base + length p) m)) in
     ap (λ (l : List ℕ). overwritten l (length p) w) (split cs)
     ∙ ap (λ (i : ℕ). overwritten ((P ++ M) ++ Q) i w) (sym (length-bytes_after cs base p))
     ∙ written
@@ -150,7 +152,8 @@ areas_written j k x w (a ∷ areas) old apart is some e f =
     go : (t : Bool) → writes_in x (length w) a ≡ t → option_map (bytes_in x (length w)) (cond t (Some a) (find (writes_in x (length w)) areas)) ≡ Some old →
         (option_map (bytes_in x (length w)) (find (writes_in x (length w)) areas) ≡ Some old → bytes_after k.bytes x old ≡ w →
         first_changed (writes_in x (length w)) (area_with x w) (map (area_after j) areas) ≡ map (area_after k) areas) →
-        cond t (area_with x w (area_after j a) ∷ map (area_after j) areas) (area_after j a ∷ first_changed (writes_in x (length w)) (area_with x w) (map (area_after j) areas))
+        cond t (area_with x w (area_after j a) ∷ map (area_after j) areas)
+        (area_after j a ∷ first_changed (writes_in x (length w)) (area_with x w) (map (area_after j) areas))
         ≡ area_after k a ∷ map (area_after k) areas
     go true t e later =
         let lies : lies_in x (length w) a ≡ true = writes-lies x (length w) a t in
@@ -170,6 +173,7 @@ unfolding memory_with memory_after writable_of
 memory_written m j k x n w old apart is e some found f =
     let there : option_map (bytes_in x (length w)) (find (writes_in x (length w)) m.areas) ≡ Some old = rw e found in
     let much : 0 < length w = rw e some in
-    let areas : first_changed (writes_in x (length w)) (area_with x w) (map (area_after j) m.areas) ≡ map (area_after k) m.areas = areas_written j k x w m.areas old apart is much there f in
+    let areas : first_changed (writes_in x (length w)) (area_with x w) (map (area_after j) m.areas) ≡ map (area_after k) m.areas =
+    areas_written j k x w m.areas old apart is much there f in
     let made : List Area → ℕ → Memory = λ l b. record { areas = l; program_break = b } in
     rw (← e) (ap (λ (l : List Area). made l j.program_break) areas ∙ ap (made (map (area_after k) m.areas)) is.same_break)

@@ -8,8 +8,8 @@ use Rattle.mem_regions.specs.declared.access.MemErr.{MemErr}
 use Rattle.mem_regions.specs.declared.access.MemErr.TheVariants.{Misaligned}
 use Rattle.mem_regions.specs.Access.{area_bounds, bounds_of, is_aligned}
 use Rattle.mem_regions.specs.Bytes.{le_bytes}
-use Rattle.mem_regions.specs.Ranges.{writes_in, lies_in, bytes_in, number_of, range_of, load_at}
-use Rattle.mem_regions.specs.Fetching.{fetches_in, word_of, fetch_at, synced, synced_area}
+use Rattle.mem_regions.specs.Ranges.{writes_in, lies_in, bytes_in, number_found, range_of, load_at}
+use Rattle.mem_regions.specs.Fetching.{fetches_in, word_found, fetch_at, synced, synced_area}
 use Rattle.mem_regions.specs.Writing.{overwritten, area_with, first_changed, memory_with, stored}
 
 -- bytes that are overwritten keep their number
@@ -97,7 +97,7 @@ fetches_in-area_with pc addr w a = rw (length-overwritten a.bytes (addr - a.base
 pub fetch_at-memory_with : (m : Memory) (addr len : ℕ) (w : List ℕ) (pc : ℕ) → fetch_at (memory_with m addr len w) pc ≡ fetch_at m pc
 unfolding fetch_at memory_with
 fetch_at-memory_with m addr len w pc = ap (λ (r : Result ℕ MemErr). cond (is_aligned pc 4) r (Err Misaligned))
-    (find-first_changed (word_of pc) (fetches_in pc) (writes_in addr len) (area_with addr w) (fetches_in-area_with pc addr w) (λ a. refl) m.areas)
+    (find-first_changed (word_found pc) (fetches_in pc) (writes_in addr len) (area_with addr w) (fetches_in-area_with pc addr w) (λ a. refl) m.areas)
 
 -- a store keeps the instruction words
 pub fetch_at-stored : (m : Memory) (addr width n pc : ℕ) → fetch_at (stored m addr width n) pc ≡ fetch_at m pc
@@ -118,7 +118,7 @@ range_of-synced m addr len = find-changed (option_map (bytes_in addr len)) (lies
 -- synchronized code keeps the number at each address
 pub load_at-synced : (m : Memory) (addr width : ℕ) → load_at (synced m) addr width ≡ load_at m addr width
 unfolding load_at
-load_at-synced m addr width = ap (λ (r : Option (List ℕ)). cond (is_aligned addr width) (number_of r) (Err Misaligned)) (range_of-synced m addr width)
+load_at-synced m addr width = ap (λ (r : Option (List ℕ)). cond (is_aligned addr width) (number_found r) (Err Misaligned)) (range_of-synced m addr width)
 
 -- a moved break keeps the number at each address
 pub load_at-break : (m : Memory) (addr' addr width : ℕ) → load_at (record m { program_break = addr' }) addr width ≡ load_at m addr width

@@ -17,13 +17,13 @@ abbrev pub word_in : ℕ → Area → ℕ
 word_in pc a = le_number (take 4 (drop (pc - a.base) a.code))
 
 -- the word of the region that was found
-abbrev pub word_of : ℕ → Option Area → Result ℕ MemErr
-word_of pc None = Err NoAccess
-word_of pc (Some a) = Ok (word_in pc a)
+abbrev pub word_found : ℕ → Option Area → Result ℕ MemErr
+word_found pc None = Err NoAccess
+word_found pc (Some a) = Ok (word_in pc a)
 
 -- the word at the address, where it is aligned and lies in one executable region
 unfoldable pub fetch_at : Memory → ℕ → Result ℕ MemErr
-fetch_at m pc = if is_aligned pc 4 then word_of pc (find (fetches_in pc) m.areas) else Err Misaligned
+fetch_at m pc = if is_aligned pc 4 then word_found pc (find (fetches_in pc) m.areas) else Err Misaligned
 
 -- the region with the code that its bytes are now
 abbrev pub synced_area : Area → Area

@@ -38,10 +38,10 @@ unfoldable pub can_write : Memory → ℕ → ℕ → Bool
 can_write m addr len = is_permitted (bounds_of m) addr len true
 
 -- the number of the bytes that were found
-abbrev pub number_of : Option (List ℕ) → Result ℕ MemErr
-number_of None = Err NoAccess
-number_of (Some bytes) = Ok (le_number bytes)
+abbrev pub number_found : Option (List ℕ) → Result ℕ MemErr
+number_found None = Err NoAccess
+number_found (Some bytes) = Ok (le_number bytes)
 
 -- the little-endian number at the address, not sign-extended, where the load is permitted
 unfoldable pub load_at : Memory → ℕ → ℕ → Result ℕ MemErr
-load_at m addr width = if is_aligned addr width then number_of (range_of m addr width) else Err Misaligned
+load_at m addr width = if is_aligned addr width then number_found (range_of m addr width) else Err Misaligned

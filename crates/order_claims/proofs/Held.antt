@@ -24,8 +24,8 @@ use Rattle.cf_semantics.specs.state.State.{State, Moment, cell_at, put_cell, sid
 use Rattle.theory_confluence.proofs.sites.Touches.{cell_other}
 use Rattle.order_rules.specs.declared.rule.Rule.{Rule}
 use Rattle.order_model.specs.RuleMoves.{cell_met_without, leaving_without, left_without, moved_without, next_without, recovered_without}
-use Rattle.order_claims.specs.MoveLists.{moment_after}
-use Rattle.order_claims.specs.Claims.{held, RetiresWhatWasIssued}
+use Rattle.order_claims.specs.MoveLists.{moment_after_without}
+use Rattle.order_claims.specs.Claims.{instructions_held, RetiresWhatWasIssued}
 
 -- one, where the stage has an instruction
 abbrev one : Cell → ℕ
@@ -33,10 +33,11 @@ one c = cond (is_some c.passenger) 1 0
 
 -- how many instructions are in the stages or have retired
 abbrev count_in : State → ℕ
-count_in s = held s.cells + s.retired
+count_in s = instructions_held s.cells + s.retired
 
 -- a stage with other contents
-put_held : (cells : List Cell) (i : ℕ) (c e : Cell) → cell_at cells i ≡ Some c → held (put_cell cells i e) + one c ≡ held cells + one e
+put_held : (cells : List Cell) (i : ℕ) (c e : Cell) → cell_at cells i ≡ Some c →
+    instructions_held (put_cell cells i e) + one c ≡ instructions_held cells + one e
 put_held cells zero c e there = absurd (cc)
 put_held cells (suc k) c e there =
     let inside : k < length cells = slice_get_within cells k c there in
@@ -45,7 +46,8 @@ put_held cells (suc k) c e there =
     let here = ap one same in omega (arith, sum, here)
 
 -- a stage with at most so many instructions more
-replaced : (s : State) (i : ℕ) (c e : Cell) (n : ℕ) → cell_at s.cells i ≡ Some c → one e ≤ one c + n → held (put_cell s.cells i e) + s.retired ≤ count_in s + n
+replaced : (s : State) (i : ℕ) (c e : Cell) (n : ℕ) → cell_at s.cells i ≡ Some c → one e ≤ one c + n →
+    instructions_held (put_cell s.cells i e) + s.retired ≤ count_in s + n
 replaced s i c e n there few = omega (arith, put_held s.cells i c e there, few)
 
 -- a stage with an instruction
@@ -124,7 +126,7 @@ fall_held plan s i = at_stage s i 0 (λ c. on (cell_at s.cells (i - 1)) s (falle
 
 -- a stage whose instruction is another one
 rider_replaced : (s : State) (i : ℕ) (c : Cell) (p : Passenger) (e : Cell) → cell_at s.cells i ≡ Some c → c.passenger ≡ Some p →
-    held (put_cell s.cells i e) + s.retired ≤ count_in s + 0
+    instructions_held (put_cell s.cells i e) + s.retired ≤ count_in s + 0
 rider_replaced s i c p e there sits = replaced s i c e 0 there (omega (arith, ridden c p sits, one_most e))
 
 meet_held : (away : Option Rule) (plan : Plan) (s : State) (i : ℕ) → count_in (moved_without away plan s (Meet i)) ≤ count_in s + 0
@@ -231,7 +233,7 @@ move_held away plan m Exit = exit_held plan m.state
 move_held away plan m Serve = serve_held plan m
 
 pub holding_all : RetiresWhatWasIssued
-unfolding moment_after
+unfolding moment_after_without
 holding_all away plan m [] = omega arith
 holding_all away plan m (mv ∷ moves) = omega (arith, move_held away plan m mv, holding_all away plan (next_without away plan m mv) moves)
 

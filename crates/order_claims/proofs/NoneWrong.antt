@@ -23,7 +23,7 @@ use Rattle.cf_semantics.specs.state.State.{State, Moment, cell_at}
 use Rattle.theory_orders.specs.Wrong.{IsRightMove, IsRightMoment, IsStuckWrongly, RetiresWrongly, EndsWrongly, leading}
 use Rattle.theory_orders.proofs.Moves.{right_move}
 use Rattle.theory_orders.proofs.Moments.{right_moment}
-use Rattle.order_rules.specs.Rules.{kept}
+use Rattle.order_rules.specs.Rules.{rule_holds}
 use Rattle.order_model.specs.RuleBars.{bar_without}
 use Rattle.order_model.specs.RuleMoves.{next_without, retires_without, line_without, leaving_without}
 use Rattle.order_model.proofs.Unchanged.{bars_unchanged, moves_unchanged}
@@ -62,7 +62,7 @@ leading_alike bars other same may_issue (m ∷ moves) =
 
 -- a move retires what it does in the table
 line_unchanged : (p : Passenger) → option_to_list (line_without None p) ≡ retired_by p
-unfolding kept
+unfolding rule_holds
 line_unchanged p = by p.dead p.ending
   where
     by : (d : Bool) (e : Option End) → option_to_list (cond d None (on e (Some (line_of (leaving_without None p))) (λ x. None))) ≡ cond d [] (on e

@@ -11,7 +11,7 @@ use Rattle.cf_semantics.specs.state.Options.{is_some}
 use Rattle.cf_semantics.specs.state.State.{Moment}
 use Rattle.order_rules.specs.declared.rule.Rule.{Rule}
 use Rattle.order_claims.specs.declared.wrong_kind.WrongKind.{WrongKind}
-use Rattle.order_claims.specs.MoveLists.{moment_after, IsOrder}
+use Rattle.order_claims.specs.MoveLists.{moment_after_without, IsOrder}
 use Rattle.order_claims.specs.WrongLists.{IsWrongOrder}
 
 -- of the table itself no list of moves is wrong
@@ -20,14 +20,14 @@ NoneIsWrong = (plan : Plan) (x : Machine) (most : ℕ) (moves : List Move) (kind
     IsWrongOrder None plan most x (start plan x) moves kind → ⊥
 
 -- how many stages have an instruction
-abbrev pub held : List Cell → ℕ
-held cells = count_by (λ c. is_some c.passenger) cells
+abbrev pub instructions_held : List Cell → ℕ
+instructions_held cells = count_by (λ c. is_some c.passenger) cells
 
 -- those that retired and those in the stages are no more than those before and those issued
 abbrev pub RetiresWhatWasIssued : Type 0
 RetiresWhatWasIssued = (away : Option Rule) (plan : Plan) (m : Moment) (moves : List Move) →
-    held (moment_after away plan m moves).state.cells + (moment_after away plan m moves).state.retired
-    ≤ held m.state.cells + m.state.retired + issues moves
+    instructions_held (moment_after_without away plan m moves).state.cells + (moment_after_without away plan m moves).state.retired
+    ≤ instructions_held m.state.cells + m.state.retired + issues moves
 
 -- from a moment on, no list of moves has more moves than some number, whichever rule is taken away
 abbrev pub OrdersEnd : Type 0

@@ -26,6 +26,6 @@ IsOrder away plan most m issued (mv ∷ moves) =
     Contains (moves_on away plan most m.state issued) mv × IsOrder away plan most (next_without away plan m mv) (issued_with issued mv) moves
 
 -- the moment after the moves
-unfoldable pub moment_after : Option Rule → Plan → Moment → List Move → Moment
-moment_after away plan m [] = m
-moment_after away plan m (mv ∷ moves) = moment_after away plan (next_without away plan m mv) moves
+unfoldable pub moment_after_without : Option Rule → Plan → Moment → List Move → Moment
+moment_after_without away plan m [] = m
+moment_after_without away plan m (mv ∷ moves) = moment_after_without away plan (next_without away plan m mv) moves

@@ -16,14 +16,14 @@ use Rattle.cf_semantics.specs.state.State.{State, Moment, cell_at, put_cell, wit
 use Rattle.order_rules.specs.declared.rule.Rule.{Rule}
 use Rattle.order_model.specs.RuleMoves.{cell_met_without, meeting_without, moved_without, next_without}
 use Rattle.order_keys.specs.declared.node.Node.{Node}
-use Rattle.order_keys.specs.Situations.{bare}
-use Rattle.order_claims.specs.MoveLists.{moment_after}
+use Rattle.order_keys.specs.Situations.{without_memory}
+use Rattle.order_claims.specs.MoveLists.{moment_after_without}
 use Rattle.order_graph.specs.declared.found.OrderCounts.{OrderCounts}
 use Rattle.order_graph.specs.OrderCounts.{is_meeting, is_meeting_that, is_kill, is_death, count_made}
 use Rattle.order_graph.specs.CountsMade.{counts_of, counts_with, counts_between, has_packet, has_live, has_dead, no_counts, AreCountsUpTo}
 use Rattle.order_graph.specs.OrderTrial.{OrderTrial, first_moment}
 use Rattle.order_graph.specs.TrialParts.{IsSoundTrial}
-use Rattle.order_graph.specs.KeyGraph.{first_node, node_next, nodes_after, state_of}
+use Rattle.order_graph.specs.KeyGraph.{first_node, node_next, nodes_after, state_of_node}
 use Rattle.order_graph.proofs.Paths.{stands_at}
 use Rattle.order_graph.proofs.Wrongs.{take_next}
 
@@ -98,11 +98,11 @@ meeting_counts : (t : OrderTrial) (n next : Node) (i : ℕ) (k : OrderCounts) �
     counts_between (cell_at n.situation.cells i) (cell_at next.situation.cells i) k ≡ counts_with t.away n.situation (Meet i) k
 unfolding counts_with next_without node_next is_lost is_dying
 meeting_counts t n next i k e =
-    let cells : next.situation.cells ≡ (moved_without t.away t.plan (state_of t n) (Meet i)).cells = ap (λ (x : Node). x.situation.cells) e in
+    let cells : next.situation.cells ≡ (moved_without t.away t.plan (state_of_node t n) (Meet i)).cells = ap (λ (x : Node). x.situation.cells) e in
     let kill : is_lost (cell_at n.situation.cells i) (cell_at next.situation.cells i) ≡ is_kill t.away n.situation (Meet i)
-    = ap (λ l. is_lost (cell_at n.situation.cells i) (cell_at l i)) cells ∙ kill_is t.away t.plan (state_of t n) i in
+    = ap (λ l. is_lost (cell_at n.situation.cells i) (cell_at l i)) cells ∙ kill_is t.away t.plan (state_of_node t n) i in
     let death : is_dying (cell_at n.situation.cells i) (cell_at next.situation.cells i) ≡ is_death t.away n.situation (Meet i)
-    = ap (λ l. is_dying (cell_at n.situation.cells i) (cell_at l i)) cells ∙ death_is t.away t.plan (state_of t n) i in
+    = ap (λ l. is_dying (cell_at n.situation.cells i) (cell_at l i)) cells ∙ death_is t.away t.plan (state_of_node t n) i in
     ap (λ b. let r : OrderCounts = record {
       meets = k.meets + 1;
       kills = k.kills + cond b 1 0;
@@ -124,7 +124,7 @@ meeting_counted t n next mv i k after found left is made before behind counted =
 
 -- what is counted of a move does not depend on memory
 meeting_bare : (test : Passenger → Met → Bool) (away : Option Rule) (s : State) (mv : Move) →
-    is_meeting_that test away (bare s) mv ≡ is_meeting_that test away s mv
+    is_meeting_that test away (without_memory s) mv ≡ is_meeting_that test away s mv
 meeting_bare test away s (Issue g) = refl
 meeting_bare test away s Emit = refl
 meeting_bare test away s (Climb i) = refl
@@ -142,8 +142,8 @@ meeting_bare test away s Serve = refl
 
 -- one more move at the end of a list
 made_behind : (test : State → Move → Bool) (away : Option Rule) (plan : Plan) (m : Moment) (xs : List Move) (mv : Move) →
-    count_made test away plan m (xs ++ mv ∷ []) ≡ count_made test away plan m xs + cond (test (moment_after away plan m xs).state mv) 1 0
-unfolding count_made moment_after
+    count_made test away plan m (xs ++ mv ∷ []) ≡ count_made test away plan m xs + cond (test (moment_after_without away plan m xs).state mv) 1 0
+unfolding count_made moment_after_without
 made_behind test away plan m [] mv = omega arith
 made_behind test away plan m (x ∷ xs) mv =
     let later = made_behind test away plan (next_without away plan m x) xs mv in omega arith
@@ -155,9 +155,9 @@ pub counted_behind : (t : OrderTrial) (xs : List Move) (mv : Move) → IsSoundTr
     counts_with t.away (nodes_after t (first_node t) xs).situation mv (counts_of t xs) ≡ counts_of t (xs ++ mv ∷ [])
 unfolding counts_of counts_with
 counted_behind t xs mv is =
-    let m : Moment = moment_after t.away t.plan (first_moment t) xs in
+    let m : Moment = moment_after_without t.away t.plan (first_moment t) xs in
     let n : Node = nodes_after t (first_node t) xs in
-    let situation : n.situation ≡ bare m.state = (stands_at t xs is).situation in
+    let situation : n.situation ≡ without_memory m.state = (stands_at t xs is).situation in
     let kill : is_kill t.away n.situation mv ≡ is_kill t.away m.state mv
     = ap (λ (s : State). is_kill t.away s mv) situation ∙ meeting_bare (λ p w. not (is_some w.packet)) t.away m.state mv in
     let death : is_death t.away n.situation mv ≡ is_death t.away m.state mv

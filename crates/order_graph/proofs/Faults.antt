@@ -14,9 +14,9 @@ use Rattle.cf_semantics.specs.state.State.{State, Moment}
 use Rattle.theory_orders.specs.Wrong.{EndsWrongly, IsServedRightly, IsServedWrongly, IsStuckWrongly, RestsWrongly, RetiresWrongly, ServesWrongly}
 use Rattle.order_rules.specs.declared.rule.Rule.{Rule}
 use Rattle.order_model.specs.RuleMoves.{next_without, retires_without}
-use Rattle.order_model.specs.Situations.{alone}
+use Rattle.order_model.specs.Situations.{lone_moment}
 use Rattle.order_keys.specs.declared.node.Node.{Node}
-use Rattle.order_keys.specs.Keys.{key_of, node_of}
+use Rattle.order_keys.specs.Keys.{key_of_node, node_of}
 use Rattle.order_claims.specs.declared.wrong_kind.WrongKind.{WrongKind}
 use Rattle.order_claims.specs.declared.wrong_kind.WrongKind.TheVariants.{Retired, Ended, Output, Stuck, Memory}
 use Rattle.order_claims.specs.MoveLists.{issued_with}
@@ -24,7 +24,7 @@ use Rattle.order_claims.specs.WrongLists.{FailsAs, FailsToRetire, HasWrongEnd, I
 use Rattle.order_search.specs.Paths.{EdgeView, HasEdgeFault, HasLastFault}
 use Rattle.order_graph.specs.OrderTrial.{OrderTrial, leads_on, moment_next}
 use Rattle.order_graph.specs.TrialParts.{IsSoundTrial}
-use Rattle.order_graph.specs.KeyGraph.{IsWrongFrom, IsWrongEdge, IsWrongNode, edge_of, moves_from, node_next, state_of}
+use Rattle.order_graph.specs.KeyGraph.{IsWrongFrom, IsWrongEdge, IsWrongNode, edge_of, moves_from, node_next, state_of_node}
 use Rattle.order_graph.proofs.Nodes.{StandsFor, its_key, its_state, next_stands}
 use Rattle.order_graph.proofs.Paths.{path_of}
 use Rattle.order_graph.proofs.Still.{goes_on}
@@ -82,7 +82,8 @@ alike : (t : OrderTrial) (m w : Moment) (mv : Move) (kind : WrongKind) → m.sta
     IsWrongMove t.away t.plan t.machine m mv kind → IsWrongMove t.away t.plan t.machine w mv kind
 alike t m w mv kind e f g h =
     let next : (next_without t.away t.plan m mv).state ≡ (next_without t.away t.plan w mv).state
-    = (goes_on t.away t.plan m mv f).state ∙ ap (λ (s : State). (next_without t.away t.plan (alone s) mv).state) e ∙ sym (goes_on t.away t.plan w mv g).state in
+    = (goes_on t.away t.plan m mv f).state ∙ ap (λ (s : State). (next_without t.away t.plan (lone_moment s) mv).state) e
+    ∙ sym (goes_on t.away t.plan w mv g).state in
     record {
       at = h.at;
       count = ap (λ (s : State). after (isa_of t.plan) t.machine (gained t.machine s)) (sym e) ∙ h.count;
@@ -106,40 +107,41 @@ alike_moment t moves m w kind e h = record {
 }
 
 -- the faults of an edge and of a node are those of the move and of the moment
-key_state : (t : OrderTrial) (m : Moment) (issued : ℕ) (n : Node) → StandsFor t m issued n → state_of t (node_of (key_of n)) ≡ m.state
-key_state t m issued n h = ap (state_of t) (its_key t m issued n h) ∙ its_state t m issued n h
+key_state : (t : OrderTrial) (m : Moment) (issued : ℕ) (n : Node) → StandsFor t m issued n → state_of_node t (node_of (key_of_node n)) ≡ m.state
+key_state t m issued n h = ap (state_of_node t) (its_key t m issued n h) ∙ its_state t m issued n h
 
 pub edge_wrong : (t : OrderTrial) (m : Moment) (issued : ℕ) (n : Node) (e : EdgeView Move) (kind : WrongKind) → StandsFor t m issued n →
-    IsWrongEdge t (key_of n) e kind → IsWrongMove t.away t.plan t.machine m e.label kind
-edge_wrong t m issued n e kind h w = alike t (alone (state_of t (node_of (key_of n)))) m e.label kind (key_state t m issued n h) refl h.rest w
+    IsWrongEdge t (key_of_node n) e kind → IsWrongMove t.away t.plan t.machine m e.label kind
+edge_wrong t m issued n e kind h w = alike t (lone_moment (state_of_node t (node_of (key_of_node n)))) m e.label kind (key_state t m issued n h) refl h.rest w
 
 pub wrong_edge : (t : OrderTrial) (m : Moment) (issued : ℕ) (n : Node) (e : EdgeView Move) (kind : WrongKind) → StandsFor t m issued n →
-    IsWrongMove t.away t.plan t.machine m e.label kind → IsWrongEdge t (key_of n) e kind
-wrong_edge t m issued n e kind h w = alike t m (alone (state_of t (node_of (key_of n)))) e.label kind (sym (key_state t m issued n h)) h.rest refl w
+    IsWrongMove t.away t.plan t.machine m e.label kind → IsWrongEdge t (key_of_node n) e kind
+wrong_edge t m issued n e kind h w = alike t m (lone_moment (state_of_node t (node_of (key_of_node n)))) e.label kind (sym (key_state t m issued n h)) h.rest
+    refl w
 
 pub move_from : (t : OrderTrial) (m : Moment) (issued : ℕ) (n : Node) (mv : Move) (kind : WrongKind) → StandsFor t m issued n →
     IsWrongMove t.away t.plan t.machine m mv kind → IsWrongFrom t n mv kind
-move_from t m issued n mv kind h w = alike t m (alone (state_of t n)) mv kind (sym (its_state t m issued n h)) h.rest refl w
+move_from t m issued n mv kind h w = alike t m (lone_moment (state_of_node t n)) mv kind (sym (its_state t m issued n h)) h.rest refl w
 
-key_moves : (t : OrderTrial) (m : Moment) (issued : ℕ) (n : Node) → StandsFor t m issued n → moves_from t (node_of (key_of n)) ≡ leads_on t m.state issued
+key_moves : (t : OrderTrial) (m : Moment) (issued : ℕ) (n : Node) → StandsFor t m issued n → moves_from t (node_of (key_of_node n)) ≡ leads_on t m.state issued
 key_moves t m issued n h = ap (moves_from t) (its_key t m issued n h) ∙ ap (λ (s : State). leads_on t s n.issues) (its_state t m issued n h)
     ∙ ap (leads_on t m.state) h.issues
 
 pub node_wrong : (t : OrderTrial) (m : Moment) (issued : ℕ) (n : Node) (kind : WrongKind) → StandsFor t m issued n →
-    IsWrongNode t (key_of n) kind → IsWrongMoment t.plan t.machine (leads_on t m.state issued) m kind
+    IsWrongNode t (key_of_node n) kind → IsWrongMoment t.plan t.machine (leads_on t m.state issued) m kind
 node_wrong t m issued n kind h w =
     subst (λ (l : List Move). IsWrongMoment t.plan t.machine l m kind) (key_moves t m issued n h)
-    (alike_moment t (moves_from t (node_of (key_of n))) (alone (state_of t (node_of (key_of n)))) m kind (key_state t m issued n h) w)
+    (alike_moment t (moves_from t (node_of (key_of_node n))) (lone_moment (state_of_node t (node_of (key_of_node n)))) m kind (key_state t m issued n h) w)
 
 pub wrong_node : (t : OrderTrial) (m : Moment) (issued : ℕ) (n : Node) (kind : WrongKind) → StandsFor t m issued n →
-    IsWrongMoment t.plan t.machine (leads_on t m.state issued) m kind → IsWrongNode t (key_of n) kind
+    IsWrongMoment t.plan t.machine (leads_on t m.state issued) m kind → IsWrongNode t (key_of_node n) kind
 wrong_node t m issued n kind h w =
-    alike_moment t (moves_from t (node_of (key_of n))) m (alone (state_of t (node_of (key_of n)))) kind (sym (key_state t m issued n h))
+    alike_moment t (moves_from t (node_of (key_of_node n))) m (lone_moment (state_of_node t (node_of (key_of_node n)))) kind (sym (key_state t m issued n h))
     (subst (λ (l : List Move). IsWrongMoment t.plan t.machine l m kind) (sym (key_moves t m issued n h)) w)
 
 -- and so are those at the end of a path
 pub fault_of : (t : OrderTrial) (m : Moment) (issued : ℕ) (n : Node) (moves : List Move) (kind : WrongKind) → IsSoundTrial t → StandsFor t m issued n →
-    HasWrongEnd t.away t.plan t.most t.machine m issued moves kind → HasLastFault (IsWrongEdge t) (IsWrongNode t) (key_of n) (path_of t n moves) kind
+    HasWrongEnd t.away t.plan t.most t.machine m issued moves kind → HasLastFault (IsWrongEdge t) (IsWrongNode t) (key_of_node n) (path_of t n moves) kind
 unfolding HasWrongEnd HasLastFault HasEdgeFault path_of
 fault_of t m issued n [] kind is h w = w
 fault_of t m issued n (mv ∷ []) kind is h (inl w) = inl (wrong_edge t m issued n (edge_of t n mv) kind h w)
@@ -151,7 +153,7 @@ fault_of t m issued n (mv ∷ other ∷ moves) kind is h w =
     fault_of t (moment_next t m mv) (issued_with issued mv) (node_next t n mv) (other ∷ moves) kind is (next_stands t m issued n mv is h) w
 
 pub wrong_of : (t : OrderTrial) (m : Moment) (issued : ℕ) (n : Node) (moves : List Move) (kind : WrongKind) → IsSoundTrial t → StandsFor t m issued n →
-    HasLastFault (IsWrongEdge t) (IsWrongNode t) (key_of n) (path_of t n moves) kind → HasWrongEnd t.away t.plan t.most t.machine m issued moves kind
+    HasLastFault (IsWrongEdge t) (IsWrongNode t) (key_of_node n) (path_of t n moves) kind → HasWrongEnd t.away t.plan t.most t.machine m issued moves kind
 unfolding HasWrongEnd HasLastFault HasEdgeFault path_of
 wrong_of t m issued n [] kind is h w = w
 wrong_of t m issued n (mv ∷ []) kind is h (inl w) = inl (edge_wrong t m issued n (edge_of t n mv) kind h w)

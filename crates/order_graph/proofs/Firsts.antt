@@ -22,7 +22,8 @@ filtered : {A : Type 0} (passes : A → Bool) (xs : List A) (count : ℕ) → le
 filtered passes [] count past none = refl
 filtered passes (x ∷ xs) zero past none = absurd (omega (arith, past))
 filtered passes (x ∷ xs) (suc count) past none =
-    rw (none 0 x (omega arith) (omega arith)) (filtered passes xs count (omega (arith, past)) (λ k d early within. none (suc k) d (omega (arith, early)) (omega (arith, within))))
+    rw (none 0 x (omega arith) (omega arith)) (filtered passes xs count (omega (arith, past))
+    (λ k d early within. none (suc k) d (omega (arith, early)) (omega (arith, within))))
 
 -- where one is the first to pass it, it is the first that is left
 found_first : {A : Type 0} (passes : A → Bool) (xs : List A) (at : ℕ) (d : A) → at < length xs → ((k : ℕ) (d : A) → k < at → k < length xs →
@@ -54,7 +55,8 @@ unfolding leading
 first_found t n moves at d within found p =
     subst (λ (l : List Move). get_or moves at d ∷ [] ≡ take 1 (filter (leads_from t n) l)) p.all (found_first (leads_from t n) moves at d within p.none found)
 
-pub none_found : (t : OrderTrial) (n : Node) (moves : List Move) (count : ℕ) → length moves ≤ count → IsPassedOver t n moves count → [] ≡ take 1 (moves_from t n)
+pub none_found : (t : OrderTrial) (n : Node) (moves : List Move) (count : ℕ) → length moves ≤ count → IsPassedOver t n moves count →
+    [] ≡ take 1 (moves_from t n)
 unfolding leading
 none_found t n moves count past p =
     subst (λ (l : List Move). [] ≡ take 1 (filter (leads_from t n) l)) p.all (ap (take 1) (sym (filtered (leads_from t n) moves count past p.none)))

@@ -7,9 +7,9 @@ use Rattle.cf_bind.specs.declared.moves.Move.{Move}
 use Rattle.cf_semantics.specs.claims.Weight.{issues, counts, is_issue}
 use Rattle.cf_semantics.specs.state.State.{State, Moment}
 use Rattle.order_keys.specs.declared.node.Node.{Node}
-use Rattle.order_keys.specs.Keys.{key_of}
-use Rattle.order_claims.specs.MoveLists.{issued_with, moment_after, IsOrder}
-use Rattle.order_search.specs.Paths.{EdgeView, IsEdgePath, end_of}
+use Rattle.order_keys.specs.Keys.{key_of_node}
+use Rattle.order_claims.specs.MoveLists.{issued_with, moment_after_without, IsOrder}
+use Rattle.order_search.specs.Paths.{EdgeView, IsEdgePath, path_end}
 use Rattle.order_graph.specs.OrderTrial.{OrderTrial, first_moment, leads_on, moment_next}
 use Rattle.order_graph.specs.OrderLists.{IsPlacedFrom}
 use Rattle.order_graph.specs.TrialParts.{IsSoundTrial}
@@ -26,31 +26,31 @@ unfolding path_of
 names_of_path t n [] = refl
 names_of_path t n (mv ∷ moves) = ap (λ (l : List Move). mv ∷ l) (names_of_path t (node_next t n mv) moves)
 
-pub end_of_path : (t : OrderTrial) (n : Node) (moves : List Move) → end_of (key_of n) (path_of t n moves) ≡ key_of (nodes_after t n moves)
-unfolding path_of nodes_after end_of
+pub end_of_path : (t : OrderTrial) (n : Node) (moves : List Move) → path_end (key_of_node n) (path_of t n moves) ≡ key_of_node (nodes_after t n moves)
+unfolding path_of nodes_after path_end
 end_of_path t n [] = refl
 end_of_path t n (mv ∷ moves) = end_of_path t (node_next t n mv) moves
 
 -- the moment, and the number of Issue moves, after the moves
 pub stands_after : (t : OrderTrial) (m : Moment) (issued : ℕ) (n : Node) (moves : List Move) → IsSoundTrial t → StandsFor t m issued n →
-    StandsFor t (moment_after t.away t.plan m moves) (issued + issues moves) (nodes_after t n moves)
-unfolding moment_after nodes_after
+    StandsFor t (moment_after_without t.away t.plan m moves) (issued + issues moves) (nodes_after t n moves)
+unfolding moment_after_without nodes_after
 stands_after t m issued n [] is h = subst (λ (i : ℕ). StandsFor t m i n) (omega arith) h
 stands_after t m issued n (mv ∷ moves) is h =
     let later = stands_after t (moment_next t m mv) (issued_with issued mv) (node_next t n mv) moves is (next_stands t m issued n mv is h) in
     let sum : issued_with issued mv + issues moves ≡ issued + (counts (is_issue mv) 1 + issues moves) = omega arith in
-    subst (λ (i : ℕ). StandsFor t (moment_after t.away t.plan (moment_next t m mv) moves) i (nodes_after t (node_next t n mv) moves)) sum later
+    subst (λ (i : ℕ). StandsFor t (moment_after_without t.away t.plan (moment_next t m mv) moves) i (nodes_after t (node_next t n mv) moves)) sum later
 
 pub stands_at : (t : OrderTrial) (moves : List Move) → IsSoundTrial t →
-    StandsFor t (moment_after t.away t.plan (first_moment t) moves) (issues moves) (nodes_after t (first_node t) moves)
+    StandsFor t (moment_after_without t.away t.plan (first_moment t) moves) (issues moves) (nodes_after t (first_node t) moves)
 stands_at t moves is =
     let sum : 0 + issues moves ≡ issues moves = omega arith in
-    subst (λ (i : ℕ). StandsFor t (moment_after t.away t.plan (first_moment t) moves) i (nodes_after t (first_node t) moves)) sum
+    subst (λ (i : ℕ). StandsFor t (moment_after_without t.away t.plan (first_moment t) moves) i (nodes_after t (first_node t) moves)) sum
     (stands_after t (first_moment t) 0 (first_node t) moves is (first_stands t is))
 
 -- the edges of a node's key are the moves that lead on from it
 pub edges_are : (t : OrderTrial) (m : Moment) (issued : ℕ) (n : Node) → StandsFor t m issued n →
-    edges_from t (key_of n) ≡ map (edge_of t n) (leads_on t m.state issued)
+    edges_from t (key_of_node n) ≡ map (edge_of t n) (leads_on t m.state issued)
 unfolding edges_from
 edges_are t m issued n h =
     ap (λ (k : Node). map (edge_of t k) (moves_from t k)) (its_key t m issued n h)
@@ -75,7 +75,7 @@ mapped_get f (x ∷ xs) (suc i) y e = let later = mapped_get f xs i y e in recor
 
 -- a list of moves is a path
 pub path_is : (t : OrderTrial) (m : Moment) (issued : ℕ) (n : Node) (places : List ℕ) (moves : List Move) → IsSoundTrial t → StandsFor t m issued n →
-    IsPlacedFrom t m issued places moves → IsEdgePath (edges_from t) (key_of n) places (path_of t n moves)
+    IsPlacedFrom t m issued places moves → IsEdgePath (edges_from t) (key_of_node n) places (path_of t n moves)
 unfolding IsPlacedFrom IsEdgePath path_of
 path_is t m issued n [] [] is h p = tt
 path_is t m issued n [] (mv ∷ moves) is h p = p
@@ -94,7 +94,7 @@ pub record IsPathOfMoves (t : OrderTrial) (m : Moment) (issued : ℕ) (n : Node)
 
 pub moves_are : (t : OrderTrial) (m : Moment) (issued : ℕ) (n : Node) (places : List ℕ) (path : List (EdgeView Move)) → IsSoundTrial t →
     StandsFor t m issued n →
-    IsEdgePath (edges_from t) (key_of n) places path → IsPathOfMoves t m issued n places path
+    IsEdgePath (edges_from t) (key_of_node n) places path → IsPathOfMoves t m issued n places path
 unfolding IsPlacedFrom IsEdgePath path_of
 moves_are t m issued n [] [] is h p = record { moves = []; placed = tt; is = refl }
 moves_are t m issued n [] (e ∷ path) is h p = absurd p

@@ -21,11 +21,11 @@ use Rattle.theory_orders.specs.Wrong.{RetiresWrongly}
 use Rattle.order_model.specs.RuleMoves.{retires_without}
 use Rattle.order_machine.specs.declared.stepping.NextStep.{NextStep}
 use Rattle.order_machine.specs.declared.stepping.NextStep.TheVariants.{Retires, Ends}
-use Rattle.order_machine.specs.Waypoints.{MachinePlace, AreWaypoints, IsStepOf, ends_there, is_end}
+use Rattle.order_machine.specs.Waypoints.{MachinePlace, AreWaypoints, IsStepOf, ends_at_last, is_end}
 use Rattle.order_claims.specs.declared.wrong_kind.WrongKind.{WrongKind}
 use Rattle.order_claims.specs.declared.wrong_kind.WrongKind.TheVariants.{Retired}
-use Rattle.order_claims.specs.Claims.{held}
-use Rattle.order_claims.specs.MoveLists.{moment_after}
+use Rattle.order_claims.specs.Claims.{instructions_held}
+use Rattle.order_claims.specs.MoveLists.{moment_after_without}
 use Rattle.order_claims.specs.WrongLists.{IsWrongMove}
 use Rattle.order_graph.specs.OrderTrial.{OrderTrial, first_moment, moment_next, IsTrialOrder}
 use Rattle.order_graph.specs.TrialParts.{HasPlace, IsSoundTrial}
@@ -57,7 +57,8 @@ there_next t m mv h right = go (retires_without t.away t.plan m.state mv) refl w
   go : (o : Option Line) → retires_without t.away t.plan m.state mv ≡ o → IsThere t (moment_next t m mv)
   go None e =
       let g = goes_on t.away t.plan m mv h.rest in
-      let kept : (moment_next t m mv).state.retired ≡ m.state.retired + 0 = g.retired ∙ ap (λ (l : Option Line). m.state.retired + length (option_to_list l)) e in
+      let kept : (moment_next t m mv).state.retired ≡ m.state.retired + 0 = g.retired
+      ∙ ap (λ (l : Option Line). m.state.retired + length (option_to_list l)) e in
       let same : gained t.machine m.state ≡ gained t.machine (moment_next t m mv).state = let r = h.rises in omega arith in
       let low = h.rises in
       record {
@@ -68,7 +69,8 @@ there_next t m mv h right = go (retires_without t.away t.plan m.state mv) refl w
       }
   go (Some line) e =
       let g = goes_on t.away t.plan m mv h.rest in
-      let more : (moment_next t m mv).state.retired ≡ m.state.retired + 1 = g.retired ∙ ap (λ (l : Option Line). m.state.retired + length (option_to_list l)) e in
+      let more : (moment_next t m mv).state.retired ≡ m.state.retired + 1 = g.retired
+      ∙ ap (λ (l : Option Line). m.state.retired + length (option_to_list l)) e in
       let low = h.rises in
       let one : suc (gained t.machine m.state) ≡ gained t.machine (moment_next t m mv).state = omega arith in
       let y = goes (isa_of t.plan) (step (isa_of t.plan) h.at) line
@@ -85,12 +87,12 @@ there_next t m mv h right = go (retires_without t.away t.plan m.state mv) refl w
         rest = g.rest;
       }
 
-there_after : (t : OrderTrial) (m : Moment) (moves : List Move) → IsThere t m → AreRightMoves t m moves → IsThere t (moment_after t.away t.plan m moves)
-unfolding AreRightMoves moment_after
+there_after : (t : OrderTrial) (m : Moment) (moves : List Move) → IsThere t m → AreRightMoves t m moves → IsThere t (moment_after_without t.away t.plan m moves)
+unfolding AreRightMoves moment_after_without
 there_after t m [] h right = h
 there_after t m (mv ∷ moves) h right = there_after t (moment_next t m mv) moves (there_next t m mv h right.0) right.1
 
-none_held : (n : ℕ) → held (replicate n empty_cell) ≡ 0
+none_held : (n : ℕ) → instructions_held (replicate n empty_cell) ≡ 0
 none_held zero = refl
 none_held (suc n) = none_held n
 
@@ -106,12 +108,12 @@ there_first t is =
     }
 
 retired_few : (t : OrderTrial) (moves : List Move) → IsSoundTrial t →
-    (moment_after t.away t.plan (first_moment t) moves).state.retired ≤ t.machine.hart.retired + issues moves
+    (moment_after_without t.away t.plan (first_moment t) moves).state.retired ≤ t.machine.hart.retired + issues moves
 unfolding opened
 retired_few t moves is = let most = is.law t.away t.plan (first_moment t) moves in let none = none_held t.plan.stages in omega arith
 
 pub place_after : (t : OrderTrial) (moves : List Move) → IsSoundTrial t → IsTrialOrder t moves → AreRightMoves t (first_moment t) moves →
-    HasPlace t (moment_after t.away t.plan (first_moment t) moves).state
+    HasPlace t (moment_after_without t.away t.plan (first_moment t) moves).state
 place_after t moves is allowed right =
     let h = there_after t (first_moment t) moves (there_first t is) right in
     let few = few_issues t (first_moment t) 0 moves allowed (omega arith) in
@@ -119,7 +121,7 @@ place_after t moves is allowed right =
     record { at = h.at; count = h.count; rises = h.rises; few = omega arith }
 
 pub count_fits : (t : OrderTrial) (moves : List Move) → IsSoundTrial t → IsTrialOrder t moves →
-    (moment_after t.away t.plan (first_moment t) moves).state.retired ≤ t.machine.hart.retired + t.most
+    (moment_after_without t.away t.plan (first_moment t) moves).state.retired ≤ t.machine.hart.retired + t.most
 count_fits t moves is allowed =
     let few = few_issues t (first_moment t) 0 moves allowed (omega arith) in
     let less = retired_few t moves is in omega arith
@@ -145,7 +147,7 @@ none_later isa start k (suc i) e =
     subst (λ (n : ℕ). after isa start n ≡ None) (sym same) (rw (none_later isa start k i e) refl)
 
 pub within_ended : (isa : Isa) (loaded : Memory) (start x : Machine) (k i : ℕ) (places : List MachinePlace) → AreWaypoints isa loaded start k places →
-    ends_there places ≡ true → after isa start (k + i) ≡ Some x → i < length places
+    ends_at_last places ≡ true → after isa start (k + i) ≡ Some x → i < length places
 unfolding after
 within_ended isa loaded start x k i [] a e f = absurd (cc)
 within_ended isa loaded start x k zero (p ∷ places) a e f = omega arith
@@ -161,7 +163,7 @@ within_ended isa loaded start x k (suc i) (p ∷ q ∷ places) a e f =
     omega arith
 
 pub within : (isa : Isa) (loaded : Memory) (start x : Machine) (i most : ℕ) (places : List MachinePlace) → AreWaypoints isa loaded start 0 places →
-    (length places ≡ most + 1) ⊎ IsTrue (ends_there places) → after isa start i ≡ Some x → i ≤ most → i < length places
+    (length places ≡ most + 1) ⊎ IsTrue (ends_at_last places) → after isa start i ≡ Some x → i ≤ most → i < length places
 within isa loaded start x i most places a (inl e) f few = omega arith
 within isa loaded start x i most places a (inr e) f few =
     let same : i ≡ 0 + i = omega arith in within_ended isa loaded start x 0 i places a e (subst (λ (n : ℕ). after isa start n ≡ Some x) same f)

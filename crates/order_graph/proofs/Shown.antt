@@ -21,12 +21,12 @@ use Rattle.cf_semantics.specs.state.State.{Moment, State}
 use Rattle.order_rules.specs.declared.rule.Rule.{Rule}
 use Rattle.order_model.specs.RuleMoves.{retires_without}
 use Rattle.order_keys.specs.declared.node.Node.{Node}
-use Rattle.order_keys.specs.Situations.{bare}
+use Rattle.order_keys.specs.Situations.{without_memory}
 use Rattle.order_machine.specs.declared.stepping.NextStep.{NextStep}
 use Rattle.order_machine.specs.declared.stepping.NextStep.TheVariants.{Retires, Ends}
 use Rattle.order_machine.specs.Waypoints.{MachinePlace, IsStepOf}
 use Rattle.order_claims.specs.declared.wrong_kind.WrongKind.{WrongKind}
-use Rattle.order_claims.specs.MoveLists.{moment_after}
+use Rattle.order_claims.specs.MoveLists.{moment_after_without}
 use Rattle.order_judging.specs.Places.{IsPlaceOf, next_lines}
 use Rattle.order_graph.specs.declared.found.OrderCounts.{OrderCounts}
 use Rattle.order_graph.specs.CountsMade.{counts_of, counts_with}
@@ -67,7 +67,7 @@ before_leads t n items moves i last h e f =
     subst (λ (k : Node). Contains (moves_from t k) last) (sym (f ∙ ap (λ (l : List Move). nodes_after t (first_node t) (take i l)) e)) h.leads
 
 -- what retires does not depend on memory
-retires_bare : (away : Option Rule) (plan : Plan) (s : State) (mv : Move) → retires_without away plan (bare s) mv ≡ retires_without away plan s mv
+retires_bare : (away : Option Rule) (plan : Plan) (s : State) (mv : Move) → retires_without away plan (without_memory s) mv ≡ retires_without away plan s mv
 unfolding retires_without
 retires_bare away plan s (Issue g) = refl
 retires_bare away plan s Emit = refl
@@ -118,9 +118,9 @@ pub shown : (t : OrderTrial) (moves items : List Move) (i : ℕ) (last : Move) (
 unfolding reached_by counts_of
 shown t moves items i last here next before counts seen wanted place is h e f made k more saw want at =
     let front : List Move = take i moves in
-    let m : Moment = moment_after t.away t.plan (first_moment t) front in
+    let m : Moment = moment_after_without t.away t.plan (first_moment t) front in
     let node : here ≡ nodes_after t (first_node t) front = f ∙ ap (λ (l : List Move). nodes_after t (first_node t) (take i l)) e in
-    let situation : here.situation ≡ bare m.state = ap (λ (k : Node). k.situation) node ∙ (stands_at t front is).situation in
+    let situation : here.situation ≡ without_memory m.state = ap (λ (k : Node). k.situation) node ∙ (stands_at t front is).situation in
     let there = node_place t here is (before_right t here items moves i last h e f) in
     let count : after (isa_of t.plan) t.machine (gained t.machine m.state) ≡ Some there.at
     = subst (λ (s : State). after (isa_of t.plan) t.machine (gained t.machine s) ≡ Some there.at) situation there.count in

@@ -5,7 +5,7 @@ use Rattle.std.specs.Prelude.{slice_get, ◌==◌, ◌||◌, min, not, if◌then
 use Rattle.std.specs.Option.{option_to_list}
 use Rattle.mem_regions.specs.Memory.{Memory}
 use Rattle.rv_inst.specs.declared.instruction.Instr.{Instr}
-use Rattle.rv_machine.specs.Call.{Called, call, read, write, write_from, exit, brk, answered as answer_is, bad_file, bad_address, no_such_call, read_into, is_output, is_exit, number_in, first_argument, second_argument, third_argument}
+use Rattle.rv_machine.specs.Call.{Called, call, read, write, write_from, exit, brk, answered_alone as answer_is, bad_file, bad_address, no_such_call, read_into, is_output, is_exit, call_number, first_argument, second_argument, third_argument}
 use Rattle.rv_machine.specs.Call as called
 use Rattle.rv_machine.specs.Step.{synchronizes}
 use Rattle.mem_regions.specs.Fetching.{synced}
@@ -27,9 +27,9 @@ use Rattle.cf_semantics.specs.state.Passengers.{instruction, kind}
 use Rattle.cf_semantics.specs.state.State.{State, Moment, cell_at, siding_at, with_cell}
 use Rattle.order_rules.specs.declared.rule.Rule.{Rule}
 use Rattle.order_rules.specs.declared.rule.Rule.TheVariants.{LeaveNotDone}
-use Rattle.order_rules.specs.Rules.{kept}
+use Rattle.order_rules.specs.Rules.{rule_holds}
 use Rattle.order_model.specs.RuleMoves.{is_of_memory, leaving_without, left_without, line_without, moved_without, next_without, recovered_without, retires_without}
-use Rattle.order_model.specs.Situations.{alone}
+use Rattle.order_model.specs.Situations.{lone_moment}
 
 -- memory, the count of retired instructions and the failures are the same
 pub record IsStill (s t : State) : Type 0 where
@@ -69,7 +69,8 @@ recover_still away plan s i c p = chosen s (siding_of plan (kind p)) _ (λ k. ch
 -- the moves but Access, Leave and Serve
 issue_still : (plan : Plan) (s : State) (g : _) → IsStill s (moved plan s (Issue g))
 unfolding moved
-issue_still plan s g = chosen s (cell_at s.cells 1) _ (λ c. chosen s (running s.fetch) (issued plan s g c) (λ pc. record { mem = refl; retired = refl; failed = refl }))
+issue_still plan s g = chosen s (cell_at s.cells 1) _ (λ c. chosen s (running s.fetch) (issued plan s g c)
+    (λ pc. record { mem = refl; retired = refl; failed = refl }))
 
 emits_still : (plan : Plan) (s : State) → IsStill s (moved plan s Emit)
 unfolding moved
@@ -77,11 +78,13 @@ emits_still plan s = chosen s (cell_at s.cells plan.stages) _ (λ c. emit_still 
 
 climb_still : (plan : Plan) (s : State) (i : ℕ) → IsStill s (moved plan s (Climb i))
 unfolding moved
-climb_still plan s i = chosen s (cell_at s.cells i) _ (λ c. chosen s (cell_at s.cells (i + 1)) (climbed s i c) (λ d. record { mem = refl; retired = refl; failed = refl }))
+climb_still plan s i = chosen s (cell_at s.cells i) _ (λ c. chosen s (cell_at s.cells (i + 1)) (climbed s i c)
+    (λ d. record { mem = refl; retired = refl; failed = refl }))
 
 fall_still : (plan : Plan) (s : State) (i : ℕ) → IsStill s (moved plan s (Fall i))
 unfolding moved
-fall_still plan s i = chosen s (cell_at s.cells i) _ (λ c. chosen s (cell_at s.cells (i - 1)) (fallen s i c) (λ d. record { mem = refl; retired = refl; failed = refl }))
+fall_still plan s i = chosen s (cell_at s.cells i) _ (λ c. chosen s (cell_at s.cells (i - 1)) (fallen s i c)
+    (λ d. record { mem = refl; retired = refl; failed = refl }))
 
 meet_still : (away : Option Rule) (plan : Plan) (s : State) (i : ℕ) → IsStill s (moved_without away plan s (Meet i))
 unfolding moved_without
@@ -121,7 +124,7 @@ leaves_count t p line false (Some e) = omega arith
 
 leaving_count : (away : Option Rule) (s : State) (n : ℕ) (c : Cell) (p : Passenger) →
     (left_without away s n c p).retired ≡ s.retired + length (option_to_list (line_without away p))
-leaving_count away s n c p = go (kept away LeaveNotDone || p.done) where
+leaving_count away s n c p = go (rule_holds away LeaveNotDone || p.done) where
   go : (b : Bool) → (left s n c (if b then p else record p { dst = None })).retired
       ≡ s.retired + length (option_to_list (if p.dead then None else on p.ending (Some (line_of (if b then p else record p { dst = None }))) (λ e. None)))
   go true = leaves_count (with_cell s n (without_passenger c)) p (line_of p) p.dead p.ending
@@ -164,7 +167,8 @@ leave_left away plan s = go (cell_at s.cells plan.stages) where
   there c None = nothing_left s
   there c (Some p) = left_rider away s plan.stages c p
 
-  go : (o : Option Cell) → IsLeft s (on o None (λ c. on c.passenger None (line_without away))) (on o s (λ c. on c.passenger s (left_without away s plan.stages c)))
+  go : (o : Option Cell) → IsLeft s (on o None (λ c. on c.passenger None (line_without away)))
+      (on o s (λ c. on c.passenger s (left_without away s plan.stages c)))
   go None = nothing_left s
   go (Some c) = there c c.passenger
 
@@ -192,7 +196,8 @@ drop_none (suc n) = refl
 read_none : (fd addr len : ℕ) (mem : Memory) → LeavesNone (read fd addr len mem [])
 unfolding read LeavesNone
 read_none fd addr len mem = go (not (fd == 0)) (len == 0) (not (can_write mem addr len)) where
-  go : (a b c : Bool) → LeavesNone (if a then answer_is bad_file mem [] else if b then answer_is 0 mem [] else if c then answer_is bad_address mem [] else read_into addr len mem [])
+  go : (a b c : Bool) → LeavesNone (if a then answer_is bad_file mem [] else if b then answer_is 0 mem [] else if c then answer_is bad_address mem []
+      else read_into addr len mem [])
   go true b c = refl
   go false true c = refl
   go false false true = refl
@@ -209,7 +214,7 @@ write_none fd addr len mem = go (not (is_output fd)) (len == 0) (range_of mem ad
 
 call_none : (regs : List ℕ) (mem : Memory) → LeavesNone (call regs mem [])
 unfolding call LeavesNone
-call_none regs mem = go (number_in regs == 63) (number_in regs == 64) (is_exit (number_in regs)) (number_in regs == 214) where
+call_none regs mem = go (call_number regs == 63) (call_number regs == 64) (is_exit (call_number regs)) (call_number regs == 214) where
   go : (r w e b : Bool) → LeavesNone
       (if r then read (first_argument regs) (second_argument regs) (third_argument regs) mem [] else
       if w then write (first_argument regs) (second_argument regs) (third_argument regs) mem [] else
@@ -234,33 +239,35 @@ pub record GoesOn (s : State) (line : Option Line) (x y : Moment) : Type 0 where
   pub failed : x.state.failed ≡ s.failed
   pub retired : x.state.retired ≡ s.retired + length (option_to_list line)
 
-on_still : (m : Moment) (t : State) → m.rest ≡ [] → IsStill m.state t → GoesOn m.state None (record m { state = t }) (record (alone m.state) { state = t })
+on_still : (m : Moment) (t : State) → m.rest ≡ [] → IsStill m.state t →
+    GoesOn m.state None (record m { state = t }) (record (lone_moment m.state) { state = t })
 on_still m t e h = record { state = refl; rest = e; failed = h.failed; retired = omega (arith, h.retired) }
 
 on_served : (m : Moment) (n : ℕ) (c : Cell) (p : Passenger) (o : Called) → m.rest ≡ [] → LeavesNone o →
-    GoesOn m.state None (served m n c p o) (served (alone m.state) n c p o)
+    GoesOn m.state None (served m n c p o) (served (lone_moment m.state) n c p o)
 unfolding LeavesNone
 on_served m n c p (called.Value a) e h = record { state = refl; rest = h; failed = refl; retired = omega arith }
 on_served m n c p (called.Exit status) e h = record { state = refl; rest = e; failed = refl; retired = omega arith }
 
-on_serve : (plan : Plan) (m : Moment) → m.rest ≡ [] → GoesOn m.state None (next plan m Serve) (next plan (alone m.state) Serve)
+on_serve : (plan : Plan) (m : Moment) → m.rest ≡ [] → GoesOn m.state None (next plan m Serve) (next plan (lone_moment m.state) Serve)
 unfolding next
 on_serve plan m e = go (cell_at m.state.cells plan.stages) where
-  there : (c : Cell) (o : Option Passenger) → GoesOn m.state None (on o m (asked m plan.stages c)) (on o (alone m.state) (asked (alone m.state) plan.stages c))
+  there : (c : Cell) (o : Option Passenger) → GoesOn m.state None (on o m (asked m plan.stages c))
+      (on o (lone_moment m.state) (asked (lone_moment m.state) plan.stages c))
   there c None = record { state = refl; rest = e; failed = refl; retired = omega arith }
   there c (Some p) =
       let i : Instr = instruction p in
       subst (λ (l : List ℕ). GoesOn m.state None (served m plan.stages c p (serve_of i m.state.regs m.state.mem l))
-      (served (alone m.state) plan.stages c p (serve_of i m.state.regs m.state.mem []))) (sym e)
+      (served (lone_moment m.state) plan.stages c p (serve_of i m.state.regs m.state.mem []))) (sym e)
       (on_served m plan.stages c p (serve_of i m.state.regs m.state.mem []) e (serve_none i m.state.regs m.state.mem))
 
   go : (o : Option Cell) → GoesOn m.state None (on o m (λ c. on c.passenger m (asked m plan.stages c)))
-      (on o (alone m.state) (λ c. on c.passenger (alone m.state) (asked (alone m.state) plan.stages c)))
+      (on o (lone_moment m.state) (λ c. on c.passenger (lone_moment m.state) (asked (lone_moment m.state) plan.stages c)))
   go None = record { state = refl; rest = e; failed = refl; retired = omega arith }
   go (Some c) = there c c.passenger
 
 pub goes_on : (away : Option Rule) (plan : Plan) (m : Moment) (mv : Move) → m.rest ≡ [] →
-    GoesOn m.state (retires_without away plan m.state mv) (next_without away plan m mv) (next_without away plan (alone m.state) mv)
+    GoesOn m.state (retires_without away plan m.state mv) (next_without away plan m mv) (next_without away plan (lone_moment m.state) mv)
 unfolding next_without next moved_without retires_without
 goes_on away plan m (Issue g) e = on_still m _ e (issue_still plan m.state g)
 goes_on away plan m Emit e = on_still m _ e (emits_still plan m.state)

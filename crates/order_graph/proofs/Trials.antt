@@ -16,7 +16,7 @@ use Rattle.cf_semantics.specs.state.State.{State}
 use Rattle.mem_changes.specs.Differing.{AreChanges}
 use Rattle.mem_changes.specs.Images.{IsAsLoaded}
 use Rattle.order_rules.specs.declared.rule.Rule.{Rule}
-use Rattle.order_machine.specs.Waypoints.{MachinePlace, AreWaypoints, ends_there, machine_of}
+use Rattle.order_machine.specs.Waypoints.{MachinePlace, AreWaypoints, ends_at_last, machine_of}
 use Rattle.order_judging.specs.Places.{IsPlaceOf}
 use Rattle.order_judging.proofs.Placed.{place_at}
 use Rattle.order_claims.specs.Claims.{OrdersEnd, RetiresWhatWasIssued}
@@ -32,7 +32,7 @@ same_start x y e = cc
 
 pub first_is : (isa : Isa) (loaded : Memory) (hart : Hart) (places : List MachinePlace) (most retired : ℕ) →
     AreWaypoints isa loaded (machine_of hart) 0 places →
-    (length places ≡ most + 1) ⊎ IsTrue (ends_there places) → hart.mem ≡ loaded → retired ≡ hart.retired → first_hart places loaded retired ≡ hart
+    (length places ≡ most + 1) ⊎ IsTrue (ends_at_last places) → hart.mem ≡ loaded → retired ≡ hart.retired → first_hart places loaded retired ≡ hart
 unfolding after
 first_is isa loaded hart [] most retired a (inl e) f g = absurd (omega arith)
 first_is isa loaded hart [] most retired a (inr e) f g = absurd (cc)
@@ -85,7 +85,8 @@ pub place_changes : (isa : Isa) (loaded : Memory) (start : Machine) (k i : ℕ) 
     AreWaypoints isa loaded start k places →
     slice_get places i ≡ Some place → AreChanges loaded place.changes
 place_changes isa loaded start k i [] place a e = absurd (cc)
-place_changes isa loaded start k zero (p ∷ places) place a e = let same : p ≡ place = cc in subst (λ (q : MachinePlace). AreChanges loaded q.changes) same a.0.changes.lists
+place_changes isa loaded start k zero (p ∷ places) place a e = let same : p ≡ place =
+    cc in subst (λ (q : MachinePlace). AreChanges loaded q.changes) same a.0.changes.lists
 place_changes isa loaded start k (suc i) (p ∷ places) place a e = place_changes isa loaded start (suc k) i places place a.1 e
 
 pub changes_here : (plan : Plan) (loaded : Memory) (places : List MachinePlace) (moves : List Move) (most retired i : ℕ) (place : MachinePlace) →
@@ -95,8 +96,9 @@ changes_here plan loaded places moves most retired i place p e =
 
 -- the parts of a new trial
 pub new_parts : (plan : Plan) (loaded : Memory) (hart : Hart) (places : List MachinePlace) (moves : List Move) (most retired : ℕ) → IsAsLoaded loaded →
-    AreWaypoints (isa_of plan) loaded (machine_of hart) 0 places → (length places ≡ most + 1) ⊎ IsTrue (ends_there places) → hart.mem ≡ loaded →
-    retired ≡ hart.retired → moves ≡ all_moves plan → IsEquipped plan → most ≤ 64 → hart.retired + most + 1 < 2 ^ 64 → AreTrialParts plan loaded places moves most retired
+    AreWaypoints (isa_of plan) loaded (machine_of hart) 0 places → (length places ≡ most + 1) ⊎ IsTrue (ends_at_last places) → hart.mem ≡ loaded →
+    retired ≡ hart.retired → moves ≡ all_moves plan → IsEquipped plan → most ≤ 64 → hart.retired + most + 1 < 2 ^ 64 →
+    AreTrialParts plan loaded places moves most retired
 new_parts plan loaded hart places moves most retired is a e f g all equipped few room =
     let same = first_is (isa_of plan) loaded hart places most retired a e f g in
     record {
@@ -110,7 +112,7 @@ new_parts plan loaded hart places moves most retired is a e f g all equipped few
     }
 
 pub new_terms : (away : Option Rule) (plan : Plan) (loaded : Memory) (hart : Hart) (places : List MachinePlace) (most retired : ℕ) →
-    AreWaypoints (isa_of plan) loaded (machine_of hart) 0 places → (length places ≡ most + 1) ⊎ IsTrue (ends_there places) → hart.mem ≡ loaded →
+    AreWaypoints (isa_of plan) loaded (machine_of hart) 0 places → (length places ≡ most + 1) ⊎ IsTrue (ends_at_last places) → hart.mem ≡ loaded →
     retired ≡ hart.retired → terms_of away plan loaded places most retired ≡ trial_of away plan hart most
 new_terms away plan loaded hart places most retired a e f g =
     ap (λ (h : Hart). trial_of away plan h most) (first_is (isa_of plan) loaded hart places most retired a e f g)

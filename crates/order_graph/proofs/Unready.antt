@@ -11,7 +11,7 @@ use Rattle.cf_bind.specs.declared.moves.Bar.{Bar}
 use Rattle.cf_bind.specs.declared.moves.Bar.TheVariants.{Halted, Failed, NoSuchSite, NoPassenger, NoPacket, NotDone, NotMet, Occupied, Owes, AlreadyMet, FetchWaiting, OpNotThere}
 use Rattle.cf_bind.specs.declared.moves.Move.{Move}
 use Rattle.cf_bind.specs.declared.moves.Move.TheVariants as mv
-use Rattle.cf_semantics.specs.moves.Bars.{emit_bar, first, first_of, is_full, is_taken, meet_bar, of_passenger, running, stops_at}
+use Rattle.cf_semantics.specs.moves.Bars.{emit_bar, first, first_bar_of, is_full, cell_is_taken, meet_bar, of_passenger, running, stops_at}
 use Rattle.cf_semantics.specs.moves.Candidates.{all_moves}
 use Rattle.cf_semantics.specs.state.Layouts.{launches}
 use Rattle.cf_semantics.specs.state.Options.{on, is_some}
@@ -20,13 +20,13 @@ use Rattle.cf_semantics.specs.state.State.{State, cell_at, siding_at}
 use Rattle.theory_orders.specs.Wrong.{leading}
 use Rattle.order_rules.specs.declared.rule.Rule.{Rule}
 use Rattle.order_rules.specs.declared.rule.Rule.TheVariants.{ClimbNotDone, ClimbNotMet, ClimbOwes}
-use Rattle.order_rules.specs.Rules.{kept}
+use Rattle.order_rules.specs.Rules.{rule_holds}
 use Rattle.order_model.specs.RuleBars.{bar_without, row_bar_without, climb_bar_without, exit_bar_without, fall_bar_without, issue_bar_without}
 use Rattle.order_keys.specs.declared.node.Node.{Node}
 use Rattle.order_graph.specs.CountsMade.{has_packet}
 use Rattle.order_graph.specs.OrderTrial.{OrderTrial}
-use Rattle.order_graph.specs.KeyGraph.{leads_from, moves_from, state_of}
-use Rattle.order_graph.specs.ReadyStages.{is_meeting, is_ready}
+use Rattle.order_graph.specs.KeyGraph.{leads_from, moves_from, state_of_node}
+use Rattle.order_graph.specs.ReadyStages.{meets_in_stage, is_ready}
 
 -- a test that holds bars, and so does one behind other tests
 hit : (test : Bool) (bar : Bar) (rest : Option Bar) → test ≡ true → is_some (first test bar rest) ≡ true
@@ -113,7 +113,7 @@ climb_barred : (away : Option Rule) (plan : Plan) (i : ℕ) (above cell : Option
 climb_barred away plan i above None unready = refl
 climb_barred away plan i None (Some c) unready = refl
 climb_barred away plan i (Some d) (Some c) unready = by c.passenger _ (λ p h.
-    behind_three (kept away ClimbNotMet && is_full c) (kept away ClimbOwes && is_some p.owes) (kept away ClimbNotDone && stops_at plan p i)
+    behind_three (rule_holds away ClimbNotMet && is_full c) (rule_holds away ClimbOwes && is_some p.owes) (rule_holds away ClimbNotDone && stops_at plan p i)
     NotMet Owes NotDone (first (is_some d.passenger) Occupied None) (hit (is_some d.passenger) Occupied None h)) unready
   where
     by : (p : Option Passenger) (f : Passenger → Option Bar) → ((p : Passenger) → is_some d.passenger ≡ true → is_some (f p) ≡ true) →
@@ -134,21 +134,21 @@ fall_barred away (Some d) (Some c) unready = by (is_some c.packet) (is_some d.pa
     by true true false u = refl
     by true false full u = absurd (cc)
 
-slide_barred : (ops : List (Option Op)) (c : ℕ) (next : Option (Option Op)) → is_taken (slice_get ops c) ≡ false →
-    is_some (on next (Some NoSuchSite) (λ o. first_of ((not (is_taken (slice_get ops c)), OpNotThere) ∷ (is_some o, Occupied) ∷ []) None)) ≡ true
+slide_barred : (ops : List (Option Op)) (c : ℕ) (next : Option (Option Op)) → cell_is_taken (slice_get ops c) ≡ false →
+    is_some (on next (Some NoSuchSite) (λ o. first_bar_of ((not (cell_is_taken (slice_get ops c)), OpNotThere) ∷ (is_some o, Occupied) ∷ []) None)) ≡ true
 slide_barred ops c None unready = refl
-slide_barred ops c (Some o) unready = hit _ _ _ (is_not (is_taken (slice_get ops c)) unready)
+slide_barred ops c (Some o) unready = hit _ _ _ (is_not (cell_is_taken (slice_get ops c)) unready)
 
 exit_barred : (away : Option Rule) (cell : Option Cell) → has_packet cell ≡ false → is_some (on cell (Some NoSuchSite) (exit_bar_without away)) ≡ true
 exit_barred away None unready = refl
 exit_barred away (Some c) unready = hit _ _ _ (is_not (is_some c.packet) unready)
 
-meet_barred : (cell : Option Cell) → is_meeting cell ≡ false → is_some (on cell (Some NoSuchSite) meet_bar) ≡ true
+meet_barred : (cell : Option Cell) → meets_in_stage cell ≡ false → is_some (on cell (Some NoSuchSite) meet_bar) ≡ true
 meet_barred None unready = refl
 meet_barred (Some c) unready = by c.passenger (is_some c.packet) c.met unready
   where
     by : (p : Option Passenger) (k m : Bool) → (is_some p && k && not m) ≡ false →
-        is_some (on p (Some NoPassenger) (λ p. first_of ((not k, NoPacket) ∷ (m, AlreadyMet) ∷ []) None)) ≡ true
+        is_some (on p (Some NoPassenger) (λ p. first_bar_of ((not k, NoPacket) ∷ (m, AlreadyMet) ∷ []) None)) ≡ true
     by None k m u = refl
     by (Some p) false m u = refl
     by (Some p) true true u = refl
@@ -179,7 +179,7 @@ row_barred away plan s mv.Serve unready = of_stage (cell_at s.cells plan.stages)
 pub barred_unready : (t : OrderTrial) (n : Node) (m : Move) → is_ready t.plan n.situation m ≡ false → leads_from t n m ≡ false
 unfolding bar_without
 barred_unready t n m unready =
-    let s : State = state_of t n in
+    let s : State = state_of_node t n in
     let barred : is_some (bar_without t.away t.plan s m) ≡ true =
     behind (is_some s.ending) Halted _ (behind s.failed Failed _ (row_barred t.away t.plan s m unready)) in
     rw barred refl

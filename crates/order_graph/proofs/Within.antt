@@ -22,16 +22,16 @@ use Rattle.mem_changes.specs.MemoryChanges.{MemoryChanges}
 use Rattle.order_rules.specs.declared.rule.Rule.{Rule}
 use Rattle.order_model.specs.RuleBars.{bar_without, climb_bar_without, row_bar_without}
 use Rattle.order_model.specs.RuleMoves.{moved_without, next_without}
-use Rattle.order_model.specs.Situations.{alone}
+use Rattle.order_model.specs.Situations.{lone_moment}
 use Rattle.order_keys.specs.declared.node.Node.{Node}
 use Rattle.order_keys.specs.Beside.{DiffersWithin}
-use Rattle.order_keys.specs.Situations.{bare}
+use Rattle.order_keys.specs.Situations.{without_memory}
 use Rattle.order_claims.specs.MoveLists.{issued_with}
 use Rattle.order_graph.specs.declared.spans.StageSpan.{StageSpan}
 use Rattle.order_graph.specs.ChangesNext.{changes_next}
-use Rattle.order_graph.specs.KeyGraph.{IsOrderNode, memory_loaded, moves_from, node_next, state_of}
+use Rattle.order_graph.specs.KeyGraph.{IsOrderNode, memory_loaded, moves_from, node_next, state_of_node}
 use Rattle.order_graph.specs.OrderTrial.{OrderTrial}
-use Rattle.order_graph.specs.MoveSpans.{IsSpanOf, StaysOutside, span_of}
+use Rattle.order_graph.specs.MoveSpans.{IsSpanOf, StaysOutside, stages_of_move}
 use Rattle.order_graph.specs.TrialParts.{IsSoundTrial}
 use Rattle.order_graph.proofs.Facts.{order_facts}
 use Rattle.order_graph.proofs.Leading.{is_allowed}
@@ -104,16 +104,19 @@ send_within plan s i = of_rider (i - 1) i s i _ (λ c p. one_put (i - 1) i s i _
 is_it : (a b : StageSpan) → (let o : Option StageSpan = Some a in o) ≡ Some b → a ≡ b
 is_it a b e = cc
 
-pub moved_outside : (away : Option Rule) (plan : Plan) (s : State) (m : Move) (span : StageSpan) → span_of m ≡ Some span →
+pub moved_outside : (away : Option Rule) (plan : Plan) (s : State) (m : Move) (span : StageSpan) → stages_of_move m ≡ Some span →
     StaysOutside span.low span.high s (moved_without away plan s m)
 unfolding moved_without
-moved_outside away plan s (Climb i) span e = subst (λ (x : StageSpan). StaysOutside x.low x.high s (moved plan s (Climb i))) (is_it _ span e) (climb_within plan s i)
-moved_outside away plan s (Fall i) span e = subst (λ (x : StageSpan). StaysOutside x.low x.high s (moved plan s (Fall i))) (is_it _ span e) (fall_within plan s i)
+moved_outside away plan s (Climb i) span e = subst (λ (x : StageSpan). StaysOutside x.low x.high s (moved plan s (Climb i))) (is_it _ span e)
+    (climb_within plan s i)
+moved_outside away plan s (Fall i) span e = subst (λ (x : StageSpan). StaysOutside x.low x.high s (moved plan s (Fall i))) (is_it _ span e)
+    (fall_within plan s i)
 moved_outside away plan s (Meet i) span e = subst (λ (x : StageSpan). StaysOutside x.low x.high s (moved_without away plan s (Meet i))) (is_it _ span e)
     (meet_within away plan s i)
 moved_outside away plan s (Execute i) span e = subst (λ (x : StageSpan). StaysOutside x.low x.high s (moved plan s (Execute i))) (is_it _ span e)
     (execute_within plan s i)
-moved_outside away plan s (Send i) span e = subst (λ (x : StageSpan). StaysOutside x.low x.high s (moved plan s (Send i))) (is_it _ span e) (send_within plan s i)
+moved_outside away plan s (Send i) span e = subst (λ (x : StageSpan). StaysOutside x.low x.high s (moved plan s (Send i))) (is_it _ span e)
+    (send_within plan s i)
 moved_outside away plan s (Issue g) span e = absurd (cc)
 moved_outside away plan s Emit span e = absurd (cc)
 moved_outside away plan s (Launch i) span e = absurd (cc)
@@ -126,11 +129,12 @@ moved_outside away plan s Serve span e = absurd (cc)
 
 -- and neither the memory nor the count of Issue moves changes
 record IsOfStages (away : Option Rule) (plan : Plan) (loaded : Memory) (s : State) (m : Move) (k : MemoryChanges) (i : ℕ) : Type 0 where
-  pub state : (next_without away plan (alone s) m).state ≡ moved_without away plan s m
+  pub state : (next_without away plan (lone_moment s) m).state ≡ moved_without away plan s m
   pub changes : changes_next plan loaded s m k ≡ k
   pub issues : issued_with i m ≡ i
 
-is_of_stages : (away : Option Rule) (plan : Plan) (loaded : Memory) (s : State) (m : Move) (k : MemoryChanges) (i : ℕ) (span : StageSpan) → span_of m ≡ Some span →
+is_of_stages : (away : Option Rule) (plan : Plan) (loaded : Memory) (s : State) (m : Move) (k : MemoryChanges) (i : ℕ) (span : StageSpan) →
+    stages_of_move m ≡ Some span →
     IsOfStages away plan loaded s m k i
 unfolding next_without next moved_without changes_next
 is_of_stages away plan loaded s (Climb j) k i span e = record { state = refl; changes = refl; issues = omega arith }
@@ -149,21 +153,21 @@ is_of_stages away plan loaded s Exit k i span e = absurd (cc)
 is_of_stages away plan loaded s Serve k i span e = absurd (cc)
 
 -- so the next node differs in these stages alone
-next_within : (t : OrderTrial) (n : Node) (m : Move) (span : StageSpan) → IsSoundTrial t → IsOrderNode t n → span_of m ≡ Some span →
+next_within : (t : OrderTrial) (n : Node) (m : Move) (span : StageSpan) → IsSoundTrial t → IsOrderNode t n → stages_of_move m ≡ Some span →
     DiffersWithin span.low span.high n (node_next t n m)
 unfolding node_next
 next_within t n m span is h e =
-    let s : State = state_of t n in
-    let x : State = (next_without t.away t.plan (alone s) m).state in
+    let s : State = state_of_node t n in
+    let x : State = (next_without t.away t.plan (lone_moment s) m).state in
     let k = is_of_stages t.away t.plan (memory_loaded t) s m n.changes n.issues span e in
     let o : StaysOutside span.low span.high s x = subst (StaysOutside span.low span.high s) (sym k.state) (moved_outside t.away t.plan s m span e) in
     let f = order_facts t n is h in
-    let own : bare n.situation ≡ n.situation = ap (λ (r : Node). r.situation) (its_bare t f.m f.issued n f.stands) in
+    let own : without_memory n.situation ≡ n.situation = ap (λ (r : Node). r.situation) (its_bare t f.m f.issued n f.stands) in
     record {
       as_many = o.as_many;
       lower = o.lower;
       upper = o.upper;
-      others = ap bare o.others ∙ own;
+      others = ap without_memory o.others ∙ own;
       changes = k.changes;
       issues = k.issues;
     }
@@ -197,9 +201,11 @@ above_there away plan cells i (Some c) b = go (cell_at cells (i + 1)) refl b whe
   go None q b = absurd (cc)
   go (Some d) q b = cell_inside cells (i + 1) d q
 
-row_inside : (away : Option Rule) (plan : Plan) (s : State) (m : Move) (span : StageSpan) → row_bar_without away plan s m ≡ None → span_of m ≡ Some span →
+row_inside : (away : Option Rule) (plan : Plan) (s : State) (m : Move) (span : StageSpan) → row_bar_without away plan s m ≡ None →
+    stages_of_move m ≡ Some span →
     span.high ≤ length s.cells
-row_inside away plan s (Climb i) span b e = subst (λ (x : StageSpan). x.high ≤ length s.cells) (is_it _ span e) (above_there away plan s.cells i (cell_at s.cells i) b)
+row_inside away plan s (Climb i) span b e = subst (λ (x : StageSpan). x.high ≤ length s.cells) (is_it _ span e)
+    (above_there away plan s.cells i (cell_at s.cells i) b)
 row_inside away plan s (Fall i) span b e = subst (λ (x : StageSpan). x.high ≤ length s.cells) (is_it _ span e) (stage_there s.cells i _ b)
 row_inside away plan s (Meet i) span b e = subst (λ (x : StageSpan). x.high ≤ length s.cells) (is_it _ span e) (stage_there s.cells i _ b)
 row_inside away plan s (Execute i) span b e = subst (λ (x : StageSpan). x.high ≤ length s.cells) (is_it _ span e) (stage_there s.cells i _ b)
@@ -214,7 +220,7 @@ row_inside away plan s Leave span b e = absurd (cc)
 row_inside away plan s Exit span b e = absurd (cc)
 row_inside away plan s Serve span b e = absurd (cc)
 
-span_order : (m : Move) (span : StageSpan) → span_of m ≡ Some span → span.low ≤ span.high
+span_order : (m : Move) (span : StageSpan) → stages_of_move m ≡ Some span → span.low ≤ span.high
 span_order (Climb i) span e = subst (λ (x : StageSpan). x.low ≤ x.high) (is_it _ span e) (omega arith)
 span_order (Fall i) span e = subst (λ (x : StageSpan). x.low ≤ x.high) (is_it _ span e) (omega arith)
 span_order (Meet i) span e = subst (λ (x : StageSpan). x.low ≤ x.high) (is_it _ span e) (omega arith)
@@ -231,12 +237,13 @@ span_order Exit span e = absurd (cc)
 span_order Serve span e = absurd (cc)
 
 pub span_known : (t : OrderTrial) (n : Node) (m : Move) (found : Option StageSpan) → IsSoundTrial t → IsOrderNode t n → Contains (moves_from t n) m →
-    found ≡ span_of m → IfSome found (IsSpanOf t n m)
+    found ≡ stages_of_move m → IfSome found (IsSpanOf t n m)
 unfolding bar_without
 span_known t n m None is h there e = tt
 span_known t n m (Some span) is h there e =
-    let s : State = state_of t n in
-    let row : row_bar_without t.away t.plan s m ≡ None = let_through s.failed Failed _ (let_through (is_some s.ending) Halted _ (is_allowed t s n.issues m there)) in
+    let s : State = state_of_node t n in
+    let row : row_bar_without t.away t.plan s m ≡ None = let_through s.failed Failed _
+    (let_through (is_some s.ending) Halted _ (is_allowed t s n.issues m there)) in
     record {
       within = next_within t n m span is h (sym e);
       order = span_order m span (sym e);

@@ -12,13 +12,13 @@ use Rattle.mem_changes.specs.Applied.{memory_after}
 use Rattle.mem_changes.proofs.Made.{no_changes}
 use Rattle.order_keys.specs.declared.node.Node.{Node}
 use Rattle.order_claims.specs.declared.wrong_kind.WrongKind.{WrongKind}
-use Rattle.order_claims.specs.MoveLists.{issued_with, moment_after, IsOrder}
+use Rattle.order_claims.specs.MoveLists.{issued_with, moment_after_without, IsOrder}
 use Rattle.order_claims.specs.WrongLists.{HasWrongEnd}
 use Rattle.order_search.specs.SearchOrder.{IsLower, IsNotAfter, Precedes}
 use Rattle.order_graph.specs.OrderTrial.{OrderTrial, first_moment, leads_on, moment_next, IsTrialOrder}
 use Rattle.order_graph.specs.OrderLists.{IsFirstWrong, IsPlacedFrom}
 use Rattle.order_graph.specs.TrialParts.{IsSoundTrial}
-use Rattle.order_graph.specs.KeyGraph.{AreRightMoves, IsOrderNode, IsRightNode, first_node, memory_loaded, moves_from, node_next, nodes_after, state_of}
+use Rattle.order_graph.specs.KeyGraph.{AreRightMoves, IsOrderNode, IsRightNode, first_node, memory_loaded, moves_from, node_next, nodes_after, state_of_node}
 use Rattle.order_graph.proofs.Nodes.{StandsFor, its_state}
 use Rattle.order_graph.proofs.Paths.{order_of, stands_at}
 
@@ -31,13 +31,13 @@ order_front t m issued (mv ∷ xs) ys o = (o.0, order_front t (moment_next t m m
 
 leads_behind : (t : OrderTrial) (m : Moment) (issued : ℕ) (xs : List Move) (mv : Move) (ys : List Move) →
     IsOrder t.away t.plan t.most m issued (xs ++ mv ∷ ys) →
-    Contains (leads_on t (moment_after t.away t.plan m xs).state (issued + issues xs)) mv
-unfolding IsOrder moment_after
+    Contains (leads_on t (moment_after_without t.away t.plan m xs).state (issued + issues xs)) mv
+unfolding IsOrder moment_after_without
 leads_behind t m issued [] mv ys o =
     let same : issued ≡ issued + 0 = omega arith in subst (λ (i : ℕ). Contains (leads_on t m.state i) mv) same o.0
 leads_behind t m issued (x ∷ xs) mv ys o =
     let same : issued_with issued x + issues xs ≡ issued + (counts (is_issue x) 1 + issues xs) = omega arith in
-    subst (λ (i : ℕ). Contains (leads_on t (moment_after t.away t.plan (moment_next t m x) xs).state i) mv) same
+    subst (λ (i : ℕ). Contains (leads_on t (moment_after_without t.away t.plan (moment_next t m x) xs).state i) mv) same
     (leads_behind t (moment_next t m x) (issued_with issued x) xs mv ys o.1)
 
 -- and its node
@@ -47,14 +47,14 @@ after_one t n [] mv = refl
 after_one t n (x ∷ xs) mv = after_one t (node_next t n x) xs mv
 
 pub its_moves : (t : OrderTrial) (m : Moment) (issued : ℕ) (n : Node) → StandsFor t m issued n → leads_on t m.state issued ≡ moves_from t n
-its_moves t m issued n h = ap (λ (s : State). leads_on t s issued) (sym (its_state t m issued n h)) ∙ ap (leads_on t (state_of t n)) (sym h.issues)
+its_moves t m issued n h = ap (λ (s : State). leads_on t s issued) (sym (its_state t m issued n h)) ∙ ap (leads_on t (state_of_node t n)) (sym h.issues)
 
 pub leads_at : (t : OrderTrial) (xs : List Move) (mv : Move) (ys : List Move) → IsSoundTrial t → IsTrialOrder t (xs ++ mv ∷ ys) →
     Contains (moves_from t (nodes_after t (first_node t) xs)) mv
 leads_at t xs mv ys is o =
     let same : 0 + issues xs ≡ issues xs = omega arith in
     subst (λ (l : List Move). Contains l mv) (its_moves t _ (issues xs) _ (stands_at t xs is))
-    (subst (λ (i : ℕ). Contains (leads_on t (moment_after t.away t.plan (first_moment t) xs).state i) mv) same
+    (subst (λ (i : ℕ). Contains (leads_on t (moment_after_without t.away t.plan (first_moment t) xs).state i) mv) same
     (leads_behind t (first_moment t) 0 xs mv ys o))
 
 pub front_node : (t : OrderTrial) (xs ys : List Move) → IsTrialOrder t (xs ++ ys) → IsOrderNode t (nodes_after t (first_node t) xs)
@@ -109,7 +109,8 @@ tails_after x xs ys (inr (inr (same, inr lower))) = inr (inr (omega arith, lower
 
 -- of the first wrong list no move but the last is wrong
 right_front : (t : OrderTrial) (m : Moment) (issued : ℕ) (places : List ℕ) (xs : List Move) (last : Move) → IsPlacedFrom t m issued places (xs ++ last ∷ []) →
-    ((others : List ℕ) (list : List Move) (other : WrongKind) → IsPlacedFrom t m issued others list → HasWrongEnd t.away t.plan t.most t.machine m issued list other →
+    ((others : List ℕ) (list : List Move) (other : WrongKind) → IsPlacedFrom t m issued others list →
+    HasWrongEnd t.away t.plan t.most t.machine m issued list other →
     IsNotAfter places others) → AreRightMoves t m xs
 unfolding IsPlacedFrom HasWrongEnd AreRightMoves
 right_front t m issued places [] last p least = tt

@@ -6,7 +6,7 @@ use Rattle.mem_regions.specs.Memory.{Memory}
 use Rattle.mem_regions.specs.Ranges.{writable_of}
 use Rattle.rv_inst.specs.Accesses.{access_made}
 use Rattle.rv_inst.specs.declared.instruction.Instr.{Instr}
-use Rattle.rv_machine.specs.Call.{first_argument, is_break, number_in}
+use Rattle.rv_machine.specs.Call.{first_argument, is_break, call_number}
 use Rattle.rv_machine.specs.Step.{synchronizes}
 use Rattle.cf_layout.specs.Layout.{Plan}
 use Rattle.cf_bind.specs.declared.moves.Move.{Move}
@@ -36,7 +36,7 @@ changes_accessed loaded i a b k =
 abbrev pub changes_served : Memory → Instr → List ℕ → MemoryChanges → MemoryChanges
 changes_served loaded i regs k =
     if synchronizes i then record k { code = filter (λ c. runs_at (bounds_of loaded) c.addr) k.bytes } else
-    if number_in regs == 214 && is_break (first_argument regs) then record k { program_break = first_argument regs } else k
+    if call_number regs == 214 && is_break (first_argument regs) then record k { program_break = first_argument regs } else k
 
 -- after a move
 unfoldable pub changes_next : Plan → Memory → State → Move → MemoryChanges → MemoryChanges

@@ -8,10 +8,10 @@ use Rattle.cf_semantics.specs.state.Options.{is_some}
 use Rattle.cf_semantics.specs.state.State.{State, Moment}
 use Rattle.mem_changes.specs.Applied.{memory_after}
 use Rattle.order_model.specs.RuleBars.{bar_without}
-use Rattle.order_model.specs.Situations.{alone, in_memory}
+use Rattle.order_model.specs.Situations.{lone_moment, in_memory}
 use Rattle.order_keys.specs.declared.node.Node.{Node}
-use Rattle.order_keys.specs.Keys.{key_of, node_of}
-use Rattle.order_keys.specs.Situations.{bare, IsWhole}
+use Rattle.order_keys.specs.Keys.{key_of_node, node_of}
+use Rattle.order_keys.specs.Situations.{without_memory, IsWhole}
 use Rattle.order_claims.specs.declared.wrong_kind.WrongKind.{WrongKind}
 use Rattle.order_claims.specs.MoveLists.{issued_with}
 use Rattle.order_claims.specs.WrongLists.{IsWrongMove, IsWrongMoment}
@@ -24,29 +24,29 @@ abbrev pub memory_loaded : OrderTrial → Memory
 memory_loaded t = t.machine.hart.mem
 
 -- the state of a node, in its memory
-abbrev pub state_of : OrderTrial → Node → State
-state_of t n = in_memory n.situation (memory_after n.changes (memory_loaded t))
+abbrev pub state_of_node : OrderTrial → Node → State
+state_of_node t n = in_memory n.situation (memory_after n.changes (memory_loaded t))
 
 -- the moves that lead on from a node
 abbrev pub moves_from : OrderTrial → Node → List Move
-moves_from t n = leads_on t (state_of t n) n.issues
+moves_from t n = leads_on t (state_of_node t n) n.issues
 
 -- whether the move leads on from a node
 abbrev pub leads_from : OrderTrial → Node → Move → Bool
-leads_from t n mv = not (is_some (bar_without t.away t.plan (state_of t n) mv)) && (nat_lt n.issues t.most || not (is_issue mv))
+leads_from t n mv = not (is_some (bar_without t.away t.plan (state_of_node t n) mv)) && (nat_lt n.issues t.most || not (is_issue mv))
 
 -- the node to which a move leads
 unfoldable pub node_next : OrderTrial → Node → Move → Node
 node_next t n mv = record {
-  situation = bare (moment_next t (alone (state_of t n)) mv).state;
-  changes = changes_next t.plan (memory_loaded t) (state_of t n) mv n.changes;
+  situation = without_memory (moment_next t (lone_moment (state_of_node t n)) mv).state;
+  changes = changes_next t.plan (memory_loaded t) (state_of_node t n) mv n.changes;
   issues = issued_with n.issues mv;
 }
 
 -- the node of the start, and the one after some moves from a node
 unfoldable pub first_node : OrderTrial → Node
 first_node t = record {
-  situation = bare (opened t.plan t.machine);
+  situation = without_memory (opened t.plan t.machine);
   changes = record { bytes = []; code = []; program_break = (memory_loaded t).program_break };
   issues = 0;
 }
@@ -57,17 +57,17 @@ nodes_after t n (mv ∷ moves) = nodes_after t (node_next t n mv) moves
 
 -- the edges that leave the node with a key
 abbrev pub edge_of : OrderTrial → Node → Move → EdgeView Move
-edge_of t n mv = record { label = mv; node = key_of (node_next t n mv) }
+edge_of t n mv = record { label = mv; node = key_of_node (node_next t n mv) }
 
 unfoldable pub edges_from : OrderTrial → List ℕ → List (EdgeView Move)
 edges_from t key = let n = node_of key in map (edge_of t n) (moves_from t n)
 
 -- the move from the node is wrong in this way; and the node is
 abbrev pub IsWrongFrom : OrderTrial → Node → Move → WrongKind → Type 0
-IsWrongFrom t n mv kind = IsWrongMove t.away t.plan t.machine (alone (state_of t n)) mv kind
+IsWrongFrom t n mv kind = IsWrongMove t.away t.plan t.machine (lone_moment (state_of_node t n)) mv kind
 
 abbrev pub IsWrongThere : OrderTrial → Node → WrongKind → Type 0
-IsWrongThere t n kind = IsWrongMoment t.plan t.machine (moves_from t n) (alone (state_of t n)) kind
+IsWrongThere t n kind = IsWrongMoment t.plan t.machine (moves_from t n) (lone_moment (state_of_node t n)) kind
 
 -- going along the move is wrong in this way: the move is, or otherwise the node that it leads to
 abbrev pub IsWrongAlong : OrderTrial → Node → Move → WrongKind → Type 0
@@ -104,7 +104,7 @@ pub record IsOrderKey (t : OrderTrial) (key : List ℕ) : Type 0 where
   pub node : Node
   pub right : IsRightNode t node
   pub whole : IsWhole node.situation
-  pub is : key ≡ key_of node
+  pub is : key ≡ key_of_node node
 
 -- and the memory is as it was loaded
 abbrev pub IsNodeIn : OrderTrial → Memory → List ℕ → Type 0
@@ -112,4 +112,4 @@ IsNodeIn t mem key = (mem ≡ memory_loaded t) × IsOrderKey t key
 
 -- the state of the node with a key
 unfoldable pub state_at : OrderTrial → List ℕ → IssuedState
-state_at t key = let n = node_of key in record { state = state_of t n; issued = n.issues }
+state_at t key = let n = node_of key in record { state = state_of_node t n; issued = n.issues }

@@ -12,6 +12,6 @@ kind_by test.Output = wrong.Output
 kind_by test.Stuck = wrong.Stuck
 kind_by test.Memory = wrong.Memory
 
-abbrev pub kind_told : Option FailedTest → Option WrongKind
-kind_told None = None
-kind_told (Some test) = Some (kind_by test)
+abbrev pub wrong_kind_told : Option FailedTest → Option WrongKind
+wrong_kind_told None = None
+wrong_kind_told (Some test) = Some (kind_by test)

@@ -10,13 +10,13 @@ use Rattle.order_graph.specs.OrderTrial.{OrderTrial}
 use Rattle.order_graph.specs.KeyGraph.{node_next}
 
 -- the stages of the move, counted from 0, where stages are counted from 1 in moves
-abbrev pub span_of : Move → Option StageSpan
-span_of (Climb i) = Some (record { low = i - 1; high = i + 1 })
-span_of (Fall i) = Some (record { low = i - 2; high = i })
-span_of (Meet i) = Some (record { low = i - 1; high = i })
-span_of (Execute i) = Some (record { low = i - 1; high = i })
-span_of (Send i) = Some (record { low = i - 1; high = i })
-span_of mv = None
+abbrev pub stages_of_move : Move → Option StageSpan
+stages_of_move (Climb i) = Some (record { low = i - 1; high = i + 1 })
+stages_of_move (Fall i) = Some (record { low = i - 2; high = i })
+stages_of_move (Meet i) = Some (record { low = i - 1; high = i })
+stages_of_move (Execute i) = Some (record { low = i - 1; high = i })
+stages_of_move (Send i) = Some (record { low = i - 1; high = i })
+stages_of_move mv = None
 
 -- a state differs from another at most in the stages from `low` up to below `high`
 pub record StaysOutside (low high : ℕ) (s t : State) : Type 0 where

@@ -5,7 +5,7 @@ use Rattle.rv_machine.specs.Hart.{Hart}
 use Rattle.cf_layout.specs.Layout.{Plan}
 use Rattle.cf_bind.specs.declared.moves.Move.{Move}
 use Rattle.order_rules.specs.declared.rule.Rule.{Rule}
-use Rattle.order_model.specs.Situations.{alone}
+use Rattle.order_model.specs.Situations.{lone_moment}
 use Rattle.order_machine.specs.Waypoints.{machine_of}
 use Rattle.order_search.specs.declared.reached.NumberedEdge.{NumberedEdge}
 use Rattle.order_search.specs.Rows.{AreRows}
@@ -44,7 +44,7 @@ pub record IsCountOf (t : OrderTrial) (bound : ℕ) (r : OrdersReached) : Type 0
 
 -- the state to which a move leads
 unfoldable pub state_next : OrderTrial → IssuedState → Move → IssuedState
-state_next t n mv = record { state = (moment_next t (alone n.state) mv).state; issued = issued_with n.issued mv }
+state_next t n mv = record { state = (moment_next t (lone_moment n.state) mv).state; issued = issued_with n.issued mv }
 
 -- a move, with the number of the state to which it leads from this one
 pub record IsNumberedMove (t : OrderTrial) (states : List IssuedState) (n : IssuedState) (numbered : NumberedEdge Move) (mv : Move) : Type 0 where

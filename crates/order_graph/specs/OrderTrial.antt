@@ -9,7 +9,7 @@ use Rattle.cf_semantics.specs.state.State.{State, Moment}
 use Rattle.order_rules.specs.declared.rule.Rule.{Rule}
 use Rattle.order_model.specs.RuleMoves.{next_without}
 use Rattle.order_claims.specs.declared.wrong_kind.WrongKind.{WrongKind}
-use Rattle.order_claims.specs.MoveLists.{moves_on, moment_after, IsOrder}
+use Rattle.order_claims.specs.MoveLists.{moves_on, moment_after_without, IsOrder}
 use Rattle.order_claims.specs.WrongLists.{IsWrongOrder}
 
 -- the rule that is taken away, if any; the layout; the sequential machine where it starts; and the most Issue moves
@@ -46,4 +46,4 @@ pub record IssuedState : Type 0 where
 
 -- the state after a list of moves
 unfoldable pub reached_by : OrderTrial → List Move → IssuedState
-reached_by t moves = record { state = (moment_after t.away t.plan (first_moment t) moves).state; issued = issues moves }
+reached_by t moves = record { state = (moment_after_without t.away t.plan (first_moment t) moves).state; issued = issues moves }

@@ -5,7 +5,7 @@ use Rattle.cf_bind.specs.declared.cell.Cell.{Cell}
 use Rattle.cf_bind.specs.declared.moves.Move.{Move}
 use Rattle.cf_bind.specs.declared.moves.Move.TheVariants.{Issue, Emit, Climb, Fall, Meet, Execute, Send, Launch, Slide, Access, Recover, Leave, Exit, Serve}
 use Rattle.cf_bind.specs.declared.passenger.Passenger.{Passenger}
-use Rattle.cf_semantics.specs.moves.Bars.{is_taken}
+use Rattle.cf_semantics.specs.moves.Bars.{cell_is_taken}
 use Rattle.cf_semantics.specs.state.Layouts.{launches}
 use Rattle.cf_semantics.specs.state.Options.{on, is_some}
 use Rattle.cf_semantics.specs.state.Passengers.{kind}
@@ -13,12 +13,12 @@ use Rattle.cf_semantics.specs.state.State.{State, cell_at, siding_at}
 use Rattle.order_graph.specs.CountsMade.{has_packet}
 
 -- the instruction in a stage
-abbrev pub passenger_at : State → ℕ → Option Passenger
-passenger_at s i = on (cell_at s.cells i) None (λ c. c.passenger)
+abbrev pub passenger_in_stage : State → ℕ → Option Passenger
+passenger_in_stage s i = on (cell_at s.cells i) None (λ c. c.passenger)
 
 -- an instruction and a result are in the stage that have not met
-abbrev pub is_meeting : Option Cell → Bool
-is_meeting cell = on cell false (λ c. is_some c.passenger && is_some c.packet && not c.met)
+abbrev pub meets_in_stage : Option Cell → Bool
+meets_in_stage cell = on cell false (λ c. is_some c.passenger && is_some c.packet && not c.met)
 
 -- there is an instruction that is still to be executed, and a unit of the stage executes it
 abbrev pub is_computed : Plan → Option Passenger → ℕ → Bool
@@ -42,17 +42,17 @@ is_undone passenger = on passenger false (λ p. not p.done)
 
 -- the stages hold what the move needs; nothing is tested of Access
 abbrev pub is_ready : Plan → State → Move → Bool
-is_ready plan s (Issue g) = not (is_some (passenger_at s 1))
+is_ready plan s (Issue g) = not (is_some (passenger_in_stage s 1))
 is_ready plan s Emit = not (length s.lane == 0)
-is_ready plan s (Climb i) = is_some (passenger_at s i) && not (is_some (passenger_at s (i + 1)))
+is_ready plan s (Climb i) = is_some (passenger_in_stage s i) && not (is_some (passenger_in_stage s (i + 1)))
 is_ready plan s (Fall i) = has_packet (cell_at s.cells i) && not (has_packet (cell_at s.cells (i - 1)))
-is_ready plan s (Meet i) = is_meeting (cell_at s.cells i)
-is_ready plan s (Execute i) = is_computed plan (passenger_at s i) i
-is_ready plan s (Send i) = is_owing (passenger_at s i)
-is_ready plan s (Launch i) = is_launched plan (passenger_at s i) i
-is_ready plan s (Slide k c) = is_taken (slice_get (siding_at s k) c)
+is_ready plan s (Meet i) = meets_in_stage (cell_at s.cells i)
+is_ready plan s (Execute i) = is_computed plan (passenger_in_stage s i) i
+is_ready plan s (Send i) = is_owing (passenger_in_stage s i)
+is_ready plan s (Launch i) = is_launched plan (passenger_in_stage s i) i
+is_ready plan s (Slide k c) = cell_is_taken (slice_get (siding_at s k) c)
 is_ready plan s Access = true
-is_ready plan s (Recover i) = is_returned (passenger_at s i)
-is_ready plan s Leave = is_some (passenger_at s plan.stages)
+is_ready plan s (Recover i) = is_returned (passenger_in_stage s i)
+is_ready plan s Leave = is_some (passenger_in_stage s plan.stages)
 is_ready plan s Exit = has_packet (cell_at s.cells 1)
-is_ready plan s Serve = is_undone (passenger_at s plan.stages)
+is_ready plan s Serve = is_undone (passenger_in_stage s plan.stages)

@@ -11,7 +11,7 @@ use Rattle.cf_semantics.specs.claims.Refines.{gained}
 use Rattle.cf_semantics.specs.state.Layouts.{isa_of}
 use Rattle.cf_semantics.specs.state.State.{State}
 use Rattle.mem_changes.specs.Images.{IsAsLoaded}
-use Rattle.order_machine.specs.Waypoints.{MachinePlace, AreWaypoints, ends_there, machine_of}
+use Rattle.order_machine.specs.Waypoints.{MachinePlace, AreWaypoints, ends_at_last, machine_of}
 use Rattle.order_claims.specs.Claims.{OrdersEnd, RetiresWhatWasIssued}
 use Rattle.order_graph.specs.OrderTrial.{OrderTrial}
 
@@ -32,7 +32,7 @@ first_hart places mem retired = record { pc = first_pc places; regs = first_regs
 pub record AreTrialParts (plan : Plan) (loaded : Memory) (places : List MachinePlace) (moves : List Move) (most retired : ℕ) : Type 0 where
   pub is_loaded : IsAsLoaded loaded
   pub passed : AreWaypoints (isa_of plan) loaded (machine_of (first_hart places loaded retired)) 0 places
-  pub enough : (length places ≡ most + 1) ⊎ IsTrue (ends_there places)
+  pub enough : (length places ≡ most + 1) ⊎ IsTrue (ends_at_last places)
   pub all : moves ≡ all_moves plan
   pub fits : length moves < 2 ^ 32
   pub few : most ≤ 64

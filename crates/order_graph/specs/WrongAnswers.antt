@@ -9,7 +9,7 @@ use Rattle.cf_semantics.specs.runs.Lines.{Line, line_of, line_read, lines_at}
 use Rattle.cf_semantics.specs.state.Layouts.{isa_of}
 use Rattle.cf_semantics.specs.state.Options.{on}
 use Rattle.cf_semantics.specs.state.State.{State}
-use Rattle.order_keys.specs.Situations.{bare}
+use Rattle.order_keys.specs.Situations.{without_memory}
 use Rattle.order_model.specs.RuleMoves.{retires_without}
 use Rattle.order_graph.specs.declared.found.OrderCounts.{OrderCounts}
 use Rattle.order_graph.specs.OrderCounts.{is_meeting, is_kill, is_death, count_made}
@@ -26,7 +26,7 @@ pub record ShowsWrong (t : OrderTrial) (moves : List Move) (reached : State) (co
   pub before : List Move
   pub last : Move
   pub whole : moves ≡ before ++ last ∷ []
-  pub state : reached ≡ bare (reached_by t moves).state
+  pub state : reached ≡ without_memory (reached_by t moves).state
   pub meets : counts.meets ≡ count_by is_meeting moves
   pub kills : counts.kills ≡ count_made (is_kill t.away) t.away t.plan (first_moment t) moves
   pub dead : counts.dead ≡ count_made (is_death t.away) t.away t.plan (first_moment t) moves

@@ -8,14 +8,14 @@ ghost use Rattle.cf_semantics.specs.state.Options.{is_some};
 ghost use Rattle.mem_changes.specs.Applied.{memory_after};
 ghost use Rattle.mem_changes.specs.Differing.{AreChangesOf};
 ghost use Rattle.order_claims.specs.MoveLists.{issued_with};
-ghost use Rattle.order_graph.specs.Kinds.{kind_by, kind_told};
-ghost use Rattle.order_graph.specs.KeyGraph.{IsOrderKey, IsOrderNode, IsRightNode, IsWrongAlong, IsWrongEdge, IsWrongFrom, IsWrongNode, IsWrongThere, edge_of, leads_from, memory_loaded, moves_from, node_next, state_of};
-ghost use Rattle.order_keys.specs.Keys.{key_of};
+ghost use Rattle.order_graph.specs.Kinds.{kind_by, wrong_kind_told};
+ghost use Rattle.order_graph.specs.KeyGraph.{IsOrderKey, IsOrderNode, IsRightNode, IsWrongAlong, IsWrongEdge, IsWrongFrom, IsWrongNode, IsWrongThere, edge_of, leads_from, memory_loaded, moves_from, node_next, state_of_node};
+ghost use Rattle.order_keys.specs.Keys.{key_of_node};
 ghost use Rattle.order_keys.specs.Stages.{lefts_of};
-ghost use Rattle.order_keys.specs.Situations.{bare};
+ghost use Rattle.order_keys.specs.Situations.{without_memory};
 ghost use Rattle.order_model.specs.RuleBars.{bar_without};
 ghost use Rattle.order_search.specs.Paths.{HasEdgeFault};
-ghost use Rattle.order_search.specs.Views.{IsJudged, TellsFault, seen};
+ghost use Rattle.order_search.specs.Views.{IsJudged, TellsFault, edge_view};
 
 use crate::copying::{copy, copy_into};
 use crate::ready::is_ready;
@@ -44,7 +44,7 @@ fn issues_with(issues: u8, m: Move) -> u8
 /// A state is seen without a memory, and without a fault.
 #[inline(always)]
 pub(crate) fn note_bare(situation: &Situation)
-    ensures { bare situation.now ≡ situation.now }
+    ensures { without_memory situation.now ≡ situation.now }
 {
     let _ = situation.lane.len();
 }
@@ -115,7 +115,7 @@ fn kind_of(test: FailedTest) -> WrongKind
 
 /// The same, where a test fails.
 fn told(found: Option<FailedTest>) -> Option<WrongKind>
-    ensures { result ≡ kind_told found }
+    ensures { result ≡ wrong_kind_told found }
 {
     match found {
         Some(test) => Some(kind_of(test)),
@@ -167,7 +167,7 @@ fn is_issue(m: Move) -> bool
 /// Whether no row of the table bars the move in a node, in whose memory this is.
 fn is_allowed(trial: &Trial, mem: &Regions, node: &Node, m: Move) -> bool
     requires { mem.now ≡ memory_after node.now.changes (memory_loaded trial.now) }
-    ensures { result ≡ not (is_some (bar_without trial.now.away trial.now.plan (state_of trial.now node.now) m)) }
+    ensures { result ≡ not (is_some (bar_without trial.now.away trial.now.plan (state_of_node trial.now node.now) m)) }
 {
     node.situation
         .bar(trial.away, &trial.layout, mem, m)
@@ -273,14 +273,14 @@ fn edge(
 ) -> Result<Edge<Move, WrongKind>, AllocError>
     requires node { IsRightNode trial.now node.now }
     requires memory { mem.old ≡ memory_after node.now.changes (memory_loaded trial.now) }
-    requires key { key.now ≡ key_of node.now }
+    requires key { key.now ≡ key_of_node node.now }
     requires lefts { lefts.now ≡ lefts_of key.now }
     requires leads { Contains (moves_from trial.now node.now) m }
     requires next { next.old ≡ node.now }
     ensures kept { OnOk result (mem.new ≡ mem.old) }
     ensures next { OnOk result (next.new ≡ node.now) }
-    ensures edge { IfOk result (λ edge. seen edge ≡ edge_of trial.now node.now m) }
-    ensures fault { IfOk result (IsJudged (HasEdgeFault (IsWrongEdge trial.now) (IsWrongNode trial.now) (key_of node.now))) }
+    ensures edge { IfOk result (λ edge. edge_view edge ≡ edge_of trial.now node.now m) }
+    ensures fault { IfOk result (IsJudged (HasEdgeFault (IsWrongEdge trial.now) (IsWrongNode trial.now) (key_of_node node.now))) }
     ensures key { IfOk result (λ edge. IfNone edge.fault (IsOrderKey trial.now edge.node.items)) }
 {
     note_trial(trial);
@@ -331,11 +331,11 @@ pub(crate) fn edges_of(
 ) -> Result<Vec<Edge<Move, WrongKind>>, AllocError>
     requires node { IsRightNode trial.now node.now }
     requires memory { mem.old ≡ memory_after node.now.changes (memory_loaded trial.now) }
-    requires key { key.now ≡ key_of node.now }
+    requires key { key.now ≡ key_of_node node.now }
     requires lefts { lefts.now ≡ lefts_of key.now }
     ensures kept { OnOk result (mem.new ≡ mem.old) }
-    ensures edges { IfOk result (λ edges. map seen edges.items ≡ map (edge_of trial.now node.now) (moves_from trial.now node.now)) }
-    ensures faults { IfOk result (λ edges. All (IsJudged (HasEdgeFault (IsWrongEdge trial.now) (IsWrongNode trial.now) (key_of node.now))) edges.items) }
+    ensures edges { IfOk result (λ edges. map edge_view edges.items ≡ map (edge_of trial.now node.now) (moves_from trial.now node.now)) }
+    ensures faults { IfOk result (λ edges. All (IsJudged (HasEdgeFault (IsWrongEdge trial.now) (IsWrongNode trial.now) (key_of_node node.now))) edges.items) }
     ensures keys { IfOk result (λ edges. All (λ edge. IfNone edge.fault (IsOrderKey trial.now edge.node.items)) edges.items) }
 {
     moves_on(trial, mem, node, moves)?;

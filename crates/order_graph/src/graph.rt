@@ -6,7 +6,7 @@ ghost use Rattle.order_graph.specs.KeyGraph.{IsOrderKey, IsRightNode, IsWrongEdg
 ghost use Rattle.order_keys.specs.Keys.{node_of};
 ghost use Rattle.order_keys.specs.Stages.{lefts_of};
 ghost use Rattle.order_search.specs.Paths.{HasEdgeFault};
-ghost use Rattle.order_search.specs.Views.{IsJudged, seen};
+ghost use Rattle.order_search.specs.Views.{IsJudged, edge_view};
 
 use crate::edges::edges_of;
 use crate::trial::{Trial, note_trial};
@@ -83,7 +83,7 @@ fn edges_at(
     requires key { IsOrderKey trial.now key.now }
     requires memory { mem.old ≡ memory_loaded trial.now }
     ensures kept { OnOk result (mem.new ≡ mem.old) }
-    ensures edges { IfOk result (λ edges. map seen edges.items ≡ edges_from trial.now key.now) }
+    ensures edges { IfOk result (λ edges. map edge_view edges.items ≡ edges_from trial.now key.now) }
     ensures few { IfOk result (λ edges. length edges.items < 2 ^ 32) }
     ensures faults { IfOk result (λ edges. All (IsJudged (HasEdgeFault (IsWrongEdge trial.now) (IsWrongNode trial.now) key.now)) edges.items) }
     ensures keys { IfOk result (λ edges. All (λ edge. IfNone edge.fault (IsOrderKey trial.now edge.node.items)) edges.items) }

@@ -1,9 +1,9 @@
 //! Whether the stages of a move hold what the move needs.
 
 ghost use Rattle.std.specs.Prelude.{◌≡◌, slice_get};
-ghost use Rattle.cf_semantics.specs.moves.Bars.{is_taken as is_taken_in};
+ghost use Rattle.cf_semantics.specs.moves.Bars.{cell_is_taken as is_taken_in};
 ghost use Rattle.cf_semantics.specs.state.State.{siding_at};
-ghost use Rattle.order_graph.specs.ReadyStages.{is_computed as is_computed_in, is_launched as is_launched_in, is_meeting as is_meeting_in, is_owing as is_owing_in, is_ready as is_ready_in, is_returned as is_returned_in, is_undone as is_undone_in, passenger_at as passenger_in};
+ghost use Rattle.order_graph.specs.ReadyStages.{is_computed as is_computed_in, is_launched as is_launched_in, meets_in_stage as is_meeting_in, is_owing as is_owing_in, is_ready as is_ready_in, is_returned as is_returned_in, is_undone as is_undone_in, passenger_in_stage as passenger_in};
 
 use crate::counting::has_packet;
 use cf_bind::{Cell, Move, Passenger};

@@ -4,7 +4,7 @@ ghost use Rattle.std.specs.Prelude.{◌≡◌, ◌+◌, ◌<◌, ◌≤◌, ◌^
 ghost use Rattle.order_graph.specs.KeyGraph.{IsNodeIn, IsWrongEdge, IsWrongNode, edges_from, first_node, memory_loaded};
 ghost use Rattle.order_graph.specs.OrderAnswers.{AreOrdersFound, IsNotWrong, trial_of};
 ghost use Rattle.order_graph.specs.OrderTrial.{OrderTrial};
-ghost use Rattle.order_keys.specs.Keys.{key_of};
+ghost use Rattle.order_keys.specs.Keys.{key_of_node};
 ghost use Rattle.order_machine.specs.Waypoints.{machine_of};
 ghost use Rattle.order_search.specs.SearchAnswers.{AnswersOf};
 
@@ -63,7 +63,7 @@ fn answered(
     requires memory { graph.mem ≡ memory_loaded graph.trial }
     requires start { start ≡ first_node graph.trial }
     requires answer { AnswersOf (IsNodeIn graph.trial graph.mem) (edges_from graph.trial) (IsWrongEdge graph.trial) (IsWrongNode graph.trial)
-        (key_of start) most answer }
+        (key_of_node start) most answer }
     ensures { IfOk result (AreOrdersFound graph.trial most) }
 {
     note_trial(&graph.trial);

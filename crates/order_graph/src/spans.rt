@@ -3,8 +3,8 @@
 ghost use Rattle.std.specs.Prelude.{◌≡◌, ◌≤◌, IfOk, IfSome, OnOk, length, take, drop};
 ghost use Rattle.std.specs.List.{Contains};
 ghost use Rattle.order_graph.specs.KeyGraph.{IsOrderNode, moves_from, node_next};
-ghost use Rattle.order_graph.specs.MoveSpans.{IsSpanOf, span_of as span_in};
-ghost use Rattle.order_keys.specs.Keys.{key_of};
+ghost use Rattle.order_graph.specs.MoveSpans.{IsSpanOf, stages_of_move as span_in};
+ghost use Rattle.order_keys.specs.Keys.{key_of_node};
 ghost use Rattle.order_keys.specs.Situations.{IsWhole};
 ghost use Rattle.order_keys.specs.Stages.{lefts_of};
 
@@ -66,11 +66,11 @@ pub(crate) fn next_key(
     next: &Node,
 ) -> Result<Vec<u8>, AllocError>
     requires node { IsOrderNode trial.now node.now }
-    requires key { key.now ≡ key_of node.now }
+    requires key { key.now ≡ key_of_node node.now }
     requires lefts { lefts.now ≡ lefts_of key.now }
     requires leads { Contains (moves_from trial.now node.now) m }
     requires next { next.now ≡ node_next trial.now node.now m }
-    ensures key { IfOk result (λ key. key.items ≡ key_of next.now) }
+    ensures key { IfOk result (λ key. key.items ≡ key_of_node next.now) }
     ensures whole { IsWhole next.now.situation }
 {
     match span_from(trial, node, m) {

@@ -19,7 +19,7 @@ use Rattle.order_model.specs.Situations.{in_memory}
 use Rattle.order_machine.specs.Waypoints.{MachinePlace}
 use Rattle.order_judging.specs.declared.judging.FailedTest.{FailedTest}
 use Rattle.order_judging.specs.declared.judging.FailedTest.TheVariants as kind
-use Rattle.order_judging.specs.FirstTests.{IsFirstOfMove, IsFirstOfState, IsMoveJudged, IsStateJudged, reached}
+use Rattle.order_judging.specs.FirstTests.{IsFirstOfMove, IsFirstOfState, IsMoveJudged, IsStateJudged, state_reached}
 use Rattle.order_judging.specs.Judgements.{RetiresApart, EndsApart, IsServedApart, IsServeThat, RestsApart, at_top, lines_without}
 use Rattle.order_judging.specs.Places.{IsPlaceOf, next_lines}
 use Rattle.order_judging.proofs.Placed.{retires_wrongly, retires_apart, ends_wrongly, ends_apart, serves_wrongly, serves_apart, stuck_in, stuck_out, rests_wrongly, rests_apart}
@@ -63,14 +63,14 @@ lines_in away plan s mem Serve = refl
 -- the first test of a move
 pub move_judged : (loaded : Memory) (away : Option Rule) (plan : Plan) (x : Machine) (place : MachinePlace) (s : State) (mem : Memory)
     (m : Move) (t : State) (k : MemoryChanges) (found : Option FailedTest) →
-    IsAsLoaded loaded → in_memory t (reached away plan (in_memory s mem) m).mem ≡ reached away plan (in_memory s mem) m →
-    AreChangesOf loaded (reached away plan (in_memory s mem) m).mem k →
+    IsAsLoaded loaded → in_memory t (state_reached away plan (in_memory s mem) m).mem ≡ state_reached away plan (in_memory s mem) m →
+    AreChangesOf loaded (state_reached away plan (in_memory s mem) m).mem k →
     IsPlaceOf (isa_of plan) loaded x place →
     IsFirstOfMove (RetiresApart (next_lines (isa_of plan) place.next) (lines_without away plan s m)) (EndsApart place t.ending t.regs k)
     (IsServeThat m (IsServedApart (isa_of plan) loaded place s.regs mem (at_top plan s))) found → IsMoveJudged away plan x (in_memory s mem) m found
 move_judged loaded away plan x place s mem m t k found l e a h w =
     let isa = isa_of plan in
-    let y : State = in_memory t (reached away plan (in_memory s mem) m).mem in
+    let y : State = in_memory t (state_reached away plan (in_memory s mem) m).mem in
     let lines = lines_in away plan s mem m in
     move_said _ _ _ _ _ _ found
     (λ r. retires_wrongly isa x place.next (lines_without away plan (in_memory s mem) m) h.next (subst (RetiresApart (next_lines isa place.next)) lines r))
@@ -84,8 +84,8 @@ move_judged loaded away plan x place s mem m t k found l e a h w =
 -- the same, where memory does not run out
 pub move_result : {E : Type 0} (loaded : Memory) (away : Option Rule) (plan : Plan) (place : MachinePlace) (s : State) (mem : Memory)
     (m : Move) (t : State) (k : MemoryChanges) (r : Result (Option FailedTest) E) →
-    IsAsLoaded loaded → in_memory t (reached away plan (in_memory s mem) m).mem ≡ reached away plan (in_memory s mem) m →
-    AreChangesOf loaded (reached away plan (in_memory s mem) m).mem k →
+    IsAsLoaded loaded → in_memory t (state_reached away plan (in_memory s mem) m).mem ≡ state_reached away plan (in_memory s mem) m →
+    AreChangesOf loaded (state_reached away plan (in_memory s mem) m).mem k →
     IfOk r (λ found. IsFirstOfMove (RetiresApart (next_lines (isa_of plan) place.next) (lines_without away plan s m)) (EndsApart place t.ending t.regs k)
     (IsServeThat m (IsServedApart (isa_of plan) loaded place s.regs mem (at_top plan s))) found) →
     IfOk r (λ found. (x : Machine) → IsPlaceOf (isa_of plan) loaded x place → IsMoveJudged away plan x (in_memory s mem) m found)

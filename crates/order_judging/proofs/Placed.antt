@@ -28,13 +28,13 @@ use Rattle.mem_changes.specs.Differing.{AreChangesOf}
 use Rattle.mem_changes.specs.Images.{IsAsLoaded}
 use Rattle.mem_changes.specs.MemoryChanges.{MemoryChanges}
 use Rattle.mem_changes.proofs.Once.{listed_once}
-use Rattle.order_model.specs.Situations.{alone, in_memory}
+use Rattle.order_model.specs.Situations.{lone_moment, in_memory}
 use Rattle.order_machine.specs.declared.stepping.NextStep.{NextStep}
 use Rattle.order_machine.specs.declared.stepping.NextStep.TheVariants.{Retires, Ends}
 use Rattle.order_machine.specs.Judgements.{EndsWithState, RestsAs}
 use Rattle.order_machine.specs.Waypoints.{MachinePlace, AreWaypoints, IsStepOf, IsWaypoint}
 use Rattle.order_judging.specs.Judgements.{RetiresApart, EndsApart, IsServedAs, IsServedApart, IsServeThat, RestsApart, at_top}
-use Rattle.order_judging.specs.Places.{IsPlaceOf, memory_at, next_lines}
+use Rattle.order_judging.specs.Places.{IsPlaceOf, machine_memory, next_lines}
 
 -- the place of the machine after k steps is that of the one machine after k steps
 pub place_of : (isa : Isa) (loaded : Memory) (start x : Machine) (k : ℕ) (place : MachinePlace) → IsWaypoint isa loaded start k place →
@@ -123,17 +123,17 @@ ends_apart isa loaded x place t k h a w =
 
 -- the machine is asked what is asked at its place
 served_there : (isa : Isa) (loaded : Memory) (x : Machine) (place : MachinePlace) (i : Instr) → IsPlaceOf isa loaded x place →
-    serve_of i place.regs (memory_at loaded place) [] ≡ serve_of i x.hart.regs x.hart.mem x.rest
-served_there isa loaded x place i h = ap (λ (l : List ℕ). serve_of i l (memory_at loaded place) []) h.regs
+    serve_of i place.regs (machine_memory loaded place) [] ≡ serve_of i x.hart.regs x.hart.mem x.rest
+served_there isa loaded x place i h = ap (λ (l : List ℕ). serve_of i l (machine_memory loaded place) []) h.regs
     ∙ ap (λ (w : Memory). serve_of i x.hart.regs w []) (sym h.changes.makes) ∙ ap (λ (l : List ℕ). serve_of i x.hart.regs x.hart.mem l) (sym h.rest)
 
 fetched_there : (isa : Isa) (loaded : Memory) (x : Machine) (place : MachinePlace) → IsPlaceOf isa loaded x place →
-    fetched isa (memory_at loaded place) place.pc ≡ fetched isa x.hart.mem x.hart.pc
-fetched_there isa loaded x place h = ap (λ (n : ℕ). fetched isa (memory_at loaded place) n) h.pc
+    fetched isa (machine_memory loaded place) place.pc ≡ fetched isa x.hart.mem x.hart.pc
+fetched_there isa loaded x place h = ap (λ (n : ℕ). fetched isa (machine_memory loaded place) n) h.pc
     ∙ ap (λ (w : Memory). fetched isa w x.hart.pc) (sym h.changes.makes)
 
 served_rightly : (isa : Isa) (loaded : Memory) (x : Machine) (place : MachinePlace) (s : State) (p : Passenger) → IsPlaceOf isa loaded x place →
-    IsServedAs isa loaded place s.regs s.mem p → IsServedRightly isa x (alone s) p
+    IsServedAs isa loaded place s.regs s.mem p → IsServedRightly isa x (lone_moment s) p
 served_rightly isa loaded x place s p h r = record {
   pc = r.pc ∙ h.pc;
   what = sym (fetched_there isa loaded x place h) ∙ r.what;
@@ -141,7 +141,7 @@ served_rightly isa loaded x place s p h r = record {
 }
 
 served_as : (isa : Isa) (loaded : Memory) (x : Machine) (place : MachinePlace) (s : State) (p : Passenger) → IsPlaceOf isa loaded x place →
-    IsServedRightly isa x (alone s) p → IsServedAs isa loaded place s.regs s.mem p
+    IsServedRightly isa x (lone_moment s) p → IsServedAs isa loaded place s.regs s.mem p
 served_as isa loaded x place s p h r = record {
   pc = r.pc ∙ sym h.pc;
   what = fetched_there isa loaded x place h ∙ r.what;
@@ -149,26 +149,26 @@ served_as isa loaded x place s p h r = record {
 }
 
 served_wrongly : (loaded : Memory) (plan : Plan) (x : Machine) (place : MachinePlace) (s : State) → IsPlaceOf (isa_of plan) loaded x place →
-    IsServedApart (isa_of plan) loaded place s.regs s.mem (at_top plan s) → IsServedWrongly plan x (alone s)
+    IsServedApart (isa_of plan) loaded place s.regs s.mem (at_top plan s) → IsServedWrongly plan x (lone_moment s)
 served_wrongly loaded plan x place s h w = go (cell_at s.cells plan.stages) refl w where
   sat : (c : Cell) (o : Option Passenger) → cell_at s.cells plan.stages ≡ Some c → c.passenger ≡ o →
-      IsServedApart (isa_of plan) loaded place s.regs s.mem o → IsServedWrongly plan x (alone s)
+      IsServedApart (isa_of plan) loaded place s.regs s.mem o → IsServedWrongly plan x (lone_moment s)
   sat c None e f w = absurd w
   sat c (Some p) e f w = record { here = c; at_here = e; who = p; sits = f; otherwise = λ r. w (served_as (isa_of plan) loaded x place s p h r) }
 
   go : (o : Option Cell) → cell_at s.cells plan.stages ≡ o → IsServedApart (isa_of plan) loaded place s.regs s.mem (on o None (λ c. c.passenger)) →
-      IsServedWrongly plan x (alone s)
+      IsServedWrongly plan x (lone_moment s)
   go None e w = absurd w
   go (Some c) e w = sat c c.passenger e refl w
 
 served_apart : (loaded : Memory) (plan : Plan) (x : Machine) (place : MachinePlace) (s : State) → IsPlaceOf (isa_of plan) loaded x place →
-    IsServedWrongly plan x (alone s) → IsServedApart (isa_of plan) loaded place s.regs s.mem (at_top plan s)
+    IsServedWrongly plan x (lone_moment s) → IsServedApart (isa_of plan) loaded place s.regs s.mem (at_top plan s)
 served_apart loaded plan x place s h w =
     let top : at_top plan s ≡ Some w.who = ap (λ (o : Option Cell). on o None (λ c. c.passenger)) w.at_here ∙ w.sits in
     subst (IsServedApart (isa_of plan) loaded place s.regs s.mem) (sym top) (λ r. w.otherwise (served_rightly (isa_of plan) loaded x place s w.who h r))
 
 pub serves_wrongly : (loaded : Memory) (plan : Plan) (x : Machine) (place : MachinePlace) (s : State) (m : Move) → IsPlaceOf (isa_of plan) loaded x place →
-    IsServeThat m (IsServedApart (isa_of plan) loaded place s.regs s.mem (at_top plan s)) → ServesWrongly plan x (alone s) m
+    IsServeThat m (IsServedApart (isa_of plan) loaded place s.regs s.mem (at_top plan s)) → ServesWrongly plan x (lone_moment s) m
 serves_wrongly loaded plan x place s (Issue g) h w = absurd w
 serves_wrongly loaded plan x place s Emit h w = absurd w
 serves_wrongly loaded plan x place s (Climb i) h w = absurd w
@@ -185,7 +185,7 @@ serves_wrongly loaded plan x place s ExitMove h w = absurd w
 serves_wrongly loaded plan x place s Serve h w = (refl, served_wrongly loaded plan x place s h w)
 
 pub serves_apart : (loaded : Memory) (plan : Plan) (x : Machine) (place : MachinePlace) (s : State) (m : Move) → IsPlaceOf (isa_of plan) loaded x place →
-    ServesWrongly plan x (alone s) m → IsServeThat m (IsServedApart (isa_of plan) loaded place s.regs s.mem (at_top plan s))
+    ServesWrongly plan x (lone_moment s) m → IsServeThat m (IsServedApart (isa_of plan) loaded place s.regs s.mem (at_top plan s))
 serves_apart loaded plan x place s m h w =
     subst (λ (mv : Move). IsServeThat mv (IsServedApart (isa_of plan) loaded place s.regs s.mem (at_top plan s))) (sym w.0)
     (served_apart loaded plan x place s h w.1)

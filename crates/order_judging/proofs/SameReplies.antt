@@ -4,7 +4,7 @@ use Rattle.std.specs.Prelude.{◌==◌, if◌then◌else◌, not, min}
 use Rattle.mem_regions.specs.Memory.{Memory}
 use Rattle.mem_regions.specs.Ranges.{range_of, can_write}
 use Rattle.rv_inst.specs.declared.instruction.Instr.{Instr}
-use Rattle.rv_machine.specs.Call.{Called, CallAnswer, call, read, read_into, write, write_from, exit, brk, answered, bad_file, bad_address, no_such_call, is_output, is_exit, number_in, first_argument, second_argument, third_argument}
+use Rattle.rv_machine.specs.Call.{Called, CallAnswer, call, read, read_into, write, write_from, exit, brk, answered_alone, bad_file, bad_address, no_such_call, is_output, is_exit, call_number, first_argument, second_argument, third_argument}
 use Rattle.rv_machine.specs.Call as called
 use Rattle.rv_machine.specs.Step.{synchronizes}
 use Rattle.rv_machine.specs.declared.outcome.Served.{Served}
@@ -32,7 +32,8 @@ read_leaves : (fd addr len : ℕ) (mem : Memory) → left_of (read fd addr len m
 unfolding read
 read_leaves fd addr len mem = go (not (fd == 0)) (len == 0) (not (can_write mem addr len)) where
   go : (a b c : Bool) → left_of
-      (if a then answered bad_file mem [] else if b then answered 0 mem [] else if c then answered bad_address mem [] else read_into addr len mem []) ≡ []
+      (if a then answered_alone bad_file mem [] else if b then answered_alone 0 mem [] else if c then answered_alone bad_address mem []
+      else read_into addr len mem []) ≡ []
   go true b c = refl
   go false true c = refl
   go false false true = refl
@@ -41,7 +42,8 @@ read_leaves fd addr len mem = go (not (fd == 0)) (len == 0) (not (can_write mem 
 write_leaves : (fd addr len : ℕ) (mem : Memory) → left_of (write fd addr len mem []) ≡ []
 unfolding write
 write_leaves fd addr len mem = go (not (is_output fd)) (len == 0) (range_of mem addr len) where
-  go : (a b : Bool) (r : Option (List ℕ)) → left_of (if a then answered bad_file mem [] else if b then answered 0 mem [] else write_from r len mem []) ≡ []
+  go : (a b : Bool) (r : Option (List ℕ)) → left_of (if a then answered_alone bad_file mem [] else if b then answered_alone 0 mem []
+      else write_from r len mem []) ≡ []
   go true b r = refl
   go false true r = refl
   go false false None = refl
@@ -49,11 +51,11 @@ write_leaves fd addr len mem = go (not (is_output fd)) (len == 0) (range_of mem 
 
 call_leaves : (regs : List ℕ) (mem : Memory) → left_of (call regs mem []) ≡ []
 unfolding call
-call_leaves regs mem = go (number_in regs == 63) (number_in regs == 64) (is_exit (number_in regs)) (number_in regs == 214) where
+call_leaves regs mem = go (call_number regs == 63) (call_number regs == 64) (is_exit (call_number regs)) (call_number regs == 214) where
   go : (r w e b : Bool) → left_of
       (if r then read (first_argument regs) (second_argument regs) (third_argument regs) mem [] else
       if w then write (first_argument regs) (second_argument regs) (third_argument regs) mem [] else
-      if e then exit (first_argument regs) else if b then brk (first_argument regs) mem [] else answered no_such_call mem []) ≡ []
+      if e then exit (first_argument regs) else if b then brk (first_argument regs) mem [] else answered_alone no_such_call mem []) ≡ []
   go true w e b = read_leaves (first_argument regs) (second_argument regs) (third_argument regs) mem
   go false true e b = write_leaves (first_argument regs) (second_argument regs) (third_argument regs) mem
   go false false true b = refl

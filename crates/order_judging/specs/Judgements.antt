@@ -19,7 +19,7 @@ use Rattle.order_model.specs.RuleMoves.{retires_without}
 use Rattle.order_machine.specs.declared.stepping.NextStep.{NextStep}
 use Rattle.order_machine.specs.Judgements.{EndsWithState, RestsAs}
 use Rattle.order_machine.specs.Waypoints.{MachinePlace}
-use Rattle.order_judging.specs.Places.{memory_at, next_lines}
+use Rattle.order_judging.specs.Places.{machine_memory, next_lines}
 
 -- the two lines have the same address, instruction and destination
 abbrev pub HasPartsOf : Line → Line → Type 0
@@ -47,8 +47,8 @@ EndsApart place (Some e) regs changes = EndsWithState place e regs changes → �
 -- the instruction is the machine's next one, and is answered with these registers in this memory as it is answered there
 pub record IsServedAs (isa : Isa) (loaded : Memory) (place : MachinePlace) (regs : List ℕ) (mem : Memory) (p : Passenger) : Type 0 where
   pub pc : p.pc ≡ place.pc
-  pub what : fetched isa (memory_at loaded place) place.pc ≡ Got (instruction p)
-  pub answer : serve_of (instruction p) regs mem [] ≡ serve_of (instruction p) place.regs (memory_at loaded place) []
+  pub what : fetched isa (machine_memory loaded place) place.pc ≡ Got (instruction p)
+  pub answer : serve_of (instruction p) regs mem [] ≡ serve_of (instruction p) place.regs (machine_memory loaded place) []
 
 -- the instruction of the highest stage
 abbrev pub at_top : Plan → State → Option Passenger

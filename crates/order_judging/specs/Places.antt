@@ -19,8 +19,8 @@ pub record IsPlaceOf (isa : Isa) (loaded : Memory) (x : Machine) (place : Machin
   pub next : IsStepOf isa x place.next
 
 -- the memory of the machine there
-abbrev pub memory_at : Memory → MachinePlace → Memory
-memory_at loaded place = memory_after place.changes loaded
+abbrev pub machine_memory : Memory → MachinePlace → Memory
+machine_memory loaded place = memory_after place.changes loaded
 
 -- the line of its next step, where that retires an instruction
 abbrev pub next_lines : Isa → NextStep → List Line

@@ -4,7 +4,7 @@ ghost use Rattle.std.specs.Prelude.{◌≡◌, IfOk};
 ghost use Rattle.cf_semantics.specs.state.Layouts.{isa_of as set_of};
 ghost use Rattle.mem_changes.specs.Differing.{AreChanges, AreChangesOf};
 ghost use Rattle.mem_regions.specs.Memory.{Memory};
-ghost use Rattle.order_judging.specs.FirstTests.{IsFirstOfMove, IsFirstOfState, IsMoveJudged, IsStateJudged, reached};
+ghost use Rattle.order_judging.specs.FirstTests.{IsFirstOfMove, IsFirstOfState, IsMoveJudged, IsStateJudged, state_reached};
 ghost use Rattle.order_judging.specs.Judgements.{EndsApart, IsServeThat, IsServedApart, RestsApart, RetiresApart, at_top, lines_without};
 ghost use Rattle.order_judging.specs.Places.{IsPlaceOf, next_lines};
 ghost use Rattle.order_model.specs.Situations.{in_memory};
@@ -116,9 +116,9 @@ pub fn judge_move(
 ) -> Result<Option<FailedTest>, AllocError>
     requires changes { AreChangesOf setting.image.now mem.old from.changes.now }
     requires place { AreChanges setting.image.now place.now.changes }
-    requires after { let t = reached setting.away setting.layout.now (in_memory from.situation.now mem.old) m in in_memory after.situation.now t.mem ≡ t }
+    requires after { let t = state_reached setting.away setting.layout.now (in_memory from.situation.now mem.old) m in in_memory after.situation.now t.mem ≡ t }
     requires after_changes { AreChangesOf setting.image.now
-        (reached setting.away setting.layout.now (in_memory from.situation.now mem.old) m).mem after.changes.now }
+        (state_reached setting.away setting.layout.now (in_memory from.situation.now mem.old) m).mem after.changes.now }
     ensures kept { mem.new ≡ mem.old }
     ensures judged { IfOk result (λ found. (x : MachineState) →
         IsPlaceOf (set_of setting.entry.layout.now) setting.entry.image.now x place.now →

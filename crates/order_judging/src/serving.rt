@@ -6,7 +6,7 @@ ghost use Rattle.cf_semantics.specs.moves.Instructions.{Got, fetched as what_is_
 ghost use Rattle.cf_semantics.specs.state.Layouts.{isa_of as set_of};
 ghost use Rattle.mem_changes.specs.Differing.{AreChanges, AreChangesOf};
 ghost use Rattle.order_judging.specs.Judgements.{IsServeThat, IsServedApart, IsServedAs, at_top};
-ghost use Rattle.order_judging.specs.Places.{memory_at};
+ghost use Rattle.order_judging.specs.Places.{machine_memory};
 ghost use Rattle.order_judging.specs.ReplyClaims.{IsReply};
 
 use crate::replies::Reply;
@@ -33,7 +33,7 @@ fn instruction_at(
     requires changes { AreChangesOf image.now mem.old changes.now }
     requires place { AreChanges image.now place.now.changes }
     ensures kept { mem.new ≡ mem.old }
-    ensures what { meant result ≡ what_is_fetched isa (memory_at image.now place.now) place.now.pc }
+    ensures what { meant result ≡ what_is_fetched isa (machine_memory image.now place.now) place.now.pc }
 {
     changes.turn_into(&place.changes, image, mem);
     let what = fetched(isa, mem, place.pc);
@@ -63,8 +63,8 @@ fn reply_at(
     requires changes { AreChangesOf image.now mem.old changes.now }
     requires place { AreChanges image.now place.now.changes }
     ensures kept { mem.new ≡ mem.old }
-    ensures reply { IfOk result (λ a. IsReply image.now (memory_at image.now place.now)
-        (serve_of i place.now.regs (memory_at image.now place.now) []) a) }
+    ensures reply { IfOk result (λ a. IsReply image.now (machine_memory image.now place.now)
+        (serve_of i place.now.regs (machine_memory image.now place.now) []) a) }
 {
     changes.turn_into(&place.changes, image, mem);
     let reply = Reply::to(alloc, image, mem, &place.changes, i, &place.regs);
@@ -87,7 +87,7 @@ fn is_answered_as(
     requires place { AreChanges image.now place.now.changes }
     ensures kept { mem.new ≡ mem.old }
     ensures same { IfOk result (λ same. IsTrue same
-        ↔ (serve_of i regs.now mem.old [] ≡ serve_of i place.now.regs (memory_at image.now place.now) [])) }
+        ↔ (serve_of i regs.now mem.old [] ≡ serve_of i place.now.regs (machine_memory image.now place.now) [])) }
 {
     let _ = image.memory();
     let here = Reply::to(alloc, image, mem, changes, i, regs)?;

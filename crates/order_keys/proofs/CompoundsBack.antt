@@ -1,7 +1,7 @@
 -- Pairs, optional values and lists are read back where what they hold is.
 use Rattle.std.proofs.Common.{◌≡◌, ℕ, Option, None, Some, List, ◌++◌, refl, append_assoc}
 use Rattle.order_keys.specs.Unpacked.{Unpacked, got, ReadsBack}
-use Rattle.order_keys.specs.Numbers.{front, behind}
+use Rattle.order_keys.specs.Numbers.{leading_byte, behind}
 use Rattle.order_keys.specs.Compounds.{packed_pair, unpacked_pair, packed_triple, unpacked_triple, packed_option, unpacked_option}
 
 pub pair_back : {A B : Type 0} {p : A → List ℕ} {q : B → List ℕ} {u : List ℕ → Unpacked A} {v : List ℕ → Unpacked B} →
@@ -17,7 +17,7 @@ triple_back a b c = record { back = λ x rest. simp (append_assoc, a.back, b.bac
 
 option_reads : {A : Type 0} {p : A → List ℕ} {u : List ℕ → Unpacked A} → ReadsBack p u → (x : Option A) (rest : List ℕ) →
     unpacked_option u (packed_option p x ++ rest) ≡ got x rest
-unfolding packed_option unpacked_option front behind
+unfolding packed_option unpacked_option leading_byte behind
 option_reads a None rest = refl
 option_reads a (Some x) rest = simp a.back refl
 

@@ -1,15 +1,15 @@
 -- What a slice pattern says of the first byte and of those behind it.
 use Rattle.std.proofs.Common.{◌≡◌, ℕ, ◌-◌, ◌<◌, ◌≤◌, List, [], ◌∷◌, length, get_or, take, drop, refl, arith}
 use Rattle.std.proofs.Math.Seq.{take-length}
-use Rattle.order_keys.specs.Numbers.{front, behind}
+use Rattle.order_keys.specs.Numbers.{leading_byte, behind}
 
-pub front_read : (bs : List ℕ) → get_or bs 0 0 ≡ front bs
-unfolding front
+pub front_read : (bs : List ℕ) → get_or bs 0 0 ≡ leading_byte bs
+unfolding leading_byte
 front_read [] = refl
 front_read (b ∷ bs) = refl
 
-pub front_none : (bs : List ℕ) → length bs < 1 → front bs ≡ 0
-unfolding front
+pub front_none : (bs : List ℕ) → length bs < 1 → leading_byte bs ≡ 0
+unfolding leading_byte
 front_none [] h = refl
 front_none (b ∷ bs) h = absurd (omega arith)
 

@@ -7,8 +7,8 @@ use Rattle.order_keys.specs.Unpacked.{Unpacked, got, ReadsBack}
 use Rattle.order_keys.specs.Compounds.{packed_triple, unpacked_triple}
 use Rattle.order_keys.specs.Lists.{packed_items, packed_list, unpacked_items, unpacked_list}
 use Rattle.order_keys.specs.Memories.{packed_change, unpacked_change, packed_changes, unpacked_changes}
-use Rattle.order_keys.specs.Situations.{packed_sidings, unpacked_sidings, packed_pipes, unpacked_pipes, pipes_of, packed_fetching, unpacked_fetching, fetching_of, packed_past, unpacked_past, past_of, packed_situation, unpacked_situation, bare}
-use Rattle.order_keys.specs.Keys.{key_of, unpacked_node, node_of, bare_node, KeysAreReadBack, KeysTellApart}
+use Rattle.order_keys.specs.Situations.{packed_sidings, unpacked_sidings, packed_pipes, unpacked_pipes, pipes_of, packed_fetching, unpacked_fetching, fetching_of, packed_past, unpacked_past, past_of, packed_situation, unpacked_situation, without_memory}
+use Rattle.order_keys.specs.Keys.{key_of_node, unpacked_node, node_of, bare_node, KeysAreReadBack, KeysTellApart}
 use Rattle.order_keys.proofs.NumbersBack.{byte_back, word_back, long_back}
 use Rattle.order_keys.proofs.CompoundsBack.{pair_back, triple_back, option_back}
 use Rattle.order_keys.proofs.StagesBack.{fetch_back, end_back, cell_back, op_back}
@@ -50,18 +50,18 @@ past_back : ReadsBack packed_past unpacked_past
 unfolding packed_past unpacked_past
 past_back = record { back = λ x rest. (pair_back long_back (option_back end_back)).back x rest }
 
-situation_read : (s : State) (rest : List ℕ) → unpacked_situation (packed_situation s ++ rest) ≡ got (bare s) rest
+situation_read : (s : State) (rest : List ℕ) → unpacked_situation (packed_situation s ++ rest) ≡ got (without_memory s) rest
 unfolding packed_situation unpacked_situation
 situation_read s rest =
     simp ((triple_back pipes_back fetching_back past_back).back (pipes_of s, fetching_of s, past_of s) rest) refl
 
-node_read : (n : Node) (rest : List ℕ) → unpacked_node (key_of n ++ rest) ≡ got (bare_node n) rest
-unfolding key_of unpacked_node packed_triple unpacked_triple
+node_read : (n : Node) (rest : List ℕ) → unpacked_node (key_of_node n ++ rest) ≡ got (bare_node n) rest
+unfolding key_of_node unpacked_node packed_triple unpacked_triple
 node_read n rest = simp (append_assoc, situation_read n.situation, changes_back.back, byte_back.back) refl
 
 pub read_back : KeysAreReadBack
 unfolding node_of
-read_back n = ap (λ (x : Unpacked Node). x.value) (rw (append-nil (key_of n)) at (node_read n []))
+read_back n = ap (λ (x : Unpacked Node). x.value) (rw (append-nil (key_of_node n)) at (node_read n []))
 
 pub told_apart : KeysTellApart
 told_apart n m e = sym (read_back n) ∙ (ap node_of e ∙ read_back m)

@@ -2,17 +2,17 @@
 use Rattle.std.proofs.Common.{◌≡◌, ℕ, ◌+◌, ◌*◌, ◌/◌, ◌%◌, ◌^◌, ℤ, pos, negsuc, Bool, true, false, nat_lt, List, ◌++◌, refl, ap, append_assoc, arith, ◌==◌}
 use Rattle.std.proofs.lemmas.Bool.Decides.{nat_tests}
 use Rattle.order_keys.specs.Unpacked.{got, ReadsBack}
-use Rattle.order_keys.specs.Numbers.{front, behind, packed_byte, unpacked_byte, packed_bit, unpacked_bit, packed_two, unpacked_two, packed_four, unpacked_four, packed_word, unpacked_word, packed_eight, unpacked_eight, packed_long, unpacked_long, folded, unfolded, packed_signed, unpacked_signed}
+use Rattle.order_keys.specs.Numbers.{leading_byte, behind, packed_byte, unpacked_byte, packed_bit, unpacked_bit, packed_two, unpacked_two, packed_four, unpacked_four, packed_word, unpacked_word, packed_eight, unpacked_eight, packed_long, unpacked_long, folded, unfolded, packed_signed, unpacked_signed}
 
 byte_reads : (x : ℕ) (rest : List ℕ) → unpacked_byte (packed_byte x ++ rest) ≡ got x rest
-unfolding packed_byte unpacked_byte front behind
+unfolding packed_byte unpacked_byte leading_byte behind
 byte_reads x rest = refl
 
 pub byte_back : ReadsBack packed_byte unpacked_byte
 byte_back = record { back = byte_reads }
 
 bit_reads : (x : Bool) (rest : List ℕ) → unpacked_bit (packed_bit x ++ rest) ≡ got x rest
-unfolding packed_bit unpacked_bit front behind
+unfolding packed_bit unpacked_bit leading_byte behind
 bit_reads true rest = refl
 bit_reads false rest = refl
 
@@ -20,7 +20,7 @@ pub bit_back : ReadsBack packed_bit unpacked_bit
 bit_back = record { back = bit_reads }
 
 two_reads : (x : ℕ) (rest : List ℕ) → unpacked_two (packed_two x ++ rest) ≡ got x rest
-unfolding packed_two unpacked_two front behind
+unfolding packed_two unpacked_two leading_byte behind
 two_reads x rest = let e : x % 256 + 256 * (x / 256) ≡ x = omega arith in ap (λ n. got n rest) e
 
 pub two_back : ReadsBack packed_two unpacked_two
@@ -46,7 +46,7 @@ eight_back = record { back = eight_reads }
 
 word_cases : (x : ℕ) (rest : List ℕ) (tiny small : Bool) → nat_lt x 253 ≡ tiny → nat_lt x 65536 ≡ small →
     unpacked_word (packed_word x ++ rest) ≡ got x rest
-unfolding packed_word unpacked_word front behind
+unfolding packed_word unpacked_word leading_byte behind
 word_cases x rest true small p q = simp (p) refl
 word_cases x rest false true p q = simp (p, q) (two_reads x rest)
 word_cases x rest false false p q = simp (p, q) (four_reads x rest)
@@ -59,15 +59,15 @@ word_back = record { back = word_reads }
 
 -- no word begins as a long number does
 word_front : (x : ℕ) (rest : List ℕ) (tiny small : Bool) → nat_lt x 253 ≡ tiny → nat_lt x 65536 ≡ small →
-    (front (packed_word x ++ rest) == 255) ≡ false
-unfolding packed_word front
+    (leading_byte (packed_word x ++ rest) == 255) ≡ false
+unfolding packed_word leading_byte
 word_front x rest true small p q = simp p (grind (arith, nat_tests))
 word_front x rest false true p q = simp (p, q) refl
 word_front x rest false false p q = simp (p, q) refl
 
 long_cases : (x : ℕ) (rest : List ℕ) (small : Bool) → nat_lt x (2 ^ 32) ≡ small →
     unpacked_long (packed_long x ++ rest) ≡ got x rest
-unfolding packed_long unpacked_long front behind
+unfolding packed_long unpacked_long leading_byte behind
 long_cases x rest true p =
     let e = word_front x rest (nat_lt x 253) (nat_lt x 65536) refl refl in
     simp (p, e) (word_reads x rest)

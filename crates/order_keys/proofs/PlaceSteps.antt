@@ -4,11 +4,11 @@ use Rattle.std.proofs.Math.ListN.{drop_of_length-le}
 use Rattle.std.proofs.lemmas.List.{append-nil}
 use Rattle.order_keys.specs.Unpacked.{Unpacked, got}
 use Rattle.order_keys.specs.Numbers.{packed_long, unpacked_long}
-use Rattle.order_keys.specs.Places.{PlaceRead, packed_runs, next_place, unpacked_runs, unpacked_places, held}
+use Rattle.order_keys.specs.Places.{PlaceRead, packed_runs, next_place, unpacked_runs, unpacked_places, register_place}
 
 -- the registers from one on are that register and those behind it
 pub one_register : (empty : ℕ) (xs : List ℕ) (i d : ℕ) → i < length xs →
-    packed_runs empty (map held (drop i xs)) ≡ packed_runs empty (held (get_or xs i d) ∷ map held (drop (i + 1) xs))
+    packed_runs empty (map register_place (drop i xs)) ≡ packed_runs empty (register_place (get_or xs i d) ∷ map register_place (drop (i + 1) xs))
 one_register empty xs i d h = rw (add-one, drop-cons xs i d) refl
 
 -- the places from one on are that place and those behind it
@@ -27,7 +27,7 @@ all_packed xs i empty key key' whole h k so_far =
 
 -- all registers are appended
 pub all_registers : (xs : List ℕ) (i empty : ℕ) (key key' whole : List ℕ) →
-    length xs ≤ i → key' ≡ key ++ packed_long empty → key ++ packed_runs empty (map held (drop i xs)) ≡ whole → key' ≡ whole
+    length xs ≤ i → key' ≡ key ++ packed_long empty → key ++ packed_runs empty (map register_place (drop i xs)) ≡ whole → key' ≡ whole
 unfolding packed_runs
 all_registers xs i empty key key' whole h k so_far =
     let none : drop i xs ≡ [] = drop_of_length-le xs h in

@@ -3,7 +3,7 @@ use Rattle.std.proofs.Common.{◌≡◌, ℕ, zero, suc, ◌+◌, ◌==◌, Bool
 use Rattle.std.proofs.lemmas.Bool.Decides.{nat_tests}
 use Rattle.order_keys.specs.Unpacked.{got, ReadsBack}
 use Rattle.order_keys.specs.Numbers.{packed_word, packed_long, unpacked_long}
-use Rattle.order_keys.specs.Places.{packed_runs, packed_places, next_place, unpacked_runs, unpacked_places, held, held_in, packed_registers, unpacked_registers}
+use Rattle.order_keys.specs.Places.{packed_runs, packed_places, next_place, unpacked_runs, unpacked_places, register_place, held_in, packed_registers, unpacked_registers}
 use Rattle.order_keys.proofs.NumbersBack.{word_back, long_back}
 
 -- this many empty places in front
@@ -67,14 +67,14 @@ places_read places rest =
 pub places_back : ReadsBack packed_places unpacked_places
 places_back = record { back = places_read }
 
-held_cases : (n : ℕ) (none : Bool) → (n == 0) ≡ none → held_in (held n) ≡ n
+held_cases : (n : ℕ) (none : Bool) → (n == 0) ≡ none → held_in (register_place n) ≡ n
 held_cases n true h = let e : n ≡ 0 = grind (arith, nat_tests) in simp h (sym e)
 held_cases n false h = simp h refl
 
-all_held : (regs : List ℕ) → map held_in (map held regs) ≡ regs
+all_held : (regs : List ℕ) → map held_in (map register_place regs) ≡ regs
 all_held [] = refl
 all_held (n ∷ regs) = simp (held_cases n (n == 0) refl, all_held regs) refl
 
 pub registers_back : ReadsBack packed_registers unpacked_registers
 unfolding packed_registers unpacked_registers
-registers_back = record { back = λ regs rest. simp (places_back.back (map held regs) rest, all_held regs) refl }
+registers_back = record { back = λ regs rest. simp (places_back.back (map register_place regs) rest, all_held regs) refl }

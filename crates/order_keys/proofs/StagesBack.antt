@@ -12,7 +12,7 @@ use Rattle.cf_bind.specs.declared.passenger.Passenger.{Passenger}
 use Rattle.cf_bind.specs.declared.cell.Cell.{Cell}
 use Rattle.order_keys.specs.declared.passenger_flags.PassengerFlags.{PassengerFlags}
 use Rattle.order_keys.specs.Unpacked.{got, ReadsBack}
-use Rattle.order_keys.specs.Numbers.{front, behind}
+use Rattle.order_keys.specs.Numbers.{leading_byte, behind}
 use Rattle.order_keys.specs.Bindings.{packed_binding, unpacked_binding}
 use Rattle.order_keys.specs.Results.{packed_packet, unpacked_packet, packed_fetch, unpacked_fetch}
 use Rattle.order_keys.specs.PassengerFlags.{packed_flags, unpacked_flags}
@@ -27,7 +27,7 @@ unfolding packed_binding unpacked_binding
 binding_back = record { back = λ b rest. simp ((pair_back byte_back (option_back word_back)).back (b.reg, b.value) rest) refl }
 
 packet_reads : (x : Packet) (rest : List ℕ) → unpacked_packet (packed_packet x ++ rest) ≡ got x rest
-unfolding packed_packet unpacked_packet front behind
+unfolding packed_packet unpacked_packet leading_byte behind
 packet_reads (Value reg value) rest = simp ((pair_back byte_back word_back).back (reg, value) rest) refl
 packet_reads (Turn target) rest = simp (word_back.back target rest) refl
 packet_reads Halt rest = refl
@@ -36,7 +36,7 @@ pub packet_back : ReadsBack packed_packet unpacked_packet
 packet_back = record { back = packet_reads }
 
 fetch_reads : (x : Fetch) (rest : List ℕ) → unpacked_fetch (packed_fetch x ++ rest) ≡ got x rest
-unfolding packed_fetch unpacked_fetch front behind
+unfolding packed_fetch unpacked_fetch leading_byte behind
 fetch_reads (Running pc) rest = simp (word_back.back pc rest) refl
 fetch_reads Waiting rest = refl
 
@@ -44,7 +44,7 @@ pub fetch_back : ReadsBack packed_fetch unpacked_fetch
 fetch_back = record { back = fetch_reads }
 
 guess_reads : (x : Guess) (rest : List ℕ) → unpacked_guess (packed_guess x ++ rest) ≡ got x rest
-unfolding packed_guess unpacked_guess front behind
+unfolding packed_guess unpacked_guess leading_byte behind
 guess_reads Next rest = refl
 guess_reads Taken rest = refl
 guess_reads Wait rest = refl
@@ -54,7 +54,7 @@ pub guess_back : ReadsBack packed_guess unpacked_guess
 guess_back = record { back = guess_reads }
 
 end_reads : (x : End) (rest : List ℕ) → unpacked_end (packed_end x ++ rest) ≡ got x rest
-unfolding packed_end unpacked_end front behind
+unfolding packed_end unpacked_end leading_byte behind
 end_reads (Trap cause pc detail) rest = simp ((triple_back byte_back word_back word_back).back (cause, pc, detail) rest) refl
 end_reads (Exit status) rest = simp (byte_back.back status rest) refl
 
@@ -64,7 +64,7 @@ end_back = record { back = end_reads }
 flags_read : (done launched recovered dead : Bool) (rest : List ℕ) →
     let p : PassengerFlags = record { done = done; launched = launched; recovered = recovered; dead = dead } in
     unpacked_flags (packed_flags p ++ rest) ≡ got p rest
-unfolding packed_flags unpacked_flags front behind
+unfolding packed_flags unpacked_flags leading_byte behind
 flags_read true true true true rest = refl
 flags_read true true true false rest = refl
 flags_read true true false true rest = refl
@@ -106,7 +106,7 @@ contents_back = triple_back (option_back passenger_back) (option_back packet_bac
 cell_reads : (passenger : Option Passenger) (packet : Option Packet) (met : Bool) (rest : List ℕ) →
     let c : Cell = record { passenger = passenger; packet = packet; met = met } in
     unpacked_cell (packed_cell c ++ rest) ≡ got c rest
-unfolding packed_cell unpacked_cell front behind
+unfolding packed_cell unpacked_cell leading_byte behind
 cell_reads None None false rest = refl
 cell_reads None None true rest = simp (contents_back.back (None, None, true) rest) refl
 cell_reads None (Some k) met rest = simp (contents_back.back (None, Some k, met) rest) refl

@@ -15,7 +15,7 @@ use Rattle.order_keys.specs.declared.node.Node.{Node}
 use Rattle.order_keys.specs.Compounds.{packed_triple}
 use Rattle.order_keys.specs.Situations.{packed_sidings, packed_pipes, packed_fetching, fetching_of, packed_past, past_of, packed_situation}
 use Rattle.order_keys.specs.Memories.{packed_changes}
-use Rattle.order_keys.specs.Keys.{key_of}
+use Rattle.order_keys.specs.Keys.{key_of_node}
 use Rattle.order_keys.specs.Beside.{DiffersWithin}
 use Rattle.order_keys.specs.Stages.{lefts_from, lefts_of}
 use Rattle.order_keys.proofs.NumbersBack.{long_back}
@@ -23,7 +23,8 @@ use Rattle.order_keys.proofs.StagesBack.{cell_back}
 use Rattle.order_keys.proofs.PlacesRead.{taken_all}
 
 -- the bytes of stages one behind the other, cut in two
-pub items_cut : (cells : List Cell) (i : ℕ) → packed_items packed_cell (take i cells) ++ packed_items packed_cell (drop i cells) ≡ packed_items packed_cell cells
+pub items_cut : (cells : List Cell) (i : ℕ) → packed_items packed_cell (take i cells) ++ packed_items packed_cell (drop i cells) ≡ packed_items packed_cell
+    cells
 unfolding packed_items
 items_cut cells zero = refl
 items_cut [] (suc i) = refl
@@ -48,8 +49,8 @@ behind_stages n =
     packed_sidings n.situation.sidings ++ (packed_list packed_byte n.situation.lane ++ (packed_fetching (fetching_of n.situation)
     ++ (packed_past (past_of n.situation) ++ (packed_changes n.changes ++ packed_byte n.issues))))
 
-pub key_split : (n : Node) → key_of n ≡ packed_long (length n.situation.cells) ++ (packed_items packed_cell n.situation.cells ++ behind_stages n)
-unfolding key_of packed_triple packed_situation packed_pipes packed_list
+pub key_split : (n : Node) → key_of_node n ≡ packed_long (length n.situation.cells) ++ (packed_items packed_cell n.situation.cells ++ behind_stages n)
+unfolding key_of_node packed_triple packed_situation packed_pipes packed_list
 key_split n = simp append_assoc refl
 
 items_append : (xs ys : List Cell) → packed_items packed_cell (xs ++ ys) ≡ packed_items packed_cell xs ++ packed_items packed_cell ys
@@ -76,7 +77,7 @@ cut_again a b c d = simp append_assoc refl
 joined_again : (a b c d e : List ℕ) → ((a ++ b) ++ c) ++ (d ++ e) ≡ a ++ ((b ++ (c ++ d)) ++ e)
 joined_again a b c d e = simp append_assoc refl
 
-module _ (n : Node) (key lefts : List ℕ) (is : key ≡ key_of n) (there : lefts ≡ lefts_of key) where
+module _ (n : Node) (key lefts : List ℕ) (is : key ≡ key_of_node n) (there : lefts ≡ lefts_of key) where
   split : key ≡ packed_long (length n.situation.cells) ++ (packed_items packed_cell n.situation.cells ++ behind_stages n)
   split = is ∙ key_split n
 
@@ -97,7 +98,8 @@ module _ (n : Node) (key lefts : List ℕ) (is : key ≡ key_of n) (there : left
 
   cut_at : (i : ℕ) → key ≡ front_of i ++ back_of i
   cut_at i = split ∙ ap (λ (l : List ℕ). packed_long (length n.situation.cells) ++ (l ++ behind_stages n)) (sym (items_cut n.situation.cells i))
-      ∙ cut_again (packed_long (length n.situation.cells)) (packed_items packed_cell (take i n.situation.cells)) (packed_items packed_cell (drop i n.situation.cells))
+      ∙ cut_again (packed_long (length n.situation.cells)) (packed_items packed_cell (take i n.situation.cells))
+      (packed_items packed_cell (drop i n.situation.cells))
       (behind_stages n)
 
   long_front : (i : ℕ) → i ≤ length n.situation.cells → length (front_of i) + slice_index lefts i ≡ length key
@@ -132,7 +134,7 @@ same_behind low high before n d =
 pub put_together : (low high : ℕ) (before n : Node) → low ≤ high → DiffersWithin low high before n →
     ((packed_long (length before.situation.cells) ++ packed_items packed_cell (take low before.situation.cells))
     ++ packed_items packed_cell (between low high n.situation.cells))
-    ++ (packed_items packed_cell (drop high before.situation.cells) ++ behind_stages before) ≡ key_of n
+    ++ (packed_items packed_cell (drop high before.situation.cells) ++ behind_stages before) ≡ key_of_node n
 put_together low high before n order d =
     let cells = n.situation.cells in
     let items : packed_items packed_cell (take low cells) ++ (packed_items packed_cell (between low high cells) ++ packed_items packed_cell (drop high cells))
@@ -176,7 +178,7 @@ pub written_back : (n : ℕ) (cells items : List Cell) → length cells ≡ n �
 written_back n cells items e = take_at cells (drop (length cells) items) n e
 
 -- where stages begin that are in the key
-module _ (before n : Node) (key lefts : List ℕ) (low high : ℕ) (is : key ≡ key_of before) (there : lefts ≡ lefts_of key) (order : low ≤ high)
+module _ (before n : Node) (key lefts : List ℕ) (low high : ℕ) (is : key ≡ key_of_node before) (there : lefts ≡ lefts_of key) (order : low ≤ high)
     (inside : high ≤ length n.situation.cells) (d : DiffersWithin low high before n) where
   high_there : high ≤ length before.situation.cells
   high_there = subst (λ k. high ≤ k) d.as_many inside
@@ -197,6 +199,6 @@ module _ (before n : Node) (key lefts : List ℕ) (low high : ℕ) (is : key ≡
   high_fits = left_fits before key lefts is there high high_there
 
   pub whole_key : ((take (length key - slice_index lefts low) key ++ packed_items packed_cell (between low high n.situation.cells))
-      ++ drop (length key - slice_index lefts high) key) ≡ key_of n
+      ++ drop (length key - slice_index lefts high) key) ≡ key_of_node n
   whole_key = rw (front_is before key lefts is there low low_there, back_is before key lefts is there high high_there)
       (put_together low high before n order d)

@@ -7,15 +7,15 @@ use Rattle.cf_bind.specs.declared.packet.Packet.{Packet}
 use Rattle.cf_bind.specs.declared.passenger.Passenger.{Passenger}
 use Rattle.cf_semantics.specs.state.Options.{is_some}
 use Rattle.order_keys.specs.Unpacked.{Unpacked, got, as_read}
-use Rattle.order_keys.specs.Numbers.{front, behind, packed_bit, unpacked_bit, packed_word, unpacked_word}
+use Rattle.order_keys.specs.Numbers.{leading_byte, behind, packed_bit, unpacked_bit, packed_word, unpacked_word}
 use Rattle.order_keys.specs.Compounds.{packed_pair, unpacked_pair, packed_triple, unpacked_triple, packed_option, unpacked_option}
 use Rattle.order_keys.specs.Instructions.{packed_instr, unpacked_instr}
 use Rattle.order_keys.specs.Results.{packed_packet, unpacked_packet}
 use Rattle.order_keys.specs.Passengers.{packed_passenger, unpacked_passenger}
 
 -- the stage is as it is with nothing in it
-abbrev pub is_empty : Cell → Bool
-is_empty c = not (is_some c.passenger) && not (is_some c.packet) && not c.met
+abbrev pub is_empty_stage : Cell → Bool
+is_empty_stage c = not (is_some c.passenger) && not (is_some c.packet) && not c.met
 
 -- what the stage holds, and whether its two have met
 abbrev pub packed_contents : Option Passenger × Option Packet × Bool → List ℕ
@@ -26,7 +26,7 @@ unpacked_contents = unpacked_triple (unpacked_option unpacked_passenger) (unpack
 
 -- a stage with nothing in it is one byte
 unfoldable pub packed_cell : Cell → List ℕ
-packed_cell c = if is_empty c then 0 ∷ [] else (1 ∷ []) ++ packed_contents (c.passenger, c.packet, c.met)
+packed_cell c = if is_empty_stage c then 0 ∷ [] else (1 ∷ []) ++ packed_contents (c.passenger, c.packet, c.met)
 
 abbrev pub empty_cell : Cell
 empty_cell = record { passenger = None; packet = None; met = false }
@@ -35,7 +35,7 @@ abbrev pub cell_of : Option Passenger × Option Packet × Bool → Cell
 cell_of x = record { passenger = x.0; packet = x.1; met = x.2 }
 
 unfoldable pub unpacked_cell : List ℕ → Unpacked Cell
-unpacked_cell bs = if front bs == 0 then got empty_cell (behind bs) else as_read cell_of (unpacked_contents (behind bs))
+unpacked_cell bs = if leading_byte bs == 0 then got empty_cell (behind bs) else as_read cell_of (unpacked_contents (behind bs))
 
 -- the address and the instruction of an operation
 abbrev pub packed_source : ℕ × Instr → List ℕ

@@ -1,7 +1,7 @@
 -- Pairs, optional values and lists as bytes, from the bytes of what they hold.
 use Rattle.std.specs.Prelude.{ℕ, ◌==◌, if◌then◌else◌, Option, None, Some, List, [], ◌∷◌, ◌++◌}
 use Rattle.order_keys.specs.Unpacked.{Unpacked, got, as_read}
-use Rattle.order_keys.specs.Numbers.{front, behind}
+use Rattle.order_keys.specs.Numbers.{leading_byte, behind}
 
 -- the first, then the second
 unfoldable pub packed_pair : {A B : Type 0} → (A → List ℕ) → (B → List ℕ) → A × B → List ℕ
@@ -31,4 +31,4 @@ packed_option packed None = 0 ∷ []
 packed_option packed (Some x) = (1 ∷ []) ++ packed x
 
 unfoldable pub unpacked_option : {A : Type 0} → (List ℕ → Unpacked A) → List ℕ → Unpacked (Option A)
-unpacked_option unpacked bs = if front bs == 0 then got None (behind bs) else as_read Some (unpacked (behind bs))
+unpacked_option unpacked bs = if leading_byte bs == 0 then got None (behind bs) else as_read Some (unpacked (behind bs))

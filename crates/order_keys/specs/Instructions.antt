@@ -3,7 +3,7 @@ use Rattle.std.specs.Prelude.{ℕ, ◌==◌, nat_lt, if◌then◌else◌, ℤ, L
 use Rattle.rv_inst.specs.declared.instruction.Instr.{Instr}
 use Rattle.rv_inst.specs.declared.instruction.Instr.TheVariants.{Lui, Auipc, Jal, Jalr, Branch, Load, Store, OpImm, Op, Fence, Ecall, Ebreak, FenceI, Mul}
 use Rattle.order_keys.specs.Unpacked.{Unpacked, got, as_read}
-use Rattle.order_keys.specs.Numbers.{front, behind, packed_byte, unpacked_byte, packed_word, unpacked_word, packed_signed, unpacked_signed}
+use Rattle.order_keys.specs.Numbers.{leading_byte, behind, packed_byte, unpacked_byte, packed_word, unpacked_word, packed_signed, unpacked_signed}
 use Rattle.order_keys.specs.Compounds.{packed_pair, unpacked_pair, packed_triple, unpacked_triple}
 use Rattle.order_keys.specs.Operations.{packed_cond, unpacked_cond, packed_load, unpacked_load, packed_store, unpacked_store, packed_imm_op, unpacked_imm_op, packed_reg_op, unpacked_reg_op, packed_mul_op, unpacked_mul_op}
 
@@ -100,4 +100,4 @@ near_form form bs =
     got Ebreak bs
 
 unfoldable pub unpacked_instr : List ℕ → Unpacked Instr
-unpacked_instr bs = if nat_lt (front bs) 7 then far_form (front bs) (behind bs) else near_form (front bs) (behind bs)
+unpacked_instr bs = if nat_lt (leading_byte bs) 7 then far_form (leading_byte bs) (behind bs) else near_form (leading_byte bs) (behind bs)

@@ -8,12 +8,12 @@ use Rattle.order_keys.specs.declared.node.Node.{Node}
 use Rattle.order_keys.specs.Unpacked.{Unpacked, as_read}
 use Rattle.order_keys.specs.Numbers.{packed_byte, unpacked_byte}
 use Rattle.order_keys.specs.Compounds.{packed_triple, unpacked_triple}
-use Rattle.order_keys.specs.Situations.{packed_situation, unpacked_situation, bare}
+use Rattle.order_keys.specs.Situations.{packed_situation, unpacked_situation, without_memory}
 use Rattle.order_keys.specs.Memories.{packed_changes, unpacked_changes}
 
 -- the key of a node
-unfoldable pub key_of : Node → List ℕ
-key_of n = packed_triple packed_situation packed_changes packed_byte (n.situation, n.changes, n.issues)
+unfoldable pub key_of_node : Node → List ℕ
+key_of_node n = packed_triple packed_situation packed_changes packed_byte (n.situation, n.changes, n.issues)
 
 abbrev pub node_in : State × MemoryChanges × ℕ → Node
 node_in x = record { situation = x.0; changes = x.1; issues = x.2 }
@@ -46,12 +46,12 @@ blank_node = record {
 
 -- the node, whose state is without a memory
 abbrev pub bare_node : Node → Node
-bare_node n = record n { situation = bare n.situation }
+bare_node n = record n { situation = without_memory n.situation }
 
 -- the node of a node's key is that node
 abbrev pub KeysAreReadBack : Type 0
-KeysAreReadBack = (n : Node) → node_of (key_of n) ≡ bare_node n
+KeysAreReadBack = (n : Node) → node_of (key_of_node n) ≡ bare_node n
 
 -- no two nodes have one key
 abbrev pub KeysTellApart : Type 0
-KeysTellApart = (n m : Node) → key_of n ≡ key_of m → bare_node n ≡ bare_node m
+KeysTellApart = (n m : Node) → key_of_node n ≡ key_of_node m → bare_node n ≡ bare_node m

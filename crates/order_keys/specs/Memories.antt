@@ -11,11 +11,11 @@ use Rattle.order_keys.specs.Lists.{packed_list, unpacked_list}
 unfoldable pub packed_change : Change → List ℕ
 packed_change c = packed_pair packed_word packed_byte (c.addr, c.byte)
 
-abbrev pub change_of : ℕ × ℕ → Change
-change_of x = record { addr = x.0; byte = x.1 }
+abbrev pub change_at : ℕ × ℕ → Change
+change_at x = record { addr = x.0; byte = x.1 }
 
 unfoldable pub unpacked_change : List ℕ → Unpacked Change
-unpacked_change bs = as_read change_of (unpacked_pair unpacked_word unpacked_byte bs)
+unpacked_change bs = as_read change_at (unpacked_pair unpacked_word unpacked_byte bs)
 
 -- the bytes that differ, those of the code that differ, and the program break
 unfoldable pub packed_changes : MemoryChanges → List ℕ

@@ -3,9 +3,9 @@ use Rattle.std.specs.Prelude.{ℕ, ◌+◌, ◌*◌, ◌/◌, ◌%◌, ◌^◌, 
 use Rattle.order_keys.specs.Unpacked.{Unpacked, got}
 
 -- the first byte, 0 where there is none
-unfoldable pub front : List ℕ → ℕ
-front [] = 0
-front (b ∷ bs) = b
+unfoldable pub leading_byte : List ℕ → ℕ
+leading_byte [] = 0
+leading_byte (b ∷ bs) = b
 
 -- the bytes behind the first
 unfoldable pub behind : List ℕ → List ℕ
@@ -17,7 +17,7 @@ unfoldable pub packed_byte : ℕ → List ℕ
 packed_byte n = n ∷ []
 
 unfoldable pub unpacked_byte : List ℕ → Unpacked ℕ
-unpacked_byte bs = got (front bs) (behind bs)
+unpacked_byte bs = got (leading_byte bs) (behind bs)
 
 -- yes or no
 unfoldable pub packed_bit : Bool → List ℕ
@@ -25,14 +25,14 @@ packed_bit true = 1 ∷ []
 packed_bit false = 0 ∷ []
 
 unfoldable pub unpacked_bit : List ℕ → Unpacked Bool
-unpacked_bit bs = got (if front bs == 0 then false else true) (behind bs)
+unpacked_bit bs = got (if leading_byte bs == 0 then false else true) (behind bs)
 
 -- a number below 2 ^ 16, its lower byte first
 unfoldable pub packed_two : ℕ → List ℕ
 packed_two n = n % 256 ∷ n / 256 ∷ []
 
 unfoldable pub unpacked_two : List ℕ → Unpacked ℕ
-unpacked_two bs = got (front bs + 256 * front (behind bs)) (behind (behind bs))
+unpacked_two bs = got (leading_byte bs + 256 * leading_byte (behind bs)) (behind (behind bs))
 
 -- a number below 2 ^ 32, its lower half first
 unfoldable pub packed_four : ℕ → List ℕ
@@ -56,7 +56,7 @@ abbrev pub unpacked_wide : ℕ → List ℕ → Unpacked ℕ
 unpacked_wide first bs = if first == 253 then unpacked_two bs else unpacked_four bs
 
 unfoldable pub unpacked_word : List ℕ → Unpacked ℕ
-unpacked_word bs = if nat_lt (front bs) 253 then got (front bs) (behind bs) else unpacked_wide (front bs) (behind bs)
+unpacked_word bs = if nat_lt (leading_byte bs) 253 then got (leading_byte bs) (behind bs) else unpacked_wide (leading_byte bs) (behind bs)
 
 -- a number below 2 ^ 64, its lower half first
 unfoldable pub packed_eight : ℕ → List ℕ
@@ -73,7 +73,7 @@ unfoldable pub packed_long : ℕ → List ℕ
 packed_long n = if nat_lt n (2 ^ 32) then packed_word n else (255 ∷ []) ++ packed_eight n
 
 unfoldable pub unpacked_long : List ℕ → Unpacked ℕ
-unpacked_long bs = if front bs == 255 then unpacked_eight (behind bs) else unpacked_word bs
+unpacked_long bs = if leading_byte bs == 255 then unpacked_eight (behind bs) else unpacked_word bs
 
 -- the place of a signed number among 0, -1, 1, -2, 2 and so on
 abbrev pub folded : ℤ → ℕ

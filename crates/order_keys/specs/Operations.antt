@@ -13,7 +13,7 @@ use Rattle.rv_inst.specs.declared.instruction.RegOp.TheVariants as regop
 use Rattle.rv_inst.specs.declared.instruction.MulOp.{MulOp}
 use Rattle.rv_inst.specs.declared.instruction.MulOp.TheVariants as mulop
 use Rattle.order_keys.specs.Unpacked.{Unpacked, got}
-use Rattle.order_keys.specs.Numbers.{front, behind}
+use Rattle.order_keys.specs.Numbers.{leading_byte, behind}
 
 -- the condition of a branch
 unfoldable pub packed_cond : Cond → List ℕ
@@ -34,7 +34,7 @@ cond_numbered number =
     cond.Geu
 
 unfoldable pub unpacked_cond : List ℕ → Unpacked Cond
-unpacked_cond bs = got (cond_numbered (front bs)) (behind bs)
+unpacked_cond bs = got (cond_numbered (leading_byte bs)) (behind bs)
 
 -- the kind of a load
 unfoldable pub packed_load : LoadKind → List ℕ
@@ -53,7 +53,7 @@ load_numbered number =
     load.HalfU
 
 unfoldable pub unpacked_load : List ℕ → Unpacked LoadKind
-unpacked_load bs = got (load_numbered (front bs)) (behind bs)
+unpacked_load bs = got (load_numbered (leading_byte bs)) (behind bs)
 
 -- the kind of a store
 unfoldable pub packed_store : StoreKind → List ℕ
@@ -68,7 +68,7 @@ store_numbered number =
     store.Word
 
 unfoldable pub unpacked_store : List ℕ → Unpacked StoreKind
-unpacked_store bs = got (store_numbered (front bs)) (behind bs)
+unpacked_store bs = got (store_numbered (leading_byte bs)) (behind bs)
 
 -- an operation with an immediate
 unfoldable pub packed_imm_op : ImmOp → List ℕ
@@ -95,7 +95,7 @@ imm_op_numbered number =
     immop.Sra
 
 unfoldable pub unpacked_imm_op : List ℕ → Unpacked ImmOp
-unpacked_imm_op bs = got (imm_op_numbered (front bs)) (behind bs)
+unpacked_imm_op bs = got (imm_op_numbered (leading_byte bs)) (behind bs)
 
 -- an operation on two registers
 unfoldable pub packed_reg_op : RegOp → List ℕ
@@ -124,7 +124,7 @@ reg_op_numbered number =
     regop.And
 
 unfoldable pub unpacked_reg_op : List ℕ → Unpacked RegOp
-unpacked_reg_op bs = got (reg_op_numbered (front bs)) (behind bs)
+unpacked_reg_op bs = got (reg_op_numbered (leading_byte bs)) (behind bs)
 
 -- a multiplication or a division
 unfoldable pub packed_mul_op : MulOp → List ℕ
@@ -149,4 +149,4 @@ mul_op_numbered number =
     mulop.Remu
 
 unfoldable pub unpacked_mul_op : List ℕ → Unpacked MulOp
-unpacked_mul_op bs = got (mul_op_numbered (front bs)) (behind bs)
+unpacked_mul_op bs = got (mul_op_numbered (leading_byte bs)) (behind bs)

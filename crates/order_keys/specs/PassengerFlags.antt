@@ -2,7 +2,7 @@
 use Rattle.std.specs.Prelude.{ℕ, ◌+◌, ◌/◌, ◌%◌, ◌==◌, Bool, true, false, List, [], ◌∷◌}
 use Rattle.order_keys.specs.declared.passenger_flags.PassengerFlags.{PassengerFlags}
 use Rattle.order_keys.specs.Unpacked.{Unpacked, got}
-use Rattle.order_keys.specs.Numbers.{front, behind}
+use Rattle.order_keys.specs.Numbers.{leading_byte, behind}
 
 -- the bit of this weight, if the answer is yes
 abbrev pub bit : ℕ → Bool → ℕ
@@ -19,5 +19,10 @@ packed_flags p = (bit 1 p.done + bit 2 p.launched + bit 4 p.recovered + bit 8 p.
 unfoldable pub unpacked_flags : List ℕ → Unpacked PassengerFlags
 unpacked_flags bs =
     got
-    (record { done = is_set 1 (front bs); launched = is_set 2 (front bs); recovered = is_set 4 (front bs); dead = is_set 8 (front bs) })
+    (record {
+      done = is_set 1 (leading_byte bs);
+      launched = is_set 2 (leading_byte bs);
+      recovered = is_set 4 (leading_byte bs);
+      dead = is_set 8 (leading_byte bs);
+    })
     (behind bs)

@@ -10,7 +10,7 @@ use Rattle.cf_bind.specs.declared.passenger.End.TheVariants.{Trap, Exit}
 use Rattle.cf_bind.specs.declared.passenger.Passenger.{Passenger}
 use Rattle.order_keys.specs.declared.passenger_flags.PassengerFlags.{PassengerFlags}
 use Rattle.order_keys.specs.Unpacked.{Unpacked, got, as_read}
-use Rattle.order_keys.specs.Numbers.{front, behind, packed_byte, unpacked_byte, packed_word, unpacked_word}
+use Rattle.order_keys.specs.Numbers.{leading_byte, behind, packed_byte, unpacked_byte, packed_word, unpacked_word}
 use Rattle.order_keys.specs.Compounds.{packed_triple, unpacked_triple, packed_option, unpacked_option}
 use Rattle.order_keys.specs.Instructions.{packed_instr, unpacked_instr}
 use Rattle.order_keys.specs.Bindings.{packed_binding, unpacked_binding}
@@ -25,9 +25,9 @@ packed_guess (To target) = (3 ∷ []) ++ packed_word target
 
 unfoldable pub unpacked_guess : List ℕ → Unpacked Guess
 unpacked_guess bs =
-    if front bs == 0 then got Next (behind bs) else
-    if front bs == 1 then got Taken (behind bs) else
-    if front bs == 2 then got Wait (behind bs) else
+    if leading_byte bs == 0 then got Next (behind bs) else
+    if leading_byte bs == 1 then got Taken (behind bs) else
+    if leading_byte bs == 2 then got Wait (behind bs) else
     as_read (λ x. To x) (unpacked_word (behind bs))
 
 unfoldable pub packed_end : End → List ℕ
@@ -36,7 +36,7 @@ packed_end (Exit status) = (1 ∷ []) ++ packed_byte status
 
 unfoldable pub unpacked_end : List ℕ → Unpacked End
 unpacked_end bs =
-    if front bs == 0 then as_read (λ x. Trap x.0 x.1 x.2) (unpacked_triple unpacked_byte unpacked_word unpacked_word (behind bs)) else
+    if leading_byte bs == 0 then as_read (λ x. Trap x.0 x.1 x.2) (unpacked_triple unpacked_byte unpacked_word unpacked_word (behind bs)) else
     as_read (λ x. Exit x) (unpacked_byte (behind bs))
 
 -- its address, the instruction if there is one, and the guess

@@ -42,8 +42,8 @@ unpacked_places bs =
     unpacked_runs count.value empty.value empty.left
 
 -- a register as a place, which is empty where the value is 0
-abbrev pub held : ℕ → Option ℕ
-held n = if n == 0 then None else Some n
+abbrev pub register_place : ℕ → Option ℕ
+register_place n = if n == 0 then None else Some n
 
 -- the value of a register that was a place
 abbrev pub held_in : Option ℕ → ℕ
@@ -51,7 +51,7 @@ held_in place = on place 0 (λ n. n)
 
 -- the register file
 unfoldable pub packed_registers : List ℕ → List ℕ
-packed_registers regs = packed_places (map held regs)
+packed_registers regs = packed_places (map register_place regs)
 
 unfoldable pub unpacked_registers : List ℕ → Unpacked (List ℕ)
 unpacked_registers bs = as_read (map held_in) (unpacked_places bs)

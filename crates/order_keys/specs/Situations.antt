@@ -78,8 +78,8 @@ unfoldable pub unpacked_situation : List ℕ → Unpacked State
 unpacked_situation bs = as_read (λ x. situation_of x.0 x.1 x.2) (unpacked_triple unpacked_pipes unpacked_fetching unpacked_past bs)
 
 -- the state without its memory
-abbrev pub bare : State → State
-bare s = record s { mem = no_memory; failed = false }
+abbrev pub without_memory : State → State
+without_memory s = record s { mem = no_memory; failed = false }
 
 -- at most 64 requests, and as many places in the cache and in the register file as there are registers
 abbrev pub IsWhole : State → Type 0

@@ -2,7 +2,7 @@
 
 ghost use Rattle.std.specs.Prelude.{◌≡◌, ◌≤◌, IfOk, length};
 ghost use Rattle.order_keys.specs.Beside.{DiffersWithin};
-ghost use Rattle.order_keys.specs.Keys.{bare_node, key_of};
+ghost use Rattle.order_keys.specs.Keys.{bare_node, key_of_node};
 ghost use Rattle.order_keys.specs.Situations.{IsWhole};
 ghost use Rattle.order_keys.specs.Stages.{lefts_of};
 
@@ -20,12 +20,12 @@ pub fn write_key_beside(
     low: usize,
     high: usize,
 ) -> Result<Vec<u8>, AllocError>
-    requires key { key.now ≡ key_of before.now }
+    requires key { key.now ≡ key_of_node before.now }
     requires lefts { lefts.now ≡ lefts_of key.now }
     requires order { low ≤ high }
     requires inside { high ≤ length node.now.situation.cells }
     requires beside { DiffersWithin low high before.now node.now }
-    ensures key { IfOk result (λ key. key.items ≡ key_of node.now) }
+    ensures key { IfOk result (λ key. key.items ≡ key_of_node node.now) }
     ensures whole { IsWhole node.now.situation }
     ensures bare { bare_node node.now ≡ node.now }
 {

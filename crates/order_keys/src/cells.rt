@@ -1,7 +1,7 @@
 //! What stands in a stage, and in a cell of a siding, in keys.
 
 ghost use Rattle.std.specs.Prelude.{◌≡◌};
-ghost use Rattle.order_keys.specs.Cells.{is_empty as is_empty_in, unpacked_cell};
+ghost use Rattle.order_keys.specs.Cells.{is_empty_stage as is_empty_in, unpacked_cell};
 
 use crate::pack::Pack;
 use crate::unread::Unread;

@@ -1,8 +1,8 @@
 //! The nodes of a search, and their keys.
 
 ghost use Rattle.std.specs.Prelude.{◌≡◌, IfOk, MatchBool, MatchOption, length};
-ghost use Rattle.order_keys.specs.Situations.{bare, IsWhole};
-ghost use Rattle.order_keys.specs.Keys.{bare_node, blank_node, key_of, node_of};
+ghost use Rattle.order_keys.specs.Situations.{without_memory, IsWhole};
+ghost use Rattle.order_keys.specs.Keys.{bare_node, blank_node, key_of_node, node_of};
 ghost use Rattle.order_keys.specs.Stages.{lefts_of};
 
 use crate::changes::{pack_changes, unpack_changes};
@@ -40,16 +40,16 @@ fn note_length(regs: &[u32; 32])
 #[inline(always)]
 pub(crate) fn note_shape(situation: &Situation)
     ensures whole { IsWhole situation.now }
-    ensures bare { bare situation.now ≡ situation.now }
+    ensures bare { without_memory situation.now ≡ situation.now }
 {
     let _ = situation.lane.len();
     note_length(&situation.regs);
 }
 
 /// The node's key, which no other node has; or an error where there is no memory for it.
-#[tactic(auto, unfolding(crate::specs::Keys::key_of, crate::specs::Compounds::packed_triple))]
+#[tactic(auto, unfolding(crate::specs::Keys::key_of_node, crate::specs::Compounds::packed_triple))]
 pub fn write_key(alloc: Global, node: &Node) -> Result<Vec<u8>, AllocError>
-    ensures key { IfOk result (λ key. key.items ≡ key_of node.now) }
+    ensures key { IfOk result (λ key. key.items ≡ key_of_node node.now) }
     ensures whole { IsWhole node.now.situation }
     ensures bare { bare_node node.now ≡ node.now }
 {

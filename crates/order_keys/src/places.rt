@@ -1,7 +1,7 @@
 //! Values by register in keys: between two values stands how many registers without one there are.
 
 ghost use Rattle.std.specs.Prelude.{◌≡◌, ◌≢◌, ℕ, ◌+◌, ◌<◌, ◌≤◌, ◌^◌, ◌∷◌, ◌++◌, List, Option, IfOk, MatchBool, length, map};
-ghost use Rattle.order_keys.specs.Places.{packed_runs, packed_places, next_place, unpacked_places, held as held_of, held_in, packed_registers, unpacked_registers};
+ghost use Rattle.order_keys.specs.Places.{packed_runs, packed_places, next_place, unpacked_places, register_place as held_of, held_in, packed_registers, unpacked_registers};
 
 use crate::pack::Pack;
 use crate::unread::Unread;

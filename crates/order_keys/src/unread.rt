@@ -1,7 +1,7 @@
 //! What is left of a key that is read from its front.
 
 ghost use Rattle.std.specs.Prelude.{◌≡◌, length};
-ghost use Rattle.order_keys.specs.Numbers.{front, behind};
+ghost use Rattle.order_keys.specs.Numbers.{leading_byte, behind};
 
 use std::marker::Model;
 
@@ -39,7 +39,7 @@ impl<'a> Unread<'a> {
     #[inline(always)]
     #[tactic(auto, using(crate::proofs::Fronts::fronts))]
     pub(crate) fn next(&self) -> u8
-        ensures { result ≡ front self.now }
+        ensures { result ≡ leading_byte self.now }
     {
         match self.left {
             [first, ..] => *first,
@@ -51,7 +51,7 @@ impl<'a> Unread<'a> {
     #[inline(always)]
     #[tactic(auto, using(crate::proofs::Fronts::fronts))]
     pub(crate) fn byte(&mut self) -> u8
-        ensures value { result ≡ front self.old }
+        ensures value { result ≡ leading_byte self.old }
         ensures left { self.new ≡ behind self.old }
     {
         match self.left {

@@ -14,7 +14,7 @@ use Rattle.mem_changes.specs.Differing.{AreChangesOf}
 use Rattle.order_machine.specs.declared.stepping.NextStep.{NextStep}
 use Rattle.order_machine.specs.declared.stepping.NextStep.TheVariants.{Retires, Ends}
 use Rattle.order_machine.specs.NextSteps.{StepsOn, IsStepMade}
-use Rattle.order_machine.specs.Waypoints.{MachinePlace, machine_of, IsStepOf, IsAfter, IsWaypoint, AreWaypoints, is_end, ends_there}
+use Rattle.order_machine.specs.Waypoints.{MachinePlace, machine_of, IsStepOf, IsAfter, IsWaypoint, AreWaypoints, is_end, ends_at_last}
 
 -- the step of the hart is that of the machine
 step_next : (isa : Isa) (x : Machine) (old : Hart) (n : Machine) (line : Retired) → old ≡ x.hart → x.rest ≡ [] → step_on isa old [] ≡ Next n line →
@@ -40,7 +40,8 @@ is_next isa x old new (Retires line) e r t = (_, step_next isa x old t.next line
 is_next isa x old new (Ends f) e r t = step_end isa x old f e r t.is
 
 -- the machine is at this place
-pub waypoint_here : (isa : Isa) (loaded : Memory) (start : Machine) (k : ℕ) (old new : Hart) (place : MachinePlace) → IsAfter isa start k old → IsStepMade isa old new place.next →
+pub waypoint_here : (isa : Isa) (loaded : Memory) (start : Machine) (k : ℕ) (old new : Hart) (place : MachinePlace) → IsAfter isa start k old →
+    IsStepMade isa old new place.next →
     place.pc ≡ old.pc → place.regs ≡ old.regs → AreChangesOf loaded old.mem place.changes → IsWaypoint isa loaded start k place
 waypoint_here isa loaded start k old new place a t p r c = record {
   at = a.at;
@@ -53,11 +54,13 @@ waypoint_here isa loaded start k old new place a t p r c = record {
 }
 
 -- and then one step further
-after_next : (isa : Isa) (start x n : Machine) (k : ℕ) (line : Retired) → after isa start k ≡ Some x → step isa x ≡ Next n line → after isa start (suc k) ≡ Some n
+after_next : (isa : Isa) (start x n : Machine) (k : ℕ) (line : Retired) → after isa start k ≡ Some x → step isa x ≡ Next n line →
+    after isa start (suc k) ≡ Some n
 unfolding after
 after_next isa start x n k line e f = rw (e, f) refl
 
-goes_after : (isa : Isa) (start : Machine) (k : ℕ) (old new : Hart) (line : Retired) → IsAfter isa start k old → StepsOn isa old new line → IsAfter isa start (suc k) new
+goes_after : (isa : Isa) (start : Machine) (k : ℕ) (old new : Hart) (line : Retired) → IsAfter isa start k old → StepsOn isa old new line →
+    IsAfter isa start (suc k) new
 goes_after isa start k old new line a t = record {
   at = record t.next { output = a.at.output ++ t.next.output };
   count = after_next isa start a.at _ k line a.count (step_next isa a.at old t.next line a.hart a.rest t.is);
@@ -65,17 +68,19 @@ goes_after isa start k old new line a t = record {
   rest = t.rest;
 }
 
-pub further : (isa : Isa) (start : Machine) (k n : ℕ) (old new : Hart) (next : NextStep) → IsAfter isa start k old → IsStepMade isa old new next → is_end next ≡ false → n ≡ suc k → IsAfter isa start n new
+pub further : (isa : Isa) (start : Machine) (k n : ℕ) (old new : Hart) (next : NextStep) → IsAfter isa start k old → IsStepMade isa old new next →
+    is_end next ≡ false → n ≡ suc k → IsAfter isa start n new
 further isa start k n old new (Retires line) a t e f = rw f (goes_after isa start k old new line a t)
 further isa start k n old new (Ends x) a t e f = absurd (cc)
 
 -- one place more
-pub more_places : (isa : Isa) (loaded : Memory) (start : Machine) (k n : ℕ) (places : List MachinePlace) (place : MachinePlace) → AreWaypoints isa loaded start k places →
+pub more_places : (isa : Isa) (loaded : Memory) (start : Machine) (k n : ℕ) (places : List MachinePlace) (place : MachinePlace) →
+    AreWaypoints isa loaded start k places →
     n ≡ k + length places → IsWaypoint isa loaded start n place → AreWaypoints isa loaded start k (places ++ place ∷ [])
 more_places isa loaded start k n [] place a e w = (subst (λ (i : ℕ). IsWaypoint isa loaded start i place) (let f : n ≡ k = omega arith in f) w, tt)
 more_places isa loaded start k n (p ∷ places) place a e w = (a.0, more_places isa loaded start (suc k) n places place a.1 (omega arith) w)
 
-pub last_place : (places : List MachinePlace) (place : MachinePlace) → ends_there (places ++ place ∷ []) ≡ is_end place.next
+pub last_place : (places : List MachinePlace) (place : MachinePlace) → ends_at_last (places ++ place ∷ []) ≡ is_end place.next
 last_place [] place = refl
 last_place (p ∷ []) place = refl
 last_place (p ∷ q ∷ places) place = last_place (q ∷ places) place

@@ -16,7 +16,8 @@ left_is : (before after : Option (List ℕ)) (rest : List ℕ) → before ≡ So
 left_is before after rest e f h = let g : after ≡ Some rest = rw e at h in cc
 
 pub answered_quietly : (isa : Isa) (old new : Hart) (before after : Streams) (s : Stepped) → before.input ≡ Some [] → after.input ≡ Some [] →
-    Acts (CallsHere isa old) (step_on isa old) old new before after s → HasCause 0 0 (input_stepped s) → HasCause 0 0 (output_stepped s) → IsAnswered isa old new s
+    Acts (CallsHere isa old) (step_on isa old) old new before after s → HasCause 0 0 (input_stepped s) → HasCause 0 0 (output_stepped s) →
+    IsAnswered isa old new s
 unfolding Acts
 answered_quietly isa old new before after (answer.Next line) e f r i o =
     let g : r.rest ≡ [] = rw e at r.told in

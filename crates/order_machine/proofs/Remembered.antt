@@ -39,7 +39,8 @@ serves : (c : Called) (d : Option ℕ) (m n : Machine) → served c d m ≡ Goes
 serves (called.Value a) d m n e = ap (λ (x : Machine). x.hart.mem) (sym (goes_to _ n e))
 serves (called.Exit status) d m n e = absurd (cc)
 
-by_class : (c : Class) (i : Instr) (a b : ℕ) (m n : Machine) → m.rest ≡ [] → stepped_as c i a b m ≡ Goes n → n.hart.mem ≡ memory_by_class c i a b m.hart.regs m.hart.mem
+by_class : (c : Class) (i : Instr) (a b : ℕ) (m n : Machine) → m.rest ≡ [] → stepped_as c i a b m ≡ Goes n →
+    n.hart.mem ≡ memory_by_class c i a b m.hart.regs m.hart.mem
 by_class class.Add i a b m n r e = ap (λ (x : Machine). x.hart.mem) (sym (went (finish_trap i m.hart.pc a b) _ n e))
 by_class class.Logic i a b m n r e = ap (λ (x : Machine). x.hart.mem) (sym (went (finish_trap i m.hart.pc a b) _ n e))
 by_class class.Shift i a b m n r e = ap (λ (x : Machine). x.hart.mem) (sym (went (finish_trap i m.hart.pc a b) _ n e))
@@ -47,7 +48,8 @@ by_class class.Compare i a b m n r e = ap (λ (x : Machine). x.hart.mem) (sym (w
 by_class class.Branch i a b m n r e = ap (λ (x : Machine). x.hart.mem) (sym (went (finish_trap i m.hart.pc a b) _ n e))
 by_class class.Jump i a b m n r e = ap (λ (x : Machine). x.hart.mem) (sym (went (finish_trap i m.hart.pc a b) _ n e))
 by_class class.Memory i a b m n r e = ap (λ (x : Machine). x.hart.mem) (sym (went (access_trap i m.hart.pc a (bounds_of m.hart.mem)) _ n e))
-by_class class.Serial i a b m n r e = serves (serve_of i m.hart.regs m.hart.mem m.rest) _ m n e ∙ ap (λ (l : List ℕ). memory_served (serve_of i m.hart.regs m.hart.mem l) m.hart.mem) r
+by_class class.Serial i a b m n r e = serves (serve_of i m.hart.regs m.hart.mem m.rest) _ m n e
+    ∙ ap (λ (l : List ℕ). memory_served (serve_of i m.hart.regs m.hart.mem l) m.hart.mem) r
 by_class class.Free i a b m n r e = ap (λ (x : Machine). x.hart.mem) (sym (went (free_trap i m.hart.pc) _ n e))
 by_class class.Mul i a b m n r e = ap (λ (x : Machine). x.hart.mem) (sym (went (finish_trap i m.hart.pc a b) _ n e))
 by_class class.Div i a b m n r e = ap (λ (x : Machine). x.hart.mem) (sym (went (finish_trap i m.hart.pc a b) _ n e))
@@ -56,30 +58,36 @@ by_class class.Div i a b m n r e = ap (λ (x : Machine). x.hart.mem) (sym (went 
 abbrev bare : Hart → Machine
 bare h = record { hart = h; rest = []; output = [] }
 
-bare_step : (isa : Isa) (h : Hart) (n : Machine) (line : Retired) → step_on isa h [] ≡ Next n line → step_at isa (bare h) h.pc ≡ Goes (record n { output = [] ++ n.output })
+bare_step : (isa : Isa) (h : Hart) (n : Machine) (line : Retired) → step_on isa h [] ≡ Next n line →
+    step_at isa (bare h) h.pc ≡ Goes (record n { output = [] ++ n.output })
 unfolding step_at step
 bare_step isa h n line e = ap (λ (o : Outcome Machine). stepped (after_output [] o)) e
 
-step_memory : (isa : Isa) (old new : Hart) (line : Retired) (f : Fetched) → fetched isa old.mem old.pc ≡ f → StepsOn isa old new line → new.mem ≡ memory_next (Retires line) f old.regs old.mem
+step_memory : (isa : Isa) (old new : Hart) (line : Retired) (f : Fetched) → fetched isa old.mem old.pc ≡ f → StepsOn isa old new line →
+    new.mem ≡ memory_next (Retires line) f old.regs old.mem
 unfolding memory_stepped
 step_memory isa old new line (Got i) e g =
     let goes = bare_step isa old g.next line g.is in
     let made = sym (step_is isa (bare old) old.pc i e) ∙ goes in
-    ap (λ (h : Hart). h.mem) g.hart ∙ by_class (kind_of i) i (value_read old.regs (src1_of i)) (value_read old.regs (src2_of i)) (at_pc (bare old) old.pc) (record g.next { output = [] ++ g.next.output }) refl made
+    ap (λ (h : Hart). h.mem) g.hart ∙ by_class (kind_of i) i (value_read old.regs (src1_of i)) (value_read old.regs (src2_of i)) (at_pc (bare old) old.pc)
+    (record g.next { output = [] ++ g.next.output }) refl made
 step_memory isa old new line (Bad x) e g =
     let goes = bare_step isa old g.next line g.is in
     let ends = bad_step isa (bare old) old.pc x e in absurd (cc)
 
-pub taken_memory : (isa : Isa) (old new : Hart) (next : NextStep) → IsStepMade isa old new next → new.mem ≡ memory_next next (fetched isa old.mem old.pc) old.regs old.mem
+pub taken_memory : (isa : Isa) (old new : Hart) (next : NextStep) → IsStepMade isa old new next →
+    new.mem ≡ memory_next next (fetched isa old.mem old.pc) old.regs old.mem
 taken_memory isa old new (Retires line) t = step_memory isa old new line (fetched isa old.mem old.pc) refl t
 taken_memory isa old new (Ends e) t = ap (λ (h : Hart). h.mem) t.hart
 
-pub taken_changes : (isa : Isa) (m : Memory) (old new : Hart) (next : NextStep) (f : Fetched) (regs : List ℕ) (j k : MemoryChanges) → IsStepMade isa old new next → AreChangesOf m old.mem j → AreChanges m k →
+pub taken_changes : (isa : Isa) (m : Memory) (old new : Hart) (next : NextStep) (f : Fetched) (regs : List ℕ) (j k : MemoryChanges) →
+    IsStepMade isa old new next → AreChangesOf m old.mem j → AreChanges m k →
     f ≡ fetched isa old.mem old.pc → regs ≡ old.regs → memory_after k m ≡ memory_next next f regs (memory_after j m) → AreChangesOf m new.mem k
 taken_changes isa m old new next f regs j k t a lists e g h = record {
   lists = lists;
   makes = taken_memory isa old new next t ∙ ap (memory_next next (fetched isa old.mem old.pc) old.regs) a.makes
-      ∙ ap (λ (w : Fetched). memory_next next w old.regs (memory_after j m)) (sym e) ∙ ap (λ (r : List ℕ). memory_next next f r (memory_after j m)) (sym g) ∙ sym h;
+      ∙ ap (λ (w : Fetched). memory_next next w old.regs (memory_after j m)) (sym e) ∙ ap (λ (r : List ℕ). memory_next next f r (memory_after j m)) (sym g)
+      ∙ sym h;
 }
 
 pub ruleset remembering = (taken_changes)

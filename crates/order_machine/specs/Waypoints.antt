@@ -57,7 +57,7 @@ is_end (Retires line) = false
 is_end (Ends e) = true
 
 -- the program ends at the last place
-abbrev pub ends_there : List MachinePlace → Bool
-ends_there [] = false
-ends_there (place ∷ []) = is_end place.next
-ends_there (place ∷ other ∷ places) = ends_there (other ∷ places)
+abbrev pub ends_at_last : List MachinePlace → Bool
+ends_at_last [] = false
+ends_at_last (place ∷ []) = is_end place.next
+ends_at_last (place ∷ other ∷ places) = ends_at_last (other ∷ places)

@@ -3,7 +3,7 @@
 ghost use Rattle.std.specs.Prelude.{◌≡◌, ◌+◌, ◌<◌, ◌≤◌, ◌^◌, ◌⊎◌, IfOk, IsTrue, length};
 ghost use Rattle.mem_changes.specs.Differing.{AreChangesOf};
 ghost use Rattle.order_machine.specs.NextSteps.{IsStepMade};
-ghost use Rattle.order_machine.specs.Waypoints.{AreWaypoints, ends_there, is_end, machine_of};
+ghost use Rattle.order_machine.specs.Waypoints.{AreWaypoints, ends_at_last, is_end, machine_of};
 
 use crate::stepping::{NextStep, advance};
 use mem_changes::{Changes, Image};
@@ -87,7 +87,7 @@ pub fn waypoints(
     requires loaded { machine.mem ≡ image.now }
     requires count { machine.retired + most + 1 < 2 ^ 64 }
     ensures places { IfOk result (λ places. AreWaypoints isa image.now (machine_of machine) 0 places.items) }
-    ensures enough { IfOk result (λ places. (length places.items ≡ most + 1) ⊎ IsTrue (ends_there places.items)) }
+    ensures enough { IfOk result (λ places. (length places.items ≡ most + 1) ⊎ IsTrue (ends_at_last places.items)) }
 {
     let mut machine = machine;
     let mut changes = Changes::none(alloc, image);

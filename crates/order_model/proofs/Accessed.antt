@@ -10,7 +10,7 @@ use Rattle.rv_inst.specs.Operands.{class_of}
 use Rattle.rv_inst.specs.Accesses.{access_made, extended}
 use Rattle.mem_regions.specs.Area.{Area}
 use Rattle.mem_regions.specs.Memory.{Memory}
-use Rattle.mem_regions.specs.Ranges.{load_at, range_of, number_of, lies_in, bytes_in}
+use Rattle.mem_regions.specs.Ranges.{load_at, range_of, number_found, lies_in, bytes_in}
 use Rattle.cf_bind.specs.declared.cell.Op.{Op}
 use Rattle.cf_bind.specs.declared.passenger.Passenger.{Passenger}
 use Rattle.cf_layout.specs.Layout.{Plan}
@@ -23,14 +23,14 @@ use Rattle.cf_semantics.specs.state.Passengers.{kind, with_value}
 use Rattle.cf_semantics.specs.moves.Instructions.{answer_of, mem_after, number}
 use Rattle.order_rules.specs.declared.rule.Rule.{Rule}
 use Rattle.order_rules.specs.declared.rule.Rule.TheVariants.{LaunchDead, ExecuteDead}
-use Rattle.order_rules.specs.Rules.{kept}
+use Rattle.order_rules.specs.Rules.{rule_holds}
 use Rattle.order_model.specs.RuleMoves.{answer_without, sources_without}
 
 -- no byte is the number 0
 empty_number : (mem : Memory) → number (load_at mem 0 0) ≡ 0
 unfolding load_at range_of
 empty_number mem = go (find (lies_in 0 0) mem.areas) where
-  go : (o : Option Area) → number (number_of (option_map (bytes_in 0 0) o)) ≡ 0
+  go : (o : Option Area) → number (number_found (option_map (bytes_in 0 0) o)) ≡ 0
   go None = refl
   go (Some a) = refl
 
@@ -84,11 +84,12 @@ pub slides : (plan : Plan) (s : State) (mem : Memory) (k c : ℕ) (op : Option O
     a ≡ with_siding s k (slice_set (siding_at s k) c None) → b ≡ with_siding a k (slice_set (siding_at a k) (c + 1) op) →
     in_memory b mem ≡ moved plan (in_memory s mem) (Slide k c)
 unfolding moved
-slides plan s mem k c op a b e f g = rw g (rw f (rw e (ap (λ (l : List (List (Option Op))). record (in_memory s mem) { sidings = l }) (slid_twice s.sidings k c op))))
+slides plan s mem k c op a b e f g = rw g (rw f (rw e (ap (λ (l : List (List (Option Op))). record (in_memory s mem) { sidings = l })
+    (slid_twice s.sidings k c op))))
 
 -- an instruction is of the same class with other source values
 pub same_kind : (away : Option Rule) (p : Passenger) (op : Op) → kind (sources_without away p op) ≡ kind p
-same_kind away p op = go (kept away LaunchDead) (kept away ExecuteDead) where
+same_kind away p op = go (rule_holds away LaunchDead) (rule_holds away ExecuteDead) where
   go : (a b : Bool) → kind (if a && b then p else record p { src1 = with_value op.a p.src1; src2 = with_value op.b p.src2 }) ≡ kind p
   go true true = refl
   go true false = refl

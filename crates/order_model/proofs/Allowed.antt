@@ -22,7 +22,7 @@ use Rattle.cf_semantics.specs.moves.Instructions.{is_memory, fetched}
 use Rattle.cf_semantics.specs.moves.Bars.{first, last_op, running, may_guess}
 use Rattle.order_rules.specs.declared.rule.Rule.{Rule}
 use Rattle.order_rules.specs.declared.rule.Rule.TheVariants.{IssueLaneFull, ExecuteDead, ExecuteSourceMissing, RecoverNotDone}
-use Rattle.order_rules.specs.Rules.{kept}
+use Rattle.order_rules.specs.Rules.{rule_holds}
 use Rattle.order_model.specs.RuleBars.{lane_room, bar_without, row_bar_without, issue_bar_without, execute_bar_without, recover_bar_without, exit_op_bar_without, source_bar_under}
 use Rattle.order_model.specs.RuleMoves.{answer_without}
 
@@ -46,7 +46,7 @@ fits_room : (room n most : ℕ) → nat_lt room n ≡ false → room ≤ most �
 fits_room room n most e h = grind (arith, nat_tests)
 
 small_room : (away : Option Rule) (plan : Plan) → IsEquipped plan → lane_room away plan ≤ 64
-small_room away plan a = go (kept away IssueLaneFull) where
+small_room away plan a = go (rule_holds away IssueLaneFull) where
   go : (keeps : Bool) → (if keeps then plan.lane else max plan.lane (2 * plan.stages)) ≤ 64
   go true = a.lane.1
   go false = let l = a.lane.1 in let n = a.stages.1 in omega arith
@@ -59,8 +59,10 @@ issue_room away plan s g c pc a e h f =
     let p = fresh s.cache (fetched (isa_of plan) s.mem pc) pc g in
     let n = length s.lane + length (requests p) in
     let bars : issue_bar_without away plan s g c ≡ None = rw h at e in
-    let tests : first (is_some c.passenger) Occupied (first (not (may_guess g p)) BadGuess (first (nat_lt (lane_room away plan) n) LaneFull None)) ≡ None = rw f at bars in
-    fits_room (lane_room away plan) n 64 (last_fails (is_some c.passenger) (not (may_guess g p)) (nat_lt (lane_room away plan) n) Occupied BadGuess LaneFull None tests).0 (small_room away plan a)
+    let tests : first (is_some c.passenger) Occupied (first (not (may_guess g p)) BadGuess (first (nat_lt (lane_room away plan) n) LaneFull None)) ≡ None =
+    rw f at bars in
+    fits_room (lane_room away plan) n 64 (last_fails (is_some c.passenger) (not (may_guess g p)) (nat_lt (lane_room away plan) n) Occupied BadGuess LaneFull
+    None tests).0 (small_room away plan a)
 
 has_unit : (b : Bool) → not b ≡ false → b ≡ true
 has_unit true e = refl
@@ -71,13 +73,15 @@ pub execute_computes : (away : Option Rule) (plan : Plan) (s : State) (i : ℕ) 
     row_bar_without away plan s (Execute i) ≡ None → cell_at s.cells i ≡ Some c → c.passenger ≡ Some p → IsTrue (computes (kind p))
 execute_computes away plan s i c p a e h f =
     let bars : execute_bar_without away plan c i ≡ None = rw h at e in
-    let tests : first (kept away ExecuteDead && p.dead) Dead (first p.done AlreadyDone (first (not (unit_at plan (kind p) i)) NoUnit (source_bar_under (kept away ExecuteSourceMissing) p None))) ≡ None = rw f at bars in
-    equipped-unit plan (kind p) i a (has_unit (unit_at plan (kind p) i) (last_fails (kept away ExecuteDead && p.dead) p.done (not (unit_at plan (kind p) i)) Dead AlreadyDone NoUnit _ tests).0)
+    let tests : first (rule_holds away ExecuteDead && p.dead) Dead (first p.done AlreadyDone
+    (first (not (unit_at plan (kind p) i)) NoUnit (source_bar_under (rule_holds away ExecuteSourceMissing) p None))) ≡ None = rw f at bars in
+    equipped-unit plan (kind p) i a (has_unit (unit_at plan (kind p) i)
+    (last_fails (rule_holds away ExecuteDead && p.dead) p.done (not (unit_at plan (kind p) i)) Dead AlreadyDone NoUnit _ tests).0)
 
 answered_or_computes : (away : Option Rule) (plan : Plan) (p : Passenger) (k : ℕ) (op : Op) → IsEquipped plan → siding_of plan (kind p) ≡ Some k →
-    (kept away RecoverNotDone && (is_memory (kind p) && not (is_some op.answer))) ≡ false →
+    (rule_holds away RecoverNotDone && (is_memory (kind p) && not (is_some op.answer))) ≡ false →
     IfNone (answer_without away p op) (IsTrue (computes (kind p)))
-answered_or_computes away plan p k op a h e = go (kept away RecoverNotDone) (is_memory (kind p)) refl op.answer e where
+answered_or_computes away plan p k op a h e = go (rule_holds away RecoverNotDone) (is_memory (kind p)) refl op.answer e where
   go : (keeps memory : Bool) → memory ≡ is_memory (kind p) → (o : Option ℕ) → (keeps && (memory && not (is_some o))) ≡ false →
       IfNone (if keeps || not memory then o else Some (on o 0 (λ v. v))) (IsTrue (computes (kind p)))
   go true true m None e = absurd (cc)
@@ -97,9 +101,11 @@ pub recover_computes : (away : Option Rule) (plan : Plan) (s : State) (i : ℕ) 
     IfNone (answer_without away p op) (IsTrue (computes (kind p)))
 recover_computes away plan s i c p k op a e h f g o =
     let bars : recover_bar_without away plan s c i ≡ None = rw h at e in
-    let rows : first (not (recovers plan (kind p) i)) NoUnit (first (not p.launched || p.recovered) AlreadyDone (exit_op_bar_without away plan s p)) ≡ None = rw f at bars in
+    let rows : first (not (recovers plan (kind p) i)) NoUnit (first (not p.launched || p.recovered) AlreadyDone (exit_op_bar_without away plan s p)) ≡ None =
+    rw f at bars in
     let last : exit_op_bar_without away plan s p ≡ None = rest_of (not (recovers plan (kind p) i)) (not p.launched || p.recovered) NoUnit AlreadyDone _ rows in
-    let inside : on (last_op (siding_at s k)) (Some OpNotThere) (λ op. first (kept away RecoverNotDone && (is_memory (kind p) && not (is_some op.answer))) NotDone None) ≡ None = rw g at last in
+    let inside : on (last_op (siding_at s k)) (Some OpNotThere) (λ op. first (rule_holds away RecoverNotDone && (is_memory (kind p) && not (is_some op.answer)))
+    NotDone None) ≡ None = rw g at last in
     answered_or_computes away plan p k op a g (test_fails _ NotDone (rw o at inside))
 
 pub ruleset allowing = (issue_room, execute_computes, recover_computes)

@@ -18,7 +18,7 @@ use Rattle.cf_semantics.specs.state.Passengers.{instruction}
 use Rattle.cf_semantics.specs.moves.Instructions.{serve_of}
 use Rattle.cf_semantics.specs.moves.Moves.{next, served, with_passenger}
 use Rattle.order_model.specs.ServeEffects.{told, memory_served, passenger_served}
-use Rattle.order_model.specs.Situations.{alone, in_memory}
+use Rattle.order_model.specs.Situations.{lone_moment, in_memory}
 
 -- the memory and the answer of a call
 record Leaves (c : Called) (mem new : Memory) (s : Served) : Type 0 where
@@ -50,7 +50,8 @@ call_answer regs mem new before after s b r i o = (leaves regs mem new before af
 pub ruleset calling = (call_memory, call_answer)
 
 -- an answer is that of one call
-pub answers_value : (c : Called) (v : ℕ) (p : Passenger) → answer.Value v ≡ told c → passenger_served c p ≡ passenger_served (called.Value (record { value = v; mem = record { areas = []; program_break = 0 }; rest = []; output = [] })) p
+pub answers_value : (c : Called) (v : ℕ) (p : Passenger) → answer.Value v ≡ told c →
+    passenger_served c p ≡ passenger_served (called.Value (record { value = v; mem = record { areas = []; program_break = 0 }; rest = []; output = [] })) p
 answers_value (called.Value a) v p e = cc
 answers_value (called.Exit status) v p e = absurd (cc)
 
@@ -75,16 +76,18 @@ served_state m n c p (called.Value a) = refl
 served_state m n c p (called.Exit status) = refl
 
 pub serve_here : (plan : Plan) (s : State) (mem : Memory) (c : Cell) (p : Passenger) → cell_at s.cells plan.stages ≡ Some c → c.passenger ≡ Some p →
-    (next plan (alone (in_memory s mem)) Serve).state
-    ≡ in_memory (with_cell s plan.stages (with_passenger c (passenger_served (serve_of (instruction p) s.regs mem []) p))) (memory_served (serve_of (instruction p) s.regs mem []) mem)
+    (next plan (lone_moment (in_memory s mem)) Serve).state
+    ≡ in_memory (with_cell s plan.stages (with_passenger c (passenger_served (serve_of (instruction p) s.regs mem []) p)))
+    (memory_served (serve_of (instruction p) s.regs mem []) mem)
 unfolding next
-serve_here plan s mem c p e f = rw (e, f) (served_state (alone (in_memory s mem)) plan.stages c p (serve_of (instruction p) s.regs mem []))
+serve_here plan s mem c p e f = rw (e, f) (served_state (lone_moment (in_memory s mem)) plan.stages c p (serve_of (instruction p) s.regs mem []))
 
-pub serve_no_cell : (plan : Plan) (s : State) → cell_at s.cells plan.stages ≡ None → (next plan (alone s) Serve).state ≡ s
+pub serve_no_cell : (plan : Plan) (s : State) → cell_at s.cells plan.stages ≡ None → (next plan (lone_moment s) Serve).state ≡ s
 unfolding next
 serve_no_cell plan s e = rw e refl
 
-pub serve_no_passenger : (plan : Plan) (s : State) (c : Cell) → cell_at s.cells plan.stages ≡ Some c → c.passenger ≡ None → (next plan (alone s) Serve).state ≡ s
+pub serve_no_passenger : (plan : Plan) (s : State) (c : Cell) → cell_at s.cells plan.stages ≡ Some c → c.passenger ≡ None →
+    (next plan (lone_moment s) Serve).state ≡ s
 unfolding next
 serve_no_passenger plan s c e f = rw (e, f) refl
 

@@ -17,8 +17,8 @@ use Rattle.cf_semantics.specs.moves.Instructions.{is_memory, is_serial, fetched}
 use Rattle.cf_semantics.specs.moves.Bars.{first, bar, row_bar, is_full, stops_at, may_guess, source_bar, entry_bar, last_op, running}
 use Rattle.order_rules.specs.declared.rule.Rule.{Rule}
 use Rattle.order_rules.specs.declared.rule.Rule.TheVariants.{IssueLaneFull, ClimbNotMet, ClimbOwes, ClimbNotDone, FallNotMet, ExecuteSourceMissing, ExecuteDead, LaunchDead, LaunchNotMet, LaunchSourceMissing, RecoverNotDone, LeaveNotMet, LeaveOwes, LeaveNotDone, ExitNotMet, ServeNotMet, MeetDie, MeetGarner, MeetKill, MeetUpdate, ControlAboveMemory}
-use Rattle.order_rules.specs.Rules.{kept, all_rules, rule_number}
-use Rattle.order_model.specs.RuleBars.{lane_room, source_bar_under, row_bar_without, bar_without, rule_of}
+use Rattle.order_rules.specs.Rules.{rule_holds, all_rules, rule_number}
+use Rattle.order_model.specs.RuleBars.{lane_room, source_bar_under, row_bar_without, bar_without, rule_of_bar}
 use Rattle.order_model.specs.RuleClaims.{BarsNoMore, IsBarredByTheRule}
 
 -- the table's bar is that of a rule taken away
@@ -26,8 +26,8 @@ record IsGone (away : Option Rule) (mv : Move) (x : Option Bar) : Type 0 where
   why : Bar
   rule : Rule
   is : x ≡ Some why
-  of : rule_of mv why ≡ Some rule
-  gone : kept away rule ≡ false
+  of : rule_of_bar mv why ≡ Some rule
+  gone : rule_holds away rule ≡ false
 
 -- a bar of the table and of the table without a rule
 abbrev Follows : Option Rule → Move → Option Bar → Option Bar → Type 0
@@ -40,7 +40,7 @@ plain away mv false b x y f = f
 
 -- a test of a rule
 ruled : (away : Option Rule) (mv : Move) (rule : Rule) (keeps : Bool) (test : Bool) (b : Bar) (x y : Option Bar) →
-    keeps ≡ kept away rule → rule_of mv b ≡ Some rule → Follows away mv x y → Follows away mv (first test b x) (first (keeps && test) b y)
+    keeps ≡ rule_holds away rule → rule_of_bar mv b ≡ Some rule → Follows away mv x y → Follows away mv (first test b x) (first (keeps && test) b y)
 ruled away mv rule true true b x y e r f = inl refl
 ruled away mv rule false true b x y e r f = inr (record { why = b; rule = rule; is = refl; of = r; gone = sym e })
 ruled away mv rule true false b x y e r f = f
@@ -57,10 +57,10 @@ same away mv x = inl refl
 
 -- the bar of a source without a value
 sourced : (away : Option Rule) (mv : Move) (rule : Rule) (keeps : Bool) (p : Passenger) (x y : Option Bar) →
-    keeps ≡ kept away rule → ((r : ℕ) → rule_of mv (SourceMissing r) ≡ Some rule) →
+    keeps ≡ rule_holds away rule → ((r : ℕ) → rule_of_bar mv (SourceMissing r) ≡ Some rule) →
     Follows away mv x y → Follows away mv (source_bar p x) (source_bar_under keeps p y)
 sourced away mv rule keeps p x y e r f = go keeps e (missing p.src1) (missing p.src2) where
-  go : (keeps : Bool) → keeps ≡ kept away rule → (a b : Option ℕ) →
+  go : (keeps : Bool) → keeps ≡ rule_holds away rule → (a b : Option ℕ) →
       Follows away mv (on a (on b x (λ r. Some (SourceMissing r))) (λ r. Some (SourceMissing r)))
       (if keeps then on a (on b y (λ r. Some (SourceMissing r))) (λ r. Some (SourceMissing r)) else y)
   go true e None None = f
@@ -73,8 +73,9 @@ sourced away mv rule keeps p x y e r f = go keeps e (missing p.src1) (missing p.
 -- the lane of the table has no more room than the one without the rule
 roomed : (away : Option Rule) (plan : Plan) (g : Guess) (n : ℕ) → Follows away (Issue g)
     (first (nat_lt plan.lane n) LaneFull None) (first (nat_lt (lane_room away plan) n) LaneFull None)
-roomed away plan g n = go (kept away IssueLaneFull) refl (nat_lt plan.lane n) refl (nat_lt (max plan.lane (2 * plan.stages)) n) refl where
-  go : (keeps : Bool) → keeps ≡ kept away IssueLaneFull → (a : Bool) → a ≡ nat_lt plan.lane n → (b : Bool) → b ≡ nat_lt (max plan.lane (2 * plan.stages)) n →
+roomed away plan g n = go (rule_holds away IssueLaneFull) refl (nat_lt plan.lane n) refl (nat_lt (max plan.lane (2 * plan.stages)) n) refl where
+  go : (keeps : Bool) → keeps ≡ rule_holds away IssueLaneFull → (a : Bool) → a ≡ nat_lt plan.lane n → (b : Bool) →
+      b ≡ nat_lt (max plan.lane (2 * plan.stages)) n →
       Follows away (Issue g) (first (nat_lt plan.lane n) LaneFull None)
       (first (nat_lt (if keeps then plan.lane else max plan.lane (2 * plan.stages)) n) LaneFull None)
   go true e a h b k = inl refl
@@ -165,8 +166,8 @@ same_test : (m n : ℕ) → not (nat_eq m n) ≡ false → m ≡ n
 same_test m n e = grind (arith, nat_tests)
 
 -- only the rule that is taken away is gone
-it_is_gone : (rule away : Rule) → kept (Some away) rule ≡ false → Some rule ≡ Some away
-unfolding kept
+it_is_gone : (rule away : Rule) → rule_holds (Some away) rule ≡ false → Some rule ≡ Some away
+unfolding rule_holds
 it_is_gone rule away e = sym (same_number rule away (same_test (rule_number away) (rule_number rule) e))
 
 one_value : {A : Type 0} (x : Option A) (a b : A) → x ≡ Some a → x ≡ Some b → a ≡ b
@@ -174,8 +175,8 @@ one_value x a b e f = cc
 
 pub barred_by_it : IsBarredByTheRule
 barred_by_it rule plan s mv b e n = go (bar_follows (Some rule) plan s mv) where
-  go : Follows (Some rule) mv (bar plan s mv) (bar_without (Some rule) plan s mv) → rule_of mv b ≡ Some rule
+  go : Follows (Some rule) mv (bar plan s mv) (bar_without (Some rule) plan s mv) → rule_of_bar mv b ≡ Some rule
   go (inl f) = absurd (not_both (bar plan s mv) b e (sym f ∙ n))
-  go (inr f) = ap (rule_of mv) (one_value (bar plan s mv) b f.why e f.is) ∙ (f.of ∙ it_is_gone f.rule rule f.gone)
+  go (inr f) = ap (rule_of_bar mv) (one_value (bar plan s mv) b f.why e f.is) ∙ (f.of ∙ it_is_gone f.rule rule f.gone)
 
 pub ruleset lifting = (bars_no_more, barred_by_it)

@@ -25,7 +25,8 @@ grown start now new a b c e f g = f ∙ ap (λ (l : List Move). l ++ b) e ∙ ap
 slides_take : (first : ℕ) (sidings : List SidingPlan) (k n : ℕ) (d : SidingPlan) → n ≡ suc k → k < length sidings → slides_from first (take n sidings)
     ≡ slides_from first (take k sidings) ++ map (Slide (first + k)) (counted_from 0 ((unwrap_or (slice_get sidings k) d).cells - 1))
 slides_take first [] k n d e h = absurd (omega arith)
-slides_take first (s ∷ sidings) zero n d e h = rw e (append-nil (map (Slide first) (counted_from 0 (s.cells - 1))) ∙ ap (λ (i : ℕ). map (Slide i) (counted_from 0 (s.cells - 1))) (omega arith))
+slides_take first (s ∷ sidings) zero n d e h = rw e (append-nil (map (Slide first) (counted_from 0 (s.cells - 1)))
+    ∙ ap (λ (i : ℕ). map (Slide i) (counted_from 0 (s.cells - 1))) (omega arith))
 slides_take first (s ∷ sidings) (suc k) n d e h = rw e (ap (λ (l : List Move). map (Slide first) (counted_from 0 (s.cells - 1)) ++ l)
     (slides_take (suc first) sidings k (suc k) d refl (omega arith)
     ∙ ap (λ (i : ℕ). slides_from (suc first) (take k sidings) ++ map (Slide i) (counted_from 0 ((unwrap_or (slice_get sidings k) d).cells - 1))) (omega arith))
@@ -35,7 +36,8 @@ pub slides_more : (plan : Plan) (k : ℕ) → k < length plan.sidings → slides
     ≡ slides_from 0 (take k plan.sidings) ++ map (Slide k) (counted_from 0 (cells_of plan k - 1))
 unfolding cells_of
 slides_more plan k h = slides_take 0 plan.sidings k (k + 1) no_siding (omega arith) h
-    ∙ ap (λ (i : ℕ). slides_from 0 (take k plan.sidings) ++ map (Slide i) (counted_from 0 ((unwrap_or (slice_get plan.sidings k) no_siding).cells - 1))) (omega arith)
+    ∙ ap (λ (i : ℕ). slides_from 0 (take k plan.sidings) ++ map (Slide i) (counted_from 0 ((unwrap_or (slice_get plan.sidings k) no_siding).cells - 1)))
+    (omega arith)
 
 -- the parts of the list, joined one after another, are the list
 pub joined : (plan : Plan) (moves : List Move) → moves

@@ -7,7 +7,7 @@ use Rattle.mem_regions.specs.Area.{Area}
 use Rattle.mem_regions.specs.Memory.{Memory}
 use Rattle.mem_regions.specs.Ranges.{range_of, can_write, writes_in}
 use Rattle.mem_regions.specs.Writing.{area_with, first_changed, memory_with, overwritten}
-use Rattle.rv_machine.specs.Call.{call, read, read_into, write, write_from, exit, brk, with_break, is_break, answered, bad_file, bad_address, no_such_call, is_output, is_exit, number_in, first_argument, second_argument, third_argument}
+use Rattle.rv_machine.specs.Call.{call, read, read_into, write, write_from, exit, brk, with_break, is_break, answered_alone, bad_file, bad_address, no_such_call, is_output, is_exit, call_number, first_argument, second_argument, third_argument}
 use Rattle.order_model.specs.ServeEffects.{memory_served}
 
 -- a write of no bytes
@@ -15,7 +15,8 @@ none_written : (bytes : List ℕ) (at : ℕ) → overwritten bytes at [] ≡ byt
 none_written bytes at =
     let e : at + 0 ≡ at = omega arith in
     ap (λ (l : List ℕ). take (length bytes) (l ++ drop (at + 0) bytes)) (append-nil (take at bytes))
-    ∙ ap (λ (i : ℕ). take (length bytes) (take at bytes ++ drop i bytes)) e ∙ ap (take (length bytes)) (take-append-drop at bytes) ∙ take_all (length bytes) bytes (omega arith)
+    ∙ ap (λ (i : ℕ). take (length bytes) (take at bytes ++ drop i bytes)) e ∙ ap (take (length bytes)) (take-append-drop at bytes)
+    ∙ take_all (length bytes) bytes (omega arith)
 
 areas_kept : (test : Area → Bool) (addr : ℕ) (areas : List Area) → first_changed test (area_with addr []) areas ≡ areas
 areas_kept test addr [] = refl
@@ -35,7 +36,8 @@ take_none n = take_all n [] (omega arith)
 read_keeps : (fd addr len : ℕ) (mem : Memory) → memory_served (read fd addr len mem []) mem ≡ mem
 unfolding read
 read_keeps fd addr len mem = go (not (fd == 0)) (len == 0) (not (can_write mem addr len)) where
-  go : (a b c : Bool) → memory_served (if a then answered bad_file mem [] else if b then answered 0 mem [] else if c then answered bad_address mem [] else read_into addr len mem []) mem ≡ mem
+  go : (a b c : Bool) → memory_served (if a then answered_alone bad_file mem [] else if b then answered_alone 0 mem [] else if c
+      then answered_alone bad_address mem [] else read_into addr len mem []) mem ≡ mem
   go true b c = refl
   go false true c = refl
   go false false true = refl
@@ -44,7 +46,8 @@ read_keeps fd addr len mem = go (not (fd == 0)) (len == 0) (not (can_write mem a
 write_keeps : (fd addr len : ℕ) (mem : Memory) → memory_served (write fd addr len mem []) mem ≡ mem
 unfolding write
 write_keeps fd addr len mem = go (not (is_output fd)) (len == 0) (range_of mem addr len) where
-  go : (a b : Bool) (r : Option (List ℕ)) → memory_served (if a then answered bad_file mem [] else if b then answered 0 mem [] else write_from r len mem []) mem ≡ mem
+  go : (a b : Bool) (r : Option (List ℕ)) → memory_served (if a then answered_alone bad_file mem [] else if b then answered_alone 0 mem []
+      else write_from r len mem []) mem ≡ mem
   go true b r = refl
   go false true r = refl
   go false false None = refl
@@ -53,11 +56,11 @@ write_keeps fd addr len mem = go (not (is_output fd)) (len == 0) (range_of mem a
 -- a call with another number than that of brk
 pub other_keeps : (regs : List ℕ) (mem : Memory) → slice_index regs 17 ≢ 214 → mem ≡ memory_served (call regs mem []) mem
 unfolding call
-other_keeps regs mem h = sym (go (number_in regs == 63) (number_in regs == 64) (is_exit (number_in regs)) (number_in regs == 214) refl) where
-  go : (r w e b : Bool) → b ≡ (number_in regs == 214) → memory_served
+other_keeps regs mem h = sym (go (call_number regs == 63) (call_number regs == 64) (is_exit (call_number regs)) (call_number regs == 214) refl) where
+  go : (r w e b : Bool) → b ≡ (call_number regs == 214) → memory_served
       (if r then read (first_argument regs) (second_argument regs) (third_argument regs) mem [] else
       if w then write (first_argument regs) (second_argument regs) (third_argument regs) mem [] else
-      if e then exit (first_argument regs) else if b then brk (first_argument regs) mem [] else answered no_such_call mem []) mem ≡ mem
+      if e then exit (first_argument regs) else if b then brk (first_argument regs) mem [] else answered_alone no_such_call mem []) mem ≡ mem
   go true w e b f = read_keeps (first_argument regs) (second_argument regs) (third_argument regs) mem
   go false true e b f = write_keeps (first_argument regs) (second_argument regs) (third_argument regs) mem
   go false false true b f = refl
@@ -81,7 +84,8 @@ pub break_moves : (regs : List ℕ) (mem : Memory) → slice_index regs 17 ≡ 2
     record mem { program_break = slice_index regs 10 } ≡ memory_served (call regs mem []) mem
 break_moves regs mem e l u = sym (is_brk regs mem e ∙ breaks (slice_index regs 10) mem (grind (arith, nat_tests)))
 
-pub break_stays : (regs : List ℕ) (mem : Memory) → slice_index regs 17 ≡ 214 → is_break (slice_index regs 10) ≡ false → mem ≡ memory_served (call regs mem []) mem
+pub break_stays : (regs : List ℕ) (mem : Memory) → slice_index regs 17 ≡ 214 → is_break (slice_index regs 10) ≡ false →
+    mem ≡ memory_served (call regs mem []) mem
 break_stays regs mem e f = sym (is_brk regs mem e ∙ breaks_not (slice_index regs 10) mem f)
 
 pub ruleset calling = (other_keeps, break_moves, break_stays)

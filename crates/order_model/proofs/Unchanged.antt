@@ -12,13 +12,13 @@ use Rattle.cf_semantics.specs.state.State.{State, cell_at, with_cell}
 use Rattle.cf_semantics.specs.state.Options.{on}
 use Rattle.cf_semantics.specs.moves.Bars.{bar}
 use Rattle.cf_semantics.specs.moves.Moves.{moved, next, cell_met}
-use Rattle.order_rules.specs.Rules.{kept}
+use Rattle.order_rules.specs.Rules.{rule_holds}
 use Rattle.order_model.specs.RuleBars.{bar_without}
 use Rattle.order_model.specs.RuleMoves.{replaced_without, passed_without, meeting_without, cell_met_without, moved_without, next_without}
 use Rattle.order_model.specs.RuleClaims.{HasTheBars, HasTheMoves}
 
 pub bars_unchanged : HasTheBars
-unfolding bar_without bar kept
+unfolding bar_without bar rule_holds
 bars_unchanged plan s (Issue g) = refl
 bars_unchanged plan s Emit = refl
 bars_unchanged plan s (Climb i) = refl
@@ -35,7 +35,7 @@ bars_unchanged plan s Exit = refl
 bars_unchanged plan s Serve = refl
 
 replacing : (r v : ℕ) (o : Option ℕ) → replaced_without None r v o ≡ replaced r o
-unfolding kept
+unfolding rule_holds
 replacing r v None = refl
 replacing r v (Some w) = refl
 
@@ -44,7 +44,7 @@ passing r v None = refl
 passing r v (Some b) = rw (replacing r v b.value) refl
 
 pub meeting_unchanged : (p : Passenger) (k : Packet) → meeting_without None p k ≡ meeting p k
-unfolding meeting_without meeting kept
+unfolding meeting_without meeting rule_holds
 meeting_unchanged p (Value r v) = rw (passing r v p.dst) refl
 meeting_unchanged p (Turn pc) = refl
 meeting_unchanged p Halt = refl
@@ -69,7 +69,7 @@ meet_there plan s i = go (cell_at s.cells i) where
   go (Some c) = meet_passenger c c.passenger
 
 pub moves_unchanged : HasTheMoves
-unfolding next_without next moved_without moved kept
+unfolding next_without next moved_without moved rule_holds
 moves_unchanged plan m (Issue g) = refl
 moves_unchanged plan m Emit = refl
 moves_unchanged plan m (Climb i) = refl

@@ -7,7 +7,7 @@ use Rattle.cf_semantics.specs.state.State.{State, Moment}
 use Rattle.cf_semantics.specs.moves.Bars.{bar}
 use Rattle.cf_semantics.specs.moves.Moves.{next}
 use Rattle.order_rules.specs.declared.rule.Rule.{Rule}
-use Rattle.order_model.specs.RuleBars.{bar_without, rule_of}
+use Rattle.order_model.specs.RuleBars.{bar_without, rule_of_bar}
 use Rattle.order_model.specs.RuleMoves.{next_without}
 
 -- with no rule taken away the bars are those of the table
@@ -25,4 +25,4 @@ BarsNoMore = (away : Option Rule) (plan : Plan) (s : State) (mv : Move) → bar 
 -- where a move is allowed only without the rule, the bar of the table is that rule's
 abbrev pub IsBarredByTheRule : Type 0
 IsBarredByTheRule = (rule : Rule) (plan : Plan) (s : State) (mv : Move) (b : Bar) →
-    bar plan s mv ≡ Some b → bar_without (Some rule) plan s mv ≡ None → rule_of mv b ≡ Some rule
+    bar plan s mv ≡ Some b → bar_without (Some rule) plan s mv ≡ None → rule_of_bar mv b ≡ Some rule

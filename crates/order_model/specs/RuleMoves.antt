@@ -20,17 +20,17 @@ use Rattle.cf_semantics.specs.moves.Moves.{set_last, on_passenger, with_passenge
 use Rattle.cf_semantics.specs.runs.Lines.{Line, line_of}
 use Rattle.order_rules.specs.declared.rule.Rule.{Rule}
 use Rattle.order_rules.specs.declared.rule.Rule.TheVariants.{MeetDie, MeetGarner, MeetKill, MeetUpdate, LaunchDead, ExecuteDead, RecoverNotDone, LeaveNotDone}
-use Rattle.order_rules.specs.Rules.{kept}
+use Rattle.order_rules.specs.Rules.{rule_holds}
 
 -- meet:garner: a source of the value's register without a value gets it
 abbrev pub garnered_without : Option Rule → ℕ → ℕ → Option Binding → Option Binding
-garnered_without away r v source = if kept away MeetGarner then garnered r v source else source
+garnered_without away r v source = if rule_holds away MeetGarner then garnered r v source else source
 
 -- meet:kill: a value of a register whose new value is unknown is killed; meet:update: once it is known, the value
 -- becomes the new one
 abbrev pub replaced_without : Option Rule → ℕ → ℕ → Option ℕ → Option Packet
-replaced_without away r v None = if kept away MeetKill then None else Some (Value r v)
-replaced_without away r v (Some w) = Some (Value r (if kept away MeetUpdate then w else v))
+replaced_without away r v None = if rule_holds away MeetKill then None else Some (Value r v)
+replaced_without away r v (Some w) = Some (Value r (if rule_holds away MeetUpdate then w else v))
 
 abbrev pub passed_without : Option Rule → ℕ → ℕ → Option Binding → Option Packet
 passed_without away r v None = Some (Value r v)
@@ -38,7 +38,7 @@ passed_without away r v (Some b) = if b.reg == r then replaced_without away r v 
 
 -- meet:die: what meets a turn or a halt is dead from then on
 abbrev pub cancelled_without : Option Rule → Passenger → Passenger
-cancelled_without away p = if kept away MeetDie then cancelled p else p
+cancelled_without away p = if rule_holds away MeetDie then cancelled p else p
 
 abbrev pub passenger_met_without : Option Rule → Packet → Passenger → Passenger
 passenger_met_without away (Value r v) p = record p { src1 = garnered_without away r v p.src1; src2 = garnered_without away r v p.src2 }
@@ -62,12 +62,12 @@ cell_met_without away c p k =
 
 -- recover:NotDone: without the rule a load or a store that has no answer is answered with 0
 abbrev pub answer_without : Option Rule → Passenger → Op → Option ℕ
-answer_without away p op = if kept away RecoverNotDone || not (is_memory (kind p)) then op.answer else Some (on op.answer 0 (λ v. v))
+answer_without away p op = if rule_holds away RecoverNotDone || not (is_memory (kind p)) then op.answer else Some (on op.answer 0 (λ v. v))
 
 -- launch:Dead, execute:Dead: without the rule an instruction finishes with the source values of the operation that it
 -- takes back
 abbrev pub sources_without : Option Rule → Passenger → Op → Passenger
-sources_without away p op = if kept away LaunchDead && kept away ExecuteDead then p
+sources_without away p op = if rule_holds away LaunchDead && rule_holds away ExecuteDead then p
     else record p { src1 = with_value op.a p.src1; src2 = with_value op.b p.src2 }
 
 abbrev pub recovered_without : Option Rule → Plan → State → ℕ → Cell → Passenger → State
@@ -77,7 +77,7 @@ recovered_without away plan s i c p = on (siding_of plan (kind p)) s (λ k. on (
 
 -- leave:NotDone: without the rule a live instruction that is not done leaves as one without a destination
 abbrev pub leaving_without : Option Rule → Passenger → Passenger
-leaving_without away p = if kept away LeaveNotDone || p.done then p else record p { dst = None }
+leaving_without away p = if rule_holds away LeaveNotDone || p.done then p else record p { dst = None }
 
 abbrev pub left_without : Option Rule → State → ℕ → Cell → Passenger → State
 left_without away s n c p = left s n c (leaving_without away p)

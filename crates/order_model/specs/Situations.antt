@@ -12,5 +12,5 @@ abbrev pub in_memory : State → Memory → State
 in_memory s mem = record s { mem = mem }
 
 -- the moment of a state, whose input is at its end, and before which nothing was written
-abbrev pub alone : State → Moment
-alone s = record { state = s; rest = []; output = [] }
+abbrev pub lone_moment : State → Moment
+lone_moment s = record { state = s; rest = []; output = [] }

@@ -3,7 +3,7 @@
 ghost use Rattle.std.specs.Option.{option_copied};
 ghost use Rattle.std.specs.Prelude.{◌≡◌, find, None};
 ghost use Rattle.cf_bind.specs.declared.moves.Move.TheVariants as mv;
-ghost use Rattle.cf_semantics.specs.moves.Bars.{first_of as first_bar_of, entry_bar as bar_of_entry, is_full as is_full_cell, row_bar};
+ghost use Rattle.cf_semantics.specs.moves.Bars.{first_bar_of as first_bar_of, entry_bar as bar_of_entry, is_full as is_full_cell, row_bar};
 ghost use Rattle.cf_semantics.specs.moves.Instructions.{is_memory as loads_or_stores, is_serial as needs_machine};
 ghost use Rattle.cf_semantics.specs.state.Layouts.{port as port_of};
 ghost use Rattle.order_model.specs.RuleBars.{row_bar_without, bar_without, lane_room as room_of, exit_op_bar_without, source_bar_under};

@@ -12,7 +12,7 @@ ghost use Rattle.order_rules.specs.declared.rule.Rule.{Rule};
 ghost use Rattle.order_model.specs.RuleMoves.{is_of_memory, next_without};
 ghost use Rattle.order_model.specs.ServeEffects.{memory_served};
 ghost use Rattle.order_model.specs.StepEffects.{memory_stepped};
-ghost use Rattle.order_model.specs.Situations.{alone, in_memory};
+ghost use Rattle.order_model.specs.Situations.{lone_moment, in_memory};
 
 use crate::Rule;
 use crate::bars::{is_memory, port};
@@ -140,7 +140,7 @@ impl Situation {
         requires { AreChanges image.now changes.old }
         ensures lists { IfOk result (λ done. AreChanges image.now changes.new) }
         ensures memory { IfOk result (λ done. memory_after changes.new image.now
-            ≡ (next layout.now (alone (in_memory self.now (memory_after changes.old image.now))) mv.Serve).state.mem) }
+            ≡ (next layout.now (lone_moment (in_memory self.now (memory_after changes.old image.now))) mv.Serve).state.mem) }
     {
         let Some(cell) = self.cell(layout.stages() as usize) else {
             return Ok(());
@@ -165,7 +165,7 @@ impl Situation {
         requires memory { is_of_memory m ≡ true }
         ensures lists { IfOk result (λ done. AreChanges image.now changes.new) }
         ensures memory { IfOk result (λ done. (away : Option Rule) → memory_after changes.new image.now
-            ≡ (next_without away layout.now (alone (in_memory self.now (memory_after changes.old image.now))) m).state.mem) }
+            ≡ (next_without away layout.now (lone_moment (in_memory self.now (memory_after changes.old image.now))) m).state.mem) }
     {
         match m {
             Move::Access => self.note_port(alloc, layout, image, changes),
@@ -191,7 +191,7 @@ impl Situation {
         requires count { self.old.retired + 1 < 2 ^ 64 }
         requires changes { AreChangesOf image.now mem.old changes.old }
         ensures state { IfOk result (λ done. in_memory self.new mem.new
-            ≡ (next_without away layout.now (alone (in_memory self.old mem.old)) m).state) }
+            ≡ (next_without away layout.now (lone_moment (in_memory self.old mem.old)) m).state) }
         ensures changes { IfOk result (λ done. AreChangesOf image.now mem.new changes.new) }
     {
         if uses_memory(m) {

@@ -4,7 +4,7 @@
 ghost use Rattle.std.specs.Prelude.{◌≡◌, ◌≤◌, ◌+◌, ◌<◌, ◌^◌, ◌++◌, None, length};
 ghost use Rattle.cf_bind.specs.declared.moves.Move.TheVariants as mv;
 ghost use Rattle.cf_passengers.specs.Waiting.{listed, listed_one};
-ghost use Rattle.cf_semantics.specs.moves.Moves.{fetch_at as fetch_there, left_live, moved, keeps, turned, written};
+ghost use Rattle.cf_semantics.specs.moves.Moves.{fetch_from as fetch_there, left_live, moved, keeps, turned, written};
 ghost use Rattle.cf_semantics.specs.state.Passengers.{cleared, forgets, reg_in};
 ghost use Rattle.order_model.specs.RuleBars.{row_bar_without};
 ghost use Rattle.order_model.specs.RuleMoves.{leaving_without, moved_without};

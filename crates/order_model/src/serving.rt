@@ -8,7 +8,7 @@ ghost use Rattle.cf_semantics.specs.moves.Instructions.{serve_of};
 ghost use Rattle.cf_semantics.specs.moves.Moves.{next};
 ghost use Rattle.cf_semantics.specs.state.Passengers.{instruction as instruction_of};
 ghost use Rattle.order_model.specs.ServeEffects.{memory_served, output_added, passenger_served, told};
-ghost use Rattle.order_model.specs.Situations.{alone, in_memory};
+ghost use Rattle.order_model.specs.Situations.{lone_moment, in_memory};
 
 use crate::situation::Situation;
 use cf_bind::Passenger;
@@ -103,7 +103,7 @@ impl Situation {
     /// The environment has answered the instruction in the highest stage, or the program ends once it leaves.
     #[tactic(auto, using(crate::proofs::Alone::serving), unfolding(cf_semantics::specs::moves::Moves::next))]
     pub(crate) fn serve(&mut self, layout: &LooseLayout, mem: &mut Regions)
-        ensures { in_memory self.new mem.new ≡ (next layout.now (alone (in_memory self.old mem.old)) mv.Serve).state }
+        ensures { in_memory self.new mem.new ≡ (next layout.now (lone_moment (in_memory self.old mem.old)) mv.Serve).state }
     {
         let top = layout.stages() as usize;
         let Some(cell) = self.cell(top) else {
@@ -119,7 +119,7 @@ impl Situation {
     /// The bytes that Serve writes to the output in this memory.
     #[tactic(auto, using(crate::proofs::Written::adding), unfolding(cf_semantics::specs::moves::Moves::next))]
     pub fn output<'a>(&self, layout: &LooseLayout, mem: &'a Regions) -> &'a [u8]
-        ensures { result.now ≡ (next layout.now (alone (in_memory self.now mem.now)) mv.Serve).output }
+        ensures { result.now ≡ (next layout.now (lone_moment (in_memory self.now mem.now)) mv.Serve).output }
     {
         let Some(cell) = self.cell(layout.stages() as usize) else {
             return &[];

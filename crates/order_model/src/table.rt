@@ -4,7 +4,7 @@ ghost use Rattle.std.specs.Prelude.{◌≡◌, ◌+◌, ◌<◌, ◌^◌, None, 
 ghost use Rattle.order_model.specs.RuleBars.{bar_without, row_bar_without};
 ghost use Rattle.order_rules.specs.declared.rule.Rule.{Rule};
 ghost use Rattle.order_model.specs.RuleMoves.{is_of_memory, next_without};
-ghost use Rattle.order_model.specs.Situations.{alone, in_memory};
+ghost use Rattle.order_model.specs.Situations.{lone_moment, in_memory};
 
 use crate::Rule;
 use crate::situation::Situation;
@@ -33,7 +33,7 @@ impl Situation {
         requires allowed { row_bar_without away layout.now (in_memory self.old mem.now) m ≡ None }
         requires count { self.old.retired + 1 < 2 ^ 64 }
         requires still { is_of_memory m ≡ false }
-        ensures { in_memory self.new mem.now ≡ (next_without away layout.now (alone (in_memory self.old mem.now)) m).state }
+        ensures { in_memory self.new mem.now ≡ (next_without away layout.now (lone_moment (in_memory self.old mem.now)) m).state }
     {
         match m {
             Move::Issue(guess) => self.issue(away, layout, mem, guess),
@@ -58,7 +58,7 @@ impl Situation {
     #[tactic(auto, unfolding(crate::specs::RuleMoves::moved_without, crate::specs::RuleMoves::next_without, cf_semantics::specs::moves::Moves::next))]
     fn make_of_memory(&mut self, layout: &LooseLayout, mem: &mut Regions, m: Move)
         requires { is_of_memory m ≡ true }
-        ensures { (away : Option Rule) → in_memory self.new mem.new ≡ (next_without away layout.now (alone (in_memory self.old mem.old)) m).state }
+        ensures { (away : Option Rule) → in_memory self.new mem.new ≡ (next_without away layout.now (lone_moment (in_memory self.old mem.old)) m).state }
     {
         match m {
             Move::Access => self.access(layout, mem),
@@ -73,7 +73,7 @@ impl Situation {
     pub fn make(&mut self, away: Option<Rule>, layout: &LooseLayout, mem: &mut Regions, m: Move)
         requires allowed { bar_without away layout.now (in_memory self.old mem.old) m ≡ None }
         requires count { self.old.retired + 1 < 2 ^ 64 }
-        ensures { in_memory self.new mem.new ≡ (next_without away layout.now (alone (in_memory self.old mem.old)) m).state }
+        ensures { in_memory self.new mem.new ≡ (next_without away layout.now (lone_moment (in_memory self.old mem.old)) m).state }
     {
         if uses_memory(m) {
             self.make_of_memory(layout, mem, m);

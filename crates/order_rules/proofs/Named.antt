@@ -8,7 +8,7 @@ use Rattle.std.proofs.lemmas.List.Sums.{passes_at_first}
 use Rattle.std.proofs.lemmas.Option.{slice_get_within, get_or_from_slice_get}
 use Rattle.order_rules.specs.declared.rule.Rule.TheVariants.{IssueLaneFull, ClimbNotMet, ClimbOwes, ClimbNotDone, FallNotMet, ExecuteSourceMissing, ExecuteDead, LaunchDead, LaunchNotMet, LaunchSourceMissing, RecoverNotDone, LeaveNotMet, LeaveOwes, LeaveNotDone, ExitNotMet, ServeNotMet, MeetDie, MeetGarner, MeetKill, MeetUpdate, ControlAboveMemory}
 use Rattle.order_rules.specs.NameClaims.{AreNamed, IsNamedOnce}
-use Rattle.order_rules.specs.Rules.{name_of, is_name, all_rules, rule_named}
+use Rattle.order_rules.specs.Rules.{rule_name, is_rule_name, all_rules, rule_named}
 
 -- what is found in a list passes the test
 found-passes : {A : Type 0} (p : A → Bool) (xs : List A) (x : A) → find p xs ≡ Some x → p x ≡ true
@@ -19,7 +19,7 @@ found-passes p xs x found =
 
 pub named_once : IsNamedOnce
 unfolding rule_named
-named_once text rule e = sym (same_text text (name_of rule) (sym (found-passes (is_name text) all_rules rule e)))
+named_once text rule e = sym (same_text text (rule_name rule) (sym (found-passes (is_rule_name text) all_rules rule e)))
 
 pub named : AreNamed
 unfolding rule_named

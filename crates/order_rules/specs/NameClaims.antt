@@ -1,12 +1,12 @@
 -- How rules are named: each by its name alone.
 use Rattle.std.specs.Prelude.{◌≡◌, ℕ, List, Some}
 use Rattle.order_rules.specs.declared.rule.Rule.{Rule}
-use Rattle.order_rules.specs.Rules.{name_of, rule_named}
+use Rattle.order_rules.specs.Rules.{rule_name, rule_named}
 
 -- a text names a rule only where it is its name
 abbrev pub IsNamedOnce : Type 0
-IsNamedOnce = (text : List ℕ) (rule : Rule) → rule_named text ≡ Some rule → name_of rule ≡ text
+IsNamedOnce = (text : List ℕ) (rule : Rule) → rule_named text ≡ Some rule → rule_name rule ≡ text
 
 -- each rule is named by its name
 abbrev pub AreNamed : Type 0
-AreNamed = (rule : Rule) → rule_named (name_of rule) ≡ Some rule
+AreNamed = (rule : Rule) → rule_named (rule_name rule) ≡ Some rule

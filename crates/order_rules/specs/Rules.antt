@@ -6,28 +6,28 @@ use Rattle.order_rules.specs.declared.rule.Rule.{Rule}
 use Rattle.order_rules.specs.declared.rule.Rule.TheVariants.{IssueLaneFull, ClimbNotMet, ClimbOwes, ClimbNotDone, FallNotMet, ExecuteSourceMissing, ExecuteDead, LaunchDead, LaunchNotMet, LaunchSourceMissing, RecoverNotDone, LeaveNotMet, LeaveOwes, LeaveNotDone, ExitNotMet, ServeNotMet, MeetDie, MeetGarner, MeetKill, MeetUpdate, ControlAboveMemory}
 
 -- the name of a rule: its move and its bar, or the step of the meeting
-abbrev pub name_of : Rule → List ℕ
-name_of IssueLaneFull = codes "issue:LaneFull"
-name_of ClimbNotMet = codes "climb:NotMet"
-name_of ClimbOwes = codes "climb:Owes"
-name_of ClimbNotDone = codes "climb:NotDone"
-name_of FallNotMet = codes "fall:NotMet"
-name_of ExecuteSourceMissing = codes "execute:SourceMissing"
-name_of ExecuteDead = codes "execute:Dead"
-name_of LaunchDead = codes "launch:Dead"
-name_of LaunchNotMet = codes "launch:NotMet"
-name_of LaunchSourceMissing = codes "launch:SourceMissing"
-name_of RecoverNotDone = codes "recover:NotDone"
-name_of LeaveNotMet = codes "leave:NotMet"
-name_of LeaveOwes = codes "leave:Owes"
-name_of LeaveNotDone = codes "leave:NotDone"
-name_of ExitNotMet = codes "exit:NotMet"
-name_of ServeNotMet = codes "serve:NotMet"
-name_of MeetDie = codes "meet:die"
-name_of MeetGarner = codes "meet:garner"
-name_of MeetKill = codes "meet:kill"
-name_of MeetUpdate = codes "meet:update"
-name_of ControlAboveMemory = codes "layout:ControlAboveMemory"
+abbrev pub rule_name : Rule → List ℕ
+rule_name IssueLaneFull = codes "issue:LaneFull"
+rule_name ClimbNotMet = codes "climb:NotMet"
+rule_name ClimbOwes = codes "climb:Owes"
+rule_name ClimbNotDone = codes "climb:NotDone"
+rule_name FallNotMet = codes "fall:NotMet"
+rule_name ExecuteSourceMissing = codes "execute:SourceMissing"
+rule_name ExecuteDead = codes "execute:Dead"
+rule_name LaunchDead = codes "launch:Dead"
+rule_name LaunchNotMet = codes "launch:NotMet"
+rule_name LaunchSourceMissing = codes "launch:SourceMissing"
+rule_name RecoverNotDone = codes "recover:NotDone"
+rule_name LeaveNotMet = codes "leave:NotMet"
+rule_name LeaveOwes = codes "leave:Owes"
+rule_name LeaveNotDone = codes "leave:NotDone"
+rule_name ExitNotMet = codes "exit:NotMet"
+rule_name ServeNotMet = codes "serve:NotMet"
+rule_name MeetDie = codes "meet:die"
+rule_name MeetGarner = codes "meet:garner"
+rule_name MeetKill = codes "meet:kill"
+rule_name MeetUpdate = codes "meet:update"
+rule_name ControlAboveMemory = codes "layout:ControlAboveMemory"
 
 -- all rules
 abbrev pub all_rules : List Rule
@@ -61,14 +61,14 @@ rule_number MeetUpdate = 19
 rule_number ControlAboveMemory = 20
 
 -- the text is the name of the rule
-abbrev pub is_name : List ℕ → Rule → Bool
-is_name text rule = pointwise nat_eq text (name_of rule)
+abbrev pub is_rule_name : List ℕ → Rule → Bool
+is_rule_name text rule = pointwise nat_eq text (rule_name rule)
 
 -- the rule of this name
 unfoldable pub rule_named : List ℕ → Option Rule
-rule_named text = find (is_name text) all_rules
+rule_named text = find (is_rule_name text) all_rules
 
 -- the rule holds: it is not the one that is taken away
-unfoldable pub kept : Option Rule → Rule → Bool
-kept None rule = true
-kept (Some away) rule = not (nat_eq (rule_number away) (rule_number rule))
+unfoldable pub rule_holds : Option Rule → Rule → Bool
+rule_holds None rule = true
+rule_holds (Some away) rule = not (nat_eq (rule_number away) (rule_number rule))

@@ -2,7 +2,7 @@
 
 ghost use Rattle.std.specs.Prelude.{◌≡◌, find};
 ghost use Rattle.std.specs.Option.{option_copied};
-ghost use Rattle.order_rules.specs.Rules.{all_rules, is_name, kept as is_kept, name_of, rule_named, rule_number};
+ghost use Rattle.order_rules.specs.Rules.{all_rules, is_rule_name, rule_holds as is_kept, rule_name, rule_named, rule_number};
 
 /// A rule that can be taken away: a bar of a row of the table of moves, a step of a meeting, or a rule of layouts.
 #[derive(Clone, Copy, PartialEq, Eq)]
@@ -78,7 +78,7 @@ const RULES: [Rule; 21] = [
 
 /// Finds the rule of this name in the list.
 fn find_named<'a>(rules: &'a [Rule], text: &str) -> Option<&'a Rule>
-    ensures { option_copied result ≡ find (is_name text.now) rules.now }
+    ensures { option_copied result ≡ find (is_rule_name text.now) rules.now }
 {
     rules.iter().find(|rule| rule.is_named(text))
 }
@@ -86,7 +86,7 @@ fn find_named<'a>(rules: &'a [Rule], text: &str) -> Option<&'a Rule>
 impl Rule {
     /// The name of the rule: its move and its bar, or the step of the meeting.
     pub fn name(self) -> &'static str
-        ensures { result.now ≡ name_of self }
+        ensures { result.now ≡ rule_name self }
     {
         match self {
             Rule::IssueLaneFull => "issue:LaneFull",
@@ -115,7 +115,7 @@ impl Rule {
 
     /// Whether the text is the name of the rule.
     fn is_named(self, text: &str) -> bool
-        ensures { result ≡ is_name text.now self }
+        ensures { result ≡ is_rule_name text.now self }
     {
         text == self.name()
     }
@@ -161,7 +161,7 @@ impl Rule {
 
 /// Whether the rule holds, because it is not the one that is taken away.
 #[inline(always)]
-#[tactic(auto, unfolding(crate::specs::Rules::kept))]
+#[tactic(auto, unfolding(crate::specs::Rules::rule_holds))]
 pub fn kept(away: Option<Rule>, rule: Rule) -> bool
     ensures { result ≡ is_kept away rule }
 {

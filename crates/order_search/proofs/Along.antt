@@ -4,7 +4,7 @@ use Rattle.std.proofs.lemmas.Bool.{cases_order, cases_lt}
 use Rattle.std.proofs.lemmas.List.{append_assoc, append-nil, get_or_default}
 use Rattle.order_search.specs.declared.trail.Entered.{Entered}
 use Rattle.order_search.specs.Numbers.{node_at}
-use Rattle.order_search.specs.Paths.{EdgeView, EdgesOf, EdgeFaults, NodeFaults, IsEdgePath, end_of, IsReachable, HasEdgeFault, IsFaultless, HasLastFault, EndsInFault}
+use Rattle.order_search.specs.Paths.{EdgeView, EdgesOf, EdgeFaults, NodeFaults, IsEdgePath, path_end, IsReachable, HasEdgeFault, IsFaultless, HasLastFault, EndsInFault}
 use Rattle.order_search.specs.SearchOrder.{Precedes, IsNotAfter}
 use Rattle.order_search.specs.Exploring.{IsGoneThrough, Explored}
 use Rattle.order_search.proofs.Precedence.{goes_on, by_earlier_edge, begins_before, not_itself, not_after_with, not_after_or, not_after_precedes, not_after_trans, precedes_trans}
@@ -36,8 +36,8 @@ module _ {L F : Type 0} (leads : EdgesOf L) (wrong : EdgeFaults L F) (flawed : N
           (subst (IsNotAfter (x.paths to ++ ps)) (append_assoc (x.paths i) (k ∷ []) ps) (not_after_with (x.paths to) (x.paths i ++ k ∷ []) ps early)) bound
 
       pub comes : (node : List ℕ) (ps : List ℕ) (es : List (EdgeView L)) (i : ℕ) → i < length nodes → node_at nodes i ≡ node →
-          IsEdgePath leads node ps es → Bound (x.paths i ++ ps) → ComesTo nodes x.paths (x.paths i ++ ps) (end_of node es)
-      unfolding IsEdgePath end_of
+          IsEdgePath leads node ps es → Bound (x.paths i ++ ps) → ComesTo nodes x.paths (x.paths i ++ ps) (path_end node es)
+      unfolding IsEdgePath path_end
       comes node [] [] i within is path bound = record { to = i; within = within; node = is; early = inl (sym (append-nil (x.paths i))) }
       comes node [] (e ∷ es) i within is path bound = absurd path
       comes node (k ∷ ps) [] i within is path bound = absurd path
@@ -66,10 +66,10 @@ module _ {L F : Type 0} (leads : EdgesOf L) (wrong : EdgeFaults L F) (flawed : N
           faultless e.node q qs d ds g.to fault g.within g.node path.1 (rest_bound i p (q ∷ qs) g.to g.early bound) h
 
       -- from the first node: what a path of which `Bound` holds leads to is in the list, and it has no fault at its end
-      pub listed : (ps : List ℕ) (es : List (EdgeView L)) → 0 < length nodes → IsEdgePath leads first ps es → Bound ps → Contains nodes (end_of first es)
+      pub listed : (ps : List ℕ) (es : List (EdgeView L)) → 0 < length nodes → IsEdgePath leads first ps es → Bound ps → Contains nodes (path_end first es)
       listed ps es some path bound =
           let h = comes first ps es 0 some x.begins path (subst (λ l. Bound (l ++ ps)) (sym x.nowhere) bound) in
-          (h.to, h.within, get_or_default nodes h.to (end_of first es) [] h.within ∙ h.node)
+          (h.to, h.within, get_or_default nodes h.to (path_end first es) [] h.within ∙ h.node)
 
       pub no_fault : (ps : List ℕ) (es : List (EdgeView L)) (fault : F) → 0 < length nodes → EndsInFault leads wrong flawed first ps es fault → Bound ps → ⊥
       unfolding HasLastFault IsEdgePath
@@ -118,7 +118,7 @@ module _ {L F : Type 0} (leads : EdgesOf L) (wrong : EdgeFaults L F) (flawed : N
     front_before a k more h = begins_before a k more place h
 
     pub listed_before : (ps : List ℕ) (es : List (EdgeView L)) → IsEdgePath leads first ps es → Precedes ps (x.paths at ++ part ∷ []) →
-        Contains nodes (end_of first es)
+        Contains nodes (path_end first es)
     unfolding place
     listed_before ps es path early = listed (λ l. Precedes l place) gone_before lower_before front_before ps es (omega (arith, inside)) path early
 
@@ -142,8 +142,8 @@ module _ {L F : Type 0} (leads : EdgesOf L) (wrong : EdgeFaults L F) (flawed : N
         (listed (λ l. Unit {0}) gone_at_end (λ a b h k. tt) (λ a k more h. tt) h.places h.edges some h.path tt)
 
     -- and a path leads to a node that it or an earlier one reached first
-    pub first_come : (ps : List ℕ) (es : List (EdgeView L)) → IsEdgePath leads first ps es → ComesTo nodes x.paths ps (end_of first es)
-    first_come ps es path = subst (λ l. ComesTo nodes x.paths (l ++ ps) (end_of first es)) x.nowhere
+    pub first_come : (ps : List ℕ) (es : List (EdgeView L)) → IsEdgePath leads first ps es → ComesTo nodes x.paths ps (path_end first es)
+    first_come ps es path = subst (λ l. ComesTo nodes x.paths (l ++ ps) (path_end first es)) x.nowhere
         (comes (λ l. Unit {0}) gone_at_end (λ a b h k. tt) (λ a k more h. tt) first ps es 0 some x.begins path tt)
 
     pub none_at_end : (ps : List ℕ) (es : List (EdgeView L)) (fault : F) → EndsInFault leads wrong flawed first ps es fault → ⊥

@@ -8,7 +8,7 @@ use Rattle.std.proofs.lemmas.List.Concat.{length-flat_map}
 use Rattle.std.proofs.lemmas.List.Sums.{sum_by_push, sum_by-cons}
 use Rattle.order_search.specs.declared.orders.Count.{Count}
 use Rattle.order_search.specs.declared.orders.Count.TheVariants.{Open, Exactly, More}
-use Rattle.order_search.specs.Counting.{plus, count_at, count_of}
+use Rattle.order_search.specs.Counting.{plus_count, count_at, count_of}
 use Rattle.order_search.specs.Numbers.{node_at}
 use Rattle.order_search.specs.Paths.{EdgeView, EdgesOf, IsEdgePath}
 use Rattle.order_search.specs.Routes.{is_none, each_behind, routes, HasPathsUpTo}
@@ -130,7 +130,7 @@ module _ {L : Type 0} (leads : EdgesOf L) where
   deepened depth node More h = (weaker depth node h.0, omega (arith, h.1, ap length (deeper depth node h.0)))
 
   added : (depth : ℕ) (es : List (EdgeView L)) (e : EdgeView L) (sum count : Count) → IsSum depth es sum → IsCount depth e.node count →
-      IsSum depth (es ++ e ∷ []) (plus sum count)
+      IsSum depth (es ++ e ∷ []) (plus_count sum count)
   added depth es e sum Open h k = tt
   added depth es e Open (Exactly n) h k = tt
   added depth es e (Exactly m) (Exactly n) h k = by (nat_lt (m + n) (2 ^ 64)) refl
@@ -159,13 +159,13 @@ module _ {L : Type 0} (leads : EdgesOf L) where
 
     summed : (depth : ℕ) (counts : List Count) → AreCounts depth counts → (before : List (EdgeView L)) (sum : Count) (row : List ℕ) (es : List
         (EdgeView L)) →
-        IsSum depth before sum → AreTargets nodes row es → IsSum depth (before ++ es) (fold (λ s to. plus s (count_at counts to)) sum row)
+        IsSum depth before sum → AreTargets nodes row es → IsSum depth (before ++ es) (fold (λ s to. plus_count s (count_at counts to)) sum row)
     summed depth counts all before sum [] [] h targets = subst (λ l. IsSum depth l sum) (sym (append-nil before)) h
     summed depth counts all before sum [] (e ∷ es) h targets = absurd targets
     summed depth counts all before sum (to ∷ row) [] h targets = absurd targets
     summed depth counts all before sum (to ∷ row) (e ∷ es) h targets =
-        subst (λ l. IsSum depth l (fold (λ s n. plus s (count_at counts n)) (plus sum (count_at counts to)) row)) (append_assoc before (e ∷ []) es)
-        (summed depth counts all (before ++ e ∷ []) (plus sum (count_at counts to)) row es
+        subst (λ l. IsSum depth l (fold (λ s n. plus_count s (count_at counts n)) (plus_count sum (count_at counts to)) row)) (append_assoc before (e ∷ []) es)
+        (summed depth counts all (before ++ e ∷ []) (plus_count sum (count_at counts to)) row es
         (added depth before e sum (count_at counts to) h (subst (λ n. IsCount depth n (count_at counts to)) targets.0.node (all to))) targets.1)
 
     -- the count of a node follows

@@ -4,7 +4,7 @@ use Rattle.std.proofs.lemmas.List.{map-append, get_or_default}
 use Rattle.std.proofs.lemmas.Option.{slice_get_cases}
 use Rattle.order_search.specs.declared.trail.Entered.{Entered}
 use Rattle.order_search.specs.Numbers.{node_at}
-use Rattle.order_search.specs.Paths.{EdgeView, EdgesOf, EdgeFaults, NodeFaults, IsEdgePath, end_of, IsReachable, HasEdgeFault, HasLastFault}
+use Rattle.order_search.specs.Paths.{EdgeView, EdgesOf, EdgeFaults, NodeFaults, IsEdgePath, path_end, IsReachable, HasEdgeFault, HasLastFault}
 use Rattle.order_search.specs.Answers.{IsReachedBy}
 use Rattle.order_search.specs.SearchOrder.{IsNotAfter}
 use Rattle.order_search.specs.Exploring.{HasPredecessor, Explored, LabelsTo, at_first, by_edge}
@@ -12,21 +12,21 @@ use Rattle.order_search.specs.Exploring.{HasPredecessor, Explored, LabelsTo, at_
 module _ {L : Type 0} (leads : EdgesOf L) where
   -- a path and one more edge
   pub path-push : (from : List ℕ) (ps : List ℕ) (es : List (EdgeView L)) (p : ℕ) (e : EdgeView L) → IsEdgePath leads from ps es →
-      slice_get (leads (end_of from es)) p ≡ Some e → IsEdgePath leads from (ps ++ p ∷ []) (es ++ e ∷ [])
-  unfolding IsEdgePath end_of
+      slice_get (leads (path_end from es)) p ≡ Some e → IsEdgePath leads from (ps ++ p ∷ []) (es ++ e ∷ [])
+  unfolding IsEdgePath path_end
   path-push from [] [] p e path leaves = (leaves, tt)
   path-push from [] (d ∷ ds) p e path leaves = absurd path
   path-push from (q ∷ ps) [] p e path leaves = absurd path
   path-push from (q ∷ ps) (d ∷ ds) p e path leaves = (path.0, path-push d.node ps ds p e path.1 leaves)
 
-  pub end-push : (from : List ℕ) (es : List (EdgeView L)) (e : EdgeView L) → end_of from (es ++ e ∷ []) ≡ e.node
-  unfolding end_of
+  pub end-push : (from : List ℕ) (es : List (EdgeView L)) (e : EdgeView L) → path_end from (es ++ e ∷ []) ≡ e.node
+  unfolding path_end
   end-push from [] e = refl
   end-push from (d ∷ ds) e = end-push d.node ds e
 
   pub last-push : {F : Type 0} (wrong : EdgeFaults L F) (flawed : NodeFaults F) (from : List ℕ) (es : List (EdgeView L)) (e : EdgeView L) (fault : F) →
-      HasEdgeFault wrong flawed (end_of from es) e fault → HasLastFault wrong flawed from (es ++ e ∷ []) fault
-  unfolding HasLastFault end_of
+      HasEdgeFault wrong flawed (path_end from es) e fault → HasLastFault wrong flawed from (es ++ e ∷ []) fault
+  unfolding HasLastFault path_end
   last-push wrong flawed from [] e fault h = h
   last-push wrong flawed from (d ∷ []) e fault h = h
   last-push wrong flawed from (d ∷ c ∷ cs) e fault h = last-push wrong flawed d.node (c ∷ cs) e fault h
@@ -36,14 +36,14 @@ pub record LeadsTo {L : Type 0} (leads : EdgesOf L) (first : List ℕ) (nodes : 
     (labels : List L) : Type 0 where
   pub edges : List (EdgeView L)
   pub path : IsEdgePath leads first (paths number) edges
-  pub end : end_of first edges ≡ node_at nodes number
+  pub end : path_end first edges ≡ node_at nodes number
   pub names : labels ≡ map (λ e. e.label) edges
 
 module _ {L F : Type 0} (leads : EdgesOf L) (wrong : EdgeFaults L F) (flawed : NodeFaults F) (first : List ℕ) (nodes : List (List ℕ)) (entered : List
     (Entered L))
     (at part : ℕ) (x : Explored leads wrong flawed first nodes entered at part) where
   pub path_to : (number : ℕ) (labels : List L) → LabelsTo entered number labels → LeadsTo leads first nodes x.paths number labels
-  unfolding IsEdgePath end_of
+  unfolding IsEdgePath path_end
   path_to number labels (at_first _ _ start none) = record {
     edges = [];
     path = subst (λ l. IsEdgePath leads first l []) (sym (ap x.paths start ∙ x.nowhere)) tt;

@@ -7,7 +7,7 @@ use Rattle.order_search.specs.declared.trail.Entered.{Entered}
 use Rattle.order_search.specs.Answers.{HasEarlierPath}
 use Rattle.order_search.specs.Exploring.{Explored}
 use Rattle.order_search.specs.Numbers.{node_at}
-use Rattle.order_search.specs.Paths.{EdgeView, EdgesOf, EdgeFaults, NodeFaults, IsEdgePath, end_of}
+use Rattle.order_search.specs.Paths.{EdgeView, EdgesOf, EdgeFaults, NodeFaults, IsEdgePath, path_end}
 use Rattle.order_search.specs.SearchOrder.{Precedes}
 use Rattle.order_search.proofs.Along.{first_come}
 use Rattle.order_search.proofs.Leading.{labelled, path_to}
@@ -28,7 +28,7 @@ module _ {L F : Type 0} (leads : EdgesOf L) (wrong : EdgeFaults L F) (flawed : N
     (at part : ℕ) (x : Explored leads wrong flawed first nodes entered at part) (ended : length nodes ≤ at) (some : 0 < length nodes) where
   -- each path to a node comes after those of the nodes with lower numbers
   after : (i j : ℕ) → i < j → j < length nodes → (others : List ℕ) (path : List (EdgeView L)) → IsEdgePath leads first others path →
-      end_of first path ≡ node_at nodes j → Precedes (x.paths i) others
+      path_end first path ≡ node_at nodes j → Precedes (x.paths i) others
   after i j order within others path is_path end =
       let h = first_come leads wrong flawed first nodes entered at part x ended some others path is_path in
       let same : h.to ≡ j = one_number nodes x.once h.to j h.within within (h.node ∙ end) in

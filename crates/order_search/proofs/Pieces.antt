@@ -4,10 +4,10 @@ use Rattle.std.specs.List.{slice_range}
 use Rattle.std.specs.Prelude.{slice_index}
 use Rattle.std.proofs.Math.Seq.{drop-append_seam}
 use Rattle.std.proofs.lemmas.List.{length-drop, take-append-le, drop-append-le, take_all}
-use Rattle.order_search.specs.Rows.{pieces, AreEnds, row_at, start_of}
+use Rattle.order_search.specs.Rows.{pieces_to, AreEnds, numbered_row, piece_start}
 
 -- as many as there are ends
-pub as_many : {X : Type 0} (from : ℕ) (ends : List ℕ) (numbers : List X) → length (pieces from ends numbers) ≡ length ends
+pub as_many : {X : Type 0} (from : ℕ) (ends : List ℕ) (numbers : List X) → length (pieces_to from ends numbers) ≡ length ends
 as_many from [] numbers = refl
 as_many from (end ∷ ends) numbers = ap suc (as_many end ends numbers)
 
@@ -17,7 +17,7 @@ ends_above from (end ∷ ends) total h = omega (arith, h.0, ends_above end ends 
 
 -- a piece is within the list
 pub record IsPiece (ends : List ℕ) (from number total : ℕ) : Type 0 where
-  pub order : start_of from ends number ≤ slice_index ends number
+  pub order : piece_start from ends number ≤ slice_index ends number
   pub inside : slice_index ends number ≤ total
 
 pub is_piece : (from : ℕ) (ends : List ℕ) (total number : ℕ) → AreEnds from ends total → number < length ends → IsPiece ends from number total
@@ -30,7 +30,7 @@ is_piece from (end ∷ ends) total (suc (suc number)) h within =
 
 -- the list with a number is this piece
 pub row_is : {X : Type 0} (from : ℕ) (ends : List ℕ) (numbers : List X) (number : ℕ) → number < length ends →
-    row_at (pieces from ends numbers) number ≡ slice_range numbers (start_of from ends number) (slice_index ends number)
+    numbered_row (pieces_to from ends numbers) number ≡ slice_range numbers (piece_start from ends number) (slice_index ends number)
 row_is from [] numbers number within = absurd (omega (arith, within))
 row_is from (end ∷ ends) numbers zero within = refl
 row_is from (end ∷ ends) numbers (suc zero) within = row_is end ends numbers zero (omega (arith, within))
@@ -52,7 +52,7 @@ last_piece numbers more from is =
 
 -- one list more
 pub one_more : {X : Type 0} (from : ℕ) (ends : List ℕ) (numbers more : List X) → AreEnds from ends (length numbers) →
-    pieces from (ends ++ (length numbers + length more) ∷ []) (numbers ++ more) ≡ pieces from ends numbers ++ more ∷ []
+    pieces_to from (ends ++ (length numbers + length more) ∷ []) (numbers ++ more) ≡ pieces_to from ends numbers ++ more ∷ []
 one_more from [] numbers more h = ap (λ l. l ∷ []) (last_piece numbers more from h)
 one_more from (end ∷ ends) numbers more h =
     let first = within_still numbers more from end h.0 (ends_above end ends (length numbers) h.1) in

@@ -11,7 +11,7 @@ use Rattle.order_search.specs.Routes.{AreOrders}
 use Rattle.order_search.specs.SearchAnswers.{AnswersOf, Progress, Visits, IsReachedGraph}
 use Rattle.order_search.proofs.Exploring.{first_node}
 use Rattle.order_search.proofs.Settled.{answered}
-use Rattle.order_search.specs.Rows.{row_at}
+use Rattle.order_search.specs.Rows.{numbered_row}
 use Rattle.order_search.proofs.Turns.{all_counted, targets_below}
 use Rattle.std.proofs.lemmas.List.{get_or_default}
 
@@ -49,7 +49,7 @@ module _ {L F : Type 0} (known : List ℕ → Type 0) (leads : EdgesOf L) (wrong
   rows_within nodes entered rows at moves dead ended p i d within j e inside =
       let many : length rows ≡ length nodes = omega (arith, p.under_way.as_many, p.within, ended) in
       let same : get_or rows i [] ≡ get_or rows i d = get_or_default rows i [] d within in
-      let below = targets_below nodes (row_at rows i) (leads (node_at nodes i)) (p.under_way.targets i within) j e
+      let below = targets_below nodes (numbered_row rows i) (leads (node_at nodes i)) (p.under_way.targets i within) j e
       (subst (λ row. j < length row) (sym same) inside) in
       let alike = ap (λ row. get_or row j e) same in omega (arith, below, alike, many)
 

@@ -7,19 +7,19 @@ use Rattle.std.proofs.lemmas.List.{get_or-set_same, get_or-set_other, length-set
 use Rattle.order_search.specs.declared.orders.Count.{Count}
 use Rattle.order_search.specs.declared.orders.Count.TheVariants.{Open, Exactly, More}
 use Rattle.order_search.specs.declared.orders.Orders.{Orders}
-use Rattle.order_search.specs.Counting.{is_open, plus, count_at, count_of, orders_of, CountFollows, Sweeps, unchanged, one_more, IsStuckFrom, IsSettled}
+use Rattle.order_search.specs.Counting.{is_open_count, plus_count, count_at, count_of, counted_orders, CountFollows, Sweeps, unchanged, one_more, IsStuckFrom, IsSettled}
 use Rattle.order_search.specs.Numbers.{node_at}
 use Rattle.order_search.specs.Paths.{EdgeView, EdgesOf, IsEdgePath}
 use Rattle.order_search.specs.Routes.{HasPath, AreOrders}
-use Rattle.order_search.specs.Rows.{AreTargets, IsTarget, AreRows, row_at}
+use Rattle.order_search.specs.Rows.{AreTargets, IsTarget, AreRows, numbered_row}
 use Rattle.order_search.proofs.Counts.{many, IsCount, AreCounts, deepened, followed}
 
-open_still : (a b : Count) → is_open (plus a b) ≡ true → (is_open a ≡ true) ⊎ (is_open b ≡ true)
+open_still : (a b : Count) → is_open_count (plus_count a b) ≡ true → (is_open_count a ≡ true) ⊎ (is_open_count b ≡ true)
 open_still a Open h = inr refl
 open_still Open (Exactly n) h = inl refl
 open_still (Exactly m) (Exactly n) h = absurd (known (nat_lt (m + n) (2 ^ 64)) h)
   where
-    known : (less : Bool) → is_open (cond less (Exactly (m + n)) More) ≡ true → ⊥
+    known : (less : Bool) → is_open_count (cond less (Exactly (m + n)) More) ≡ true → ⊥
     known true h = cc
     known false h = cc
 open_still More (Exactly n) h = absurd (cc)
@@ -43,21 +43,21 @@ module _ {L : Type 0} (leads : EdgesOf L) (nodes : List (List ℕ)) (rows : List
   one_follows old new number h f = record {
     depth = suc h.depth;
     counted = λ i. by i (cases_order i number);
-    as_many = ap length f.new_is ∙ length-set old number (count_of old (row_at rows number)) ∙ h.as_many;
+    as_many = ap length f.new_is ∙ length-set old number (count_of old (numbered_row rows number)) ∙ h.as_many;
   }
     where
-      this : IsCount leads (suc h.depth) (node_at nodes number) (count_of old (row_at rows number))
-      this = followed leads nodes h.depth old (node_at nodes number) (row_at rows number) h.counted (targets number (omega (arith, f.within, h.as_many)))
+      this : IsCount leads (suc h.depth) (node_at nodes number) (count_of old (numbered_row rows number))
+      this = followed leads nodes h.depth old (node_at nodes number) (numbered_row rows number) h.counted (targets number (omega (arith, f.within, h.as_many)))
 
       other : (i : ℕ) → i ≢ number → IsCount leads (suc h.depth) (node_at nodes i) (count_at new i)
       other i apart = subst (IsCount leads (suc h.depth) (node_at nodes i))
-          (sym (ap (λ l. get_or l i Open) f.new_is ∙ get_or-set_other old number i (count_of old (row_at rows number)) Open apart))
+          (sym (ap (λ l. get_or l i Open) f.new_is ∙ get_or-set_other old number i (count_of old (numbered_row rows number)) Open apart))
           (deepened leads h.depth (node_at nodes i) (count_at old i) (h.counted i))
 
       by : (i : ℕ) → (i ≡ number) ⊎ ((i < number) ⊎ (number < i)) → IsCount leads (suc h.depth) (node_at nodes i) (count_at new i)
       by i (inl same) = subst (λ n. IsCount leads (suc h.depth) (node_at nodes n) (count_at new n)) (sym same)
           (subst (IsCount leads (suc h.depth) (node_at nodes number))
-          (sym (ap (λ l. get_or l number Open) f.new_is ∙ get_or-set_same old number (count_of old (row_at rows number)) Open f.within)) this)
+          (sym (ap (λ l. get_or l number Open) f.new_is ∙ get_or-set_same old number (count_of old (numbered_row rows number)) Open f.within)) this)
       by i (inr (inl below)) = other i (λ same. omega (arith, below, same))
       by i (inr (inr above)) = other i (λ same. omega (arith, above, same))
 
@@ -78,7 +78,7 @@ module _ {L : Type 0} (leads : EdgesOf L) (nodes : List (List ℕ)) (rows : List
     at_place : slice_get es place ≡ Some edge
     to : ℕ
     target : IsTarget nodes to edge
-    is_open_there : is_open (count_at counts to) ≡ true
+    is_open_there : is_open_count (count_at counts to) ≡ true
 
   behind : (counts : List Count) (e : EdgeView L) (es : List (EdgeView L)) → LeadsToOpen counts es → LeadsToOpen counts (e ∷ es)
   behind counts e es h = record {
@@ -92,35 +92,35 @@ module _ {L : Type 0} (leads : EdgesOf L) (nodes : List (List ℕ)) (rows : List
 
   -- where a sum is open, one of the counts is
   open_part : (counts : List Count) (sum : Count) (row : List ℕ) (es : List (EdgeView L)) → AreTargets nodes row es →
-      is_open (fold (λ s n. plus s (count_at counts n)) sum row) ≡ true → (is_open sum ≡ true) ⊎ LeadsToOpen counts es
+      is_open_count (fold (λ s n. plus_count s (count_at counts n)) sum row) ≡ true → (is_open_count sum ≡ true) ⊎ LeadsToOpen counts es
   open_part counts sum [] es all h = inl h
   open_part counts sum (to ∷ row) [] all h = absurd all
-  open_part counts sum (to ∷ row) (e ∷ es) all h = by (open_part counts (plus sum (count_at counts to)) row es all.1 h)
+  open_part counts sum (to ∷ row) (e ∷ es) all h = by (open_part counts (plus_count sum (count_at counts to)) row es all.1 h)
     where
-      first : (is_open sum ≡ true) ⊎ (is_open (count_at counts to) ≡ true) → (is_open sum ≡ true) ⊎ LeadsToOpen counts (e ∷ es)
+      first : (is_open_count sum ≡ true) ⊎ (is_open_count (count_at counts to) ≡ true) → (is_open_count sum ≡ true) ⊎ LeadsToOpen counts (e ∷ es)
       first (inl early) = inl early
       first (inr here) = inr record { place = zero; edge = e; at_place = refl; to = to; target = all.0; is_open_there = here }
 
-      by : (is_open (plus sum (count_at counts to)) ≡ true) ⊎ LeadsToOpen counts es → (is_open sum ≡ true) ⊎ LeadsToOpen counts (e ∷ es)
+      by : (is_open_count (plus_count sum (count_at counts to)) ≡ true) ⊎ LeadsToOpen counts es → (is_open_count sum ≡ true) ⊎ LeadsToOpen counts (e ∷ es)
       by (inl early) = first (open_still sum (count_at counts to) early)
       by (inr rest) = inr (behind counts e es rest)
 
-  open_edge : (counts : List Count) (row : List ℕ) (es : List (EdgeView L)) → AreTargets nodes row es → is_open (count_of counts row) ≡ true →
+  open_edge : (counts : List Count) (row : List ℕ) (es : List (EdgeView L)) → AreTargets nodes row es → is_open_count (count_of counts row) ≡ true →
       LeadsToOpen counts es
   open_edge counts [] es all h = absurd (cc)
   open_edge counts (to ∷ row) es all h = by (open_part counts (Exactly 0) (to ∷ row) es all h)
     where
-      by : (is_open (Exactly 0) ≡ true) ⊎ LeadsToOpen counts es → LeadsToOpen counts es
+      by : (is_open_count (Exactly 0) ≡ true) ⊎ LeadsToOpen counts es → LeadsToOpen counts es
       by (inl never) = absurd (cc)
       by (inr found) = found
 
   -- so paths of any number of edges lead on from an open node, where no count follows
   endless : (counts : List Count) → length rows ≡ length nodes → IsStuckFrom rows counts 0 → (count i : ℕ) → i < length rows →
-      is_open (count_at counts i) ≡ true → HasPath leads (node_at nodes i) count
+      is_open_count (count_at counts i) ≡ true → HasPath leads (node_at nodes i) count
   unfolding IsEdgePath
   endless counts whole stuck zero i within open_here = record { places = []; edges = []; path = tt; long = refl }
   endless counts whole stuck (suc count) i within open_here =
-      let next = open_edge counts (row_at rows i) (leads (node_at nodes i)) (targets i within) (stuck i (omega arith) within open_here) in
+      let next = open_edge counts (numbered_row rows i) (leads (node_at nodes i)) (targets i within) (stuck i (omega arith) within open_here) in
       let rest = endless counts whole stuck count next.to (omega (arith, next.target.within, whole)) next.is_open_there in record {
         places = next.place ∷ rest.places;
         edges = next.edge ∷ rest.edges;
@@ -135,8 +135,8 @@ module _ {L : Type 0} (leads : EdgesOf L) (nodes : List (List ℕ)) (rows : List
       all : AreKnown h.counts
       all = swept h.counts h.swept
 
-      by : (count : Count) → count_at h.counts 0 ≡ count → AreOrders leads (node_at nodes 0) (orders_of count)
-      by Open is = λ count. endless h.counts whole h.stuck count 0 some (ap is_open is)
+      by : (count : Count) → count_at h.counts 0 ≡ count → AreOrders leads (node_at nodes 0) (counted_orders count)
+      by Open is = λ count. endless h.counts whole h.stuck count 0 some (ap is_open_count is)
       by (Exactly n) is = let k = subst (IsCount leads all.depth (node_at nodes 0)) is (all.counted 0) in
           record { depth = all.depth; bounded = k.0; whole = k.1 }
       by More is = let k = subst (IsCount leads all.depth (node_at nodes 0)) is (all.counted 0) in

@@ -4,13 +4,13 @@ use Rattle.std.proofs.Math.Nat.{eq-or-lt_of_le}
 use Rattle.std.proofs.lemmas.List.Sums.{sum_by-set}
 use Rattle.order_search.specs.declared.orders.Count.{Count}
 use Rattle.order_search.specs.declared.orders.Count.TheVariants.{Open}
-use Rattle.order_search.specs.Counting.{is_open, count_at, count_of, open_count, CountFollows, SettlesCount, Sweeps, unchanged, one_more, IsStuckFrom, SettlesFrom}
-use Rattle.order_search.specs.Rows.{row_at}
+use Rattle.order_search.specs.Counting.{is_open_count, count_at, count_of, open_count, CountFollows, SettlesCount, Sweeps, unchanged, one_more, IsStuckFrom, SettlesFrom}
+use Rattle.order_search.specs.Rows.{numbered_row}
 
 -- a count that follows is open no longer
 fewer : (rows : List (List ℕ)) (old new : List Count) (number : ℕ) → CountFollows rows old new number → open_count new < open_count old
 fewer rows old new number h =
-    let set_sum = sum_by-set (λ c. cond (is_open c) 1 0) old number (count_of old (row_at rows number)) Open h.within in
+    let set_sum = sum_by-set (λ c. cond (is_open_count c) 1 0) old number (count_of old (numbered_row rows number)) Open h.within in
     let before = ap {B = ℕ} (λ b. cond b 1 0) h.open_before in
     let after = ap {B = ℕ} (λ b. cond b 1 0) h.closed in
     omega (arith, set_sum, before, after, ap open_count h.new_is)
@@ -28,14 +28,15 @@ one_settled rows first old new from false true above h k =
     (one_more old new (from - 1) (unchanged old h.0) k, omega (arith, fewer rows old new (from - 1) k, ap open_count h.0))
 one_settled rows first old new from false false above h k = (k.0 ∙ h.0, λ i late within. by i within (eq-or-lt_of_le late))
   where
-    by : (i : ℕ) → i < length rows → (from - 1 ≡ i) ⊎ (from - 1 < i) → is_open (count_at new i) ≡ true → is_open (count_of new (row_at rows i)) ≡ true
+    by : (i : ℕ) → i < length rows → (from - 1 ≡ i) ⊎ (from - 1 < i) → is_open_count (count_at new i) ≡ true →
+        is_open_count (count_of new (numbered_row rows i)) ≡ true
     by i within (inl here) open_here =
-        subst (λ n. is_open (count_of new (row_at rows n)) ≡ true) here
-        (subst (λ l. is_open (count_of l (row_at rows (from - 1))) ≡ true) (sym k.0)
-        (k.1 (ap (λ l. is_open (count_at l (from - 1))) (sym k.0) ∙ ap (λ n. is_open (count_at new n)) here ∙ open_here)))
+        subst (λ n. is_open_count (count_of new (numbered_row rows n)) ≡ true) here
+        (subst (λ l. is_open_count (count_of l (numbered_row rows (from - 1))) ≡ true) (sym k.0)
+        (k.1 (ap (λ l. is_open_count (count_at l (from - 1))) (sym k.0) ∙ ap (λ n. is_open_count (count_at new n)) here ∙ open_here)))
     by i within (inr late) open_here =
-        subst (λ l. is_open (count_of l (row_at rows i)) ≡ true) (sym k.0)
-        (h.1 i (omega (arith, late, above)) within (ap (λ l. is_open (count_at l i)) (sym k.0) ∙ open_here))
+        subst (λ l. is_open_count (count_of l (numbered_row rows i)) ≡ true) (sym k.0)
+        (h.1 i (omega (arith, late, above)) within (ap (λ l. is_open_count (count_at l i)) (sym k.0) ∙ open_here))
 
 -- turn after turn
 pub swept_on : (rows : List (List ℕ)) (first old new : List Count) → Sweeps rows first old → Sweeps rows old new → Sweeps rows first new

@@ -15,7 +15,7 @@ use Rattle.order_search.specs.Answers.{IsFirstFault, IsCounted, HasMore}
 use Rattle.order_search.specs.Numbers.{node_at}
 use Rattle.order_search.specs.Paths.{EdgeView, EdgesOf, EdgeFaults, NodeFaults, HasEdgeFault}
 use Rattle.order_search.specs.Routes.{is_none}
-use Rattle.order_search.specs.Rows.{AreTargets, IsTarget, row_at}
+use Rattle.order_search.specs.Rows.{AreTargets, IsTarget, numbered_row}
 use Rattle.order_search.specs.Exploring.{Explored, GoesAlong, LeadsBack, LeadsOn, LabelsTo, EndsWithLabel}
 use Rattle.order_search.specs.SearchAnswers.{IsUnderWay, Progress, PassesEdges, Visits}
 use Rattle.order_search.proofs.Precedence.{by_earlier_edge, next_edge, precedes_not_after}
@@ -191,7 +191,7 @@ module _ {L F : Type 0} (known : List ℕ → Type 0) (leads : EdgesOf L) (wrong
     as_many = u.as_many;
     targets = λ i within.
         let early : i < length nodes = omega (arith, within, u.as_many, inside) in
-        subst (λ n. AreTargets new (row_at rows i) (leads n)) (sym (h.node i early)) (targets_still nodes new (row_at rows i) (leads
+        subst (λ n. AreTargets new (numbered_row rows i) (leads n)) (sym (h.node i early)) (targets_still nodes new (numbered_row rows i) (leads
         (node_at nodes i)) h.longer h.node (u.targets i within));
   }
 
@@ -214,7 +214,7 @@ module _ {L F : Type 0} (known : List ℕ → Type 0) (leads : EdgesOf L) (wrong
     targets = λ i within. by i (eq-or-lt_of_le (omega (arith, within, u.as_many, length-append rows (row ∷ []))));
   }
     where
-      by : (i : ℕ) → (i ≡ at) ⊎ (i < at) → AreTargets nodes (row_at (rows ++ row ∷ []) i) (leads (node_at nodes i))
+      by : (i : ℕ) → (i ≡ at) ⊎ (i < at) → AreTargets nodes (numbered_row (rows ++ row ∷ []) i) (leads (node_at nodes i))
       by i (inl last) = subst (λ r. AreTargets nodes r (leads (node_at nodes i))) (sym (get_or_push rows row [] i (u.as_many ∙ sym last)))
           (subst (λ n. AreTargets nodes row (leads (node_at nodes n))) (sym last) targets)
       by i (inr old) = let inside_rows : i < length rows = omega (arith, old, u.as_many) in

@@ -1,7 +1,7 @@
 -- What a breadth-first search answers (from graph theory).
 use Rattle.std.specs.Prelude.{◌≡◌, ◌≢◌, ℕ, ◌≤◌, ◌<◌, List, length, map, sum_by, count_by}
 use Rattle.std.specs.List.{Contains, AllPairs}
-use Rattle.order_search.specs.Paths.{EdgeView, EdgesOf, EdgeFaults, NodeFaults, IsEdgePath, end_of, IsReachable, EndsInFault}
+use Rattle.order_search.specs.Paths.{EdgeView, EdgesOf, EdgeFaults, NodeFaults, IsEdgePath, path_end, IsReachable, EndsInFault}
 use Rattle.order_search.specs.Routes.{is_none}
 use Rattle.order_search.specs.SearchOrder.{Precedes, IsNotAfter}
 
@@ -17,15 +17,15 @@ pub record IsFirstFault {L F : Type 0} (leads : EdgesOf L) (wrong : EdgeFaults L
   pub nodes : List (List ℕ)
   pub few : length nodes ≤ most
   pub earlier : (others : List ℕ) (path : List (EdgeView L)) → IsEdgePath leads first others path → Precedes others places →
-      Contains nodes (end_of first path)
+      Contains nodes (path_end first path)
 
 -- a path to the one node comes before each path to the other
 pub record HasEarlierPath {L : Type 0} (leads : EdgesOf L) (first earlier later : List ℕ) : Type 0 where
   pub places : List ℕ
   pub edges : List (EdgeView L)
   pub path : IsEdgePath leads first places edges
-  pub end : end_of first edges ≡ earlier
-  pub before : (others : List ℕ) (path : List (EdgeView L)) → IsEdgePath leads first others path → end_of first path ≡ later → Precedes places others
+  pub end : path_end first edges ≡ earlier
+  pub before : (others : List ℕ) (path : List (EdgeView L)) → IsEdgePath leads first others path → path_end first path ≡ later → Precedes places others
 
 -- all nodes that are reached, each once, in the order in which they are first reached, at most `most`; how many edges leave them, and how
 -- many of them no edge leaves; and no path ends in a fault
@@ -45,7 +45,7 @@ pub record IsReachedBy {L : Type 0} (leads : EdgesOf L) (first last node : List 
   pub places : List ℕ
   pub edges : List (EdgeView L)
   pub path : IsEdgePath leads first places edges
-  pub end : end_of first edges ≡ node
+  pub end : path_end first edges ≡ node
   pub early : IsNotAfter places last
 
 -- paths that are not after one of these places reach more than `most` nodes, and each path that ends in a fault is after it

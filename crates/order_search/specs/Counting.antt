@@ -5,13 +5,13 @@ use Rattle.order_search.specs.declared.orders.Count.{Count}
 use Rattle.order_search.specs.declared.orders.Count.TheVariants as known
 use Rattle.order_search.specs.declared.orders.Orders.{Orders}
 use Rattle.order_search.specs.declared.orders.Orders.TheVariants as orders
-use Rattle.order_search.specs.Rows.{row_at}
+use Rattle.order_search.specs.Rows.{numbered_row}
 
 -- whether the count is not known
-abbrev pub is_open : Count → Bool
-is_open known.Open = true
-is_open (known.Exactly n) = false
-is_open known.More = false
+abbrev pub is_open_count : Count → Bool
+is_open_count known.Open = true
+is_open_count (known.Exactly n) = false
+is_open_count known.More = false
 
 -- the sum of two known numbers of routes; more than 64 bits hold where either is, or the sum is
 abbrev pub more_or_sum : Count → ℕ → Count
@@ -25,40 +25,40 @@ more_unless_open (known.Exactly m) = known.More
 more_unless_open known.More = known.More
 
 -- the sum of two counts, which is known where both are
-abbrev pub plus : Count → Count → Count
-plus a known.Open = known.Open
-plus a (known.Exactly n) = more_or_sum a n
-plus a known.More = more_unless_open a
+abbrev pub plus_count : Count → Count → Count
+plus_count a known.Open = known.Open
+plus_count a (known.Exactly n) = more_or_sum a n
+plus_count a known.More = more_unless_open a
 
 -- the count of the node with a number
 abbrev pub count_at : List Count → ℕ → Count
 count_at counts number = slice_index_or counts number known.Open
 
 -- the sum of the counts of these nodes
-abbrev pub total : List Count → List ℕ → Count
-total counts row = fold (λ sum to. plus sum (count_at counts to)) (known.Exactly 0) row
+abbrev pub total_count : List Count → List ℕ → Count
+total_count counts row = fold (λ sum to. plus_count sum (count_at counts to)) (known.Exactly 0) row
 
 -- the count of a node whose edges lead to these nodes: 1 where there are none
 abbrev pub count_of : List Count → List ℕ → Count
 count_of counts [] = known.Exactly 1
-count_of counts (to ∷ row) = total counts (to ∷ row)
+count_of counts (to ∷ row) = total_count counts (to ∷ row)
 
 -- how many counts are open
 abbrev pub open_count : List Count → ℕ
-open_count counts = count_by is_open counts
+open_count counts = count_by is_open_count counts
 
 -- an open count follows from those of the nodes to which the edges lead
 pub record CountFollows (rows : List (List ℕ)) (old new : List Count) (number : ℕ) : Type 0 where
   pub within : number < length old
-  pub open_before : is_open (count_at old number) ≡ true
-  pub closed : is_open (count_of old (row_at rows number)) ≡ false
-  pub new_is : new ≡ slice_set old number (count_of old (row_at rows number))
+  pub open_before : is_open_count (count_at old number) ≡ true
+  pub closed : is_open_count (count_of old (numbered_row rows number)) ≡ false
+  pub new_is : new ≡ slice_set old number (count_of old (numbered_row rows number))
 
 -- after a node was looked at: its count follows, or none does
 abbrev pub SettlesCount : List (List ℕ) → List Count → List Count → ℕ → Bool → Type 0
 SettlesCount rows old new number true = CountFollows rows old new number
 SettlesCount rows old new number false =
-    (new ≡ old) × (is_open (count_at old number) ≡ true → is_open (count_of old (row_at rows number)) ≡ true)
+    (new ≡ old) × (is_open_count (count_at old number) ≡ true → is_open_count (count_of old (numbered_row rows number)) ≡ true)
 
 -- counts that follow one after the other
 pub data Sweeps (rows : List (List ℕ)) (first : List Count) : List Count → Type 0 where
@@ -67,8 +67,8 @@ pub data Sweeps (rows : List (List ℕ)) (first : List Count) : List Count → T
 
 -- no open count of a node from this number on follows
 abbrev pub IsStuckFrom : List (List ℕ) → List Count → ℕ → Type 0
-IsStuckFrom rows counts from = (i : ℕ) → from ≤ i → i < length rows → is_open (count_at counts i) ≡ true →
-    is_open (count_of counts (row_at rows i)) ≡ true
+IsStuckFrom rows counts from = (i : ℕ) → from ≤ i → i < length rows → is_open_count (count_at counts i) ≡ true →
+    is_open_count (count_of counts (numbered_row rows i)) ≡ true
 
 -- after the nodes from a number on were looked at: some counts followed, or none does
 abbrev pub SettlesFrom : List (List ℕ) → List Count → List Count → ℕ → Bool → Type 0
@@ -76,14 +76,14 @@ SettlesFrom rows old new from true = Sweeps rows old new × (open_count new < op
 SettlesFrom rows old new from false = (new ≡ old) × IsStuckFrom rows new from
 
 -- what the count of the first node says
-abbrev pub orders_of : Count → Orders
-orders_of known.Open = orders.Endless
-orders_of (known.Exactly n) = orders.Exactly n
-orders_of known.More = orders.More
+abbrev pub counted_orders : Count → Orders
+counted_orders known.Open = orders.Endless
+counted_orders (known.Exactly n) = orders.Exactly n
+counted_orders known.More = orders.More
 
 -- the answer is that of counts from which no more follow
 pub record IsSettled (rows : List (List ℕ)) (answer : Orders) : Type 0 where
   pub counts : List Count
   pub swept : Sweeps rows (replicate (length rows) known.Open) counts
   pub stuck : IsStuckFrom rows counts 0
-  pub is : answer ≡ orders_of (count_at counts 0)
+  pub is : answer ≡ counted_orders (count_at counts 0)

@@ -25,16 +25,16 @@ IsEdgePath leads from (place ∷ places) [] = ⊥
 IsEdgePath leads from (place ∷ places) (e ∷ es) = (slice_get (leads from) place ≡ Some e) × IsEdgePath leads e.node places es
 
 -- the node at the end of a path
-unfoldable pub end_of : {L : Type 0} → List ℕ → List (EdgeView L) → List ℕ
-end_of from [] = from
-end_of from (e ∷ es) = end_of e.node es
+unfoldable pub path_end : {L : Type 0} → List ℕ → List (EdgeView L) → List ℕ
+path_end from [] = from
+path_end from (e ∷ es) = path_end e.node es
 
 -- a path leads from the one node to the other
 pub record IsReachable {L : Type 0} (leads : EdgesOf L) (from to : List ℕ) : Type 0 where
   pub places : List ℕ
   pub edges : List (EdgeView L)
   pub path : IsEdgePath leads from places edges
-  pub end : end_of from edges ≡ to
+  pub end : path_end from edges ≡ to
 
 -- the fault of going through an edge: its own, or otherwise one of the node that it leads to
 unfoldable pub HasEdgeFault : {L F : Type 0} → EdgeFaults L F → NodeFaults F → List ℕ → EdgeView L → F → Type 0

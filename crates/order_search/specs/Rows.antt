@@ -6,9 +6,9 @@ use Rattle.order_search.specs.Numbers.{node_at}
 use Rattle.order_search.specs.Paths.{EdgeView, EdgesOf}
 
 -- a list in pieces: from the place `from` to each of these ends in turn
-abbrev pub pieces : {X : Type 0} → ℕ → List ℕ → List X → List (List X)
-pieces from [] list = []
-pieces from (end ∷ ends) list = slice_range list from end ∷ pieces end ends list
+abbrev pub pieces_to : {X : Type 0} → ℕ → List ℕ → List X → List (List X)
+pieces_to from [] list = []
+pieces_to from (end ∷ ends) list = slice_range list from end ∷ pieces_to end ends list
 
 -- the ends do not fall from the place `from` on, and the last of them is `total`
 abbrev pub AreEnds : ℕ → List ℕ → ℕ → Type 0
@@ -16,9 +16,9 @@ AreEnds from [] total = from ≡ total
 AreEnds from (end ∷ ends) total = (from ≤ end) × AreEnds end ends total
 
 -- where the piece with a number begins
-abbrev pub start_of : ℕ → List ℕ → ℕ → ℕ
-start_of from ends zero = from
-start_of from ends (suc before) = slice_index ends before
+abbrev pub piece_start : ℕ → List ℕ → ℕ → ℕ
+piece_start from ends zero = from
+piece_start from ends (suc before) = slice_index ends before
 
 -- a number is that of the node to which an edge leads
 pub record IsTarget {L : Type 0} (nodes : List (List ℕ)) (to : ℕ) (edge : EdgeView L) : Type 0 where
@@ -30,12 +30,12 @@ abbrev pub AreTargets : {L : Type 0} → List (List ℕ) → List ℕ → List (
 AreTargets nodes targets edges = AllZip (IsTarget nodes) targets edges
 
 -- the row with a number
-abbrev pub row_at : {X : Type 0} → List (List X) → ℕ → List X
-row_at rows number = slice_index_or rows number []
+abbrev pub numbered_row : {X : Type 0} → List (List X) → ℕ → List X
+numbered_row rows number = slice_index_or rows number []
 
 -- for each of the first nodes a row: the numbers of the nodes to which its edges lead
 abbrev pub AreRows : {L : Type 0} → EdgesOf L → List (List ℕ) → List (List ℕ) → Type 0
-AreRows leads nodes rows = (i : ℕ) → i < length rows → AreTargets nodes (row_at rows i) (leads (node_at nodes i))
+AreRows leads nodes rows = (i : ℕ) → i < length rows → AreTargets nodes (numbered_row rows i) (leads (node_at nodes i))
 
 -- an edge with the number of the node to which it leads
 pub record IsNumbered {L : Type 0} (nodes : List (List ℕ)) (numbered : NumberedEdge L) (edge : EdgeView L) : Type 0 where

@@ -6,7 +6,7 @@ ghost use Rattle.order_search.specs.Numbers.{node_at};
 ghost use Rattle.order_search.specs.Paths.{HasEdgeFault};
 ghost use Rattle.order_search.specs.Routes.{is_none};
 ghost use Rattle.order_search.specs.SearchAnswers.{AnswersOf, IsUnderWay, PassesEdges, Progress, Visits};
-ghost use Rattle.order_search.specs.Views.{IsJudged, seen};
+ghost use Rattle.order_search.specs.Views.{IsJudged, edge_view};
 
 use crate::graph::{Edge, Graph};
 use crate::orders::count_orders;
@@ -35,7 +35,7 @@ fn go_through<G: Graph>(
     most: u32,
 ) -> Result<Option<SearchAnswer<G::Label, G::Fault>>, AllocError>
     requires inside { at < length trail.old.nodes }
-    requires edges { map seen edges.items ≡ G.leads graph.now (node_at trail.old.nodes at) }
+    requires edges { map edge_view edges.items ≡ G.leads graph.now (node_at trail.old.nodes at) }
     requires judged { All (IsJudged (HasEdgeFault (G.wrong graph.now) (G.flawed graph.now) (node_at trail.old.nodes at))) edges.items }
     requires nodes { All (λ edge. IfNone edge.fault (G.is_node graph.now edge.node.items)) edges.items }
     requires under_way { IsUnderWay (G.is_node graph.now) (G.leads graph.now) (G.wrong graph.now) (G.flawed graph.now) (node_at trail.old.nodes 0) most trail.old.nodes trail.old.entered.items trail.old.rows at 0 }

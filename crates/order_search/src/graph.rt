@@ -3,7 +3,7 @@
 ghost use Rattle.std.specs.Prelude.{◌≡◌, ◌<◌, ◌^◌, ℕ, List, map, length, IfNone, IfOk, OnOk};
 ghost use Rattle.std.specs.List.{All};
 ghost use Rattle.order_search.specs.Paths.{EdgeView, HasEdgeFault};
-ghost use Rattle.order_search.specs.Views.{IsJudged, seen};
+ghost use Rattle.order_search.specs.Views.{IsJudged, edge_view};
 
 use std::alloc::{AllocError, Global};
 
@@ -44,7 +44,7 @@ pub trait Graph {
         node: &[u8],
     ) -> Result<Vec<Edge<Self::Label, Self::Fault>>, AllocError>
         requires { is_node self.old node.now }
-        ensures edges { IfOk result (λ edges. map seen edges.items ≡ leads self.old node.now) }
+        ensures edges { IfOk result (λ edges. map edge_view edges.items ≡ leads self.old node.now) }
         ensures few { IfOk result (λ edges. length edges.items < 2 ^ 32) }
         ensures faults { IfOk result (λ edges. All (IsJudged (HasEdgeFault (wrong self.old) (flawed self.old) node.now)) edges.items) }
         ensures nodes { IfOk result (λ edges. All (λ edge. IfNone edge.fault (is_node self.old edge.node.items)) edges.items) }

@@ -2,7 +2,7 @@
 
 ghost use Rattle.std.specs.Prelude.{◌≡◌, ◌<◌, ℕ, length, true, IfOk};
 ghost use Rattle.std.specs.List.{All};
-ghost use Rattle.order_search.specs.Counting.{IsSettled, IsStuckFrom, SettlesCount, SettlesFrom, Sweeps, count_of as count_from, is_open as is_unknown, orders_of, plus as sum_of, total as sum_over};
+ghost use Rattle.order_search.specs.Counting.{IsSettled, IsStuckFrom, SettlesCount, SettlesFrom, Sweeps, count_of as count_from, is_open_count as is_unknown, counted_orders, plus_count as sum_of, total_count as sum_over};
 ghost use Rattle.order_search.specs.declared.orders.Count.TheVariants as known;
 
 use crate::rows::Rows;
@@ -74,7 +74,7 @@ impl Count {
 
     /// What it says, where nothing more can be known.
     fn orders(self) -> Orders
-        ensures { result ≡ orders_of self }
+        ensures { result ≡ counted_orders self }
     {
         match self {
             Count::Open => Orders::Endless,

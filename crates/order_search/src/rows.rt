@@ -2,7 +2,7 @@
 
 ghost use Rattle.std.specs.Prelude.{◌≡◌, ◌<◌, ◌≤◌, [], ◌∷◌, ◌++◌, length, OnErr, OnOk};
 ghost use Rattle.std.specs.List.{slice_range};
-ghost use Rattle.order_search.specs.Rows.{row_at, start_of as begins_at};
+ghost use Rattle.order_search.specs.Rows.{numbered_row, piece_start as begins_at};
 
 use std::alloc::{AllocError, Global};
 use std::marker::Model;
@@ -16,11 +16,11 @@ pub(crate) struct Rows<T: Copy + Drop> {
 
 impl<T: Copy + Drop> Model for Rows<T> {
     ghost use Rattle.std.specs.Prelude.{List, length};
-    ghost use Rattle.order_search.specs.Rows.{pieces, AreEnds};
+    ghost use Rattle.order_search.specs.Rows.{pieces_to, AreEnds};
 
     ghost Value = { List (List T) };
 
-    ghost view = { λ rows. pieces 0 rows.ends.items rows.values.items };
+    ghost view = { λ rows. pieces_to 0 rows.ends.items rows.values.items };
 
     ghost invariant = { λ rows. AreEnds 0 rows.ends.items (length rows.values.items) };
 }
@@ -65,7 +65,7 @@ impl<T: Copy + Drop> Rows<T> {
     #[tactic(auto, using(crate::proofs::Pieces::piece))]
     pub(crate) fn row(&self, number: usize) -> &[T]
         requires { number < length self.now }
-        ensures { result.now ≡ row_at self.now number }
+        ensures { result.now ≡ numbered_row self.now number }
     {
         let start = start_of(&self.ends, number);
         cut(&self.values, start, self.ends[number])

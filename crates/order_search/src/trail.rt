@@ -4,7 +4,7 @@ ghost use Rattle.std.specs.Prelude.{◌≡◌, ◌≤◌, ◌<◌, ◌^◌, ℕ,
 ghost use Rattle.order_search.specs.Exploring.{EndsWithLabel, GoesAlong, entered_if};
 ghost use Rattle.order_search.specs.Numbers.{node_at};
 ghost use Rattle.order_search.specs.Paths.{HasEdgeFault};
-ghost use Rattle.order_search.specs.Views.{IsJudged, seen};
+ghost use Rattle.order_search.specs.Views.{IsJudged, edge_view};
 
 use crate::graph::{Edge, Graph};
 use crate::node_list::NodeList;
@@ -95,7 +95,7 @@ pub(crate) fn pass<G: Graph>(
 ) -> Result<Passed<G::Fault>, AllocError>
     requires few { length trail.old.nodes < 2 ^ 32 }
     requires judged { IsJudged (HasEdgeFault (G.wrong graph.now) (G.flawed graph.now) (node_at trail.old.nodes at)) edge }
-    ensures passed { IfOk result (GoesAlong (G.wrong graph.now) (G.flawed graph.now) trail.old.nodes trail.new.nodes trail.old.entered.items trail.new.entered.items at (seen edge)) }
+    ensures passed { IfOk result (GoesAlong (G.wrong graph.now) (G.flawed graph.now) trail.old.nodes trail.new.nodes trail.old.entered.items trail.new.entered.items at (edge_view edge)) }
     ensures rows { OnOk result (trail.new.rows ≡ trail.old.rows) }
 {
     let Edge { label, fault, node } = edge;

@@ -29,7 +29,7 @@ use Rattle.cf_semantics.specs.state.Passengers.{finish, fresh, instruction, kind
 use Rattle.cf_semantics.specs.state.State.{State, Moment, cell_at, put_cell, siding_at, with_cell}
 use Rattle.order_rules.specs.declared.rule.Rule.{Rule}
 use Rattle.order_model.specs.RuleMoves.{answer_without, cell_met_without, leaving_without, left_without, line_without, meeting_without, moved_without, next_without, recovered_without, retires_without, sources_without}
-use Rattle.order_claims.specs.MoveLists.{moment_after}
+use Rattle.order_claims.specs.MoveLists.{moment_after_without}
 use Rattle.order_shapes.specs.Shapes.{AreShaped, HoldsEncodable, IsEncodable, IsShaped, KeepsShape, RetiresEncodable}
 use Rattle.order_shapes.proofs.SameInstruction.{finish_same, fresh_encodable, instruction_fits, leaving_same, met_same, recovers_same, still_encodable}
 
@@ -226,8 +226,9 @@ start_shaped plan x = record {
   riders = All-replicate HoldsEncodable plan.stages empty_cell tt;
 }
 
-moves_shaped : (away : Option Rule) (plan : Plan) (m : Moment) (moves : List Move) → IsShaped plan m.state → IsShaped plan (moment_after away plan m moves).state
-unfolding moment_after
+moves_shaped : (away : Option Rule) (plan : Plan) (m : Moment) (moves : List Move) → IsShaped plan m.state →
+    IsShaped plan (moment_after_without away plan m moves).state
+unfolding moment_after_without
 moves_shaped away plan m [] h = h
 moves_shaped away plan m (mv ∷ moves) h = moves_shaped away plan (next_without away plan m mv) moves (move_shaped away plan m mv h)
 

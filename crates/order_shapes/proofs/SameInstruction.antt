@@ -26,7 +26,7 @@ use Rattle.cf_passengers.proofs.Decoded.{decoded-instruction}
 use Rattle.cf_passengers.proofs.Kept.{fresh-passenger, passenger-fits}
 use Rattle.order_rules.specs.declared.rule.Rule.{Rule}
 use Rattle.order_rules.specs.declared.rule.Rule.TheVariants.{ExecuteDead, LaunchDead, LeaveNotDone, MeetDie}
-use Rattle.order_rules.specs.Rules.{kept}
+use Rattle.order_rules.specs.Rules.{rule_holds}
 use Rattle.order_model.specs.RuleMoves.{answer_without, leaving_without, meeting_without, passenger_met_without, sources_without}
 use Rattle.order_shapes.specs.Shapes.{IsEncodable}
 
@@ -54,19 +54,19 @@ back_same p answer = either p.dead (record p { recovered = true }) (finish (reco
 
 pub recovers_same : (away : Option Rule) (p : Passenger) (op : Op) → (back_in (sources_without away p op) (answer_without away p op)).what ≡ p.what
 recovers_same away p op = back_same (sources_without away p op) (answer_without away p op)
-    ∙ either (kept away LaunchDead && kept away ExecuteDead) p _ p.what refl refl
+    ∙ either (rule_holds away LaunchDead && rule_holds away ExecuteDead) p _ p.what refl refl
 
 met_so : (away : Option Rule) (k : Packet) (p : Passenger) → (passenger_met_without away k p).what ≡ p.what
 met_so away (Value r v) p = refl
-met_so away (Turn pc) p = either (kept away MeetDie) (cancelled p) p p.what refl refl
-met_so away Halt p = either (kept away MeetDie) (cancelled p) p p.what refl refl
+met_so away (Turn pc) p = either (rule_holds away MeetDie) (cancelled p) p p.what refl refl
+met_so away Halt p = either (rule_holds away MeetDie) (cancelled p) p p.what refl refl
 
 pub met_same : (away : Option Rule) (p : Passenger) (k : Packet) → (meeting_without away p k).passenger.what ≡ p.what
 unfolding meeting_without
 met_same away p k = either_met p.dead _ _ p.what refl (met_so away k p)
 
 pub leaving_same : (away : Option Rule) (p : Passenger) → (leaving_without away p).what ≡ p.what
-leaving_same away p = either (kept away LeaveNotDone || p.done) p (record p { dst = None }) p.what refl refl
+leaving_same away p = either (rule_holds away LeaveNotDone || p.done) p (record p { dst = None }) p.what refl refl
 
 -- so it can still be encoded
 pub still_encodable : (p q : Passenger) → q.what ≡ p.what → IsEncodable p → IsEncodable q

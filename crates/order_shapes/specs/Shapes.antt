@@ -11,7 +11,7 @@ use Rattle.cf_semantics.specs.runs.Runs.{start}
 use Rattle.cf_semantics.specs.state.State.{State}
 use Rattle.order_rules.specs.declared.rule.Rule.{Rule}
 use Rattle.order_model.specs.RuleMoves.{retires_without}
-use Rattle.order_claims.specs.MoveLists.{moment_after}
+use Rattle.order_claims.specs.MoveLists.{moment_after_without}
 
 -- the fields of the instruction, if there is one, are in range
 abbrev pub IsEncodable : Passenger → Type 0
@@ -33,8 +33,9 @@ IsShaped plan s = AreShaped plan s.cells s.sidings
 
 -- each list of moves leads to such a state
 abbrev pub KeepsShape : Type 0
-KeepsShape = (away : Option Rule) (plan : Plan) (x : Machine) (moves : List Move) → IsShaped plan (moment_after away plan (start plan x) moves).state
+KeepsShape = (away : Option Rule) (plan : Plan) (x : Machine) (moves : List Move) → IsShaped plan (moment_after_without away plan (start plan x) moves).state
 
 -- what retires from such a state can be encoded
 abbrev pub RetiresEncodable : Type 0
-RetiresEncodable = (away : Option Rule) (plan : Plan) (s : State) (mv : Move) → IsShaped plan s → IfSome (retires_without away plan s mv) (λ line. Fits line.what)
+RetiresEncodable = (away : Option Rule) (plan : Plan) (s : State) (mv : Move) → IsShaped plan s →
+    IfSome (retires_without away plan s mv) (λ line. Fits line.what)

@@ -12,7 +12,7 @@ use Rattle.cf_timed.specs.Chains.{sum_of_delays}
 use Rattle.std.specs.List.{AllByRecursion}
 use Rattle.cf_index.specs.Sites.{shares}
 use Rattle.cf_timed.specs.declared.timed_move.TimedMove.{TimedMove}
-use Rattle.cf_timed.specs.Times.{DelayedMove, done_after, greatest_time, time_after, times, times_after}
+use Rattle.cf_timed.specs.Times.{DelayedMove, done_after, greatest_time, finish_after, moves_with_times, times_after}
 use Rattle.cf_timed.proofs.Delaying.{all_time, kept_time}
 use Rattle.cf_timed.proofs.Numbered.{numbered_at}
 use Rattle.run_ledger.specs.Breakdowns.{busy, chain_to, kind_counts, leads_to, of_kind}
@@ -27,13 +27,13 @@ after_more : (plan : Plan) (earlier : List TimedMove) (moves : List DelayedMove)
 after_more plan earlier [] move = refl
 after_more plan earlier (m ∷ moves) move = after_more plan (done_after plan earlier m ∷ earlier) moves move
 
-pub times_more : (plan : Plan) (moves : List DelayedMove) (move : DelayedMove) → times plan (moves ++ move ∷ [])
-    ≡ done_after plan (times plan moves) move ∷ times plan moves
-unfolding times
+pub times_more : (plan : Plan) (moves : List DelayedMove) (move : DelayedMove) → moves_with_times plan (moves ++ move ∷ [])
+    ≡ done_after plan (moves_with_times plan moves) move ∷ moves_with_times plan moves
+unfolding moves_with_times
 times_more plan moves move = after_more plan [] moves move
 
-pub times_none : (plan : Plan) → times plan [] ≡ []
-unfolding times
+pub times_none : (plan : Plan) → moves_with_times plan [] ≡ []
+unfolding moves_with_times
 times_none plan = refl
 
 -- there is one for each move
@@ -42,8 +42,8 @@ after_length : (plan : Plan) (earlier : List TimedMove) (moves : List DelayedMov
 after_length plan earlier [] = omega arith
 after_length plan earlier (move ∷ moves) = let r = after_length plan (done_after plan earlier move ∷ earlier) moves in omega (arith, r)
 
-pub times_length : (plan : Plan) (moves : List DelayedMove) → length (times plan moves) ≡ length moves
-unfolding times
+pub times_length : (plan : Plan) (moves : List DelayedMove) → length (moves_with_times plan moves) ≡ length moves
+unfolding moves_with_times
 times_length plan moves = let r = after_length plan [] moves in omega (arith, r)
 
 -- no move takes more than 1,000 ticks
@@ -51,8 +51,8 @@ abbrev pub AreShort : List DelayedMove → Type 0
 AreShort moves = AllByRecursion (λ d. d.delay ≤ 1000) moves
 
 -- they are small
-pub time_short : (plan : Plan) (earlier : List TimedMove) (d : DelayedMove) → d.delay ≤ 1000 → time_after plan earlier d ≤ greatest_time earlier + 1000
-unfolding time_after
+pub time_short : (plan : Plan) (earlier : List TimedMove) (d : DelayedMove) → d.delay ≤ 1000 → finish_after plan earlier d ≤ greatest_time earlier + 1000
+unfolding finish_after
 time_short plan earlier d h = let k = kept_time (λ done. shares plan d.mv done.mv) earlier in omega (arith, k, h)
 
 after_few : (plan : Plan) (earlier : List TimedMove) (moves : List DelayedMove) → AreShort moves →
@@ -64,8 +64,8 @@ after_few plan earlier (d ∷ moves) h =
     let t = time_short plan earlier d h.0 in
     omega (arith, r, a, t)
 
-pub times_few : (plan : Plan) (moves : List DelayedMove) → AreShort moves → greatest_time (times plan moves) ≤ 1000 * length moves
-unfolding times greatest_time
+pub times_few : (plan : Plan) (moves : List DelayedMove) → AreShort moves → greatest_time (moves_with_times plan moves) ≤ 1000 * length moves
+unfolding moves_with_times greatest_time
 times_few plan moves h = let r = after_few plan [] moves h in omega (arith, r)
 
 -- sums of delays

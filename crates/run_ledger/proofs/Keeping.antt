@@ -11,7 +11,7 @@ use Rattle.cf_semantics.specs.moves.Sites.{Site, among}
 use Rattle.cf_index.specs.Sites.{shares, used, uses_place}
 use Rattle.cf_timed.specs.Chains.{sum_of_delays}
 use Rattle.cf_timed.specs.declared.timed_move.TimedMove.{TimedMove}
-use Rattle.cf_timed.specs.Times.{DelayedMove, done_after, greatest_time, time_after, times}
+use Rattle.cf_timed.specs.Times.{DelayedMove, done_after, greatest_time, finish_after, moves_with_times}
 use Rattle.cf_timed.proofs.Chaining.{always}
 use Rattle.cf_timed.proofs.Following.{AreKept, IsKept, no_later}
 use Rattle.cf_timed.proofs.Greatest.{greatest_where}
@@ -41,8 +41,8 @@ pub record Keeps (plan : Plan) (moves : List DelayedMove) (l : Ledger) : Type 0 
   pub layout_is : l.layout ≡ plan
   pub count_is : l.count ≡ length moves
   pub room : length l.marks ≡ 102
-  pub marks_are : (x : Site) → IsKept x → chain_mark_at l.marks (place_number x) ≡ latest_where plan (at_place plan x) (times plan moves)
-  pub last_is : l.last ≡ latest_where plan any_move (times plan moves)
+  pub marks_are : (x : Site) → IsKept x → chain_mark_at l.marks (place_number x) ≡ latest_where plan (at_place plan x) (moves_with_times plan moves)
+  pub last_is : l.last ≡ latest_where plan any_move (moves_with_times plan moves)
   pub stages_are : l.stages ≡ map (λ i. busy (uses_stage plan i) moves) (counted_from 0 33)
   pub sidings_are : l.sidings ≡ map (λ k. busy (uses_siding plan k) moves) (counted_from 0 8)
   pub kinds_are : l.kinds ≡ kind_counts moves
@@ -61,21 +61,22 @@ map_twice marks (x ∷ xs) = ap (λ (l : List ChainMark). chain_mark_at marks (p
 
 -- the mark that a move follows is that of the latest that shares a site with it
 follows_latest : (plan : Plan) (moves : List DelayedMove) (l : Ledger) (move : DelayedMove) → Keeps plan moves l → AreKept plan move.mv →
-    followed l move.mv ≡ latest_where plan (λ d. shares plan move.mv d.mv) (times plan moves)
+    followed l move.mv ≡ latest_where plan (λ d. shares plan move.mv d.mv) (moves_with_times plan moves)
 unfolding followed shares
 follows_latest plan moves l move h kept =
     ap (λ (p : Plan). latest_of no_chain_mark (map (chain_mark_at l.marks) (map place_number (used p move.mv)))) h.layout_is
     ∙ ap (latest_of no_chain_mark) (map_twice l.marks (used plan move.mv))
-    ∙ ap (latest_of no_chain_mark) (marks_same (λ x. chain_mark_at l.marks (place_number x)) (λ x. latest_where plan (at_place plan x) (times plan moves))
+    ∙ ap (latest_of no_chain_mark) (marks_same (λ x. chain_mark_at l.marks (place_number x))
+    (λ x. latest_where plan (at_place plan x) (moves_with_times plan moves))
     (used plan move.mv) kept h.marks_are)
-    ∙ ap (λ (m : ChainMark). latest_of m (map (λ x. latest_where plan (at_place plan x) (times plan moves)) (used plan move.mv)))
-    (sym (latest_never plan (times plan moves)))
-    ∙ latest_any plan (λ d. false) (at_place plan) (used plan move.mv) (times plan moves)
+    ∙ ap (λ (m : ChainMark). latest_of m (map (λ x. latest_where plan (at_place plan x) (moves_with_times plan moves)) (used plan move.mv)))
+    (sym (latest_never plan (moves_with_times plan moves)))
+    ∙ latest_any plan (λ d. false) (at_place plan) (used plan move.mv) (moves_with_times plan moves)
 
 -- the time that a move waits for
-waits : (plan : Plan) (done : List TimedMove) (move : DelayedMove) → time_after plan done move
+waits : (plan : Plan) (done : List TimedMove) (move : DelayedMove) → finish_after plan done move
     ≡ (latest_where plan (λ d. shares plan move.mv d.mv) done).time + move.delay
-unfolding time_after
+unfolding finish_after
 waits plan done move = let t = latest_time plan (λ d. shares plan move.mv d.mv) done in omega (arith, t)
 
 -- its chain is that of the mark that it follows
@@ -83,17 +84,17 @@ leads_latest : (plan : Plan) (done : List TimedMove) (move : DelayedMove) → (l
     ≡ kind_counts (chain_to plan (leads_to plan (done_after plan done move)) done)
 leads_latest plan done move =
     let w = waits plan done move in
-    let e : time_after plan done move - move.delay ≡ (latest_where plan (λ d. shares plan move.mv d.mv) done).time = omega (arith, w) in
+    let e : finish_after plan done move - move.delay ≡ (latest_where plan (λ d. shares plan move.mv d.mv) done).time = omega (arith, w) in
     latest_kinds plan (λ d. shares plan move.mv d.mv) (leads_to plan (done_after plan done move)) done
     (λ d. ap (λ (n : ℕ). shares plan move.mv d.mv && nat_eq d.time n) e)
 
 -- the mark of a move that is made now
 mark_now : (plan : Plan) (moves : List DelayedMove) (l : Ledger) (move : DelayedMove) → Keeps plan moves l → AreKept plan move.mv → AreShort moves →
     move.delay ≤ 1000 →
-    1000 * (length moves + 1) < 2 ^ 64 → mark_of l move ≡ mark_after plan (done_after plan (times plan moves) move) (times plan moves)
+    1000 * (length moves + 1) < 2 ^ 64 → mark_of l move ≡ mark_after plan (done_after plan (moves_with_times plan moves) move) (moves_with_times plan moves)
 unfolding mark_of
 mark_now plan moves l move h kept few short small =
-    let done : List TimedMove = times plan moves in
+    let done : List TimedMove = moves_with_times plan moves in
     let old : ChainMark = latest_where plan (λ d. shares plan move.mv d.mv) done in
     let f = follows_latest plan moves l move h kept in
     let w = waits plan done move in
@@ -101,7 +102,7 @@ mark_now plan moves l move h kept few short small =
     let t = latest_time plan (λ d. shares plan move.mv d.mv) done in
     let k = kept_time (λ d. shares plan move.mv d.mv) done in
     let g = times_few plan moves few in
-    let time_is : plus old.time (move.delay) ≡ time_after plan done move = omega (arith, w, t, k, g, short, small) in
+    let time_is : plus old.time (move.delay) ≡ finish_after plan done move = omega (arith, w, t, k, g, short, small) in
     let number_is : plus (length moves) 1 ≡ length done + 1 = omega (arith, n, small) in
     let c = chain_few plan (leads_to plan (done_after plan done move)) done in
     let kinds_is : one_more old.kinds move.mv ≡ kind_counts (chain_to plan (leads_to plan (done_after plan done move)) done ++ move ∷ []) =
@@ -110,38 +111,38 @@ mark_now plan moves l move h kept few short small =
     all l.count (followed l move.mv) old h.count_is f time_is number_is kinds_is
   where
     all : (count : ℕ) (first old : ChainMark) → count ≡ length moves → first ≡ old
-        → plus old.time move.delay ≡ time_after plan (times plan moves) move → plus (length moves) 1 ≡ length (times plan moves) + 1
-        → one_more old.kinds move.mv ≡ kind_counts (chain_to plan (leads_to plan (done_after plan (times plan moves) move))
-        (times plan moves) ++ move ∷ [])
+        → plus old.time move.delay ≡ finish_after plan (moves_with_times plan moves) move → plus (length moves) 1 ≡ length (moves_with_times plan moves) + 1
+        → one_more old.kinds move.mv ≡ kind_counts (chain_to plan (leads_to plan (done_after plan (moves_with_times plan moves) move))
+        (moves_with_times plan moves) ++ move ∷ [])
         → record { time = plus first.time move.delay; number = plus count 1; kinds = one_more first.kinds move.mv }
-        ≡ mark_after plan (done_after plan (times plan moves) move) (times plan moves)
+        ≡ mark_after plan (done_after plan (moves_with_times plan moves) move) (moves_with_times plan moves)
     all count first old b c t n k = rw (b, c, t, n, k) refl
 
 -- the mark of a site after it
 marks_more : (plan : Plan) (moves : List DelayedMove) (l : Ledger) (move : DelayedMove) (x : Site) → Keeps plan moves l → AreKept plan move.mv → IsKept x →
-    mark_of l move ≡ mark_after plan (done_after plan (times plan moves) move) (times plan moves)
+    mark_of l move ≡ mark_after plan (done_after plan (moves_with_times plan moves) move) (moves_with_times plan moves)
     → chain_mark_at (put_marks (mark_of l move) l.marks (place_numbers plan move.mv)) (place_number x) ≡ latest_where plan (at_place plan x)
-    (done_after plan (times plan moves) move ∷ times plan moves)
+    (done_after plan (moves_with_times plan moves) move ∷ moves_with_times plan moves)
 unfolding uses_place
 marks_more plan moves l move x h kept here mark_is =
     marks_put (mark_of l move) l.marks (used plan move.mv) x h.room kept here
     ∙ ap (λ (m : ChainMark). cond (among x (used plan move.mv)) m (chain_mark_at l.marks (place_number x))) mark_is
-    ∙ ap (λ (m : ChainMark). cond (among x (used plan move.mv)) (mark_after plan (done_after plan (times plan moves) move)
-    (times plan moves)) m) (h.marks_are x here)
+    ∙ ap (λ (m : ChainMark). cond (among x (used plan move.mv)) (mark_after plan (done_after plan (moves_with_times plan moves) move)
+    (moves_with_times plan moves)) m) (h.marks_are x here)
     ∙ by (among x (used plan move.mv)) refl
   where
-    by : (b : Bool) → among x (used plan move.mv) ≡ b → cond b (mark_after plan (done_after plan (times plan moves) move)
-        (times plan moves)) (latest_where plan (at_place plan x) (times plan moves))
-        ≡ later (latest_where plan (at_place plan x) (times plan moves)) (mark_if plan b
-        (done_after plan (times plan moves) move) (times plan moves))
+    by : (b : Bool) → among x (used plan move.mv) ≡ b → cond b (mark_after plan (done_after plan (moves_with_times plan moves) move)
+        (moves_with_times plan moves)) (latest_where plan (at_place plan x) (moves_with_times plan moves))
+        ≡ later (latest_where plan (at_place plan x) (moves_with_times plan moves)) (mark_if plan b
+        (done_after plan (moves_with_times plan moves) move) (moves_with_times plan moves))
     by true e =
-        let t = latest_time plan (at_place plan x) (times plan moves) in
-        let late = no_later plan (times plan moves) move x e in
-        let n = latest_number plan (at_place plan x) (times plan moves) in
-        sym (later_new (latest_where plan (at_place plan x) (times plan moves))
-        (mark_after plan (done_after plan (times plan moves) move) (times plan moves)) (omega (arith, t, late))
+        let t = latest_time plan (at_place plan x) (moves_with_times plan moves) in
+        let late = no_later plan (moves_with_times plan moves) move x e in
+        let n = latest_number plan (at_place plan x) (moves_with_times plan moves) in
+        sym (later_new (latest_where plan (at_place plan x) (moves_with_times plan moves))
+        (mark_after plan (done_after plan (moves_with_times plan moves) move) (moves_with_times plan moves)) (omega (arith, t, late))
         (omega (arith, n)))
-    by false e = sym (later_none (latest_where plan (at_place plan x) (times plan moves)))
+    by false e = sym (later_none (latest_where plan (at_place plan x) (moves_with_times plan moves)))
 
 -- one more move
 pub keeps-more : (plan : Plan) (moves : List DelayedMove) (l : Ledger) (move : DelayedMove) → Keeps plan moves l → AreKept plan move.mv → AreShort moves →
@@ -160,7 +161,7 @@ keeps-more plan moves l move h kept few short small =
           ∙ marks_more plan moves l move x h kept here m
           ∙ ap (latest_where plan (at_place plan x)) (sym more);
       last_is = ap (λ (a : ChainMark). later a (mark_of l move)) h.last_is
-          ∙ ap (later (latest_where plan any_move (times plan moves))) m
+          ∙ ap (later (latest_where plan any_move (moves_with_times plan moves))) m
           ∙ ap (latest_where plan any_move) (sym more);
       stages_are = ap (λ (p : Plan). charged (λ i. uses_stage p i move.mv) move.delay l.stages) h.layout_is
           ∙ busy_now (uses_stage plan) 33 l.stages h.stages_are;
@@ -226,12 +227,12 @@ pub record KnowsSites (plan : Plan) (moves : List DelayedMove) (l : Ledger) : Ty
   pub sidings_are : l.sidings ≡ map (λ k. busy (uses_siding plan k) moves) (counted_from 0 8)
   pub kinds_are : l.kinds ≡ kind_counts moves
   pub chain_is : l.last.kinds ≡ kind_counts (longest_chain plan moves)
-  pub end_is : l.last.time ≡ greatest_time (times plan moves)
+  pub end_is : l.last.time ≡ greatest_time (moves_with_times plan moves)
 
 keeps-knows : (plan : Plan) (moves : List DelayedMove) (l : Ledger) → Keeps plan moves l → KnowsSites plan moves l
 unfolding longest_chain
 keeps-knows plan moves l h =
-    let done : List TimedMove = times plan moves in
+    let done : List TimedMove = moves_with_times plan moves in
     let t = latest_time plan any_move done in
     let all : greatest_where any_move done ≡ greatest_time done = ap greatest_time (always done) in
     record {

@@ -7,7 +7,7 @@ use Rattle.cf_layout.specs.Layout.{Plan}
 use Rattle.cf_index.specs.Sites.{shares}
 use Rattle.cf_timed.specs.Chains.{AreLinked, ArePart, IsChain, sum_of_delays}
 use Rattle.cf_timed.specs.declared.timed_move.TimedMove.{TimedMove}
-use Rattle.cf_timed.specs.Times.{DelayedMove, done_after, greatest_time, time_after, times, times_after}
+use Rattle.cf_timed.specs.Times.{DelayedMove, done_after, greatest_time, finish_after, moves_with_times, times_after}
 use Rattle.cf_timed.proofs.Chaining.{always, linked_last, part_last, part_more, shares_turned, sum_last, sum_none}
 use Rattle.cf_timed.proofs.Greatest.{greatest_where, where_more, where_none}
 use Rattle.run_ledger.specs.Breakdowns.{chain_to, is_last, leads_to, longest_chain}
@@ -26,7 +26,7 @@ run-after plan earlier (mv ∷ moves) = run-after plan (done_after plan earlier 
 -- each has its time
 abbrev AreTimed : Plan → List TimedMove → Type 0
 AreTimed plan [] = Unit {0}
-AreTimed plan (done ∷ earlier) = (done.time ≡ time_after plan earlier (untimed done)) × AreTimed plan earlier
+AreTimed plan (done ∷ earlier) = (done.time ≡ finish_after plan earlier (untimed done)) × AreTimed plan earlier
 
 timed-after : (plan : Plan) (earlier : List TimedMove) (moves : List DelayedMove) → AreTimed plan earlier →
     AreTimed plan (times_after plan earlier moves)
@@ -73,9 +73,9 @@ linked-of plan test (d ∷ earlier) = by (test d) (linked-to plan d earlier) (li
     by false h g = g
 
 -- the chain to the last of those that pass and finish latest takes as long as they do
-start-is : (plan : Plan) (earlier : List TimedMove) (d : TimedMove) → d.time ≡ time_after plan earlier (untimed d) →
+start-is : (plan : Plan) (earlier : List TimedMove) (d : TimedMove) → d.time ≡ finish_after plan earlier (untimed d) →
     d.time ≡ greatest_where (λ e. shares plan d.mv e.mv) earlier + d.delay
-unfolding time_after
+unfolding finish_after
 start-is plan earlier d h = h
 
 sum-to : (plan : Plan) (p : TimedMove → Bool) (done : List TimedMove) (s : ℕ) → AreTimed plan done → s ≡ greatest_where p done →
@@ -99,7 +99,7 @@ sum-to plan p (d ∷ earlier) s h is =
     by false c e m now later = later (omega (arith, m))
 
 pub chain-is : (plan : Plan) (moves : List DelayedMove) → IsChain plan moves (longest_chain plan moves)
-unfolding longest_chain times
+unfolding longest_chain moves_with_times
 chain-is plan moves =
     let done : List TimedMove = times_after plan [] moves in
     record {
@@ -109,8 +109,8 @@ chain-is plan moves =
     }
 
 pub chain-sum : (plan : Plan) (moves : List DelayedMove) → sum_of_delays (longest_chain plan moves)
-    ≡ greatest_time (times plan moves)
-unfolding longest_chain times
+    ≡ greatest_time (moves_with_times plan moves)
+unfolding longest_chain moves_with_times
 chain-sum plan moves =
     let done : List TimedMove = times_after plan [] moves in
     sum-to plan (λ d. true) done (greatest_time done) (timed-after plan [] moves tt) (ap greatest_time (sym (always done)))

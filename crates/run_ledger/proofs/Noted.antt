@@ -10,14 +10,14 @@ use Rattle.cf_semantics.specs.moves.Candidates.{counted_from}
 use Rattle.cf_semantics.specs.state.State.{State}
 use Rattle.cf_core.specs.Processors.{Processor}
 use Rattle.cf_run.specs.Made.{Made}
-use Rattle.cf_run.specs.Policies.{fresh}
+use Rattle.cf_run.specs.Policies.{fresh_chooser}
 use Rattle.cf_timed.specs.declared.answer.Timed.{Timed}
 use Rattle.cf_timed.specs.declared.timed_move.TimedMove.{TimedMove}
 use Rattle.cf_timed.specs.Clocks.{SiteTimes}
 use Rattle.cf_timed.specs.Delays.{AreDelays}
 use Rattle.cf_timed.specs.DelayedRuns.{DelayRule, delayed_at, delays_after, visits_of}
-use Rattle.cf_timed.specs.Earliest.{TimedTurn, turned}
-use Rattle.cf_timed.specs.TimedRuns.{CanRunTimed, RunsWatched, begins, first_turn}
+use Rattle.cf_timed.specs.Earliest.{TimedTurn, after_turn}
+use Rattle.cf_timed.specs.TimedRuns.{CanRunTimed, RunsWatched, begins, timed_start}
 use Rattle.cf_timed.specs.Times.{DelayedMove, done_after, greatest_time}
 use Rattle.cf_timed.specs.Watching.{watched}
 use Rattle.cf_timed.proofs.Delaying.{all_time}
@@ -57,7 +57,7 @@ watched-all : (plan : Plan) (rule : DelayRule) (t : TimedTurn) (l : RunLedger) (
 unfolding watched
 watched-all plan rule t l [] = refl
 watched-all plan rule t l (made ∷ trace) =
-    watched-all plan rule (turned plan rule t made)
+    watched-all plan rule (after_turn plan rule t made)
     (notes l made (done_after plan t.earlier (delayed_at rule t.state t.earlier made.move))) trace
 
 -- without their times they are the moves with their delays
@@ -65,7 +65,7 @@ untimed-seen : (plan : Plan) (rule : DelayRule) (t : TimedTurn) (trace : List Ma
     untimed_all (seen_from plan rule t trace) ≡ delays_after plan rule t.earlier (visits_of t.state trace)
 untimed-seen plan rule t [] = refl
 untimed-seen plan rule t (made ∷ trace) =
-    ap (λ (more : List DelayedMove). delayed_at rule t.state t.earlier made.move ∷ more) (untimed-seen plan rule (turned plan rule t made) trace)
+    ap (λ (more : List DelayedMove). delayed_at rule t.state t.earlier made.move ∷ more) (untimed-seen plan rule (after_turn plan rule t made) trace)
 
 -- each part of the ledger has recorded them
 sites-noted : (l : RunLedger) (moves : List SeenMove) → (moves_noted l moves).sites ≡ noted_all l.sites (untimed_all moves)
@@ -162,9 +162,9 @@ seen-short plan rule t [] short few = tt
 seen-short plan rule t (made ∷ trace) short few =
     let d : DelayedMove = delayed_at rule t.state t.earlier made.move in
     let s = time_short plan t.earlier d short.0 in
-    let f : greatest_time t.earlier + 1000 * suc (length (seen_from plan rule (turned plan rule t made) trace)) < 2 ^ 64 = few in
+    let f : greatest_time t.earlier + 1000 * suc (length (seen_from plan rule (after_turn plan rule t made) trace)) < 2 ^ 64 = few in
     let a = all_time (done_after plan t.earlier d) t.earlier in
-    (omega (arith, s, f), seen-short plan rule (turned plan rule t made) trace short.1 (omega (arith, s, a, f)))
+    (omega (arith, s, f), seen-short plan rule (after_turn plan rule t made) trace short.1 (omega (arith, s, a, f)))
 
 -- the same of moves with and without their times
 kept-seen : (plan : Plan) (moves : List SeenMove) → AllByRecursion (λ d. AreKept plan d.mv) (untimed_all moves) →
@@ -229,7 +229,7 @@ told-seen plan rule s trace low short kept small =
     ∙ empty-each plan moves (λ i. let w = whole-time plan rule s trace i in omega (arith, w, f, small)))
     (ap (λ (counts : Latencies). counts.retired) c ∙ grown.retired ∙ retired-each plan moves (omega (arith, n, small)))
     (ap (λ (counts : Latencies). counts.ticks) c ∙ grown.ticks
-    ∙ latency-each plan moves (seen-short plan rule (first_turn s) trace short (let z = none-done in omega (arith, n, small, z))) (omega (arith, n, small)))
+    ∙ latency-each plan moves (seen-short plan rule (timed_start s) trace short (let z = none-done in omega (arith, n, small, z))) (omega (arith, n, small)))
 
 pub runs-noted : (r : GuessRule) (rule : DelayRule) (limit : ℕ) (core new : Processor) (before after : Streams) (clock : SiteTimes) (first later : RunLedger)
     (blank full : Option (List ℕ)) (moves : ℕ) (answer : Timed) → IsAccepted core.plan → length core.state.regs ≡ 32 → CanRunTimed limit core →
@@ -240,7 +240,7 @@ runs-noted r rule limit core new before after clock first later blank full moves
     let plan : Plan = core.plan in
     let runs = h.run.right.runs in
     let trace : List Made = runs.reaches.trace in
-    let t : TimedTurn = first_turn core.state in
+    let t : TimedTurn = timed_start core.state in
     let small = moves-few r limit (begins core before) runs.now h.run.picks runs.at acc wide can runs.reaches runs.picks in
     let n = delays-length plan rule [] core.state trace in
     let u = untimed-seen plan rule t trace in
@@ -250,6 +250,6 @@ runs-noted r rule limit core new before after clock first later blank full moves
       tells = ap breakdown_in (h.noted_all ∙ ap (λ (l : RunLedger). watched notes plan rule t l trace) begun_so ∙ watched-all plan rule t (begun plan) trace)
           ∙ told-seen plan rule core.state trace (omega (arith, top))
           (subst AreShort (sym u) (delays-short plan rule [] (visits_of core.state trace) few))
-          (subst (AllByRecursion (λ d. AreKept plan d.mv)) (sym u) (moves-kept plan rule (fresh r h.run.picks) runs.at core.state trace acc runs.picks))
+          (subst (AllByRecursion (λ d. AreKept plan d.mv)) (sym u) (moves-kept plan rule (fresh_chooser r h.run.picks) runs.at core.state trace acc runs.picks))
           (subst (λ (ms : List DelayedMove). 1000 * length ms < 2 ^ 64) (sym u) (omega (arith, small, n)));
     }

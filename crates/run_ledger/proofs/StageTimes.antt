@@ -9,9 +9,9 @@ use Rattle.cf_run.specs.Made.{Made}
 use Rattle.cf_timed.specs.Chains.{sum_of_delays}
 use Rattle.cf_timed.specs.declared.timed_move.TimedMove.{TimedMove}
 use Rattle.cf_timed.specs.DelayedRuns.{DelayRule, delayed_at}
-use Rattle.cf_timed.specs.Earliest.{TimedTurn, turned}
-use Rattle.cf_timed.specs.TimedRuns.{first_turn}
-use Rattle.cf_timed.specs.Times.{DelayedMove, before, delayed, done_after, greatest_time, time_after, times, times_after}
+use Rattle.cf_timed.specs.Earliest.{TimedTurn, after_turn}
+use Rattle.cf_timed.specs.TimedRuns.{timed_start}
+use Rattle.cf_timed.specs.Times.{DelayedMove, before, delayed, done_after, greatest_time, finish_after, moves_with_times, times_after}
 use Rattle.cf_timed.proofs.Delaying.{kept_time}
 use Rattle.cf_timed.proofs.Following.{last_at, no_later}
 use Rattle.cf_timed.proofs.Greatest.{where_more, where_none}
@@ -22,21 +22,21 @@ use Rattle.run_ledger.specs.Using.{uses_stage}
 
 -- a move starts when the moves before it that use the same stage have finished
 starts_late : (plan : Plan) (earlier : List TimedMove) (d : DelayedMove) (i : ℕ) → uses_stage plan i d.mv ≡ true →
-    last_at plan earlier (Stage i) + d.delay ≤ time_after plan earlier d
-unfolding time_after
+    last_at plan earlier (Stage i) + d.delay ≤ finish_after plan earlier d
+unfolding finish_after
 starts_late plan earlier d i e =
     let n : last_at plan earlier (Stage i) ≤ greatest_time (before plan d.mv earlier) + 0 = no_later plan earlier (delayed d.mv 0) (Stage i) e in
     omega (arith, n)
 
 -- the last to use it is then that move, or the same as before
 last_more : (plan : Plan) (earlier : List TimedMove) (d : DelayedMove) (i : ℕ) (b : Bool) → uses_stage plan i d.mv ≡ b →
-    last_at plan (done_after plan earlier d ∷ earlier) (Stage i) ≡ max (cond b (time_after plan earlier d) 0) (last_at plan earlier (Stage i))
+    last_at plan (done_after plan earlier d ∷ earlier) (Stage i) ≡ max (cond b (finish_after plan earlier d) 0) (last_at plan earlier (Stage i))
 last_more plan earlier d i b e =
     where_more (λ done. uses_place plan done.mv (Stage i)) (done_after plan earlier d) earlier
-    ∙ ap (λ (c : Bool). max (cond c (time_after plan earlier d) 0) (last_at plan earlier (Stage i))) e
+    ∙ ap (λ (c : Bool). max (cond c (finish_after plan earlier d) 0) (last_at plan earlier (Stage i))) e
 
 last_used : (plan : Plan) (earlier : List TimedMove) (d : DelayedMove) (i : ℕ) → uses_stage plan i d.mv ≡ true →
-    time_after plan earlier d ≡ last_at plan (done_after plan earlier d ∷ earlier) (Stage i)
+    finish_after plan earlier d ≡ last_at plan (done_after plan earlier d ∷ earlier) (Stage i)
 last_used plan earlier d i e =
     let m = last_more plan earlier d i true e in
     let s = starts_late plan earlier d i e in
@@ -54,7 +54,7 @@ abbrev next_seen : Plan → DelayRule → TimedTurn → Made → SeenMove
 next_seen plan rule t made = seen_move (done_after plan t.earlier (next_delayed rule t made)) made
 
 abbrev rest_seen : Plan → DelayRule → TimedTurn → Made → List Made → List SeenMove
-rest_seen plan rule t made trace = seen_from plan rule (turned plan rule t made) trace
+rest_seen plan rule t made trace = seen_from plan rule (after_turn plan rule t made) trace
 
 -- the delays of those of some moves that use the stage
 abbrev in_use : Plan → ℕ → List SeenMove → List DelayedMove
@@ -72,24 +72,24 @@ spans plan rule i t [] begin end held is late =
     omega (arith, k, is, l)
 spans plan rule i t (made ∷ trace) begin end held is late =
     by (uses_stage plan i made.move) refl
-    (λ e. spans plan rule i (turned plan rule t made) trace (time_after plan t.earlier (next_delayed rule t made)) end (holds_any made.state i)
+    (λ e. spans plan rule i (after_turn plan rule t made) trace (finish_after plan t.earlier (next_delayed rule t made)) end (holds_any made.state i)
     (last_used plan t.earlier (next_delayed rule t made) i e) late)
-    (λ e. spans plan rule i (turned plan rule t made) trace begin end held (is ∙ last_same plan t.earlier (next_delayed rule t made) i e) late)
+    (λ e. spans plan rule i (after_turn plan rule t made) trace begin end held (is ∙ last_same plan t.earlier (next_delayed rule t made) i e) late)
   where
     by : (b : Bool) → uses_stage plan i made.move ≡ b →
         (uses_stage plan i made.move ≡ true → sum_of_delays (in_use plan i (rest_seen plan rule t made trace))
-        + gap_total (gaps_from i (time_after plan t.earlier (next_delayed rule t made)) (holds_any made.state i)
+        + gap_total (gaps_from i (finish_after plan t.earlier (next_delayed rule t made)) (holds_any made.state i)
         (users plan i (rest_seen plan rule t made trace)) end)
-        + time_after plan t.earlier (next_delayed rule t made) ≡ end) →
+        + finish_after plan t.earlier (next_delayed rule t made) ≡ end) →
         (uses_stage plan i made.move ≡ false → sum_of_delays (in_use plan i (rest_seen plan rule t made trace))
         + gap_total (gaps_from i begin held (users plan i (rest_seen plan rule t made trace)) end) + begin ≡ end) →
         sum_of_delays (cond b (next_delayed rule t made ∷ in_use plan i (rest_seen plan rule t made trace)) (in_use plan i (rest_seen plan rule t made trace)))
         + gap_total (gaps_from i begin held (cond b (next_seen plan rule t made ∷ users plan i (rest_seen plan rule t made trace))
         (users plan i (rest_seen plan rule t made trace))) end) + begin ≡ end
     by true e used unused =
-        added (next_delayed rule t made).delay (time_after plan t.earlier (next_delayed rule t made)) (last_at plan t.earlier (Stage i))
+        added (next_delayed rule t made).delay (finish_after plan t.earlier (next_delayed rule t made)) (last_at plan t.earlier (Stage i))
         (sum_of_delays (in_use plan i (rest_seen plan rule t made trace)))
-        (gap_total (gaps_from i (time_after plan t.earlier (next_delayed rule t made)) (holds_any made.state i)
+        (gap_total (gaps_from i (finish_after plan t.earlier (next_delayed rule t made)) (holds_any made.state i)
         (users plan i (rest_seen plan rule t made trace)) end))
         (starts_late plan t.earlier (next_delayed rule t made) i e) (used e) is
       where
@@ -114,7 +114,7 @@ pub whole-time : (plan : Plan) (rule : DelayRule) (s : State) (trace : List Made
     busy (uses_stage plan i) (untimed_all (seen_in plan rule s trace)) + waiting plan (seen_in plan rule s trace) i
     + empty_time plan (seen_in plan rule s trace) i
     ≡ time_of plan (seen_in plan rule s trace)
-unfolding busy waiting empty_time gaps times
+unfolding busy waiting empty_time gaps moves_with_times
 whole-time plan rule s trace i =
     let moves : List SeenMove = seen_in plan rule s trace in
     let end : ℕ = time_of plan moves in
@@ -122,7 +122,7 @@ whole-time plan rule s trace i =
     let last : greatest_time (times_after plan [] (untimed_all moves)) ≤ end = least end in
     all (sum_of_delays (in_use plan i moves)) (gap_total (filter (λ g. g.is_held) (gaps_from i 0 false (users plan i moves) end)))
     (gap_total (filter (λ g. not g.is_held) (gaps_from i 0 false (users plan i moves) end))) (gap_total (gaps_from i 0 false (users plan i moves) end)) end
-    (spans plan rule i (first_turn s) trace 0 end false (sym z) last) (two_kinds (gaps_from i 0 false (users plan i moves) end))
+    (spans plan rule i (timed_start s) trace 0 end false (sym z) last) (two_kinds (gaps_from i 0 false (users plan i moves) end))
   where
     least : (n : ℕ) → n ≤ n
     least n = omega arith

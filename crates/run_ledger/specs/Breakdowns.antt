@@ -8,7 +8,7 @@ use Rattle.cf_index.specs.Order.{kind_place}
 use Rattle.cf_index.specs.Sites.{shares}
 use Rattle.cf_timed.specs.Chains.{sum_of_delays}
 use Rattle.cf_timed.specs.declared.timed_move.TimedMove.{TimedMove}
-use Rattle.cf_timed.specs.Times.{DelayedMove, greatest_time, times}
+use Rattle.cf_timed.specs.Times.{DelayedMove, greatest_time, moves_with_times}
 use Rattle.run_ledger.specs.Gaps.{empty_time, waiting}
 use Rattle.run_ledger.specs.Latencies.{latency, retired_count}
 use Rattle.run_ledger.specs.SeenMoves.{SeenMove, untimed, untimed_all}
@@ -45,7 +45,7 @@ is_last moves done = done.time == greatest_time moves
 
 -- the chain of a run that ends with the last of the moves that finish last
 unfoldable pub longest_chain : Plan → List DelayedMove → List DelayedMove
-longest_chain plan moves = chain_to plan (is_last (times plan moves)) (times plan moves)
+longest_chain plan moves = chain_to plan (is_last (moves_with_times plan moves)) (moves_with_times plan moves)
 
 -- what the time of a run is made of; stages and sidings are by their numbers, classes by their places
 unfoldable pub breakdown : Plan → List SeenMove → Breakdown

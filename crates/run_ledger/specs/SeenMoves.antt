@@ -6,9 +6,9 @@ use Rattle.cf_semantics.specs.state.State.{State}
 use Rattle.cf_run.specs.Made.{Made}
 use Rattle.cf_timed.specs.declared.timed_move.TimedMove.{TimedMove}
 use Rattle.cf_timed.specs.DelayedRuns.{DelayRule, delayed_at}
-use Rattle.cf_timed.specs.Earliest.{TimedTurn, turned}
-use Rattle.cf_timed.specs.TimedRuns.{first_turn}
-use Rattle.cf_timed.specs.Times.{DelayedMove, delayed, done_after, greatest_time, times}
+use Rattle.cf_timed.specs.Earliest.{TimedTurn, after_turn}
+use Rattle.cf_timed.specs.TimedRuns.{timed_start}
+use Rattle.cf_timed.specs.Times.{DelayedMove, delayed, done_after, greatest_time, moves_with_times}
 
 -- a move that was made, with its time, its event and the state after it
 pub record SeenMove : Type 0 where
@@ -24,11 +24,11 @@ seen_move done made = record { done = done; event = made.event; state = made.sta
 abbrev pub seen_from : Plan → DelayRule → TimedTurn → List Made → List SeenMove
 seen_from plan rule t [] = []
 seen_from plan rule t (made ∷ trace) =
-    seen_move (done_after plan t.earlier (delayed_at rule t.state t.earlier made.move)) made ∷ seen_from plan rule (turned plan rule t made) trace
+    seen_move (done_after plan t.earlier (delayed_at rule t.state t.earlier made.move)) made ∷ seen_from plan rule (after_turn plan rule t made) trace
 
 -- and from its start
 abbrev pub seen_in : Plan → DelayRule → State → List Made → List SeenMove
-seen_in plan rule s trace = seen_from plan rule (first_turn s) trace
+seen_in plan rule s trace = seen_from plan rule (timed_start s) trace
 
 -- a move without its time
 abbrev pub untimed : TimedMove → DelayedMove
@@ -44,4 +44,4 @@ move_start done = done.time - done.delay
 
 -- when the last of the moves finishes
 abbrev pub time_of : Plan → List SeenMove → ℕ
-time_of plan moves = greatest_time (times plan (untimed_all moves))
+time_of plan moves = greatest_time (moves_with_times plan (untimed_all moves))

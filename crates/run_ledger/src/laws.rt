@@ -6,7 +6,7 @@ ghost use Rattle.cf_timed.specs.Chains.{IsChain, sum_of_delays};
 ghost use Rattle.cf_semantics.specs.state.State.{State};
 ghost use Rattle.cf_run.specs.Made.{Made};
 ghost use Rattle.cf_timed.specs.DelayedRuns.{DelayRule};
-ghost use Rattle.cf_timed.specs.Times.{DelayedMove, greatest_time, times};
+ghost use Rattle.cf_timed.specs.Times.{DelayedMove, greatest_time, moves_with_times};
 ghost use Rattle.run_ledger.specs.Breakdowns.{busy, longest_chain};
 ghost use Rattle.run_ledger.specs.Gaps.{empty_time, waiting};
 ghost use Rattle.run_ledger.specs.SeenMoves.{seen_in, time_of, untimed_all};
@@ -18,7 +18,7 @@ pub fn chain_is_longest()
     ensures chain { (plan : Plan) (moves : List DelayedMove) →
         IsChain plan moves (longest_chain plan moves) }
     ensures sum { (plan : Plan) (moves : List DelayedMove) →
-        sum_of_delays (longest_chain plan moves) ≡ greatest_time (times plan moves) }
+        sum_of_delays (longest_chain plan moves) ≡ greatest_time (moves_with_times plan moves) }
 {}
 
 /// How long each stage is in use, waits and is empty adds up to the run's time. So no two moves use a stage at one time,

@@ -3,8 +3,8 @@
 ghost use Rattle.std.specs.Prelude.{◌≡◌, ◌-◌, ◌≤◌, Some};
 ghost use Rattle.rv_machine.specs.Streams.{streams_of};
 ghost use Rattle.cf_run.specs.Policies.{most_moves};
-ghost use Rattle.cf_timed.specs.Clocks.{rule_of};
-ghost use Rattle.cf_timed.specs.TimedRuns.{CanBegin, HasCauses, answer_of, begins};
+ghost use Rattle.cf_timed.specs.Clocks.{rule_of_clock};
+ghost use Rattle.cf_timed.specs.TimedRuns.{CanBegin, HasCauses, answer_of_timed, begins};
 ghost use Rattle.run_ledger.specs.NotedRuns.{RunsNoted};
 ghost use Rattle.run_ledger.specs.RunLedgers.{begun};
 
@@ -28,11 +28,11 @@ pub fn run_noted<S: Source, K: Sink>(
 ) -> TimedRun
     requires ledger { ledger.old ≡ begun core.old.plan }
     requires begins { CanBegin options.limit core.old clock.old }
-    ensures run { RunsNoted options.rule (rule_of clock.old) options.limit
+    ensures run { RunsNoted options.rule (rule_of_clock clock.old) options.limit
         (begins core.old (streams_of (S.left input.old) (K.written output.old)))
         core.new (streams_of (S.left input.new) (K.written output.new)) clock.new ledger.new result.moves result.answer }
     ensures bounded { result.moves ≤ most_moves core.old.plan (core.new.state.retired - core.old.state.retired) }
-    ensures causes { HasCauses (S.faults input.old) (S.faults input.new) (K.faults output.old) (K.faults output.new) (Some (answer_of result.answer)) }
+    ensures causes { HasCauses (S.faults input.old) (S.faults input.new) (K.faults output.old) (K.faults output.new) (Some (answer_of_timed result.answer)) }
 {
     known(core);
     clock.known();

@@ -18,7 +18,7 @@ use Rattle.rv_text.proofs.Written.{hex8_digits}
 use Rattle.cf_bind.specs.declared.passenger.Guess.TheVariants as guess
 use Rattle.cf_bind.specs.declared.moves.Move.{Move}
 use Rattle.cf_bind.specs.declared.moves.Move.TheVariants.{Issue, Emit, Climb, Fall, Meet, Execute, Send, Launch, Slide, Access, Recover, Leave, Exit, Serve}
-use Rattle.cf_bind.specs.MoveTexts.{at_stage, move_line}
+use Rattle.cf_bind.specs.MoveTexts.{text_at_stage, move_line}
 use Rattle.run_scripts.specs.declared.refusal.ScriptKind.TheVariants.{NotAscii}
 use Rattle.run_scripts.specs.Kinds.{kind_named}
 use Rattle.run_scripts.specs.Words.{words_of}
@@ -48,7 +48,7 @@ digits-shown radix (d ∷ ds) low h =
 decimal-shown : (n : ℕ) → n < 10 ^ 9 → IsShown (decimal n)
 decimal-shown n h = digits-shown 10 (decimal n) (lit≤ tt) (decimal_is_IsNumeral n (omega arith)).0.1
 
-staged-shown : (name : List ℕ) (i : ℕ) → IsShown name → i < 10 ^ 9 → IsShown (at_stage name i)
+staged-shown : (name : List ℕ) (i : ℕ) → IsShown name → i < 10 ^ 9 → IsShown (text_at_stage name i)
 staged-shown name i h small = shown-append (name ++ codes " ") (decimal i) (shown-append name (codes " ") h refl) (decimal-shown i small)
 
 line-shown : (mv : Move) → NumbersBelow (10 ^ 9) mv → IsShown (move_line mv)

@@ -5,7 +5,7 @@ use Rattle.cf_bind.specs.declared.passenger.Guess.TheVariants as guess
 use Rattle.cf_bind.specs.declared.moves.Move.{Move}
 use Rattle.cf_bind.specs.declared.moves.Move.TheVariants.{Issue, Emit, Climb, Fall, Meet, Execute, Send, Launch, Slide, Access, Recover, Leave, Exit, Serve}
 use Rattle.texts.specs.Hexadecimal.{hex8}
-use Rattle.cf_bind.specs.MoveTexts.{at_stage as stage_text, move_line}
+use Rattle.cf_bind.specs.MoveTexts.{text_at_stage as stage_text, move_line}
 use Rattle.run_scripts.specs.Kinds.{kind_named}
 use Rattle.run_scripts.specs.Words.{first_number, first_address}
 use Rattle.texts.specs.Answers.{and_then}

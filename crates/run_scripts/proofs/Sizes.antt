@@ -6,13 +6,13 @@ use Rattle.texts.specs.Hexadecimal.{hex8}
 use Rattle.cf_bind.specs.declared.passenger.Guess.TheVariants as guess
 use Rattle.cf_bind.specs.declared.moves.Move.{Move}
 use Rattle.cf_bind.specs.declared.moves.Move.TheVariants.{Issue, Emit, Climb, Fall, Meet, Execute, Send, Launch, Slide, Access, Recover, Leave, Exit, Serve}
-use Rattle.cf_bind.specs.MoveTexts.{at_stage, move_line}
+use Rattle.cf_bind.specs.MoveTexts.{text_at_stage, move_line}
 use Rattle.run_scripts.specs.MoveLines.{NumbersBelow}
 
 short : (n : ℕ) → n < 2 ^ 32 → length (decimal n) ≤ 10
 short n h = length-decimal-le 10 n (lit< tt) (omega arith) (omega arith)
 
-at_stage-short : (kind : List ℕ) (i : ℕ) → length kind ≤ 10 → i < 2 ^ 32 → length (at_stage kind i) ≤ 80
+at_stage-short : (kind : List ℕ) (i : ℕ) → length kind ≤ 10 → i < 2 ^ 32 → length (text_at_stage kind i) ≤ 80
 at_stage-short kind i k h =
     let low = short i h in
     omega (arith, length-append (kind ++ codes " ") (decimal i), length-append kind (codes " "))

@@ -15,9 +15,9 @@ use Rattle.run_scripts.specs.Kinds.{kind_named}
 use Rattle.run_scripts.specs.Words.{words_of, first_word, first_number, first_address}
 
 -- the kind, or a refusal where it is missing
-abbrev pub named : Option Kind → Result Kind ScriptKind
-named (Some k) = Ok k
-named None = Err UnknownMove
+abbrev pub kind_or_refusal : Option Kind → Result Kind ScriptKind
+kind_or_refusal (Some k) = Ok k
+kind_or_refusal None = Err UnknownMove
 
 -- what is read from the start of some words, with the words after it
 abbrev pub read_with : {A : Type 0} → A → List (List ℕ) → Result (A × List (List ℕ)) ScriptKind
@@ -65,7 +65,7 @@ kind_read kind.Serve words = read_with Serve words
 
 -- the move of the kind that some words begin with
 unfoldable pub move_read : List (List ℕ) → Result (Move × List (List ℕ)) ScriptKind
-move_read words = and_then (named (kind_named (first_word words))) (λ k. kind_read k (drop 1 words))
+move_read words = and_then (kind_or_refusal (kind_named (first_word words))) (λ k. kind_read k (drop 1 words))
 
 -- a move after which no word is left
 abbrev pub closed : Move × List (List ℕ) → Result Move ScriptKind

@@ -19,10 +19,10 @@ use Rattle.rv_text.specs.Lines.{is_line_feed, without_return, lines_from, lines_
 use Rattle.rv_asm.specs.Scanning.{is_name_start, is_name_byte, begins_name, name_length, comment_at, said, has_label, label_in, statement_in}
 use Rattle.rv_asm.specs.declared.scanning.Quote.TheVariants.{Outside}
 use Rattle.rv_asm.specs.Items.{SourceItem, Nothing, Section, Export, Single, Double, Near, Distant, Numbers, Chars, Zeros}
-use Rattle.rv_asm.specs.Places.{address_of, place_after, item_at, start_of_text}
+use Rattle.rv_asm.specs.Places.{section_address, place_after, item_at, start_of_text}
 use Rattle.rv_asm.specs.Labels.{LabelView, value_of_label, exported, exported_as}
 use Rattle.rv_asm.specs.Pieces.{Piece, pieces_of}
-use Rattle.rv_asm.specs.Assembling.{at_line, with_label, drafted, draft_from, Sections, with_export, sections_after_item, sections_after_line, sections_from, empty, sections_of}
+use Rattle.rv_asm.specs.Assembling.{at_line, with_label, drafted, draft_from, Sections, with_export, sections_after_item, sections_after_line, sections_from, empty_sections, sections_of}
 use Rattle.rv_asm.specs.Objects.{IsObject, Objects}
 use Rattle.rv_asm.specs.Small.{HasNoNul, joined_names, IsSmallObject}
 use Rattle.rv_asm.specs.Sized.{AreSized}
@@ -153,9 +153,9 @@ few-by true labels next place text m h e f =
     let sizes = label-length text h in
     let long : length name ≡ name_length text = length-prefix_len is_name_byte text in
     let same = labelled-by (is_some (value_of_label labels name))
-    (labels ++ record { name = name; value = address_of place; in_text = place.in_text; global = false }
+    (labels ++ record { name = name; value = section_address place; in_text = place.in_text; global = false }
     ∷ []) next (with_label labels place (Some name)) refl e in
-    rw (← same) (one-more labels (record { name = name; value = address_of place; in_text = place.in_text; global = false }) m (length text)
+    rw (← same) (one-more labels (record { name = name; value = section_address place; in_text = place.in_text; global = false }) m (length text)
     (omega (arith, long, sizes.0)) (omega (arith, long, sizes.1)) (name-no-nul text) f)
 
 labels-few : (labels next : List LabelView) (place : SectionPlace) (text : List ℕ) (m : ℕ) → with_label labels place (label_in text) ≡ Ok next →
@@ -223,9 +223,9 @@ marked-few labels (Zeros count) m f = f
 filled-few : (s t : Sections) (text : List ℕ) (m : ℕ) → sections_after_line s text ≡ Ok t → AreFew s.labels m → AreFew t.labels m
 unfolding sections_after_line
 filled-few s t text m e f =
-    let r = passes (item_at s.place (statement_in text)) (λ (item : SourceItem). and_then (pieces_of s.labels (address_of s.place) item)
+    let r = passes (item_at s.place (statement_in text)) (λ (item : SourceItem). and_then (pieces_of s.labels (section_address s.place) item)
     (λ ps. Ok (sections_after_item s item ps))) t e in
-    let p = passes (pieces_of s.labels (address_of s.place) r.first) (λ (ps : List Piece). Ok (sections_after_item s r.first ps)) t r.goes in
+    let p = passes (pieces_of s.labels (section_address s.place) r.first) (λ (ps : List Piece). Ok (sections_after_item s r.first ps)) t r.goes in
     let same : sections_after_item s r.first p.first ≡ t = cc p.goes in
     rw (← same) (marked-few s.labels r.first m f)
 
@@ -244,7 +244,8 @@ looked-few lines sections e =
     let l = looks lines sections e in
     let last : Draft = record { place = l.drafted.0; labels = l.labels } in
     let few = draft-few 0 (record { place = start_of_text; labels = [] }) last lines 0 l.drafted.1 no-labels in
-    sections-few 0 (empty l.labels) sections lines (bytes_of lines) l.filled (more-bytes l.labels (0 + bytes_of lines) (bytes_of lines) (omega arith) few)
+    sections-few 0 (empty_sections l.labels) sections lines (bytes_of lines) l.filled
+    (more-bytes l.labels (0 + bytes_of lines) (bytes_of lines) (omega arith) few)
 
 -- an object with few and short labels and with sized sections is small
 small-object : (sections : Sections) (object : Object) (n : ℕ) → AreSized sections → AreFew sections.labels n → n ≤ 1048576 → IsObject sections object →

@@ -8,7 +8,7 @@ use Rattle.rv_asm.specs.declared.place.SectionPlace.{SectionPlace}
 use Rattle.rv_asm.specs.declared.sections.Output.{Output}
 use Rattle.texts.specs.Answers.{and_then}
 use Rattle.rv_asm.specs.Scanning.{said, statement_in}
-use Rattle.rv_asm.specs.Places.{address_of, place_after, item_at}
+use Rattle.rv_asm.specs.Places.{section_address, place_after, item_at}
 use Rattle.rv_asm.specs.Labels.{LabelView}
 use Rattle.rv_asm.specs.Pieces.{Piece, pieces_of}
 use Rattle.rv_asm.specs.Spelling.{Spells, GivesBytes, IsRefusal}
@@ -54,11 +54,11 @@ record GoesOn (sections : Sections) (text : List ℕ) (new : Output) : Type 0 wh
 goes_on : (s : Sections) (out new : Output) (text : List ℕ) → HoldsSections s out → IsFilled out text new → GoesOn s text new
 unfolding sections_after_line
 goes_on s out new text h f =
-    let p = has_pieces f.bytes (pieces_of out.labels (address_of out.place) f.item) f.gives in
+    let p = has_pieces f.bytes (pieces_of out.labels (section_address out.place) f.item) f.gives in
     let read : item_at s.place (statement_in text) ≡ Ok f.item = subst (λ place. item_at place (statement_in text) ≡ Ok f.item) h.place f.read in
-    let at_place : pieces_of out.labels (address_of s.place) f.item ≡ Ok p.pieces = subst (λ place. pieces_of out.labels (address_of place) f.item
+    let at_place : pieces_of out.labels (section_address s.place) f.item ≡ Ok p.pieces = subst (λ place. pieces_of out.labels (section_address place) f.item
     ≡ Ok p.pieces) h.place p.is in
-    let pieces : pieces_of s.labels (address_of s.place) f.item ≡ Ok p.pieces = subst (λ labels. pieces_of labels (address_of s.place) f.item
+    let pieces : pieces_of s.labels (section_address s.place) f.item ≡ Ok p.pieces = subst (λ labels. pieces_of labels (section_address s.place) f.item
     ≡ Ok p.pieces) h.labels at_place in
     let text_is : new.text.items ≡ (if s.place.in_text then out.text.items ++ f.bytes else out.text.items)
     = f.text_bytes ∙ ap (λ (place : SectionPlace). if place.in_text then out.text.items ++ f.bytes else out.text.items) h.place in
@@ -96,13 +96,13 @@ filled-refused : (s : Sections) (out : Output) (text : List ℕ) (kind : AsmKind
     → line_pieces out.labels out.place text ≡ Err kind → sections_after_line s text ≡ Err kind
 unfolding sections_after_line line_pieces
 filled-refused s out text kind h e =
-    let at_place : and_then (item_at s.place (statement_in text)) (λ item. pieces_of out.labels (address_of s.place) item) ≡ Err kind
-    = subst (λ (place : SectionPlace). and_then (item_at place (statement_in text)) (λ item. pieces_of out.labels (address_of place) item)
+    let at_place : and_then (item_at s.place (statement_in text)) (λ item. pieces_of out.labels (section_address s.place) item) ≡ Err kind
+    = subst (λ (place : SectionPlace). and_then (item_at place (statement_in text)) (λ item. pieces_of out.labels (section_address place) item)
     ≡ Err kind) h.place e in
-    let refused : and_then (item_at s.place (statement_in text)) (λ item. pieces_of s.labels (address_of s.place) item) ≡ Err kind
-    = subst (λ (labels : List LabelView). and_then (item_at s.place (statement_in text)) (λ item. pieces_of labels (address_of s.place) item)
+    let refused : and_then (item_at s.place (statement_in text)) (λ item. pieces_of s.labels (section_address s.place) item) ≡ Err kind
+    = subst (λ (labels : List LabelView). and_then (item_at s.place (statement_in text)) (λ item. pieces_of labels (section_address s.place) item)
     ≡ Err kind) h.labels at_place in
-    step-refused (item_at s.place (statement_in text)) (λ item. pieces_of s.labels (address_of s.place) item)
+    step-refused (item_at s.place (statement_in text)) (λ item. pieces_of s.labels (section_address s.place) item)
     (λ item pieces. sections_after_item s item pieces) kind refused
 
 pub refused : (above : ℕ) (out : Output) (line : List ℕ) (lines : List (List ℕ)) (answer : Result Sections AsmErr) (kind : AsmKind)

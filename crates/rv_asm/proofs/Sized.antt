@@ -19,14 +19,14 @@ use Rattle.rv_asm.specs.Operands.{bytes_of_width}
 use Rattle.rv_asm.specs.Scanning.{said, statement_in}
 use Rattle.rv_asm.specs.Items.{SourceItem, Nothing, Section, Export, Single, Double, Near, Distant, Numbers, Chars, Zeros, size_of, is_code}
 use Rattle.rv_asm.specs.Pseudos.{word_modulo, reaching}
-use Rattle.rv_asm.specs.Places.{IsPlaceInLimits, start_of_text, address_of, length_at, grown, place_after, fits_at, item_at}
+use Rattle.rv_asm.specs.Places.{IsPlaceInLimits, start_of_text, section_address, length_at, grown, place_after, fits_at, item_at}
 use Rattle.rv_asm.specs.Labels.{LabelView}
 use Rattle.rv_asm.specs.Pieces.{Piece, Word, Bytes, label_value, near_instr, operand_value, bytes_from, instruction_pieces, pieces_of}
 use Rattle.rv_asm.specs.Spelling.{SpellsPiece, Spells}
 use Rattle.rv_asm.specs.Sized.{piece_length, pieces_size, AreSized, IsSized}
 use Rattle.rv_asm.specs.Reading.{statement_read}
 use Rattle.rv_text.specs.Lines.{text_lines}
-use Rattle.rv_asm.specs.Assembling.{Sections, sections_after_item, sections_after_line, at_line, are_ascii, draft_from, sections_from, empty, sections_of, assembled}
+use Rattle.rv_asm.specs.Assembling.{Sections, sections_after_item, sections_after_line, at_line, are_ascii, draft_from, sections_from, empty_sections, sections_of, assembled}
 use Rattle.rv_asm.proofs.Passing.{Passes, passes, passes_line}
 
 pub size-append : (ps qs : List Piece) → pieces_size (ps ++ qs) ≡ pieces_size ps + pieces_size qs
@@ -149,7 +149,7 @@ fits-by false false kind other answer e h = refl
 pub fits-within : (p : SectionPlace) (item : SourceItem) → fits_at p item ≡ Ok tt → length_at p + size_of item ≤ 1048576
 unfolding fits_at
 fits-within p item e =
-    let test : nat_lt 1048576 (length_at p + size_of item) ≡ false = fits-by (is_code item && (not p.in_text || not (address_of p % 4 == 0)))
+    let test : nat_lt 1048576 (length_at p + size_of item) ≡ false = fits-by (is_code item && (not p.in_text || not (section_address p % 4 == 0)))
     (nat_lt 1048576 (length_at p + size_of item)) Misplaced (TooLarge (length_at p + size_of item)) (fits_at p item) refl e in
     grind (arith, nat_tests)
 
@@ -182,7 +182,7 @@ placed-sized s item ps h e n = record {
 pub item-fits : (p : SectionPlace) (text : List ℕ) (item : SourceItem) → item_at p text ≡ Ok item → fits_at p item ≡ Ok tt
 unfolding item_at
 item-fits p text item e =
-    let r = passes (statement_read (address_of p) text) (λ (i : SourceItem). and_then (fits_at p i) (λ u. Ok i)) item e in
+    let r = passes (statement_read (section_address p) text) (λ (i : SourceItem). and_then (fits_at p i) (λ u. Ok i)) item e in
     let f = passes (fits_at p r.first) (λ (u : Unit {0}). Ok r.first) item r.goes in
     let same : r.first ≡ item = cc f.goes in
     rw (← same) f.is
@@ -190,12 +190,12 @@ item-fits p text item e =
 filled-sized : (s t : Sections) (text : List ℕ) → AreSized s → sections_after_line s text ≡ Ok t → AreSized t
 unfolding sections_after_line
 filled-sized s t text h e =
-    let r = passes (item_at s.place (statement_in text)) (λ (item : SourceItem). and_then (pieces_of s.labels (address_of s.place) item)
+    let r = passes (item_at s.place (statement_in text)) (λ (item : SourceItem). and_then (pieces_of s.labels (section_address s.place) item)
     (λ ps. Ok (sections_after_item s item ps))) t e in
-    let p = passes (pieces_of s.labels (address_of s.place) r.first) (λ (ps : List Piece). Ok (sections_after_item s r.first ps)) t r.goes in
+    let p = passes (pieces_of s.labels (section_address s.place) r.first) (λ (ps : List Piece). Ok (sections_after_item s r.first ps)) t r.goes in
     let same : sections_after_item s r.first p.first ≡ t = cc p.goes in
     rw (← same) (placed-sized s r.first p.first h (item-fits s.place (statement_in text) r.first r.is)
-    (item-sized s.labels (address_of s.place) r.first p.first p.is))
+    (item-sized s.labels (section_address s.place) r.first p.first p.is))
 
 lines-sized : (above : ℕ) (s t : Sections) (lines : List (List ℕ)) → AreSized s → sections_from above s lines ≡ Ok t → AreSized t
 lines-sized above s t [] h e = let same : s ≡ t = cc in rw (← same) h
@@ -208,22 +208,23 @@ lines-sized above s t (line ∷ lines) h e =
 pub record Looks (lines : List (List ℕ)) (sections : Sections) : Type 0 where
   pub labels : List LabelView
   pub drafted : (place : SectionPlace) × (draft_from 0 (record { place = start_of_text; labels = [] }) lines ≡ Ok (record { place = place; labels = labels }))
-  pub filled : sections_from 0 (empty labels) lines ≡ Ok sections
+  pub filled : sections_from 0 (empty_sections labels) lines ≡ Ok sections
 
 pub looks : (lines : List (List ℕ)) (sections : Sections) → sections_of lines ≡ Ok sections → Looks lines sections
 looks lines sections e =
     let a = passes (are_ascii 0 lines) (λ (u : Unit {0}). and_then (draft_from 0 (record { place = start_of_text; labels = [] }) lines)
-    (λ draft. sections_from 0 (empty draft.labels) lines)) sections e in
-    let d = passes (draft_from 0 (record { place = start_of_text; labels = [] }) lines) (λ draft. sections_from 0 (empty draft.labels) lines) sections a.goes in
+    (λ draft. sections_from 0 (empty_sections draft.labels) lines)) sections e in
+    let d = passes (draft_from 0 (record { place = start_of_text; labels = [] }) lines) (λ draft. sections_from 0 (empty_sections draft.labels) lines) sections
+    a.goes in
     record { labels = d.first.labels; drafted = (d.first.place, d.is); filled = d.goes }
 
-pub empty-sized : (labels : List LabelView) → AreSized (empty labels)
+pub empty-sized : (labels : List LabelView) → AreSized (empty_sections labels)
 empty-sized labels = record { text = refl; data_section = refl; place = record { text = omega arith; data_section = omega arith } }
 
 pub sections-sized : (lines : List (List ℕ)) (sections : Sections) → sections_of lines ≡ Ok sections → AreSized sections
 sections-sized lines sections e =
     let l = looks lines sections e in
-    lines-sized 0 (empty l.labels) sections lines (empty-sized l.labels) l.filled
+    lines-sized 0 (empty_sections l.labels) sections lines (empty-sized l.labels) l.filled
 
 sized-by : (answer : Result Sections AsmErr) → ((sections : Sections) → answer ≡ Ok sections → AreSized sections) → IsSized answer
 sized-by (Ok sections) h = h sections refl

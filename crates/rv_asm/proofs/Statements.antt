@@ -21,8 +21,8 @@ use Rattle.rv_text.specs.Numbers.{number_of, numeral}
 use Rattle.rv_text.specs.Registers.{register_of, register_only, register_numbered, register_padded, usual_names}
 use Rattle.rv_text.specs.Tables.{look_up}
 use Rattle.texts.specs.Answers.{and_then, needed}
-use Rattle.rv_text.specs.Fields.{within, register_in, number_in, immediate_in, field_below, immediate_of, offset_in, base_in, enclosed, is_open}
-use Rattle.rv_text.specs.Reading.{LineReading, WholeOf, AimedAt, whole, upper_form, address_form, immediate_form, register_form, set_form, fence_form, jump_form, branch_form, operands_read, takes, wanted, counted, statement_by}
+use Rattle.rv_text.specs.Fields.{within, register_in_text, number_operand, immediate_in, field_below, immediate_of, offset_in, base_in, enclosed, is_open}
+use Rattle.rv_text.specs.Reading.{LineReading, WholeOf, AimedAt, whole, upper_form, address_form, immediate_form, register_form, set_form, fence_form, jump_form, branch_form, operands_read, takes_operands, wanted, capped_count, statement_by}
 use Rattle.rv_text.proofs.Spellings.{FindsRegister, usual_names-find}
 use Rattle.rv_asm.specs.Seen.{JumpFits}
 use Rattle.rv_asm.proofs.Fitting.{ok_then}
@@ -66,8 +66,8 @@ needed-finds : (found : Option ℕ) → FindsRegister found → IfOk (needed Bad
 needed-finds None h = tt
 needed-finds (Some r) h = h
 
-register_in-fits : (text : List ℕ) → IfOk (register_in text) (λ r. IsRegister r)
-unfolding register_in
+register_in-fits : (text : List ℕ) → IfOk (register_in_text text) (λ r. IsRegister r)
+unfolding register_in_text
 register_in-fits text = needed-finds (register_of text) (register_of-finds text)
 
 abbrev Between : ℤ → ℤ → ℤ → Type 0
@@ -82,8 +82,8 @@ within-fits : (least greatest z : ℤ) → IfOk (within least greatest z) (λ x.
 within-fits least greatest z =
     tested (int_le least z && int_le z greatest) least greatest z (λ h. (grind (arith, ints, nat_tests), grind (arith, ints, nat_tests)))
 
-number_in-fits : (least greatest : ℤ) (text : List ℕ) → IfOk (number_in least greatest text) (λ z. Between least greatest z)
-unfolding number_in
+number_in-fits : (least greatest : ℤ) (text : List ℕ) → IfOk (number_operand least greatest text) (λ z. Between least greatest z)
+unfolding number_operand
 number_in-fits least greatest text =
     ok_then (λ z. Unit {0}) (λ z. Between least greatest z) (needed BadNumber (number_of text)) (within least greatest)
     (any (needed BadNumber (number_of text))) (λ z u. within-fits least greatest z)
@@ -93,16 +93,16 @@ weaker P Q (Ok a) h k = k a h
 weaker P Q (Err e) h k = tt
 
 immediate_in-fits : (text : List ℕ) → IfOk (immediate_in text) (λ z. IsWithin (2 ^ 11) z)
-immediate_in-fits text = weaker (λ z. Between (negsuc 2047) (pos 2047) z) (λ z. IsWithin (2 ^ 11) z) (number_in (negsuc 2047) (pos 2047) text)
+immediate_in-fits text = weaker (λ z. Between (negsuc 2047) (pos 2047) z) (λ z. IsWithin (2 ^ 11) z) (number_operand (negsuc 2047) (pos 2047) text)
     (number_in-fits (negsuc 2047) (pos 2047) text) (λ z h. (h.0, omega (arith, ints, h.1)))
 
 field_below-fits : (limit : ℕ) (text : List ℕ) → 0 < limit → IfOk (field_below limit text) (λ n. n < limit)
 field_below-fits limit text some =
-    ok_then (λ z. Between (pos 0) (pos (limit - 1)) z) (λ n. n < limit) (number_in (pos 0) (pos (limit - 1)) text) (λ z. Ok (unsigned_abs z))
+    ok_then (λ z. Between (pos 0) (pos (limit - 1)) z) (λ n. n < limit) (number_operand (pos 0) (pos (limit - 1)) text) (λ z. Ok (unsigned_abs z))
     (number_in-fits (pos 0) (pos (limit - 1)) text) (λ z h. grind (arith, ints))
 
-amount-fits : (text : List ℕ) → IfOk (number_in (pos 0) (pos 31) text) (λ z. IsAmount z)
-amount-fits text = weaker (λ z. Between (pos 0) (pos 31) z) (λ z. IsAmount z) (number_in (pos 0) (pos 31) text) (number_in-fits (pos 0) (pos 31) text)
+amount-fits : (text : List ℕ) → IfOk (number_operand (pos 0) (pos 31) text) (λ z. IsAmount z)
+amount-fits text = weaker (λ z. Between (pos 0) (pos 31) z) (λ z. IsAmount z) (number_operand (pos 0) (pos 31) text) (number_in-fits (pos 0) (pos 31) text)
     (λ z h. (h.0, omega (arith, ints, h.1)))
 
 immediate_of-fits : (op : ImmOp) (text : List ℕ) → IfOk (immediate_of op text) (λ z. IsImmediate op z)
@@ -125,7 +125,7 @@ base_in-fits : (text : List ℕ) → IfOk (base_in text) (λ r. IsRegister r)
 unfolding base_in
 base_in-fits text =
     ok_then (λ u. Unit {0}) (λ r. IsRegister r) (needed BadRegister (enclosed (drop (position_or_len is_open text) text)))
-    (λ inner. register_in (trimmed inner))
+    (λ inner. register_in_text (trimmed inner))
     (any (needed BadRegister (enclosed (drop (position_or_len is_open text) text)))) (λ inner u. register_in-fits (trimmed inner))
 
 -- the fields of what is read are in range
@@ -143,7 +143,7 @@ UpperFits (rd, imm) = IsRegister rd × (imm < 2 ^ 20)
 upper-fits : (text : List ℕ) → IfOk (upper_form text) (λ p. UpperFits p)
 unfolding upper_form
 upper-fits text =
-    ok_then (λ r. IsRegister r) (λ p. UpperFits p) (register_in (operand_at text 0)) (λ rd. and_then (field_below (2 ^ 20) (operand_at text 1))
+    ok_then (λ r. IsRegister r) (λ p. UpperFits p) (register_in_text (operand_at text 0)) (λ rd. and_then (field_below (2 ^ 20) (operand_at text 1))
     (λ imm. Ok (rd, imm))) (register_in-fits (operand_at text 0)) (λ rd h.
     ok_then (λ n. n < 2 ^ 20) (λ p. UpperFits p) (field_below (2 ^ 20) (operand_at text 1)) (λ imm. Ok (rd, imm))
     (field_below-fits (2 ^ 20) (operand_at text 1) (lit< tt)) (λ imm k. (h, k)))
@@ -233,7 +233,8 @@ either-reading false x e h = tt
 
 pub statement-fits : (m : Mnemonic) (text : List ℕ) → IfOk (statement_by m text) (λ r. ReadingFits r)
 unfolding statement_by
-statement-fits m text = either-reading (takes m (operand_count text)) (operands_read m text) (WrongCount (counted (operand_count text)) (wanted m))
+statement-fits m text = either-reading (takes_operands m (operand_count text)) (operands_read m text)
+    (WrongCount (capped_count (operand_count text)) (wanted m))
     (operands-fit m text)
 
 pub whole_statement-fits : (m : Mnemonic) (text : List ℕ) (i : Instr) → statement_by m text ≡ Ok (WholeOf i) → Fits i

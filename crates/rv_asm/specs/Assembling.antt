@@ -11,7 +11,7 @@ use Rattle.texts.specs.Answers.{and_then}
 use Rattle.rv_text.specs.Lines.{text_lines}
 use Rattle.rv_asm.specs.Scanning.{said, label_in, statement_in}
 use Rattle.rv_asm.specs.Items.{SourceItem, Export}
-use Rattle.rv_asm.specs.Places.{start_of_text, address_of, place_after, item_at}
+use Rattle.rv_asm.specs.Places.{start_of_text, section_address, place_after, item_at}
 use Rattle.rv_asm.specs.Labels.{LabelView, value_of_label, exported}
 use Rattle.rv_asm.specs.Pieces.{Piece, pieces_of}
 
@@ -32,7 +32,7 @@ abbrev pub with_label : List LabelView → SectionPlace → Option (List ℕ) �
 with_label labels place None = Ok labels
 with_label labels place (Some name) =
     if is_some (value_of_label labels name) then Err LabelTwice
-    else Ok (labels ++ record { name = name; value = address_of place; in_text = place.in_text; global = false } ∷ [])
+    else Ok (labels ++ record { name = name; value = section_address place; in_text = place.in_text; global = false } ∷ [])
 
 -- what is known after a line with this text: first its label is defined, then its statement is read
 unfoldable pub drafted : Draft → List ℕ → Result Draft AsmKind
@@ -72,7 +72,7 @@ sections_after_item sections item pieces = record {
 unfoldable pub sections_after_line : Sections → List ℕ → Result Sections AsmKind
 sections_after_line sections text =
     and_then (item_at sections.place (statement_in text)) (λ item.
-    and_then (pieces_of sections.labels (address_of sections.place) item) (λ pieces.
+    and_then (pieces_of sections.labels (section_address sections.place) item) (λ pieces.
     Ok (sections_after_item sections item pieces)))
 
 -- the contents of the sections after all lines
@@ -82,15 +82,15 @@ sections_from above sections (line ∷ lines) =
     and_then (at_line (above + 1) (sections_after_line sections (said line))) (λ next. sections_from (above + 1) next lines)
 
 -- empty sections
-abbrev pub empty : List LabelView → Sections
-empty labels = record { place = start_of_text; text = []; data_pieces = []; labels = labels }
+abbrev pub empty_sections : List LabelView → Sections
+empty_sections labels = record { place = start_of_text; text = []; data_pieces = []; labels = labels }
 
 -- the sections of the lines, in which every label has its value
 abbrev pub sections_of : List (List ℕ) → Result Sections AsmErr
 sections_of lines =
     and_then (are_ascii 0 lines) (λ u.
     and_then (draft_from 0 (record { place = start_of_text; labels = [] }) lines) (λ draft.
-    sections_from 0 (empty draft.labels) lines))
+    sections_from 0 (empty_sections draft.labels) lines))
 
 -- what a source stands for
 unfoldable pub assembled : List ℕ → Result Sections AsmErr

@@ -7,7 +7,7 @@ use Rattle.rv_asm.specs.declared.sections.Output.{Output}
 use Rattle.texts.specs.Answers.{and_then}
 use Rattle.rv_asm.specs.Scanning.{statement_in}
 use Rattle.rv_asm.specs.Items.{SourceItem}
-use Rattle.rv_asm.specs.Places.{address_of, place_after, item_at}
+use Rattle.rv_asm.specs.Places.{section_address, place_after, item_at}
 use Rattle.rv_asm.specs.Labels.{LabelView}
 use Rattle.rv_asm.specs.Pieces.{Piece, pieces_of}
 use Rattle.rv_asm.specs.Spelling.{Spells, GivesBytes}
@@ -16,14 +16,14 @@ use Rattle.rv_asm.specs.Assembling.{Sections, with_export}
 -- what a line with this text places
 unfoldable pub line_pieces : List LabelView → SectionPlace → List ℕ → Result (List Piece) AsmKind
 line_pieces labels place text =
-    and_then (item_at place (statement_in text)) (λ item. pieces_of labels (address_of place) item)
+    and_then (item_at place (statement_in text)) (λ item. pieces_of labels (section_address place) item)
 
 -- the line places these bytes of this item
 pub record IsFilled (old : Output) (text : List ℕ) (new : Output) : Type 0 where
   pub item : SourceItem
   pub bytes : List ℕ
   pub read : item_at old.place (statement_in text) ≡ Ok item
-  pub gives : GivesBytes bytes (pieces_of old.labels (address_of old.place) item)
+  pub gives : GivesBytes bytes (pieces_of old.labels (section_address old.place) item)
   pub place : new.place ≡ place_after old.place item
   pub labels : new.labels ≡ with_export old.labels item
   pub text_bytes : new.text.items ≡ (if old.place.in_text then old.text.items ++ bytes else old.text.items)

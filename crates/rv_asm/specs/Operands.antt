@@ -3,8 +3,8 @@ use Rattle.std.specs.Prelude.{ℕ, ◌+◌, Option, Some, None, ◌==◌, Bool, 
 use Rattle.rv_text.specs.declared.text_err.TextErr.{TextErr}
 use Rattle.rv_text.specs.declared.text_err.TextErr.TheVariants.{WrongCount}
 use Rattle.rv_text.specs.Pieces.{trimmed, pieces, operand_count}
-use Rattle.rv_text.specs.Fields.{number_in}
-use Rattle.rv_text.specs.Reading.{counted}
+use Rattle.rv_text.specs.Fields.{number_operand}
+use Rattle.rv_text.specs.Reading.{capped_count}
 use Rattle.rv_asm.specs.declared.operations.Width.{Width}
 use Rattle.rv_asm.specs.declared.operations.Width.TheVariants.{Byte, Half, Word}
 use Rattle.texts.specs.Answers.{and_then}
@@ -13,7 +13,7 @@ use Rattle.rv_asm.specs.Scanning.{begins_name}
 -- a text has this many operands
 unfoldable pub count_is : ℕ → List ℕ → Result (Unit {0}) TextErr
 count_is wanted text =
-    if operand_count text == wanted then Ok tt else Err (WrongCount (counted (operand_count text)) wanted)
+    if operand_count text == wanted then Ok tt else Err (WrongCount (capped_count (operand_count text)) wanted)
 
 -- the operands of a text that has some: the pieces between its commas, without the blanks around them
 abbrev pub operand_texts : List ℕ → List (List ℕ)
@@ -37,9 +37,9 @@ bytes_of_width Word = 4
 
 -- a number that fits the width, signed or unsigned
 abbrev pub number_of_width : Width → List ℕ → Result ℤ TextErr
-number_of_width Byte text = number_in (negsuc 0x7f) (pos 0xff) text
-number_of_width Half text = number_in (negsuc 0x7fff) (pos 0xffff) text
-number_of_width Word text = number_in (negsuc 0x7fffffff) (pos 0xffffffff) text
+number_of_width Byte text = number_operand (negsuc 0x7f) (pos 0xff) text
+number_of_width Half text = number_operand (negsuc 0x7fff) (pos 0xffff) text
+number_of_width Word text = number_operand (negsuc 0x7fffffff) (pos 0xffffffff) text
 
 -- an operand that stands for a label: an operand for a word that begins like a name
 abbrev pub names_label : Width → List ℕ → Bool

@@ -12,8 +12,8 @@ abbrev pub start_of_text : SectionPlace
 start_of_text = record { in_text = true; text_len = 0; data_len = 0 }
 
 -- the text starts at 0x10000, the data at 0x200000
-unfoldable pub address_of : SectionPlace → ℕ
-address_of place = if place.in_text then 0x10000 + place.text_len else 0x200000 + place.data_len
+unfoldable pub section_address : SectionPlace → ℕ
+section_address place = if place.in_text then 0x10000 + place.text_len else 0x200000 + place.data_len
 
 -- the length of the section of a position
 abbrev pub length_at : SectionPlace → ℕ
@@ -34,14 +34,14 @@ place_after place item = grown place (size_of item)
 -- 1,048,576 bytes long
 unfoldable pub fits_at : SectionPlace → SourceItem → Result (Unit {0}) AsmKind
 fits_at place item =
-    if is_code item && (not place.in_text || not (address_of place % 4 == 0)) then Err Misplaced
+    if is_code item && (not place.in_text || not (section_address place % 4 == 0)) then Err Misplaced
     else if nat_lt 1048576 (length_at place + size_of item) then Err (TooLarge (length_at place + size_of item))
     else Ok tt
 
 -- the item of a statement at a position
 unfoldable pub item_at : SectionPlace → List ℕ → Result SourceItem AsmKind
 item_at place text =
-    and_then (statement_read (address_of place) text) (λ item. and_then (fits_at place item) (λ u. Ok item))
+    and_then (statement_read (section_address place) text) (λ item. and_then (fits_at place item) (λ u. Ok item))
 
 -- both sections are at most 1,048,576 bytes long
 pub record IsPlaceInLimits (place : SectionPlace) : Type 0 where

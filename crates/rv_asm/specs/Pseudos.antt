@@ -14,7 +14,7 @@ use Rattle.rv_text.specs.declared.text_err.TextErr.{TextErr}
 use Rattle.rv_text.specs.declared.text_err.TextErr.TheVariants.{BadNumber}
 use Rattle.rv_text.specs.Pieces.{operand_at}
 use Rattle.rv_text.specs.Numbers.{number_of}
-use Rattle.rv_text.specs.Fields.{register_in, number_in}
+use Rattle.rv_text.specs.Fields.{register_in_text, number_operand}
 use Rattle.rv_text.specs.Reading.{aimed_at}
 use Rattle.rv_asm.specs.declared.item.Far.{Far}
 use Rattle.rv_asm.specs.declared.item.Far.TheVariants as far
@@ -71,27 +71,27 @@ jumped j pc operand =
 unfoldable pub load_immediate : List ℕ → Result SourceItem TextErr
 load_immediate text =
     and_then (count_is 2 text) (λ u.
-    and_then (register_in (operand_at text 0)) (λ rd.
-    and_then (number_in (negsuc 0x7fffffff) (pos 0xffffffff) (operand_at text 1)) (λ v. Ok (loading rd (word_modulo v)))))
+    and_then (register_in_text (operand_at text 0)) (λ rd.
+    and_then (number_operand (negsuc 0x7fffffff) (pos 0xffffffff) (operand_at text 1)) (λ v. Ok (loading rd (word_modulo v)))))
 
 -- a register, and the target whose address it gets
 unfoldable pub address_read : ℕ → List ℕ → Result SourceItem TextErr
 address_read pc text =
     and_then (count_is 2 text) (λ u.
-    and_then (register_in (operand_at text 0)) (λ rd. reached (far.Address rd) pc (operand_at text 1)))
+    and_then (register_in_text (operand_at text 0)) (λ rd. reached (far.Address rd) pc (operand_at text 1)))
 
 -- a register that is compared with 0, and where to branch
 unfoldable pub branch_read : Cond → ℕ → List ℕ → Result SourceItem TextErr
 branch_read c pc text =
     and_then (count_is 2 text) (λ u.
-    and_then (register_in (operand_at text 0)) (λ rs. jumped (jump.Branch c rs 0) pc (operand_at text 1)))
+    and_then (register_in_text (operand_at text 0)) (λ rs. jumped (jump.Branch c rs 0) pc (operand_at text 1)))
 
 -- two registers
 unfoldable pub register_pair : List ℕ → Result (ℕ × ℕ) TextErr
 register_pair text =
     and_then (count_is 2 text) (λ u.
-    and_then (register_in (operand_at text 0)) (λ rd.
-    and_then (register_in (operand_at text 1)) (λ rs. Ok (rd, rs))))
+    and_then (register_in_text (operand_at text 0)) (λ rd.
+    and_then (register_in_text (operand_at text 1)) (λ rs. Ok (rd, rs))))
 
 -- what a pseudo-instruction at an address stands for
 unfoldable pub pseudo_read : Pseudo → ℕ → List ℕ → Result SourceItem TextErr
@@ -104,7 +104,7 @@ pseudo_read pseudo.Neg pc text = and_then (register_pair text) (λ (rd, rs). Ok 
 pseudo_read pseudo.J pc text = and_then (count_is 1 text) (λ u. jumped (jump.Link 0) pc (operand_at text 0))
 pseudo_read pseudo.Jr pc text =
     and_then (count_is 1 text) (λ u.
-    and_then (register_in (operand_at text 0)) (λ rs. Ok (Single (instr.Jalr 0 rs (pos 0)))))
+    and_then (register_in_text (operand_at text 0)) (λ rs. Ok (Single (instr.Jalr 0 rs (pos 0)))))
 pseudo_read pseudo.Ret pc text = and_then (count_is 0 text) (λ u. Ok (Single (instr.Jalr 0 1 (pos 0))))
 pseudo_read pseudo.Call pc text = and_then (count_is 1 text) (λ u. reached far.Call pc (operand_at text 0))
 pseudo_read (pseudo.BranchZero c) pc text = branch_read c pc text

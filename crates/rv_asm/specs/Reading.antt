@@ -7,7 +7,7 @@ use Rattle.rv_text.specs.declared.mnemonic.Mnemonic.{Mnemonic}
 use Rattle.rv_text.specs.declared.text_err.TextErr.{TextErr}
 use Rattle.rv_text.specs.declared.text_err.TextErr.TheVariants.{UnknownName, WrongCount}
 use Rattle.rv_text.specs.Pieces.{trimmed, name_part, operand_part, operand_count, operand_at}
-use Rattle.rv_text.specs.Fields.{number_in}
+use Rattle.rv_text.specs.Fields.{number_operand}
 use Rattle.rv_text.specs.Names.{mnemonic_named}
 use Rattle.rv_text.specs.Reading.{LineReading, WholeOf, AimedAt, statement_by}
 use Rattle.rv_asm.specs.declared.refusal.AsmKind.{AsmKind}
@@ -41,7 +41,7 @@ numbers_read width text =
 unfoldable pub one_number : ℕ → List ℕ → Result ℕ TextErr
 one_number greatest text =
     and_then (count_is 1 text) (λ u.
-    and_then (number_in (pos 0) (pos greatest) (operand_at text 0)) (λ z. Ok (unsigned_abs z)))
+    and_then (number_operand (pos 0) (pos greatest) (operand_at text 0)) (λ z. Ok (unsigned_abs z)))
 
 -- the distance from an address up to the next multiple of a size
 abbrev pub padding : ℕ → ℕ → ℕ

@@ -3,7 +3,7 @@
 ghost use Rattle.std.specs.Prelude.{◌≡◌, ◌≤ℤ◌, ◌∷◌, ◌<◌, ◌+◌, length, Ok, Err, None, Some, MatchOption, pos, negsuc};
 ghost use Rattle.std.specs.Option.{option_map};
 ghost use Rattle.rv_text.specs.Pieces.{pieces};
-ghost use Rattle.rv_text.specs.Fields.{number_in};
+ghost use Rattle.rv_text.specs.Fields.{number_operand};
 ghost use Rattle.rv_asm.specs.Operands.{count_is, operand_texts, number_of_width, names_label, operands_left, left_length, is_placeable, are_placeable};
 
 use crate::operations::Width;
@@ -26,9 +26,9 @@ pub fn expect_count(wanted: u32, text: &[u8]) -> Result<(), TextErr>
 }
 
 /// The number that an operand spells, from `least` to `greatest`.
-#[tactic(auto, unfolding(rv_text::specs::Fields::number_in))]
+#[tactic(auto, unfolding(rv_text::specs::Fields::number_operand))]
 pub fn number_between(least: i64, greatest: i64, text: &[u8]) -> Result<i64, TextErr>
-    ensures { result ≡ number_in least greatest text.now }
+    ensures { result ≡ number_operand least greatest text.now }
 {
     let number = read_number(text).ok_or(TextErr::BadNumber)?;
     if least <= number && number <= greatest {

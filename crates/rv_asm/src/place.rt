@@ -1,9 +1,9 @@
 //! The position of a line: in the text or in the data, after the earlier lines.
-#![tactic(auto, unfolding(crate::specs::Places::address_of, crate::specs::Places::place_after, crate::specs::Places::fits_at))]
+#![tactic(auto, unfolding(crate::specs::Places::section_address, crate::specs::Places::place_after, crate::specs::Places::fits_at))]
 
 ghost use Rattle.std.specs.Prelude.{◌≡◌, ◌≤◌, ◌+◌, ◌<◌, ◌^◌, Ok};
 ghost use Rattle.rv_asm.specs.Items.{size_of};
-ghost use Rattle.rv_asm.specs.Places.{IsPlaceInLimits, start_of_text, address_of, length_at, grown, place_after, fits_at};
+ghost use Rattle.rv_asm.specs.Places.{IsPlaceInLimits, start_of_text, section_address, length_at, grown, place_after, fits_at};
 ghost use Rattle.rv_asm.specs.Seen.{item_view, IsSoundStatement};
 
 use crate::item::{SourceItem, is_code, size_of};
@@ -35,7 +35,7 @@ impl SectionPlace {
     /// The address: the text starts at 0x10000, and the data at 0x200000.
     pub fn address(self) -> u32
         requires { IsPlaceInLimits self }
-        ensures { result ≡ address_of self }
+        ensures { result ≡ section_address self }
     {
         if self.in_text {
             0x1_0000 + self.text_len

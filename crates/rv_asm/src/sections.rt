@@ -3,7 +3,7 @@
 ghost use Rattle.std.specs.Prelude.{◌≡◌, ◌≤◌, ◌⊎◌, ◌++◌, length, Ok, Err, IfOk, IfErr, OnOk, if◌then◌else◌};
 ghost use Rattle.rv_text.specs.Lines.{text_lines};
 ghost use Rattle.rv_asm.specs.Places.{IsPlaceInLimits};
-ghost use Rattle.rv_asm.specs.Assembling.{with_export, empty, sections_from};
+ghost use Rattle.rv_asm.specs.Assembling.{with_export, empty_sections, sections_from};
 ghost use Rattle.rv_asm.specs.Spelling.{IsRefusal};
 ghost use Rattle.rv_asm.specs.Filling.{line_pieces, IsFilled, Outputs};
 ghost use Rattle.rv_asm.specs.Seen.{item_view};
@@ -71,8 +71,8 @@ impl Output {
 /// The sections of a source with these labels.
 pub fn second_look(alloc: Global, source: &[u8], labels: LabelTable) -> Result<Output, AsmErr>
     requires { length source.now ≤ 1048576 }
-    ensures ok { IfOk result (λ out. Outputs out (sections_from 0 (empty labels) (text_lines source.now))) }
-    ensures err { IfErr result (λ e. (e.kind ≡ AsmKind.NoMemory) ⊎ (sections_from 0 (empty labels) (text_lines source.now) ≡ Err e)) }
+    ensures ok { IfOk result (λ out. Outputs out (sections_from 0 (empty_sections labels) (text_lines source.now))) }
+    ensures err { IfErr result (λ e. (e.kind ≡ AsmKind.NoMemory) ⊎ (sections_from 0 (empty_sections labels) (text_lines source.now) ≡ Err e)) }
 {
     let mut out = Output {
         place: SectionPlace::start(),

@@ -8,7 +8,7 @@ use Rattle.rv_inst.specs.declared.instruction.StoreKind.TheVariants as store
 use Rattle.rv_inst.specs.declared.instruction.Instr.{Instr}
 use Rattle.rv_inst.specs.declared.instruction.Instr.TheVariants.{Load, Store}
 use Rattle.rv_inst.specs.declared.accesses.Access.{Access}
-use Rattle.rv_inst.specs.Words.{word_sum, word_of}
+use Rattle.rv_inst.specs.Words.{word_sum, signed_word}
 use Rattle.rv_inst.specs.Fields.{signed_below}
 
 -- the instruction is a load
@@ -32,15 +32,15 @@ store_width store.Word = 4
 
 -- the access of a load or a store whose sources are a and b; other instructions make no access, and get all zeros here
 unfoldable pub access_made : Instr → ℕ → ℕ → Access
-access_made (Load k rd rs1 imm) a b = record { addr = word_sum a (word_of imm); width = load_width k; write = false; value = 0 }
-access_made (Store k rs1 rs2 imm) a b = record { addr = word_sum a (word_of imm); width = store_width k; write = true; value = b }
+access_made (Load k rd rs1 imm) a b = record { addr = word_sum a (signed_word imm); width = load_width k; write = false; value = 0 }
+access_made (Store k rs1 rs2 imm) a b = record { addr = word_sum a (signed_word imm); width = store_width k; write = true; value = b }
 access_made _ a b = record { addr = 0; width = 0; write = false; value = 0 }
 
 -- the value that a load writes to its register when it has read `raw`: the low 8 or 16 bits, sign-extended or
 -- zero-extended, or the whole word
 unfoldable pub load_value : LoadKind → ℕ → ℕ
-load_value load.Byte raw = word_of (signed_below (2 ^ 7) (raw % 2 ^ 8))
-load_value load.Half raw = word_of (signed_below (2 ^ 15) (raw % 2 ^ 16))
+load_value load.Byte raw = signed_word (signed_below (2 ^ 7) (raw % 2 ^ 8))
+load_value load.Half raw = signed_word (signed_below (2 ^ 15) (raw % 2 ^ 16))
 load_value load.Word raw = raw
 load_value load.ByteU raw = raw % 2 ^ 8
 load_value load.HalfU raw = raw % 2 ^ 16

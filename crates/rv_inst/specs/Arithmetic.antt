@@ -10,7 +10,7 @@ use Rattle.rv_inst.specs.declared.instruction.Instr.{Instr}
 use Rattle.rv_inst.specs.declared.instruction.Instr.TheVariants.{Lui, Auipc, Jal, Jalr, Branch, OpImm, Op}
 use Rattle.rv_inst.specs.declared.classes.Class.{Class}
 use Rattle.rv_inst.specs.declared.classes.Class.TheVariants as class
-use Rattle.rv_inst.specs.Words.{word_sum, word_difference, signed, word_of}
+use Rattle.rv_inst.specs.Words.{word_sum, word_difference, signed, signed_word}
 use Rattle.rv_inst.specs.Operands.{register_op}
 
 -- 1 where the test holds, else 0
@@ -26,7 +26,7 @@ op_value regop.Slt a b = truth_value (int_lt (signed a) (signed b))
 op_value regop.Sltu a b = truth_value (nat_lt a b)
 op_value regop.Xor a b = bit_xor a b
 op_value regop.Srl a b = a / 2 ^ (b % 32)
-op_value regop.Sra a b = word_of (int_shr (signed a) (b % 32))
+op_value regop.Sra a b = signed_word (int_shr (signed a) (b % 32))
 op_value regop.Or a b = bit_or a b
 op_value regop.And a b = bit_and a b
 
@@ -55,14 +55,14 @@ alu_value (Lui rd imm) pc a b = imm * 2 ^ 12 % 2 ^ 32
 alu_value (Auipc rd imm) pc a b = word_sum pc (imm * 2 ^ 12)
 alu_value (Jal rd imm) pc a b = word_sum pc 4
 alu_value (Jalr rd rs1 imm) pc a b = word_sum pc 4
-alu_value (OpImm op rd rs1 imm) pc a b = op_value (register_op op) a (word_of imm)
+alu_value (OpImm op rd rs1 imm) pc a b = op_value (register_op op) a (signed_word imm)
 alu_value (Op op rd rs1 rs2) pc a b = op_value op a b
 alu_value _ pc a b = 0
 
 -- the address of the next instruction: the target of a jump or of a taken branch, else this instruction's address plus
 -- 4; JALR clears bit 0
 unfoldable pub next_pc : Instr → ℕ → ℕ → ℕ → ℕ
-next_pc (Jal rd imm) pc a b = word_sum pc (word_of imm)
-next_pc (Jalr rd rs1 imm) pc a b = word_sum a (word_of imm) / 2 * 2
-next_pc (Branch c rs1 rs2 imm) pc a b = if is_taken c a b then word_sum pc (word_of imm) else word_sum pc 4
+next_pc (Jal rd imm) pc a b = word_sum pc (signed_word imm)
+next_pc (Jalr rd rs1 imm) pc a b = word_sum a (signed_word imm) / 2 * 2
+next_pc (Branch c rs1 rs2 imm) pc a b = if is_taken c a b then word_sum pc (signed_word imm) else word_sum pc 4
 next_pc _ pc a b = word_sum pc 4

@@ -30,8 +30,8 @@ cond_at f3 =
     if f3 == 0b111 then Some cond.Geu else None
 
 -- the kind that a load's funct3 names
-abbrev pub load_at : ℕ → Option LoadKind
-load_at f3 =
+abbrev pub load_kind_of : ℕ → Option LoadKind
+load_kind_of f3 =
     if f3 == 0b000 then Some load.Byte else
     if f3 == 0b001 then Some load.Half else
     if f3 == 0b010 then Some load.Word else
@@ -102,7 +102,7 @@ decoded_branch w = option_map (λ c. Branch c (rs1_of w) (rs2_of w) (imm_b w)) (
 
 -- opcode 0000011: the loads
 unfoldable pub decoded_load : ℕ → Option Instr
-decoded_load w = option_map (λ k. Load k (rd_of w) (rs1_of w) (imm_i w)) (load_at (funct3 w))
+decoded_load w = option_map (λ k. Load k (rd_of w) (rs1_of w) (imm_i w)) (load_kind_of (funct3 w))
 
 -- opcode 0100011: the stores
 unfoldable pub decoded_store : ℕ → Option Instr

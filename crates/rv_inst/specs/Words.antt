@@ -15,5 +15,5 @@ abbrev pub signed : ℕ → ℤ
 signed w = cast_signed w32 w
 
 -- the word of a signed number
-abbrev pub word_of : ℤ → ℕ
-word_of z = cast_unsigned w32 z
+abbrev pub signed_word : ℤ → ℕ
+signed_word z = cast_unsigned w32 z

@@ -5,7 +5,7 @@ ghost use Rattle.std.specs.Prelude.{◌≡◌, IfSome, IfNone, IsTrue};
 ghost use Rattle.rv_inst.specs.declared.instruction.Instr.{Instr as Instruction};
 ghost use Rattle.rv_inst.specs.Encoding.{Encodes, is_base};
 ghost use Rattle.rv_inst.specs.Ranges.{Fits};
-ghost use Rattle.rv_inst.specs.Decoding.{cond_at, load_at, store_at, imm_op_at, shift_at, op_at, mul_op_at, decoded, decoded_jalr, decoded_branch, decoded_load, decoded_store, decoded_imm, decoded_op, decoded_fence, decoded_system, decoded_mul, decoded_m};
+ghost use Rattle.rv_inst.specs.Decoding.{cond_at, load_kind_of, store_at, imm_op_at, shift_at, op_at, mul_op_at, decoded, decoded_jalr, decoded_branch, decoded_load, decoded_store, decoded_imm, decoded_op, decoded_fence, decoded_system, decoded_mul, decoded_m};
 
 use crate::fields;
 use crate::instruction::{Cond, ImmOp, Instr, LoadKind, MulOp, RegOp, StoreKind};
@@ -28,7 +28,7 @@ fn cond(funct3: u32) -> Option<Cond>
 
 #[inline(always)]
 fn load_kind(funct3: u32) -> Option<LoadKind>
-    ensures { result ≡ load_at funct3 }
+    ensures { result ≡ load_kind_of funct3 }
 {
     match funct3 {
         0b000 => Some(LoadKind::Byte),

@@ -10,7 +10,7 @@ use Rattle.mem_regions.specs.Ranges.{range_of, can_write}
 use Rattle.mem_regions.specs.Writing.{memory_with}
 use Rattle.rv_machine.specs.declared.outcome.Served.{Served}
 use Rattle.rv_machine.specs.declared.outcome.Served.TheVariants as served
-use Rattle.rv_machine.specs.Call.{Called, Value, Exit, answered, bad_file, bad_address, no_such_call, read, read_into, write, write_from, is_output, brk, with_break, is_exit, call, number_in, first_argument, second_argument, third_argument, asks_input, asks_output}
+use Rattle.rv_machine.specs.Call.{Called, Value, Exit, answered_alone, bad_file, bad_address, no_such_call, read, read_into, write, write_from, is_output, brk, with_break, is_exit, call, call_number, first_argument, second_argument, third_argument, asks_input, asks_output}
 use Rattle.rv_machine.specs.Streams.{Streams, streams_of, IsTold, Leaves, IsSpent, GivesInput}
 use Rattle.rv_machine.specs.Buffers.{Fills, FillsSome}
 use Rattle.rv_machine.specs.Acts.{Serves}
@@ -18,7 +18,7 @@ use Rattle.rv_machine.proofs.InputKnown.{some_rest, rest-told, rest-spent, stays
 
 -- an answer that does not use the streams
 serves-plain : (regs : List ℕ) (mem new : Memory) (s : Streams) (value : ℕ) →
-    ((rest : List ℕ) → call regs mem rest ≡ answered value new rest) →
+    ((rest : List ℕ) → call regs mem rest ≡ answered_alone value new rest) →
     Serves regs mem new s s (served.Value value)
 unfolding Serves
 serves-plain regs mem new s value is = record {
@@ -36,21 +36,21 @@ other : {n : ℕ} (k : ℕ) → n ≢ k → (n == k) ≡ false
 other {n} k h = grind (arith, nat_tests)
 
 -- a read of another file
-pub reads-bad-file : (regs : List ℕ) (mem : Memory) (s : Streams) → number_in regs ≡ 63 →
+pub reads-bad-file : (regs : List ℕ) (mem : Memory) (s : Streams) → call_number regs ≡ 63 →
     first_argument regs ≢ 0 → Serves regs mem mem s s (served.Value bad_file)
 unfolding call read
 reads-bad-file regs mem s n fd =
     serves-plain regs mem mem s bad_file (λ rest. rw (n, other 0 fd) refl)
 
 -- a read of nothing
-pub reads-nothing : (regs : List ℕ) (mem : Memory) (s : Streams) → number_in regs ≡ 63 →
+pub reads-nothing : (regs : List ℕ) (mem : Memory) (s : Streams) → call_number regs ≡ 63 →
     first_argument regs ≡ 0 → third_argument regs ≡ 0 → Serves regs mem mem s s (served.Value 0)
 unfolding call read
 reads-nothing regs mem s n fd len =
     serves-plain regs mem mem s 0 (λ rest. rw (n, fd, len) refl)
 
 -- a read into a buffer that may not be written
-pub reads-nowhere : (regs : List ℕ) (mem : Memory) (s : Streams) → number_in regs ≡ 63 →
+pub reads-nowhere : (regs : List ℕ) (mem : Memory) (s : Streams) → call_number regs ≡ 63 →
     first_argument regs ≡ 0 → third_argument regs ≢ 0 →
     can_write mem (second_argument regs) (third_argument regs) ≡ false →
     Serves regs mem mem s s (served.Value bad_address)
@@ -71,7 +71,7 @@ read_into-is addr len mem taken later count =
     rw (count, take-append_seam taken later, drop-append_seam taken later) refl
 
 -- the answer of a read that takes these bytes
-read-is : (regs : List ℕ) (mem : Memory) (taken later : List ℕ) → number_in regs ≡ 63 →
+read-is : (regs : List ℕ) (mem : Memory) (taken later : List ℕ) → call_number regs ≡ 63 →
     first_argument regs ≡ 0 → third_argument regs ≢ 0 →
     can_write mem (second_argument regs) (third_argument regs) ≡ true →
     min (third_argument regs) (length (taken ++ later)) ≡ length taken →
@@ -114,7 +114,7 @@ finds (Some told) after len taken fits (later, is, left) most = record {
 
 -- a read that took bytes
 pub reads-some : (regs : List ℕ) (mem new : Memory) (left after : Option (List ℕ)) (count : ℕ) →
-    number_in regs ≡ 63 → first_argument regs ≡ 0 → third_argument regs ≢ 0 →
+    call_number regs ≡ 63 → first_argument regs ≡ 0 → third_argument regs ≢ 0 →
     can_write mem (second_argument regs) (third_argument regs) ≡ true →
     Fills (second_argument regs) (third_argument regs) mem new left after count →
     Serves regs mem new (streams_of left (Some [])) (streams_of after (Some [])) (served.Value count)
@@ -137,7 +137,7 @@ reads-some regs mem new left after count n fd len can fills =
 
 -- a read whose input failed
 pub reads-fault : (regs : List ℕ) (mem new : Memory) (left after output : Option (List ℕ)) →
-    number_in regs ≡ 63 → first_argument regs ≡ 0 → third_argument regs ≢ 0 →
+    call_number regs ≡ 63 → first_argument regs ≡ 0 → third_argument regs ≢ 0 →
     can_write mem (second_argument regs) (third_argument regs) ≡ true →
     FillsSome (second_argument regs) (third_argument regs) mem new left after →
     Serves regs mem new (streams_of left output) (streams_of after output) served.ReadFault
@@ -150,7 +150,7 @@ reads-fault regs mem new left after output n fd len can (taken, takes) = record 
 }
 
 -- such a read uses the input
-pub reads-asking : {A : Type 0} (regs : List ℕ) (mem : Memory) → number_in regs ≡ 63 →
+pub reads-asking : {A : Type 0} (regs : List ℕ) (mem : Memory) → call_number regs ≡ 63 →
     first_argument regs ≡ 0 → third_argument regs ≢ 0 →
     can_write mem (second_argument regs) (third_argument regs) ≡ true →
     asks_input regs mem ≡ false → A
@@ -159,17 +159,17 @@ reads-asking regs mem n fd len can asks =
     let no : true ≡ false = rw (n, fd, other 0 len, can) at asks in cc
 
 -- no read uses the output, and no write the input
-not-output : (regs : List ℕ) (mem : Memory) → number_in regs ≡ 63 → IsTrue (asks_output regs mem) → ⊥
+not-output : (regs : List ℕ) (mem : Memory) → call_number regs ≡ 63 → IsTrue (asks_output regs mem) → ⊥
 unfolding asks_output
 not-output regs mem n asks = let no : false ≡ true = rw n at asks in cc
 
-not-input : (regs : List ℕ) (mem : Memory) → number_in regs ≡ 64 → IsTrue (asks_input regs mem) → ⊥
+not-input : (regs : List ℕ) (mem : Memory) → call_number regs ≡ 64 → IsTrue (asks_input regs mem) → ⊥
 unfolding asks_input
 not-input regs mem n asks = let no : false ≡ true = rw n at asks in cc
 
 -- a read leaves the output unchanged, whatever that exposes
 pub beside-output : (regs : List ℕ) (mem new : Memory) (left after output : Option (List ℕ))
-    (result : Served) → number_in regs ≡ 63 →
+    (result : Served) → call_number regs ≡ 63 →
     Serves regs mem new (streams_of left (Some [])) (streams_of after (Some [])) result →
     Serves regs mem new (streams_of left output) (streams_of after output) result
 unfolding Serves
@@ -198,14 +198,14 @@ beside-output regs mem new left after output served.WriteFault n h =
     absurd (not-output regs mem n h.0.asks)
 
 -- a write to another file
-pub writes-bad-file : (regs : List ℕ) (mem : Memory) (s : Streams) → number_in regs ≡ 64 →
+pub writes-bad-file : (regs : List ℕ) (mem : Memory) (s : Streams) → call_number regs ≡ 64 →
     is_output (first_argument regs) ≡ false → Serves regs mem mem s s (served.Value bad_file)
 unfolding call write
 writes-bad-file regs mem s n fd =
     serves-plain regs mem mem s bad_file (λ rest. rw (n, fd) refl)
 
 -- a write of nothing
-pub writes-nothing : (regs : List ℕ) (mem : Memory) (s : Streams) → number_in regs ≡ 64 →
+pub writes-nothing : (regs : List ℕ) (mem : Memory) (s : Streams) → call_number regs ≡ 64 →
     is_output (first_argument regs) ≡ true → third_argument regs ≡ 0 →
     Serves regs mem mem s s (served.Value 0)
 unfolding call write
@@ -213,7 +213,7 @@ writes-nothing regs mem s n fd len =
     serves-plain regs mem mem s 0 (λ rest. rw (n, fd, len) refl)
 
 -- a write from a buffer that does not lie in memory
-pub writes-nowhere : (regs : List ℕ) (mem : Memory) (s : Streams) → number_in regs ≡ 64 →
+pub writes-nowhere : (regs : List ℕ) (mem : Memory) (s : Streams) → call_number regs ≡ 64 →
     is_output (first_argument regs) ≡ true → third_argument regs ≢ 0 →
     range_of mem (second_argument regs) (third_argument regs) ≡ None →
     Serves regs mem mem s s (served.Value bad_address)
@@ -223,7 +223,7 @@ writes-nowhere regs mem s n fd len none =
 
 -- a write of the buffer's bytes
 pub writes-some : (regs : List ℕ) (mem : Memory) (written after : Option (List ℕ))
-    (bytes : List ℕ) → number_in regs ≡ 64 → is_output (first_argument regs) ≡ true →
+    (bytes : List ℕ) → call_number regs ≡ 64 → is_output (first_argument regs) ≡ true →
     third_argument regs ≢ 0 →
     range_of mem (second_argument regs) (third_argument regs) ≡ Some bytes →
     Writes written after bytes → Serves regs mem mem (streams_of (Some []) written)
@@ -241,7 +241,7 @@ writes-some regs mem written after bytes n fd len some writes = record {
 
 -- a write whose output failed
 pub writes-fault : (regs : List ℕ) (mem : Memory) (input written after : Option (List ℕ))
-    (bytes : List ℕ) → number_in regs ≡ 64 → is_output (first_argument regs) ≡ true →
+    (bytes : List ℕ) → call_number regs ≡ 64 → is_output (first_argument regs) ≡ true →
     third_argument regs ≢ 0 →
     range_of mem (second_argument regs) (third_argument regs) ≡ Some bytes →
     WritesFront written after bytes →
@@ -260,7 +260,7 @@ writes-fault regs mem input written after bytes n fd len some front = (
 
 -- such a write uses the output
 pub writes-asking : {A : Type 0} (regs : List ℕ) (mem : Memory) (bytes : List ℕ) →
-    number_in regs ≡ 64 → is_output (first_argument regs) ≡ true → third_argument regs ≢ 0 →
+    call_number regs ≡ 64 → is_output (first_argument regs) ≡ true → third_argument regs ≢ 0 →
     range_of mem (second_argument regs) (third_argument regs) ≡ Some bytes →
     asks_output regs mem ≡ false → A
 unfolding asks_output
@@ -275,16 +275,16 @@ with_rest rest (Exit status) = Exit status
 -- a write leaves the rest as it finds it, by its tests
 write_step : (a b : Bool) (buffer : Option (List ℕ)) (len : ℕ) (mem : Memory)
     (one rest : List ℕ) →
-    cond (not a) (answered bad_file mem rest)
-    (cond b (answered 0 mem rest) (write_from buffer len mem rest))
-    ≡ with_rest rest (cond (not a) (answered bad_file mem one)
-    (cond b (answered 0 mem one) (write_from buffer len mem one)))
+    cond (not a) (answered_alone bad_file mem rest)
+    (cond b (answered_alone 0 mem rest) (write_from buffer len mem rest))
+    ≡ with_rest rest (cond (not a) (answered_alone bad_file mem one)
+    (cond b (answered_alone 0 mem one) (write_from buffer len mem one)))
 write_step false b buffer len mem one rest = refl
 write_step true true buffer len mem one rest = refl
 write_step true false None len mem one rest = refl
 write_step true false (Some bytes) len mem one rest = refl
 
-write-rest : (regs : List ℕ) (mem : Memory) (one rest : List ℕ) → number_in regs ≡ 64 →
+write-rest : (regs : List ℕ) (mem : Memory) (one rest : List ℕ) → call_number regs ≡ 64 →
     call regs mem rest ≡ with_rest rest (call regs mem one)
 unfolding call write
 write-rest regs mem one rest n = rw n (write_step (is_output (first_argument regs))
@@ -293,7 +293,7 @@ write-rest regs mem one rest n = rw n (write_step (is_output (first_argument reg
 
 -- a write leaves the input unchanged, whatever that exposes
 pub beside-input : (regs : List ℕ) (mem : Memory) (input written after : Option (List ℕ))
-    (result : Served) → number_in regs ≡ 64 →
+    (result : Served) → call_number regs ≡ 64 →
     Serves regs mem mem (streams_of (Some []) written) (streams_of (Some []) after) result →
     Serves regs mem mem (streams_of input written) (streams_of input after) result
 unfolding Serves
@@ -330,8 +330,8 @@ beside-input regs mem input written after served.WriteFault n h = (
 )
 
 -- exit and exit_group
-pub serves-exit : (regs : List ℕ) (mem : Memory) (s : Streams) → is_exit (number_in regs) ≡ true →
-    number_in regs ≢ 63 → number_in regs ≢ 64 →
+pub serves-exit : (regs : List ℕ) (mem : Memory) (s : Streams) → is_exit (call_number regs) ≡ true →
+    call_number regs ≢ 63 → call_number regs ≢ 64 →
     Serves regs mem mem s s (served.Exit (first_argument regs % 256))
 unfolding Serves call
 serves-exit regs mem s e read write = record {
@@ -344,15 +344,15 @@ serves-exit regs mem s e read write = record {
 
 -- brk
 pub serves-break : (regs : List ℕ) (mem new : Memory) (s : Streams) (value : ℕ) →
-    number_in regs ≡ 214 → new ≡ with_break (first_argument regs) mem → value ≡ new.program_break →
+    call_number regs ≡ 214 → new ≡ with_break (first_argument regs) mem → value ≡ new.program_break →
     Serves regs mem new s s (served.Value value)
 unfolding call
 serves-break regs mem new s value n is answer =
     serves-plain regs mem new s value (λ rest. rw (n, answer, is) refl)
 
 -- the number of no call
-pub serves-nothing : (regs : List ℕ) (mem : Memory) (s : Streams) → number_in regs ≢ 63 →
-    number_in regs ≢ 64 → is_exit (number_in regs) ≡ false → number_in regs ≢ 214 →
+pub serves-nothing : (regs : List ℕ) (mem : Memory) (s : Streams) → call_number regs ≢ 63 →
+    call_number regs ≢ 64 → is_exit (call_number regs) ≡ false → call_number regs ≢ 214 →
     Serves regs mem mem s s (served.Value no_such_call)
 unfolding call
 serves-nothing regs mem s read write exit brk =

@@ -3,7 +3,7 @@ use Rattle.std.proofs.Common.{◌≡◌, ◌≢◌, ℕ, ◌%◌, false, Option,
 use Rattle.std.proofs.lemmas.Bool.Decides.{nat_tests}
 use Rattle.mem_regions.specs.Memory.{Memory}
 use Rattle.mem_regions.specs.Area.{Area}
-use Rattle.mem_regions.specs.Fetching.{fetch_at, fetches_in, word_of}
+use Rattle.mem_regions.specs.Fetching.{fetch_at, fetches_in, word_found}
 use Rattle.mem_regions.specs.declared.MemErr.{MemErr}
 use Rattle.mem_regions.specs.declared.MemErr.TheVariants.{Misaligned, NoAccess}
 use Rattle.rv_inst.specs.declared.isa.Isa.{Isa}
@@ -17,24 +17,24 @@ use Rattle.rv_machine.specs.Hart.{Hart}
 use Rattle.rv_machine.specs.Step.{interpret}
 use Rattle.rv_machine.specs.Streams.{Streams}
 use Rattle.rv_machine.specs.Acts.{Acts, CallsHere, Steps}
-use Rattle.rv_machine.specs.Decoded.{read_as, read_from, found_at, is_instruction, trap_of}
+use Rattle.rv_machine.specs.Decoded.{found_as, read_from, found_at, is_instruction, trap_of}
 use Rattle.rv_machine.proofs.Acting.{acts-unknown, steps-misaligned, steps-unfetched, steps-fetched}
 use Rattle.rv_machine.proofs.Sets.{set-unknown}
 
 -- what was read, by the instruction that the word stands for
-read_as-instruction : (v w : ℕ) (i : Instr) (o : Option Instr) → read_as v o ≡ found.Instruction w i → (v ≡ w) × (o ≡ Some i)
+read_as-instruction : (v w : ℕ) (i : Instr) (o : Option Instr) → found_as v o ≡ found.Instruction w i → (v ≡ w) × (o ≡ Some i)
 read_as-instruction v w i None e = grind arith
 read_as-instruction v w i (Some j) e = grind arith
 
-read_as-unknown : (v w : ℕ) (o : Option Instr) → read_as v o ≡ found.Unknown w → (v ≡ w) × (o ≡ None)
+read_as-unknown : (v w : ℕ) (o : Option Instr) → found_as v o ≡ found.Unknown w → (v ≡ w) × (o ≡ None)
 read_as-unknown v w None e = grind arith
 read_as-unknown v w (Some j) e = grind arith
 
-read_as-nothing : (v : ℕ) (o : Option Instr) → read_as v o ≢ found.Nothing
+read_as-nothing : (v : ℕ) (o : Option Instr) → found_as v o ≢ found.Nothing
 read_as-nothing v None e = grind arith
 read_as-nothing v (Some j) e = grind arith
 
-read_as-misaligned : (v : ℕ) (o : Option Instr) → read_as v o ≢ found.Misaligned
+read_as-misaligned : (v : ℕ) (o : Option Instr) → found_as v o ≢ found.Misaligned
 read_as-misaligned v None e = grind arith
 read_as-misaligned v (Some j) e = grind arith
 
@@ -69,14 +69,14 @@ unfolding fetch_at
 unpermitted-aligned m pc e = grind (arith, nat_tests)
 
 -- what is read from a region that was found, or from none, is never misaligned
-word_of-aligned : (pc : ℕ) (o : Option Area) → word_of pc o ≢ Err Misaligned
+word_of-aligned : (pc : ℕ) (o : Option Area) → word_found pc o ≢ Err Misaligned
 word_of-aligned pc None e = grind arith
 word_of-aligned pc (Some a) e = grind arith
 
 misaligned : (m : Memory) (pc : ℕ) → fetch_at m pc ≡ Err Misaligned → pc % 4 ≢ 0
 unfolding fetch_at
 misaligned m pc e a =
-    let f : word_of pc (find (fetches_in pc) m.areas) ≡ Err Misaligned = rw a at e in
+    let f : word_found pc (find (fetches_in pc) m.areas) ≡ Err Misaligned = rw a at e in
     word_of-aligned pc (find (fetches_in pc) m.areas) f
 
 -- where there is an instruction of RV32IM

@@ -12,7 +12,7 @@ use Rattle.rv_inst.specs.declared.instruction.Instr.{Instr}
 use Rattle.rv_machine.specs.declared.decode_cache.Found.TheVariants as found
 use Rattle.rv_machine.specs.declared.decode_cache.Decoded.{Decoded}
 use Rattle.rv_machine.specs.Quick.{HasSameCode}
-use Rattle.rv_machine.specs.Decoded.{read_from, found_at, is_instruction, IsEmpty, IsKeptOf, IsCacheOf, place_at, nothing_kept, keeps}
+use Rattle.rv_machine.specs.Decoded.{read_from, found_at, is_instruction, IsEmpty, IsKeptOf, IsCacheOf, place_at, nothing_kept, cache_keeps}
 
 -- what is at an address depends only on the word that is fetched there
 pub found_at-same : (m n : Memory) (pc : ℕ) → fetch_at n pc ≡ fetch_at m pc → found_at n pc ≡ found_at m pc
@@ -52,16 +52,16 @@ cache-with m places k address pc word i e is cache =
 
 -- the address is kept where it was put
 pub keeps-with : (places : List Decoded) (address pc word : ℕ) (i : Instr) → address ≡ pc → place_at pc < length places →
-    IsTrue (keeps (slice_set places (place_at pc) (record { address = address; word = word; instr = i })) pc)
-unfolding keeps
+    IsTrue (cache_keeps (slice_set places (place_at pc) (record { address = address; word = word; instr = i })) pc)
+unfolding cache_keeps
 keeps-with places address pc word i e below = grind (arith, nat_tests, get_or-set_at)
 
 -- what the cache keeps of an address is what memory has there
-pub cache-at : (m : Memory) (places : List Decoded) (pc : ℕ) → IsCacheOf m places → IsTrue (keeps places pc) →
+pub cache-at : (m : Memory) (places : List Decoded) (pc : ℕ) → IsCacheOf m places → IsTrue (cache_keeps places pc) →
     place_at pc < length places → pc < 2 ^ 32 →
     found_at m pc ≡ found.Instruction (slice_index_or places (place_at pc) nothing_kept).word
     (slice_index_or places (place_at pc) nothing_kept).instr
-unfolding IsCacheOf keeps
+unfolding IsCacheOf cache_keeps
 cache-at m places pc cache has below small =
     let d : Decoded = slice_index_or places (place_at pc) nothing_kept in
     let e : d.address ≡ pc = grind (arith, nat_tests) in
@@ -69,7 +69,7 @@ cache-at m places pc cache has below small =
     subst P e (cache (place_at pc) nothing_kept below (rw e small))
 
 -- what the cache keeps is an instruction
-pub cache-has : (m : Memory) (places : List Decoded) (pc : ℕ) → IsCacheOf m places → keeps places pc ≡ true →
+pub cache-has : (m : Memory) (places : List Decoded) (pc : ℕ) → IsCacheOf m places → cache_keeps places pc ≡ true →
     place_at pc < length places → pc < 2 ^ 32 → is_instruction (found_at m pc) ≡ true
 cache-has m places pc cache has below small = rw (cache-at m places pc cache has below small) refl
 

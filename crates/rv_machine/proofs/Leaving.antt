@@ -7,7 +7,7 @@ use Rattle.mem_regions.proofs.Kept.{fetch_at-memory_with, fetch_at-break}
 use Rattle.rv_machine.specs.declared.decode_cache.Decoded.{Decoded}
 use Rattle.rv_machine.specs.declared.outcome.Served.{Served}
 use Rattle.rv_machine.specs.declared.outcome.Served.TheVariants as served
-use Rattle.rv_machine.specs.Call.{Called, Value, Exit, answered, bad_file, bad_address, no_such_call, read, read_into, write, write_from, is_output, is_break, brk, with_break, is_exit, exit, call, number_in, first_argument, second_argument, third_argument}
+use Rattle.rv_machine.specs.Call.{Called, Value, Exit, answered_alone, bad_file, bad_address, no_such_call, read, read_into, write, write_from, is_output, is_break, brk, with_break, is_exit, exit, call, call_number, first_argument, second_argument, third_argument}
 use Rattle.rv_machine.specs.Streams.{Streams}
 use Rattle.rv_machine.specs.Acts.{Serves}
 use Rattle.rv_machine.specs.Decoded.{IsCacheOf}
@@ -33,9 +33,9 @@ either mem pc false x y left right = right
 read-leaves : (fd addr len : ℕ) (mem : Memory) (rest : List ℕ) (pc : ℕ) → Leaves mem pc (read fd addr len mem rest)
 unfolding read
 read-leaves fd addr len mem rest pc =
-    either mem pc (not (fd == 0)) (answered bad_file mem rest) _ refl
-    (either mem pc (len == 0) (answered 0 mem rest) _ refl
-    (either mem pc (not (can_write mem addr len)) (answered bad_address mem rest) (read_into addr len mem rest) refl
+    either mem pc (not (fd == 0)) (answered_alone bad_file mem rest) _ refl
+    (either mem pc (len == 0) (answered_alone 0 mem rest) _ refl
+    (either mem pc (not (can_write mem addr len)) (answered_alone bad_address mem rest) (read_into addr len mem rest) refl
     (fetch_at-memory_with mem addr len _ pc)))
 
 write_from-leaves : (bytes : Option (List ℕ)) (len : ℕ) (mem : Memory) (rest : List ℕ) (pc : ℕ) → Leaves mem pc (write_from bytes len mem rest)
@@ -45,8 +45,8 @@ write_from-leaves (Some bytes) len mem rest pc = refl
 write-leaves : (fd addr len : ℕ) (mem : Memory) (rest : List ℕ) (pc : ℕ) → Leaves mem pc (write fd addr len mem rest)
 unfolding write
 write-leaves fd addr len mem rest pc =
-    either mem pc (not (is_output fd)) (answered bad_file mem rest) _ refl
-    (either mem pc (len == 0) (answered 0 mem rest) _ refl
+    either mem pc (not (is_output fd)) (answered_alone bad_file mem rest) _ refl
+    (either mem pc (len == 0) (answered_alone 0 mem rest) _ refl
     (write_from-leaves (range_of mem addr len) len mem rest pc))
 
 moved-leaves : (mem moved : Memory) (pc : ℕ) (b : Bool) → fetch_at moved pc ≡ fetch_at mem pc → fetch_at (cond b moved mem) pc ≡ fetch_at mem pc
@@ -60,14 +60,14 @@ brk-leaves addr mem rest pc = moved-leaves mem (record mem { program_break = add
 call-leaves : (regs : List ℕ) (mem : Memory) (rest : List ℕ) (pc : ℕ) → Leaves mem pc (call regs mem rest)
 unfolding call
 call-leaves regs mem rest pc =
-    let number = number_in regs in
+    let number = call_number regs in
     let a = first_argument regs in
     let b = second_argument regs in
     let c = third_argument regs in
     either mem pc (number == 63) (read a b c mem rest) _ (read-leaves a b c mem rest pc)
     (either mem pc (number == 64) (write a b c mem rest) _ (write-leaves a b c mem rest pc)
     (either mem pc (is_exit number) (exit a) _ refl
-    (either mem pc (number == 214) (brk a mem rest) (answered no_such_call mem rest) (brk-leaves a mem rest pc) refl)))
+    (either mem pc (number == 214) (brk a mem rest) (answered_alone no_such_call mem rest) (brk-leaves a mem rest pc) refl)))
 
 -- a call that was served leaves the word at each address unchanged
 served-leaves : (regs : List ℕ) (mem new : Memory) (before after : Streams) (result : Served) (pc : ℕ) →

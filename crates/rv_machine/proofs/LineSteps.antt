@@ -9,25 +9,25 @@ use Rattle.rv_machine.specs.declared.flat_acting.Continuation.TheVariants.{On, T
 use Rattle.rv_machine.specs.declared.flat_lines.FlatLine.{FlatLine}
 use Rattle.rv_machine.specs.Hart.{Hart}
 use Rattle.rv_machine.specs.Flat.{StandsFor, instr_of}
-use Rattle.rv_machine.specs.Lines.{IsLineOf, op_at}
-use Rattle.rv_machine.specs.Quick.{IsCarriedOut, address_of, hart_of, RetireAlone}
+use Rattle.rv_machine.specs.Lines.{IsLineOf, flat_at}
+use Rattle.rv_machine.specs.Quick.{IsCarriedOut, spot_address, hart_of, RetireAlone}
 use Rattle.rv_machine.proofs.Lines.{stands-from, word-aligned}
 use Rattle.rv_machine.proofs.Steps.{turned, retires-alone, retire-next}
 
 -- the operation at a spot of the line stands for what memory has there
 pub stands-there : (mem : Memory) (line : FlatLine) (spot : Spot) (f : Flat) → spot.base ≡ line.base → IsLineOf mem line →
-    spot.at < 257 → f ≡ op_at line spot.at → StandsFor mem (address_of spot) f
+    spot.at < 257 → f ≡ flat_at line spot.at → StandsFor mem (spot_address spot) f
 stands-there mem line spot f b h below e =
     subst (λ (n : ℕ). StandsFor mem (word_sum n (spot.at * 4)) f) (sym b)
     (subst (StandsFor mem (word_sum line.base (spot.at * 4))) (sym e) (stands-from mem line spot.at h below))
 
-address-aligned : (mem : Memory) (line : FlatLine) (spot : Spot) → spot.base ≡ line.base → IsLineOf mem line → address_of spot % 4 ≡ 0
+address-aligned : (mem : Memory) (line : FlatLine) (spot : Spot) → spot.base ≡ line.base → IsLineOf mem line → spot_address spot % 4 ≡ 0
 address-aligned mem line spot b h =
     subst (λ (n : ℕ). word_sum n (spot.at * 4) % 4 ≡ 0) (sym b) (word-aligned line.base spot.at h.aligned)
 
 pub passes-on : (start : Hart) (mem new : Memory) (line : FlatLine) (spot : Spot) (regs later : List ℕ) (n m : ℕ) (turn : Continuation) (f : Flat) →
-    spot.base ≡ line.base → IsLineOf mem line → spot.at < 257 → f ≡ op_at line spot.at → turn ≢ Stop →
-    IsCarriedOut turn (instr_of f) (hart_of (address_of spot) regs mem) spot later new → m ≤ n →
+    spot.base ≡ line.base → IsLineOf mem line → spot.at < 257 → f ≡ flat_at line spot.at → turn ≢ Stop →
+    IsCarriedOut turn (instr_of f) (hart_of (spot_address spot) regs mem) spot later new → m ≤ n →
     RetireAlone start (n - m) (record { pc = word_sum line.base (spot.at * 4); regs = regs; mem = mem; retired = n }) →
     RetireAlone start (n + 1 - m) (record { pc = turned turn spot; regs = later; mem = new; retired = n + 1 })
 passes-on start mem new line spot regs later n m turn f b h below e other passes more run =

@@ -14,7 +14,7 @@ use Rattle.rv_machine.specs.declared.flat.Flat.{Flat}
 use Rattle.rv_machine.specs.declared.flat.FlatOp.TheVariants.{Slow}
 use Rattle.rv_machine.specs.declared.flat_lines.FlatLine.{FlatLine}
 use Rattle.rv_machine.specs.Flat.{instr_of, IsAt, StandsFor}
-use Rattle.rv_machine.specs.Lines.{no_operation, op_at, index_in, covers, IsLineOf, AreLinesOf, IsBlank, no_line, line_at, cover}
+use Rattle.rv_machine.specs.Lines.{no_operation, flat_at, index_in, covers, IsLineOf, AreLinesOf, IsBlank, no_line, line_at, cover}
 use Rattle.rv_inst.specs.Words.{word_sum, word_difference}
 use Rattle.rv_machine.specs.Quick.{HasSameCode}
 use Rattle.rv_machine.proofs.Keeping.{found_at-same}
@@ -30,7 +30,7 @@ line-blank mem line blank = record {
   aligned = blank.0;
   within = blank.1;
   last = blank.2 256 (omega arith);
-  stand = λ j below. stands-none mem _ (op_at line j) (blank.2 j (omega (arith, below)));
+  stand = λ j below. stands-none mem _ (flat_at line j) (blank.2 j (omega (arith, below)));
 }
 
 pub lines-blank : (mem : Memory) (lines : List FlatLine) → All IsBlank lines → AreLinesOf mem lines
@@ -50,7 +50,7 @@ line-same m n line same h = record {
   last = h.last;
   stand = λ j below.
       let s = h.stand j below in
-      record { is = if-same m n _ (instr_of (op_at line j)) (same _) s.is; written = s.written };
+      record { is = if-same m n _ (instr_of (flat_at line j)) (same _) s.is; written = s.written };
 }
 
 pub lines-same : (m n : Memory) (lines : List FlatLine) → HasSameCode m n → AreLinesOf m lines → AreLinesOf n lines
@@ -165,30 +165,30 @@ cover-with lines pc line below c = rw (get_or-set_at lines (line_at pc) (line_at
 pub ruleset covering = (cover-with)
 
 -- the operation at an index of the line stands for what memory has there; that behind the last stands for nothing
-stands-last : (mem : Memory) (line : FlatLine) (pc : ℕ) → IsLineOf mem line → StandsFor mem pc (op_at line 256)
-stands-last mem line pc h = stands-none mem pc (op_at line 256) h.last
+stands-last : (mem : Memory) (line : FlatLine) (pc : ℕ) → IsLineOf mem line → StandsFor mem pc (flat_at line 256)
+stands-last mem line pc h = stands-none mem pc (flat_at line 256) h.last
 
 stands-by : (mem : Memory) (line : FlatLine) (at : ℕ) (b : Bool) → (at == 256) ≡ b → IsLineOf mem line → at < 257 →
-    StandsFor mem (word_sum line.base (at * 4)) (op_at line at)
+    StandsFor mem (word_sum line.base (at * 4)) (flat_at line at)
 stands-by mem line at true e h below =
     let last : at ≡ 256 = grind (arith, nat_tests) in
-    subst (λ (n : ℕ). StandsFor mem (word_sum line.base (n * 4)) (op_at line n)) (sym last) (stands-last mem line _ h)
+    subst (λ (n : ℕ). StandsFor mem (word_sum line.base (n * 4)) (flat_at line n)) (sym last) (stands-last mem line _ h)
 stands-by mem line at false e h below =
     let other : at ≢ 256 = grind (arith, nat_tests) in h.stand at (omega (arith, other, below))
 
 pub stands-from : (mem : Memory) (line : FlatLine) (at : ℕ) → IsLineOf mem line → at < 257 →
-    StandsFor mem (word_sum line.base (at * 4)) (op_at line at)
+    StandsFor mem (word_sum line.base (at * 4)) (flat_at line at)
 stands-from mem line at h below = stands-by mem line at (at == 256) refl h below
 
 -- an index behind which is another one: the operation there is known
 inside-by : (mem : Memory) (line : FlatLine) (at : ℕ) (b : Bool) → (at == 256) ≡ b → IsLineOf mem line → at < 257 →
-    (op_at line at).op ≢ Slow → at + 1 < 257
+    (flat_at line at).op ≢ Slow → at + 1 < 257
 inside-by mem line at true e h below known =
     let last : at ≡ 256 = grind (arith, nat_tests) in
-    absurd (known (ap (λ (n : ℕ). (op_at line n).op) last ∙ ap (λ (f : Flat). f.op) h.last))
+    absurd (known (ap (λ (n : ℕ). (flat_at line n).op) last ∙ ap (λ (f : Flat). f.op) h.last))
 inside-by mem line at false e h below known = let other : at ≢ 256 = grind (arith, nat_tests) in omega (arith, other, below)
 
-pub inside-more : (mem : Memory) (line : FlatLine) (at : ℕ) → IsLineOf mem line → at < 257 → (op_at line at).op ≢ Slow → at + 1 < 257
+pub inside-more : (mem : Memory) (line : FlatLine) (at : ℕ) → IsLineOf mem line → at < 257 → (flat_at line at).op ≢ Slow → at + 1 < 257
 inside-more mem line at h below known = inside-by mem line at (at == 256) refl h below known
 
 -- the addresses of a line are those of words

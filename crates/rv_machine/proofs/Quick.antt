@@ -6,7 +6,7 @@ use Rattle.mem_regions.specs.Writing.{stored}
 use Rattle.mem_regions.proofs.Kept.{fetch_at-stored}
 use Rattle.rv_inst.specs.declared.instruction.Instr.{Instr}
 use Rattle.rv_inst.specs.declared.instruction.Instr.TheVariants.{Lui, Auipc, Jal, Jalr, Branch, Load, Store, OpImm, Op, Fence, Ecall, Ebreak, FenceI, Mul}
-use Rattle.rv_inst.specs.Words.{word_sum, word_difference, word_of}
+use Rattle.rv_inst.specs.Words.{word_sum, word_difference, signed_word}
 use Rattle.rv_inst.specs.declared.instruction.Cond.{Cond}
 use Rattle.rv_inst.specs.Arithmetic.{next_pc, is_taken}
 use Rattle.rv_inst.specs.declared.accesses.Access.{Access}
@@ -73,11 +73,11 @@ pub target-aligned : (pc distance : ℕ) → pc % 4 ≡ 0 → distance % 4 ≡ 0
 target-aligned pc distance a d = omega (arith, a, d)
 
 pub branch-to : (c : Cond) (rs1 rs2 : ℕ) (imm : ℤ) (pc : ℕ) (regs : List ℕ) (mem : Memory) →
-    is_taken c (register_value regs rs1) (register_value regs rs2) ≡ true → pc % 4 ≡ 0 → word_of imm % 4 ≡ 0 →
-    LeadsOnTo (compute (hart_of pc regs mem) 0 (Branch c rs1 rs2 imm)) (word_sum pc (word_of imm)) regs mem
+    is_taken c (register_value regs rs1) (register_value regs rs2) ≡ true → pc % 4 ≡ 0 → signed_word imm % 4 ≡ 0 →
+    LeadsOnTo (compute (hart_of pc regs mem) 0 (Branch c rs1 rs2 imm)) (word_sum pc (signed_word imm)) regs mem
 unfolding LeadsOnTo compute retire next_pc
 branch-to c rs1 rs2 imm pc regs mem taken aligned distance =
-    let test : (word_sum pc (word_of imm) % 4 == 0) ≡ true = ap (λ (n : ℕ). n == 0) (target-aligned pc (word_of imm) aligned distance) in
+    let test : (word_sum pc (signed_word imm) % 4 == 0) ≡ true = ap (λ (n : ℕ). n == 0) (target-aligned pc (signed_word imm) aligned distance) in
     rw (taken, test) refl
 
 pub ruleset branching = (branch-on, branch-to, target-aligned)

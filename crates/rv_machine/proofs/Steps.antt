@@ -27,7 +27,7 @@ use Rattle.rv_machine.specs.Outcome.{Next}
 use Rattle.rv_machine.specs.Step.{with_register, first_value, second_value, retire, compute, loads, stores, access_memory, beside, execute, step_on}
 use Rattle.rv_machine.specs.Decoded.{found_at, in_set}
 use Rattle.rv_machine.specs.Flat.{instr_with, instr_of, IsAt}
-use Rattle.rv_machine.specs.Quick.{uses_memory, is_flat, alone, hart_after, hart_of, LeadsOnTo, ContinuesAs, GoesOnward, IsCarriedOut, address_of, RetiresAlone, RetireAlone}
+use Rattle.rv_machine.specs.Quick.{uses_memory, is_flat, computed_alone, hart_after, hart_of, LeadsOnTo, ContinuesAs, GoesOnward, IsCarriedOut, spot_address, RetiresAlone, RetireAlone}
 use Rattle.rv_machine.specs.declared.outcome.Stepped.TheVariants as stepped
 use Rattle.rv_machine.specs.Streams.{Streams}
 use Rattle.rv_machine.specs.Acts.{Steps}
@@ -98,7 +98,7 @@ flat-base (Mul op rd rs1 rs2) isa h = absurd (cc)
 
 -- what it does is what it does alone
 flat-executes : (i : Instr) (h : Hart) (rest : List ℕ) (word : ℕ) → IsTrue (is_flat i) →
-    execute (class_of i) h rest word i ≡ beside rest [] (alone h word i)
+    execute (class_of i) h rest word i ≡ beside rest [] (computed_alone h word i)
 unfolding execute
 flat-executes (Lui rd imm) h rest word f = refl
 flat-executes (Auipc rd imm) h rest word f = refl
@@ -161,13 +161,15 @@ access-by : (i : Instr) (pc other word n : ℕ) (regs later : List ℕ) (mem new
     ContinuesAs (access_memory (hart_with pc regs mem n) word i) (hart_with other later new (n + 1))
 unfolding access_memory
 access-by i pc other word n regs later mem new true t e =
-    rw t (stores-by (access_made i (first_value (hart_of pc regs mem) i) (second_value (hart_of pc regs mem) i)) pc other word n regs later mem new _ (rw t at e))
+    rw t (stores-by (access_made i (first_value (hart_of pc regs mem) i) (second_value (hart_of pc regs mem) i)) pc other word n regs later mem new _
+    (rw t at e))
 access-by i pc other word n regs later mem new false t e =
-    rw t (loads-by i pc (access_made i (first_value (hart_of pc regs mem) i) (second_value (hart_of pc regs mem) i)).addr other word n regs later mem new _ (rw t at e))
+    rw t (loads-by i pc (access_made i (first_value (hart_of pc regs mem) i) (second_value (hart_of pc regs mem) i)).addr other word n regs later mem new _
+    (rw t at e))
 
 alone-by : (i : Instr) (pc other word n : ℕ) (regs later : List ℕ) (mem new : Memory) (b : Bool) → uses_memory i ≡ b →
-    hart_after (alone (hart_of pc regs mem) 0 i) ≡ Some (hart_with other later new 1) →
-    ContinuesAs (alone (hart_with pc regs mem n) word i) (hart_with other later new (n + 1))
+    hart_after (computed_alone (hart_of pc regs mem) 0 i) ≡ Some (hart_with other later new 1) →
+    ContinuesAs (computed_alone (hart_with pc regs mem n) word i) (hart_with other later new (n + 1))
 alone-by i pc other word n regs later mem new true t e =
     rw t (access-by i pc other word n regs later mem new _ refl (rw t at e))
 alone-by i pc other word n regs later mem new false t e =
@@ -182,7 +184,7 @@ at-fits mem pc (Some i) h =
 
 -- an instruction that memory has, and that goes on, is a step
 retires-by : (mem new : Memory) (pc next n : ℕ) (regs later : List ℕ) (i : Instr) → IsTrue (is_flat i) → IsAt mem pc i →
-    pc % 4 ≡ 0 → LeadsOnTo (alone (hart_of pc regs mem) 0 i) next later new →
+    pc % 4 ≡ 0 → LeadsOnTo (computed_alone (hart_of pc regs mem) 0 i) next later new →
     RetiresAlone (hart_with pc regs mem n) (hart_with next later new (n + 1))
 unfolding LeadsOnTo found_at step_on
 retires-by mem new pc next n regs later i flat h aligned goes =
@@ -198,30 +200,30 @@ retires-by mem new pc next n regs later i flat h aligned goes =
 
 -- where a turn from a spot leads
 abbrev pub turned : Continuation → Spot → ℕ
-turned On spot = word_sum (address_of spot) 4
+turned On spot = word_sum (spot_address spot) 4
 turned (To index) spot = word_sum spot.base (index * 4)
-turned Stop spot = address_of spot
+turned Stop spot = spot_address spot
 
 turns-by : (mem new : Memory) (spot : Spot) (n : ℕ) (regs later : List ℕ) (turn : Continuation) (i : Instr) → IsTrue (is_flat i) →
-    IsAt mem (address_of spot) i → address_of spot % 4 ≡ 0 → turn ≢ Stop →
-    GoesOnward turn (alone (hart_of (address_of spot) regs mem) 0 i) spot later new →
-    RetiresAlone (hart_with (address_of spot) regs mem n) (hart_with (turned turn spot) later new (n + 1))
+    IsAt mem (spot_address spot) i → spot_address spot % 4 ≡ 0 → turn ≢ Stop →
+    GoesOnward turn (computed_alone (hart_of (spot_address spot) regs mem) 0 i) spot later new →
+    RetiresAlone (hart_with (spot_address spot) regs mem n) (hart_with (turned turn spot) later new (n + 1))
 turns-by mem new spot n regs later On i flat h aligned other goes = retires-by mem new _ _ n regs later i flat h aligned goes
 turns-by mem new spot n regs later (To index) i flat h aligned other goes = retires-by mem new _ _ n regs later i flat h aligned goes
 turns-by mem new spot n regs later Stop i flat h aligned other goes = absurd (other refl)
 
 passes-by : (mem new : Memory) (spot : Spot) (n : ℕ) (regs later : List ℕ) (turn : Continuation) (o : Option Instr) → IfSome o (λ i. IsTrue (is_flat i)) →
-    IfSome o (IsAt mem (address_of spot)) → address_of spot % 4 ≡ 0 → turn ≢ Stop →
-    IsCarriedOut turn o (hart_of (address_of spot) regs mem) spot later new →
-    RetiresAlone (hart_with (address_of spot) regs mem n) (hart_with (turned turn spot) later new (n + 1))
+    IfSome o (IsAt mem (spot_address spot)) → spot_address spot % 4 ≡ 0 → turn ≢ Stop →
+    IsCarriedOut turn o (hart_of (spot_address spot) regs mem) spot later new →
+    RetiresAlone (hart_with (spot_address spot) regs mem n) (hart_with (turned turn spot) later new (n + 1))
 passes-by mem new spot n regs later turn None flat h aligned other goes = absurd (other goes)
 passes-by mem new spot n regs later turn (Some i) flat h aligned other goes = turns-by mem new spot n regs later turn i flat h aligned other goes
 
 -- an operation that passes is a step
 pub retires-alone : (mem new : Memory) (spot : Spot) (n : ℕ) (regs later : List ℕ) (turn : Continuation) (f : Flat) →
-    IfSome (instr_of f) (IsAt mem (address_of spot)) → address_of spot % 4 ≡ 0 → turn ≢ Stop →
-    IsCarriedOut turn (instr_of f) (hart_of (address_of spot) regs mem) spot later new →
-    RetiresAlone (record { pc = address_of spot; regs = regs; mem = mem; retired = n })
+    IfSome (instr_of f) (IsAt mem (spot_address spot)) → spot_address spot % 4 ≡ 0 → turn ≢ Stop →
+    IsCarriedOut turn (instr_of f) (hart_of (spot_address spot) regs mem) spot later new →
+    RetiresAlone (record { pc = spot_address spot; regs = regs; mem = mem; retired = n })
     (record { pc = turned turn spot; regs = later; mem = new; retired = n + 1 })
 retires-alone mem new spot n regs later turn f h aligned other passes =
     passes-by mem new spot n regs later turn (instr_of f) (flat-is f.op f.rd f.rs1 f.rs2 f.imm) h aligned other passes

@@ -4,7 +4,7 @@ use Rattle.std.specs.Prelude.{ℕ, ◌%◌, negsuc, List, [], take, drop, length
 use Rattle.mem_regions.specs.Memory.{Memory}
 use Rattle.mem_regions.specs.Ranges.{range_of, can_write}
 use Rattle.mem_regions.specs.Writing.{memory_with}
-use Rattle.rv_inst.specs.Words.{word_of}
+use Rattle.rv_inst.specs.Words.{signed_word}
 
 -- what a call answers, the memory and the input that it leaves, and the bytes that it adds to the output
 pub record CallAnswer : Type 0 where
@@ -19,8 +19,8 @@ pub data Called : Type 0 where
   Exit : ℕ → Called
 
 -- the number of the call that the registers ask for, and its arguments
-abbrev pub number_in : List ℕ → ℕ
-number_in regs = slice_index regs 17
+abbrev pub call_number : List ℕ → ℕ
+call_number regs = slice_index regs 17
 
 abbrev pub first_argument : List ℕ → ℕ
 first_argument regs = slice_index regs 10
@@ -33,19 +33,19 @@ third_argument regs = slice_index regs 12
 
 -- EBADF, 9 below zero: no such file is open
 abbrev pub bad_file : ℕ
-bad_file = word_of (negsuc 8)
+bad_file = signed_word (negsuc 8)
 
 -- EFAULT, 14 below zero: the buffer does not lie in memory
 abbrev pub bad_address : ℕ
-bad_address = word_of (negsuc 13)
+bad_address = signed_word (negsuc 13)
 
 -- ENOSYS, 38 below zero: no call has this number
 abbrev pub no_such_call : ℕ
-no_such_call = word_of (negsuc 37)
+no_such_call = signed_word (negsuc 37)
 
 -- an answer that uses neither input nor output
-abbrev pub answered : ℕ → Memory → List ℕ → Called
-answered value mem rest = Value (record { value = value; mem = mem; rest = rest; output = [] })
+abbrev pub answered_alone : ℕ → Memory → List ℕ → Called
+answered_alone value mem rest = Value (record { value = value; mem = mem; rest = rest; output = [] })
 
 -- the first bytes of the rest go to the buffer, as many as the lesser of the two lengths; the answer is their number
 abbrev pub read_into : ℕ → ℕ → Memory → List ℕ → Called
@@ -61,14 +61,14 @@ read_into addr len mem rest =
 -- read(fd, addr, len), where 0 is the input
 unfoldable pub read : ℕ → ℕ → ℕ → Memory → List ℕ → Called
 read fd addr len mem rest =
-    if not (fd == 0) then answered bad_file mem rest else
-    if len == 0 then answered 0 mem rest else
-    if not (can_write mem addr len) then answered bad_address mem rest else
+    if not (fd == 0) then answered_alone bad_file mem rest else
+    if len == 0 then answered_alone 0 mem rest else
+    if not (can_write mem addr len) then answered_alone bad_address mem rest else
     read_into addr len mem rest
 
 -- the bytes of the buffer go to the output, where the buffer lies in memory; the answer is their number
 abbrev pub write_from : Option (List ℕ) → ℕ → Memory → List ℕ → Called
-write_from None len mem rest = answered bad_address mem rest
+write_from None len mem rest = answered_alone bad_address mem rest
 write_from (Some bytes) len mem rest =
     Value (record { value = len; mem = mem; rest = rest; output = bytes })
 
@@ -79,8 +79,8 @@ is_output fd = (fd == 1) || (fd == 2)
 -- write(fd, addr, len)
 unfoldable pub write : ℕ → ℕ → ℕ → Memory → List ℕ → Called
 write fd addr len mem rest =
-    if not (is_output fd) then answered bad_file mem rest else
-    if len == 0 then answered 0 mem rest else
+    if not (is_output fd) then answered_alone bad_file mem rest else
+    if len == 0 then answered_alone 0 mem rest else
     write_from (range_of mem addr len) len mem rest
 
 -- the heap lies in the lower half of the stack's region, and the break in it or at its end
@@ -94,7 +94,7 @@ with_break addr mem = if is_break addr then record mem { program_break = addr } 
 -- brk(addr): the break becomes the address, where it may; the answer is the break
 abbrev pub brk : ℕ → Memory → List ℕ → Called
 brk addr mem rest =
-    let moved = with_break addr mem in answered moved.program_break moved rest
+    let moved = with_break addr mem in answered_alone moved.program_break moved rest
 
 -- exit(status) and exit_group(status): the low eight bits of the status
 abbrev pub exit : ℕ → Called
@@ -107,21 +107,21 @@ is_exit number = (number == 93) || (number == 94)
 -- the call that the registers ask for
 unfoldable pub call : List ℕ → Memory → List ℕ → Called
 call regs mem rest =
-    let number = number_in regs in
+    let number = call_number regs in
     let a = first_argument regs in
     let b = second_argument regs in
     let c = third_argument regs in
     if number == 63 then read a b c mem rest else
     if number == 64 then write a b c mem rest else
     if is_exit number then exit a else
-    if number == 214 then brk a mem rest else answered no_such_call mem rest
+    if number == 214 then brk a mem rest else answered_alone no_such_call mem rest
 
 -- the call uses the input: it is a read that passes its tests
 unfoldable pub asks_input : List ℕ → Memory → Bool
 asks_input regs mem =
     let addr = second_argument regs in
     let len = third_argument regs in
-    (number_in regs == 63) && (first_argument regs == 0) && not (len == 0)
+    (call_number regs == 63) && (first_argument regs == 0) && not (len == 0)
     && can_write mem addr len
 
 -- the call uses the output: it is a write that passes its tests
@@ -129,5 +129,5 @@ unfoldable pub asks_output : List ℕ → Memory → Bool
 asks_output regs mem =
     let addr = second_argument regs in
     let len = third_argument regs in
-    (number_in regs == 64) && is_output (first_argument regs) && not (len == 0)
+    (call_number regs == 64) && is_output (first_argument regs) && not (len == 0)
     && is_some (range_of mem addr len)

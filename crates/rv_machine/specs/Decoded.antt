@@ -19,13 +19,13 @@ use Rattle.rv_machine.specs.declared.decode_cache.Found.TheVariants as found
 use Rattle.rv_machine.specs.declared.decode_cache.Decoded.{Decoded}
 
 -- the word, with the instruction that it stands for
-abbrev pub read_as : ℕ → Option Instr → Found
-read_as word None = found.Unknown word
-read_as word (Some i) = found.Instruction word i
+abbrev pub found_as : ℕ → Option Instr → Found
+found_as word None = found.Unknown word
+found_as word (Some i) = found.Instruction word i
 
 -- the word that was fetched
 abbrev pub read_from : Result ℕ MemErr → Found
-read_from (Ok word) = read_as word (decoded_m word)
+read_from (Ok word) = found_as word (decoded_m word)
 read_from (Err NoAccess) = found.Nothing
 read_from (Err Misaligned) = found.Misaligned
 
@@ -77,5 +77,5 @@ abbrev pub nothing_kept : Decoded
 nothing_kept = record { address = 0; word = 0; instr = Lui 0 0 }
 
 -- the cache has the address
-unfoldable pub keeps : List Decoded → ℕ → Bool
-keeps places pc = (slice_index_or places (place_at pc) nothing_kept).address == pc
+unfoldable pub cache_keeps : List Decoded → ℕ → Bool
+cache_keeps places pc = (slice_index_or places (place_at pc) nothing_kept).address == pc

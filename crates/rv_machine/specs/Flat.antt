@@ -13,7 +13,7 @@ use Rattle.rv_inst.specs.declared.instruction.RegOp.{RegOp}
 use Rattle.rv_inst.specs.declared.instruction.RegOp.TheVariants as reg
 use Rattle.rv_inst.specs.declared.instruction.Instr.{Instr}
 use Rattle.rv_inst.specs.declared.instruction.Instr.TheVariants.{Lui, Auipc, Jal, Jalr, Branch, Load, Store, OpImm, Op}
-use Rattle.rv_inst.specs.Words.{word_of}
+use Rattle.rv_inst.specs.Words.{signed_word}
 use Rattle.rv_machine.specs.declared.flat.FlatOp.{FlatOp}
 use Rattle.rv_machine.specs.declared.flat.FlatOp.TheVariants as op
 use Rattle.rv_machine.specs.declared.flat.Flat.{Flat}
@@ -24,8 +24,8 @@ use Rattle.rv_machine.specs.Decoded.{found_at}
 abbrev pub instr_with : FlatOp → ℕ → ℕ → ℕ → ℤ → Option Instr
 instr_with op.Slow rd rs1 rs2 n = None
 instr_with op.Nop rd rs1 rs2 n = Some (OpImm imm.Add 0 rs1 n)
-instr_with op.Lui rd rs1 rs2 n = Some (Lui rd (word_of n))
-instr_with op.Auipc rd rs1 rs2 n = Some (Auipc rd (word_of n))
+instr_with op.Lui rd rs1 rs2 n = Some (Lui rd (signed_word n))
+instr_with op.Auipc rd rs1 rs2 n = Some (Auipc rd (signed_word n))
 instr_with op.Jal rd rs1 rs2 n = Some (Jal rd n)
 instr_with op.Jalr rd rs1 rs2 n = Some (Jalr rd rs1 n)
 instr_with op.Beq rd rs1 rs2 n = Some (Branch cond.Eq rs1 rs2 n)
@@ -116,23 +116,23 @@ pub record IsAt (mem : Memory) (pc : ℕ) (i : Instr) : Type 0 where
   pub is : found_at mem pc ≡ found.Instruction word i
 
 -- the operation writes its destination without looking whether that is x0
-abbrev pub writes : FlatOp → Bool
-writes op.Slow = false
-writes op.Nop = false
-writes op.Jal = false
-writes op.Jalr = false
-writes op.Beq = false
-writes op.Bne = false
-writes op.Blt = false
-writes op.Bge = false
-writes op.Bltu = false
-writes op.Bgeu = false
-writes op.Sb = false
-writes op.Sh = false
-writes op.Sw = false
-writes _ = true
+abbrev pub writes_plainly : FlatOp → Bool
+writes_plainly op.Slow = false
+writes_plainly op.Nop = false
+writes_plainly op.Jal = false
+writes_plainly op.Jalr = false
+writes_plainly op.Beq = false
+writes_plainly op.Bne = false
+writes_plainly op.Blt = false
+writes_plainly op.Bge = false
+writes_plainly op.Bltu = false
+writes_plainly op.Bgeu = false
+writes_plainly op.Sb = false
+writes_plainly op.Sh = false
+writes_plainly op.Sw = false
+writes_plainly _ = true
 
 -- where the operation stands for an instruction, memory has it at the address; what it writes is not x0
 pub record StandsFor (mem : Memory) (pc : ℕ) (f : Flat) : Type 0 where
   pub is : IfSome (instr_of f) (IsAt mem pc)
-  pub written : IsTrue (writes f.op) → 0 < f.rd
+  pub written : IsTrue (writes_plainly f.op) → 0 < f.rd

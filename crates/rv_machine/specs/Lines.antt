@@ -13,8 +13,8 @@ abbrev pub no_operation : Flat
 no_operation = record { op = Slow; rd = 0; rs1 = 0; rs2 = 0; imm = pos 0 }
 
 -- the operation of a line at an index
-abbrev pub op_at : FlatLine → ℕ → Flat
-op_at line j = slice_index_or line.ops j no_operation
+abbrev pub flat_at : FlatLine → ℕ → Flat
+flat_at line j = slice_index_or line.ops j no_operation
 
 -- the index in a line of the word at an address
 abbrev pub index_in : FlatLine → ℕ → ℕ
@@ -28,8 +28,8 @@ covers line pc = nat_lt (word_difference pc line.base) 1024
 pub record IsLineOf (mem : Memory) (line : FlatLine) : Type 0 where
   pub aligned : line.base % 4 ≡ 0
   pub within : line.base < 2 ^ 32
-  pub last : op_at line 256 ≡ no_operation
-  pub stand : (j : ℕ) → j < 256 → StandsFor mem (word_sum line.base (j * 4)) (op_at line j)
+  pub last : flat_at line 256 ≡ no_operation
+  pub stand : (j : ℕ) → j < 256 → StandsFor mem (word_sum line.base (j * 4)) (flat_at line j)
 
 -- so do those of all lines
 unfoldable pub AreLinesOf : Memory → List FlatLine → Type 0
@@ -37,7 +37,7 @@ AreLinesOf mem lines = All (IsLineOf mem) lines
 
 -- a line of which nothing is known
 abbrev pub IsBlank : FlatLine → Type 0
-IsBlank line = (line.base % 4 ≡ 0) × (line.base < 2 ^ 32) × ((j : ℕ) → j < 257 → op_at line j ≡ no_operation)
+IsBlank line = (line.base % 4 ≡ 0) × (line.base < 2 ^ 32) × ((j : ℕ) → j < 257 → flat_at line j ≡ no_operation)
 
 -- the index of the line of an address
 abbrev pub line_at : ℕ → ℕ

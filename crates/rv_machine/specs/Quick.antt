@@ -46,8 +46,8 @@ is_flat (Op op rd rs1 rs2) = true
 is_flat _ = false
 
 -- what it does, if it is one of those that compute, or a load or a store
-abbrev pub alone : Hart → ℕ → Instr → Outcome Hart
-alone h word i = if uses_memory i then access_memory h word i else compute h word i
+abbrev pub computed_alone : Hart → ℕ → Instr → Outcome Hart
+computed_alone h word i = if uses_memory i then access_memory h word i else compute h word i
 
 -- the hart that an outcome goes on to
 abbrev pub hart_after : Outcome Hart → Option Hart
@@ -60,8 +60,8 @@ abbrev pub hart_of : ℕ → List ℕ → Memory → Hart
 hart_of pc regs mem = record { pc = pc; regs = regs; mem = mem; retired = 0 }
 
 -- the address of a spot
-abbrev pub address_of : Spot → ℕ
-address_of spot = word_sum spot.base (spot.at * 4)
+abbrev pub spot_address : Spot → ℕ
+spot_address spot = word_sum spot.base (spot.at * 4)
 
 -- the outcome goes on at this address, with these registers and this memory
 unfoldable pub LeadsOnTo : Outcome Hart → ℕ → List ℕ → Memory → Type 0
@@ -73,14 +73,14 @@ ContinuesAs outcome new = (line : Retired) × (outcome ≡ Next new line)
 
 -- so it does by a turn from a spot, if it goes on
 abbrev pub GoesOnward : Continuation → Outcome Hart → Spot → List ℕ → Memory → Type 0
-GoesOnward On outcome spot regs mem = LeadsOnTo outcome (word_sum (address_of spot) 4) regs mem
+GoesOnward On outcome spot regs mem = LeadsOnTo outcome (word_sum (spot_address spot) 4) regs mem
 GoesOnward (To index) outcome spot regs mem = LeadsOnTo outcome (word_sum spot.base (index * 4)) regs mem
 GoesOnward Stop outcome spot regs mem = Unit {0}
 
 -- so does the instruction, if there is one
 abbrev pub IsCarriedOut : Continuation → Option Instr → Hart → Spot → List ℕ → Memory → Type 0
 IsCarriedOut turn None h spot regs mem = turn ≡ Stop
-IsCarriedOut turn (Some i) h spot regs mem = GoesOnward turn (alone h 0 i) spot regs mem
+IsCarriedOut turn (Some i) h spot regs mem = GoesOnward turn (computed_alone h 0 i) spot regs mem
 
 -- the instruction retires, whatever the instruction set and the input, and leaves input and output as they are
 pub record RetiresAlone (old new : Hart) : Type 0 where

@@ -133,14 +133,14 @@ interpret h rest word None = Trap 2 h.pc word
 interpret h rest word (Some i) = execute (class_of i) h rest word i
 
 -- the word that was fetched, as an instruction of the set
-abbrev pub fetched : Isa → Hart → List ℕ → Result ℕ MemErr → Outcome Machine
-fetched isa h rest (Ok word) = interpret h rest word (decoded_as isa word)
-fetched isa h rest (Err e) = Trap 1 h.pc h.pc
+abbrev pub step_fetched : Isa → Hart → List ℕ → Result ℕ MemErr → Outcome Machine
+step_fetched isa h rest (Ok word) = interpret h rest word (decoded_as isa word)
+step_fetched isa h rest (Err e) = Trap 1 h.pc h.pc
 
 -- what a hart does next, where the input has these bytes left; the output is that of this step
 unfoldable pub step_on : Isa → Hart → List ℕ → Outcome Machine
 step_on isa h rest =
-    if h.pc % 4 == 0 then fetched isa h rest (fetch_at h.mem h.pc) else Trap 0 h.pc h.pc
+    if h.pc % 4 == 0 then step_fetched isa h rest (fetch_at h.mem h.pc) else Trap 0 h.pc h.pc
 
 -- the output of a step comes after that of the steps before
 abbrev pub after_output : List ℕ → Outcome Machine → Outcome Machine

@@ -3,7 +3,7 @@
 
 ghost use Rattle.std.specs.Prelude.{◌≡◌, ◌<◌, false, IsTrue, IfSome, IfNone};
 ghost use Rattle.std.specs.List.{All};
-ghost use Rattle.rv_machine.specs.Decoded.{IsEmpty, IsCacheOf, found_at, is_instruction, place_at, keeps};
+ghost use Rattle.rv_machine.specs.Decoded.{IsEmpty, IsCacheOf, found_at, is_instruction, place_at, cache_keeps};
 
 use mem_regions::{MemErr, Regions};
 use rv_inst::{Instr, decode_m};
@@ -92,9 +92,9 @@ impl DecodeCache {
 
     /// Whether the cache has the address.
     #[inline(always)]
-    #[tactic(auto, unfolding(crate::specs::Decoded::keeps))]
+    #[tactic(auto, unfolding(crate::specs::Decoded::cache_keeps))]
     fn has(&self, pc: u32) -> bool
-        ensures { result ≡ keeps self.now.places pc }
+        ensures { result ≡ cache_keeps self.now.places pc }
     {
         self.places[place_of(pc)].address == u64::from(pc)
     }
@@ -105,7 +105,7 @@ impl DecodeCache {
     fn keep(&mut self, mem: &Regions, pc: u32) -> bool
         requires { IsCacheOf mem.now self.old.places }
         ensures found { result ≡ is_instruction (found_at mem.now pc) }
-        ensures has { IsTrue result → IsTrue (keeps self.new.places pc) }
+        ensures has { IsTrue result → IsTrue (cache_keeps self.new.places pc) }
         ensures cache { IsCacheOf mem.now self.new.places }
     {
         match look_up(mem, pc) {
@@ -127,7 +127,7 @@ impl DecodeCache {
     fn comes_to_have(&mut self, mem: &Regions, pc: u32) -> bool
         requires { IsCacheOf mem.now self.old.places }
         ensures found { result ≡ is_instruction (found_at mem.now pc) }
-        ensures has { IsTrue result → IsTrue (keeps self.new.places pc) }
+        ensures has { IsTrue result → IsTrue (cache_keeps self.new.places pc) }
         ensures cache { IsCacheOf mem.now self.new.places }
     {
         self.has(pc) || self.keep(mem, pc)

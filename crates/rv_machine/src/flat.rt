@@ -1,7 +1,7 @@
 //! Flat operations: instructions whose operation is one number and whose fields are unpacked.
 
 ghost use Rattle.std.specs.Prelude.{◌≡◌, ◌<◌, IfSome, IsTrue};
-ghost use Rattle.rv_machine.specs.Flat.{instr_of, branch_op, load_op, store_op, imm_op, reg_op, writes};
+ghost use Rattle.rv_machine.specs.Flat.{instr_of, branch_op, load_op, store_op, imm_op, reg_op, writes_plainly};
 
 use rv_inst::{Cond, ImmOp, Instr, LoadKind, RegOp, StoreKind};
 
@@ -225,7 +225,7 @@ fn named(i: Instr) -> Flat
 
 /// Whether the operation writes its destination without looking whether that is x0.
 fn writes(op: FlatOp) -> bool
-    ensures { result ≡ writes op }
+    ensures { result ≡ writes_plainly op }
 {
     match op {
         FlatOp::Slow
@@ -274,7 +274,7 @@ fn writes(op: FlatOp) -> bool
 #[tactic(auto, using(crate::proofs::Flattening::sparing))]
 pub(crate) fn flatten(i: Instr) -> Flat
     ensures is { IfSome (instr_of result) (λ j. j ≡ i) }
-    ensures written { IsTrue (writes result.op) → 0 < result.rd }
+    ensures written { IsTrue (writes_plainly result.op) → 0 < result.rd }
 {
     let flat = named(i);
     if flat.rd != 0 || !writes(flat.op) {

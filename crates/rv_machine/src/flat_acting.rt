@@ -9,8 +9,8 @@ ghost use Rattle.rv_inst.specs.Operands.{class_of, dest_of, sources_of};
 ghost use Rattle.rv_inst.specs.declared.classes.Class.{Class};
 ghost use Rattle.rv_mul.specs.Values.{computes};
 ghost use Rattle.rv_inst.specs.Words.{word_sum};
-ghost use Rattle.rv_machine.specs.Flat.{instr_of, writes};
-ghost use Rattle.rv_machine.specs.Quick.{GoesOnward, IsCarriedOut, address_of, hart_of, HasSameCode, goes_straight, is_store};
+ghost use Rattle.rv_machine.specs.Flat.{instr_of, writes_plainly};
+ghost use Rattle.rv_machine.specs.Quick.{GoesOnward, IsCarriedOut, spot_address, hart_of, HasSameCode, goes_straight, is_store};
 ghost use Rattle.rv_machine.specs.Step.{register_value, with_register, compute as computation, access_memory as memory_access};
 
 use crate::executing::write_register;
@@ -50,7 +50,7 @@ impl Spot {
     #[inline(always)]
     #[tactic(auto, using(crate::proofs::Quick::distances))]
     pub(crate) fn pc(self) -> u32
-        ensures { result ≡ address_of self }
+        ensures { result ≡ spot_address self }
     {
         self.base.wrapping_add((self.at % WORDS) as u32 * 4)
     }
@@ -98,10 +98,10 @@ fn computed(i: Instr, spot: Spot, regs: &mut [u32; 32], mem: &Regions) -> Contin
     requires fits { Fits i }
     requires computing { IsTrue (computes (class_of i)) }
     requires straight { IsTrue (goes_straight i) }
-    requires aligned { address_of spot % 4 ≡ 0 }
+    requires aligned { spot_address spot % 4 ≡ 0 }
     requires written { 0 < dest_of i }
     requires zero { slice_index regs.old 0 ≡ 0 }
-    ensures goes { GoesOnward result (computation (hart_of (address_of spot) regs.old mem.now) 0 i) spot regs.new mem.now }
+    ensures goes { GoesOnward result (computation (hart_of (spot_address spot) regs.old mem.now) 0 i) spot regs.new mem.now }
     ensures on { result ≡ Continuation.On }
     ensures zero { slice_index regs.new 0 ≡ 0 }
 {
@@ -116,8 +116,8 @@ fn computed(i: Instr, spot: Spot, regs: &mut [u32; 32], mem: &Regions) -> Contin
 fn passed(i: Instr, spot: Spot, regs: &[u32; 32], mem: &Regions) -> Continuation
     requires straight { IsTrue (goes_straight i) }
     requires nothing { dest_of i ≡ 0 }
-    requires aligned { address_of spot % 4 ≡ 0 }
-    ensures goes { GoesOnward result (computation (hart_of (address_of spot) regs.now mem.now) 0 i) spot regs.now mem.now }
+    requires aligned { spot_address spot % 4 ≡ 0 }
+    ensures goes { GoesOnward result (computation (hart_of (spot_address spot) regs.now mem.now) 0 i) spot regs.now mem.now }
     ensures on { result ≡ Continuation.On }
 {
     Continuation::On
@@ -131,7 +131,7 @@ fn jumped(i: Instr, spot: Spot, regs: &mut [u32; 32], mem: &Regions) -> Continua
     requires fits { Fits i }
     requires computing { IsTrue (computes (class_of i)) }
     requires zero { slice_index regs.old 0 ≡ 0 }
-    ensures goes { GoesOnward result (computation (hart_of (address_of spot) regs.old mem.now) 0 i) spot regs.new mem.now }
+    ensures goes { GoesOnward result (computation (hart_of (spot_address spot) regs.old mem.now) 0 i) spot regs.new mem.now }
     ensures stop { result ≡ Continuation.Stop → regs.new ≡ regs.old }
     ensures zero { slice_index regs.new 0 ≡ 0 }
 {
@@ -151,10 +151,10 @@ fn jumped(i: Instr, spot: Spot, regs: &mut [u32; 32], mem: &Regions) -> Continua
 fn branched(f: &Flat, cond: Cond, spot: Spot, regs: &[u32; 32], mem: &Regions) -> Continuation
     requires base { spot.base % 4 ≡ 0 }
     requires fits { Fits (Instr.Branch cond f.now.rs1 f.now.rs2 f.now.imm) }
-    requires aligned { address_of spot % 4 ≡ 0 }
+    requires aligned { spot_address spot % 4 ≡ 0 }
     requires zero { slice_index regs.now 0 ≡ 0 }
     ensures goes { GoesOnward result
-        (computation (hart_of (address_of spot) regs.now mem.now) 0 (Instr.Branch cond f.now.rs1 f.now.rs2 f.now.imm)) spot regs.now mem.now }
+        (computation (hart_of (spot_address spot) regs.now mem.now) 0 (Instr.Branch cond f.now.rs1 f.now.rs2 f.now.imm)) spot regs.now mem.now }
 {
     let a = regs[f.rs1 as usize];
     let b = regs[f.rs2 as usize];
@@ -176,10 +176,10 @@ fn loaded(i: Instr, spot: Spot, regs: &mut [u32; 32], mem: &Regions, window: Win
     requires fits { Fits i }
     requires load { IsTrue (is_load i) }
     requires written { 0 < dest_of i }
-    requires aligned { address_of spot % 4 ≡ 0 }
+    requires aligned { spot_address spot % 4 ≡ 0 }
     requires memory { class_of i ≡ Class.Memory }
     requires zero { slice_index regs.old 0 ≡ 0 }
-    ensures goes { GoesOnward result (memory_access (hart_of (address_of spot) regs.old mem.now) 0 i) spot regs.new mem.now }
+    ensures goes { GoesOnward result (memory_access (hart_of (spot_address spot) regs.old mem.now) 0 i) spot regs.new mem.now }
     ensures stop { result ≡ Continuation.Stop → regs.new ≡ regs.old }
     ensures zero { slice_index regs.new 0 ≡ 0 }
 {
@@ -201,10 +201,10 @@ fn stored(i: Instr, spot: Spot, regs: &[u32; 32], mem: &mut Regions, window: Win
     requires window { IsWindowOf (bounds_of mem.old) window }
     requires fits { Fits i }
     requires store { IsTrue (is_store i) }
-    requires aligned { address_of spot % 4 ≡ 0 }
+    requires aligned { spot_address spot % 4 ≡ 0 }
     requires memory { class_of i ≡ Class.Memory }
     requires zero { slice_index regs.now 0 ≡ 0 }
-    ensures goes { GoesOnward result (memory_access (hart_of (address_of spot) regs.now mem.old) 0 i) spot regs.now mem.new }
+    ensures goes { GoesOnward result (memory_access (hart_of (spot_address spot) regs.now mem.old) 0 i) spot regs.now mem.new }
     ensures stop { result ≡ Continuation.Stop → mem.new ≡ mem.old }
     ensures code { HasSameCode mem.old mem.new }
     ensures window { IsWindowOf (bounds_of mem.new) window }
@@ -280,11 +280,11 @@ pub(crate) fn act(
 ) -> Continuation
     requires base { spot.base % 4 ≡ 0 }
     requires fits { IfSome (instr_of f.now) Fits }
-    requires written { IsTrue (writes f.now.op) → 0 < f.now.rd }
-    requires aligned { address_of spot % 4 ≡ 0 }
+    requires written { IsTrue (writes_plainly f.now.op) → 0 < f.now.rd }
+    requires aligned { spot_address spot % 4 ≡ 0 }
     requires zero { slice_index regs.old 0 ≡ 0 }
     requires window { IsWindowOf (bounds_of mem.old) window }
-    ensures goes { IsCarriedOut result (instr_of f.now) (hart_of (address_of spot) regs.old mem.old) spot regs.new mem.new }
+    ensures goes { IsCarriedOut result (instr_of f.now) (hart_of (spot_address spot) regs.old mem.old) spot regs.new mem.new }
     ensures slow { f.now.op ≡ FlatOp.Slow → result ≡ Continuation.Stop }
     ensures stop { result ≡ Continuation.Stop → regs.new ≡ regs.old }
     ensures unchanged { result ≡ Continuation.Stop → mem.new ≡ mem.old }

@@ -3,7 +3,7 @@
 ghost use Rattle.std.specs.Prelude.{◌≡◌, ◌<◌, ◌/◌, ◌%◌, ◌^◌, ◌⊎◌, IsTrue, IfSome, length, slice_index_or, slice_set};
 ghost use Rattle.std.specs.List.{All};
 ghost use Rattle.rv_machine.specs.Flat.{StandsFor};
-ghost use Rattle.rv_machine.specs.Lines.{IsLineOf, AreLinesOf, IsBlank, covers, cover, op_at, index_in, line_at, no_line};
+ghost use Rattle.rv_machine.specs.Lines.{IsLineOf, AreLinesOf, IsBlank, covers, cover, flat_at, index_in, line_at, no_line};
 
 use crate::decode_cache::{Found, look_up};
 use crate::flat::{Flat, FlatOp, SLOW, flatten};
@@ -76,7 +76,7 @@ impl FlatLine {
     #[inline(always)]
     pub(crate) fn op(&self, at: usize) -> &Flat
         requires { at < 257 }
-        ensures { result.now ≡ op_at self.now at }
+        ensures { result.now ≡ flat_at self.now at }
     {
         &self.ops[at]
     }

@@ -8,13 +8,13 @@ use Rattle.rv_inst.specs.declared.instruction.RegOp.TheVariants as regop
 use Rattle.rv_inst.specs.declared.instruction.MulOp.TheVariants as mulop
 use Rattle.rv_text.specs.declared.mnemonic.Mnemonic.{Mnemonic}
 use Rattle.rv_text.specs.declared.mnemonic.Mnemonic.TheVariants.{Lui, Auipc, Jal, Jalr, Branch, Load, Store, OpImm, Op, Fence, Ecall, Ebreak, FenceI, Mul}
-use Rattle.rv_text.specs.Names.{name_of, mnemonic_named}
+use Rattle.rv_text.specs.Names.{mnemonic_name, mnemonic_named}
 use Rattle.rv_text.proofs.Solid.{IsSolid}
 
 -- a name is found, and is one word
 pub record IsNamed (mnemonic : Mnemonic) : Type 0 where
-  pub found : mnemonic_named (name_of mnemonic) ≡ Some mnemonic
-  pub word : IsSolid (name_of mnemonic)
+  pub found : mnemonic_named (mnemonic_name mnemonic) ≡ Some mnemonic
+  pub word : IsSolid (mnemonic_name mnemonic)
 
 pub all_named : (mnemonic : Mnemonic) → IsNamed mnemonic
 unfolding mnemonic_named

@@ -15,14 +15,14 @@ use Rattle.rv_text.specs.declared.text_err.TextErr.TheVariants.{BadRegister}
 use Rattle.rv_text.specs.Pieces.{trimmed}
 use Rattle.rv_text.specs.Numbers.{number_of}
 use Rattle.texts.specs.Answers.{and_then, needed}
-use Rattle.rv_text.specs.Fields.{register_in, number_in, immediate_in, field_below, immediate_of, is_open, before_close, enclosed, offset_in, base_in}
+use Rattle.rv_text.specs.Fields.{register_in_text, number_operand, immediate_in, field_below, immediate_of, is_open, before_close, enclosed, offset_in, base_in}
 use Rattle.rv_text.specs.Writing.{hexadecimal, register_text}
 use Rattle.rv_text.proofs.Solid.{is_solid, IsSolid, trimmed-solid, position_at_seam}
 use Rattle.rv_text.proofs.Written.{number_of-signed, number_of-upper, register_of-text, register_solid, signed_solid, signed_no_open}
 
 -- a register
-pub register_in-text : (r : ℕ) → r < 32 → register_in (register_text r) ≡ Ok r
-unfolding register_in
+pub register_in-text : (r : ℕ) → r < 32 → register_in_text (register_text r) ≡ Ok r
+unfolding register_in_text
 register_in-text r h = ap (needed BadRegister) (register_of-text r h)
 
 -- a number from the least to the greatest
@@ -31,8 +31,8 @@ record IsIn (least greatest z : ℤ) : Type 0 where
   high : int_le z greatest ≡ true
   small : unsigned_abs z < 2 ^ 32
 
-number_in-found : (least greatest z : ℤ) (text : List ℕ) → number_of text ≡ Some z → IsIn least greatest z → number_in least greatest text ≡ Ok z
-unfolding number_in
+number_in-found : (least greatest z : ℤ) (text : List ℕ) → number_of text ≡ Some z → IsIn least greatest z → number_operand least greatest text ≡ Ok z
+unfolding number_operand
 number_in-found least greatest z text found h = rw (found, h.low, h.high) refl
 
 pos_lt : (n k : ℕ) → pos n <ℤ pos k → n < k
@@ -68,7 +68,7 @@ immediate_in-signed z h =
     let inside = in_twelve z h in
     number_in-found _ _ z (signed_decimal z) (number_of-signed z inside.small) inside
 
-amount-signed : (z : ℤ) → IsAmount z → number_in (pos 0) (pos 31) (signed_decimal z) ≡ Ok z
+amount-signed : (z : ℤ) → IsAmount z → number_operand (pos 0) (pos 31) (signed_decimal z) ≡ Ok z
 amount-signed z h =
     let inside = in_amount z h in
     number_in-found _ _ z (signed_decimal z) (number_of-signed z inside.small) inside
@@ -141,9 +141,9 @@ base_in-address z r h low =
     let small = (in_twelve z h).small in
     let after : drop (position_or_len is_open (address_text z r)) (address_text z r) ≡ 40 ∷ (register_text r ++ 41 ∷ []) =
     rw (open_at z r small) (drop-append_seam (signed_decimal z) (40 ∷ (register_text r ++ 41 ∷ []))) in
-    ap (λ text. and_then (needed BadRegister (enclosed text)) (λ inner. register_in (trimmed inner))) after
-    ∙ ap (λ found. and_then (needed BadRegister found) (λ inner. register_in (trimmed inner))) (close (register_text r))
-    ∙ ap register_in (trimmed-solid (register_text r) (register_solid r low))
+    ap (λ text. and_then (needed BadRegister (enclosed text)) (λ inner. register_in_text (trimmed inner))) after
+    ∙ ap (λ found. and_then (needed BadRegister found) (λ inner. register_in_text (trimmed inner))) (close (register_text r))
+    ∙ ap register_in_text (trimmed-solid (register_text r) (register_solid r low))
     ∙ register_in-text r low
 
 pub address_solid : (z : ℤ) (r : ℕ) → IsWithin (2 ^ 11) z → r < 32 → IsSolid (address_text z r)

@@ -8,7 +8,7 @@ use Rattle.std.proofs.Math.Facts.{to_z-of_z, Fits-of_z}
 use Rattle.std.proofs.lemmas.Int.{ints}
 use Rattle.std.proofs.lemmas.Bool.{false≢true}
 use Rattle.std.proofs.lemmas.Bool.Decides.{nat_tests}
-use Rattle.rv_inst.specs.Words.{word_sum, word_of}
+use Rattle.rv_inst.specs.Words.{word_sum, signed_word}
 use Rattle.rv_inst.specs.Ranges.{Fits, IsWithin, IsEven, IsRegister, IsImmediate}
 use Rattle.rv_inst.specs.declared.instruction.Cond.{Cond}
 use Rattle.rv_inst.specs.declared.instruction.ImmOp.{ImmOp}
@@ -21,29 +21,29 @@ use Rattle.rv_text.specs.declared.operands.Operand.TheVariants.{Register, Number
 use Rattle.rv_text.specs.declared.statement.Jump.{Jump}
 use Rattle.rv_text.specs.declared.statement.Jump.TheVariants as jump
 use Rattle.rv_text.specs.declared.text_err.TextErr.{TextErr}
-use Rattle.rv_text.specs.Names.{name_of}
+use Rattle.rv_text.specs.Names.{mnemonic_name}
 use Rattle.rv_text.specs.Pieces.{operand_count}
 use Rattle.texts.specs.Answers.{and_then}
 use Rattle.texts.specs.Hexadecimal.{hex8}
-use Rattle.rv_text.specs.Writing.{hexadecimal, register_text, operand_text, listed, text_of}
-use Rattle.rv_text.specs.Reading.{distance_of, is_distance, aimed, LineReading, AimedAt, aimed_at, placed, takes, upper_form, address_form, immediate_form, register_form, set_form, fence_form, whole, jump_form, branch_form, operands_read, statement_by, statement_of, read_text}
+use Rattle.rv_text.specs.Writing.{hexadecimal, register_text, operand_text, operands_listed, text_of}
+use Rattle.rv_text.specs.Reading.{distance_of, is_distance, aimed, LineReading, AimedAt, aimed_at, placed, takes_operands, upper_form, address_form, immediate_form, register_form, set_form, fence_form, whole, jump_form, branch_form, operands_read, statement_by, statement_of, read_text}
 use Rattle.rv_text.proofs.Solid.{IsSolid, IsCut, cut_alone, cut_before, two_operands, three_operands, no_operands, two_end, three_end}
 use Rattle.rv_text.proofs.Named.{all_named}
 use Rattle.rv_text.proofs.Written.{number_of-target, register_solid, target_solid, upper_solid, signed_solid}
 use Rattle.rv_text.proofs.Parsed.{register_in-text, immediate_of-signed, immediate_solid, field_below-upper, field_below-set, address_text, address_is, offset_in-address, base_in-address, address_solid}
 
 -- a name, and the right number of operands after it
-statement_cut : (mnemonic : Mnemonic) (text after : List ℕ) → IsCut text (name_of mnemonic) after
-    → takes mnemonic (operand_count after) ≡ true → statement_of text ≡ operands_read mnemonic after
+statement_cut : (mnemonic : Mnemonic) (text after : List ℕ) → IsCut text (mnemonic_name mnemonic) after
+    → takes_operands mnemonic (operand_count after) ≡ true → statement_of text ≡ operands_read mnemonic after
 unfolding statement_of statement_by
 statement_cut mnemonic text after cut right =
     rw (cut.name_is, (all_named mnemonic).found, cut.after_is, right) refl
 
 -- a name alone
-statement_alone : (mnemonic : Mnemonic) → takes mnemonic 0 ≡ true → statement_of (name_of mnemonic ++ []) ≡ operands_read mnemonic []
+statement_alone : (mnemonic : Mnemonic) → takes_operands mnemonic 0 ≡ true → statement_of (mnemonic_name mnemonic ++ []) ≡ operands_read mnemonic []
 statement_alone mnemonic right =
-    statement_cut mnemonic (name_of mnemonic ++ []) [] (cut_alone (name_of mnemonic) (all_named mnemonic).word)
-    (ap (takes mnemonic) no_operands ∙ right)
+    statement_cut mnemonic (mnemonic_name mnemonic ++ []) [] (cut_alone (mnemonic_name mnemonic) (all_named mnemonic).word)
+    (ap (takes_operands mnemonic) no_operands ∙ right)
 
 -- the text after a name that has two operands
 abbrev two_text : List ℕ → List ℕ → List ℕ
@@ -52,19 +52,19 @@ two_text x y = 32 ∷ (x ++ 44 ∷ 32 ∷ (y ++ []))
 abbrev three_text : List ℕ → List ℕ → List ℕ → List ℕ
 three_text x y z = 32 ∷ (x ++ 44 ∷ 32 ∷ (y ++ 44 ∷ 32 ∷ (z ++ [])))
 
-statement_two : (mnemonic : Mnemonic) (x y : List ℕ) → IsSolid x → IsSolid y → takes mnemonic 2 ≡ true
-    → statement_of (name_of mnemonic ++ two_text x y) ≡ operands_read mnemonic (two_text x y)
+statement_two : (mnemonic : Mnemonic) (x y : List ℕ) → IsSolid x → IsSolid y → takes_operands mnemonic 2 ≡ true
+    → statement_of (mnemonic_name mnemonic ++ two_text x y) ≡ operands_read mnemonic (two_text x y)
 statement_two mnemonic x y hx hy right =
-    statement_cut mnemonic (name_of mnemonic ++ two_text x y) (two_text x y)
-    (cut_before (name_of mnemonic) (x ++ 44 ∷ 32 ∷ (y ++ [])) (all_named mnemonic).word (two_end x y hx hy))
-    (ap (takes mnemonic) (two_operands x y hx hy).count ∙ right)
+    statement_cut mnemonic (mnemonic_name mnemonic ++ two_text x y) (two_text x y)
+    (cut_before (mnemonic_name mnemonic) (x ++ 44 ∷ 32 ∷ (y ++ [])) (all_named mnemonic).word (two_end x y hx hy))
+    (ap (takes_operands mnemonic) (two_operands x y hx hy).count ∙ right)
 
-statement_three : (mnemonic : Mnemonic) (x y z : List ℕ) → IsSolid x → IsSolid y → IsSolid z → takes mnemonic 3 ≡ true
-    → statement_of (name_of mnemonic ++ three_text x y z) ≡ operands_read mnemonic (three_text x y z)
+statement_three : (mnemonic : Mnemonic) (x y z : List ℕ) → IsSolid x → IsSolid y → IsSolid z → takes_operands mnemonic 3 ≡ true
+    → statement_of (mnemonic_name mnemonic ++ three_text x y z) ≡ operands_read mnemonic (three_text x y z)
 statement_three mnemonic x y z hx hy hz right =
-    statement_cut mnemonic (name_of mnemonic ++ three_text x y z) (three_text x y z)
-    (cut_before (name_of mnemonic) (x ++ 44 ∷ 32 ∷ (y ++ 44 ∷ 32 ∷ (z ++ []))) (all_named mnemonic).word (three_end x y z hx hy hz))
-    (ap (takes mnemonic) (three_operands x y z hx hy hz).count ∙ right)
+    statement_cut mnemonic (mnemonic_name mnemonic ++ three_text x y z) (three_text x y z)
+    (cut_before (mnemonic_name mnemonic) (x ++ 44 ∷ 32 ∷ (y ++ 44 ∷ 32 ∷ (z ++ []))) (all_named mnemonic).word (three_end x y z hx hy hz))
+    (ap (takes_operands mnemonic) (three_operands x y z hx hy hz).count ∙ right)
 
 -- the forms
 upper_read : (rd imm : ℕ) → IsRegister rd → imm < 2 ^ 20
@@ -127,10 +127,10 @@ branch_read c rs1 rs2 target r s =
 word_back : (pc w : ℕ) → pc < 2 ^ 32 → w < 2 ^ 32 → ((pc + w) % 2 ^ 32 % 2 ^ 32 + (2 ^ 32 - pc)) % 2 ^ 32 ≡ w
 word_back pc w small below = omega arith
 
-distance_back : (pc : ℕ) (imm : ℤ) → pc < 2 ^ 32 → FitsSigned w32 imm → distance_of (pos (word_sum pc (word_of imm))) pc ≡ imm
+distance_back : (pc : ℕ) (imm : ℤ) → pc < 2 ^ 32 → FitsSigned w32 imm → distance_of (pos (word_sum pc (signed_word imm))) pc ≡ imm
 unfolding distance_of
 distance_back pc imm small fits =
-    rw (word_back pc (word_of imm) small (Fits-of_z fits).fits) (to_z-of_z fits)
+    rw (word_back pc (signed_word imm) small (Fits-of_z fits).fits) (to_z-of_z fits)
 
 -- a distance that its field holds
 record IsFar (half : ℕ) (imm : ℤ) : Type 0 where
@@ -159,10 +159,10 @@ far half imm (low, high) even some small = record {
 }
 
 target_back : (pc : ℕ) (imm : ℤ) (half : ℕ) → pc < 2 ^ 32 → IsFar half imm
-    → (jump : Jump) → aimed_at jump (codes "0x" ++ hex8 (word_sum pc (word_of imm))) pc ≡ aimed jump imm
+    → (jump : Jump) → aimed_at jump (codes "0x" ++ hex8 (word_sum pc (signed_word imm))) pc ≡ aimed jump imm
 unfolding aimed_at
 target_back pc imm half small h jump =
-    rw (number_of-target (word_sum pc (word_of imm)) (omega arith), distance_back pc imm small h.fits) refl
+    rw (number_of-target (word_sum pc (signed_word imm)) (omega arith), distance_back pc imm small h.fits) refl
 
 link_back : (rd : ℕ) (imm : ℤ) → IsFar (2 ^ 20) imm → aimed (jump.Link rd) imm ≡ Ok (instr.Jal rd imm)
 unfolding aimed
@@ -179,16 +179,16 @@ read_as text pc found e = ap (λ f. and_then f (placed pc)) e
 
 -- an instruction of the form with an address, as it is written
 address_written : (mnemonic : Mnemonic) (first base : ℕ) (imm : ℤ)
-    → name_of mnemonic ++ listed (codes " ") (Register first ∷ Address imm base ∷ [])
-    ≡ name_of mnemonic ++ two_text (register_text first) (address_text imm base)
-unfolding listed operand_text
+    → mnemonic_name mnemonic ++ operands_listed (codes " ") (Register first ∷ Address imm base ∷ [])
+    ≡ mnemonic_name mnemonic ++ two_text (register_text first) (address_text imm base)
+unfolding operands_listed operand_text
 address_written mnemonic first base imm =
-    ap (λ address. name_of mnemonic ++ two_text (register_text first) address) (address_is imm base)
+    ap (λ address. mnemonic_name mnemonic ++ two_text (register_text first) address) (address_is imm base)
 
 -- a fence, as it is written and read
 record IsFenced (mnemonic : Mnemonic) (plain rd rs1 set : ℕ) (operands : List Operand) : Type 0 where
   after : List ℕ
-  told : statement_of (name_of mnemonic ++ listed (codes " ") operands) ≡ operands_read mnemonic after
+  told : statement_of (mnemonic_name mnemonic ++ operands_listed (codes " ") operands) ≡ operands_read mnemonic after
   form : fence_form plain after ≡ Ok (rd, rs1, set)
 
 abbrev found : ℕ → ℕ → ℕ → Result (ℕ × ℕ × ℕ) TextErr
@@ -210,9 +210,9 @@ is_plain : (m n : ℕ) → nat_eq m n ≡ true → n ≡ m
 is_plain m n h = grind (arith, nat_tests)
 
 fenced : (mnemonic : Mnemonic) (plain rd rs1 set : ℕ) (b : Bool) → (rd == 0 && rs1 == 0 && set == plain) ≡ b
-    → takes mnemonic 0 ≡ true → takes mnemonic 3 ≡ true → IsRegister rd → IsRegister rs1 → set < 2 ^ 12
+    → takes_operands mnemonic 0 ≡ true → takes_operands mnemonic 3 ≡ true → IsRegister rd → IsRegister rs1 → set < 2 ^ 12
     → IsFenced mnemonic plain rd rs1 set (if b then [] else Register rd ∷ Register rs1 ∷ Number (pos set) ∷ [])
-unfolding listed operand_text
+unfolding operands_listed operand_text
 fenced mnemonic plain rd rs1 set true e none three r s h =
     let tests = all_true (nat_eq rd 0) (nat_eq rs1 0) (nat_eq set plain) e in
     record {
@@ -227,7 +227,7 @@ fenced mnemonic plain rd rs1 set false e none three r s h = record {
 }
 
 pub round_trip : (i : Instr) (pc : ℕ) → Fits i → pc < 2 ^ 32 → read_text (text_of i pc) pc ≡ Ok i
-unfolding text_of listed operand_text operands_read takes
+unfolding text_of operands_listed operand_text operands_read takes_operands
 round_trip (instr.Lui rd imm) pc (r, h) small =
     read_as _ pc _ (statement_two Lui _ _ (register_solid rd r) (upper_solid imm) refl
     ∙ ap (whole (λ (rd, imm). instr.Lui rd imm)) (upper_read rd imm r h))
@@ -236,7 +236,7 @@ round_trip (instr.Auipc rd imm) pc (r, h) small =
     ∙ ap (whole (λ (rd, imm). instr.Auipc rd imm)) (upper_read rd imm r h))
 round_trip (instr.Jal rd imm) pc (r, h, even) small =
     let distance = far (2 ^ 20) imm h even (lit< tt) (lit≤ tt) in
-    let target : ℕ = word_sum pc (word_of imm) in
+    let target : ℕ = word_sum pc (signed_word imm) in
     read_as _ pc _ (statement_two Jal _ _ (register_solid rd r) (target_solid target) refl ∙ jump_read rd target r)
     ∙ target_back pc imm (2 ^ 20) small distance (jump.Link rd)
     ∙ link_back rd imm distance
@@ -246,7 +246,7 @@ round_trip (instr.Jalr rd rs1 imm) pc (r, s, h) small =
     ∙ ap (whole (λ (rd, imm, rs1). instr.Jalr rd rs1 imm)) (address_read rd rs1 imm r s h))
 round_trip (instr.Branch c rs1 rs2 imm) pc (r, s, h, even) small =
     let distance = far (2 ^ 12) imm h even (lit< tt) (lit≤ tt) in
-    let target : ℕ = word_sum pc (word_of imm) in
+    let target : ℕ = word_sum pc (signed_word imm) in
     read_as _ pc _ (statement_three (Branch c) _ _ _ (register_solid rs1 r) (register_solid rs2 s) (target_solid target) refl
     ∙ branch_read c rs1 rs2 target r s)
     ∙ target_back pc imm (2 ^ 12) small distance (jump.Branch c rs1 rs2)

@@ -8,7 +8,7 @@ use Rattle.std.specs.Str.Parse.{digits_value, AllDigits}
 use Rattle.std.specs.List.{list_all, prefix_len, starts_with}
 use Rattle.std.proofs.lemmas.Fmt.{decimal_is_IsNumeral, length-decimal-le, first_decimal, decimal_digit}
 use Rattle.std.proofs.lemmas.Bool.Decides.{nat_tests}
-use Rattle.rv_text.specs.Numbers.{is_numeral, numeral, magnitude, number_of, plus, minus}
+use Rattle.rv_text.specs.Numbers.{is_numeral, numeral, magnitude, number_of, as_positive, minus}
 use Rattle.rv_text.specs.Registers.{register_numbered, register_padded, register_of}
 use Rattle.rv_text.specs.Fields.{is_open}
 use Rattle.texts.specs.Hexadecimal.{hex8}
@@ -90,7 +90,7 @@ number_of-signed (pos n) h =
     let short : n < 10 ^ 10 = omega arith in
     let small : n < 2 ^ 64 = omega arith in
     rw (no_minus 10 (decimal n) (lit≤ tt) (decimal_digits n small) (decimal_some n small))
-    (ap plus (magnitude-decimal n short))
+    (ap as_positive (magnitude-decimal n short))
 number_of-signed (negsuc n) h =
     let below : suc n < 2 ^ 32 = h in
     let short : suc n < 10 ^ 10 = omega arith in
@@ -198,7 +198,7 @@ register_solid r h = let digits = decimal_solid r (omega arith) in record { some
 prefixed : (most_digits : List ℕ) (n : ℕ) → AllDigits 16 most_digits → 0 < length most_digits → length most_digits ≤ 8
     → digits_value 16 most_digits ≡ n → number_of (codes "0x" ++ most_digits) ≡ Some (pos n)
 unfolding number_of magnitude
-prefixed ds n all some short value = ap plus (numeral-digits 16 8 n ds all some short value)
+prefixed ds n all some short value = ap as_positive (numeral-digits 16 8 n ds all some short value)
 
 prefixed_solid : (ds : List ℕ) → AllDigits 16 ds → IsSolid (codes "0x" ++ ds)
 prefixed_solid ds all = record { some = omega arith; bytes = digits_solid 16 ds (lit≤ tt) all }

@@ -13,8 +13,8 @@ use Rattle.rv_text.specs.Numbers.{number_of}
 use Rattle.rv_text.specs.Registers.{register_of}
 
 -- an operand that must be a register
-unfoldable pub register_in : List ℕ → Result ℕ TextErr
-register_in text = needed BadRegister (register_of text)
+unfoldable pub register_in_text : List ℕ → Result ℕ TextErr
+register_in_text text = needed BadRegister (register_of text)
 
 -- the number, where it is from the least to the greatest
 abbrev pub within : ℤ → ℤ → ℤ → Result ℤ TextErr
@@ -22,16 +22,16 @@ within least greatest z =
     if int_le least z && int_le z greatest then Ok z else Err (OutOfRange z)
 
 -- an operand that must be a number from the least to the greatest
-unfoldable pub number_in : ℤ → ℤ → List ℕ → Result ℤ TextErr
-number_in least greatest text = and_then (needed BadNumber (number_of text)) (within least greatest)
+unfoldable pub number_operand : ℤ → ℤ → List ℕ → Result ℤ TextErr
+number_operand least greatest text = and_then (needed BadNumber (number_of text)) (within least greatest)
 
 -- a number of twelve bits, read as signed
 abbrev pub immediate_in : List ℕ → Result ℤ TextErr
-immediate_in text = number_in (negsuc 2047) (pos 2047) text
+immediate_in text = number_operand (negsuc 2047) (pos 2047) text
 
 -- an operand that must be a number below a limit, and not below 0
 abbrev pub field_below : ℕ → List ℕ → Result ℕ TextErr
-field_below limit text = and_then (number_in (pos 0) (pos (limit - 1)) text) (λ z. Ok (unsigned_abs z))
+field_below limit text = and_then (number_operand (pos 0) (pos (limit - 1)) text) (λ z. Ok (unsigned_abs z))
 
 -- the operations that shift
 abbrev pub is_shift : ImmOp → Bool
@@ -42,7 +42,7 @@ is_shift _ = false
 
 -- the immediate of an operation: for a shift, its amount
 unfoldable pub immediate_of : ImmOp → List ℕ → Result ℤ TextErr
-immediate_of op text = if is_shift op then number_in (pos 0) (pos 31) text else immediate_in text
+immediate_of op text = if is_shift op then number_operand (pos 0) (pos 31) text else immediate_in text
 
 -- `(`
 abbrev pub is_open : ℕ → Bool
@@ -64,4 +64,4 @@ offset_in text = immediate_in (trimmed (before_first is_open text))
 unfoldable pub base_in : List ℕ → Result ℕ TextErr
 base_in text =
     and_then (needed BadRegister (enclosed (drop (position_or_len is_open text) text)))
-    (λ inner. register_in (trimmed inner))
+    (λ inner. register_in_text (trimmed inner))

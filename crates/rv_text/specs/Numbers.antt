@@ -22,9 +22,9 @@ magnitude text =
     else numeral 10 10 text
 
 -- the number as it is
-abbrev pub plus : Option ℕ → Option ℤ
-plus None = None
-plus (Some n) = Some (pos n)
+abbrev pub as_positive : Option ℕ → Option ℤ
+as_positive None = None
+as_positive (Some n) = Some (pos n)
 
 -- the number, negated
 abbrev pub minus : Option ℕ → Option ℤ
@@ -35,4 +35,4 @@ minus (Some n) = Some (neg_ℤ (pos n))
 unfoldable pub number_of : List ℕ → Option ℤ
 number_of text =
     if starts_with nat_eq text (codes "-") then minus (magnitude (drop 1 text))
-    else plus (magnitude text)
+    else as_positive (magnitude text)

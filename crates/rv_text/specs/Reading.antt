@@ -15,7 +15,7 @@ use Rattle.rv_text.specs.declared.statement.Jump.TheVariants as jump
 use Rattle.rv_text.specs.declared.text_err.TextErr.{TextErr}
 use Rattle.rv_text.specs.declared.text_err.TextErr.TheVariants.{UnknownName, BadNumber, OutOfRange, WrongCount}
 use Rattle.texts.specs.Answers.{and_then, needed}
-use Rattle.rv_text.specs.Fields.{register_in, field_below, immediate_of, offset_in, base_in}
+use Rattle.rv_text.specs.Fields.{register_in_text, field_below, immediate_of, offset_in, base_in}
 use Rattle.rv_text.specs.Pieces.{name_part, operand_part, operand_count, operand_at}
 use Rattle.rv_text.specs.Numbers.{number_of}
 use Rattle.rv_text.specs.Names.{mnemonic_named}
@@ -77,41 +77,41 @@ is_fence FenceI = true
 is_fence _ = false
 
 -- the mnemonic may have this many operands
-unfoldable pub takes : Mnemonic → ℕ → Bool
-takes mnemonic count = count == wanted mnemonic || is_fence mnemonic && count == 0
+unfoldable pub takes_operands : Mnemonic → ℕ → Bool
+takes_operands mnemonic count = count == wanted mnemonic || is_fence mnemonic && count == 0
 
 -- a destination and a field of twenty bits
 unfoldable pub upper_form : List ℕ → Result (ℕ × ℕ) TextErr
 upper_form text =
-    and_then (register_in (operand_at text 0)) (λ rd.
+    and_then (register_in_text (operand_at text 0)) (λ rd.
     and_then (field_below (2 ^ 20) (operand_at text 1)) (λ imm. Ok (rd, imm)))
 
 -- a register, and an address: a number and a register
 unfoldable pub address_form : List ℕ → Result (ℕ × ℤ × ℕ) TextErr
 address_form text =
-    and_then (register_in (operand_at text 0)) (λ first.
+    and_then (register_in_text (operand_at text 0)) (λ first.
     and_then (offset_in (operand_at text 1)) (λ imm.
     and_then (base_in (operand_at text 1)) (λ base. Ok (first, imm, base))))
 
 -- a destination, a register and the immediate of an operation
 unfoldable pub immediate_form : ImmOp → List ℕ → Result (ℕ × ℕ × ℤ) TextErr
 immediate_form op text =
-    and_then (register_in (operand_at text 0)) (λ rd.
-    and_then (register_in (operand_at text 1)) (λ rs1.
+    and_then (register_in_text (operand_at text 0)) (λ rd.
+    and_then (register_in_text (operand_at text 1)) (λ rs1.
     and_then (immediate_of op (operand_at text 2)) (λ imm. Ok (rd, rs1, imm))))
 
 -- three registers
 unfoldable pub register_form : List ℕ → Result (ℕ × ℕ × ℕ) TextErr
 register_form text =
-    and_then (register_in (operand_at text 0)) (λ rd.
-    and_then (register_in (operand_at text 1)) (λ rs1.
-    and_then (register_in (operand_at text 2)) (λ rs2. Ok (rd, rs1, rs2))))
+    and_then (register_in_text (operand_at text 0)) (λ rd.
+    and_then (register_in_text (operand_at text 1)) (λ rs1.
+    and_then (register_in_text (operand_at text 2)) (λ rs2. Ok (rd, rs1, rs2))))
 
 -- two registers and a field of twelve bits
 unfoldable pub set_form : List ℕ → Result (ℕ × ℕ × ℕ) TextErr
 set_form text =
-    and_then (register_in (operand_at text 0)) (λ rd.
-    and_then (register_in (operand_at text 1)) (λ rs1.
+    and_then (register_in_text (operand_at text 0)) (λ rd.
+    and_then (register_in_text (operand_at text 1)) (λ rs1.
     and_then (field_below (2 ^ 12) (operand_at text 2)) (λ set. Ok (rd, rs1, set))))
 
 -- the operands of a fence; where there are none, its registers are 0 and its set is the plain one
@@ -125,13 +125,13 @@ whole make found = and_then found (λ a. Ok (WholeOf (make a)))
 -- a destination, and a target
 unfoldable pub jump_form : List ℕ → Result LineReading TextErr
 jump_form text =
-    and_then (register_in (operand_at text 0)) (λ rd. Ok (AimedAt (jump.Link rd) (operand_at text 1)))
+    and_then (register_in_text (operand_at text 0)) (λ rd. Ok (AimedAt (jump.Link rd) (operand_at text 1)))
 
 -- two registers, and a target
 unfoldable pub branch_form : Cond → List ℕ → Result LineReading TextErr
 branch_form c text =
-    and_then (register_in (operand_at text 0)) (λ rs1.
-    and_then (register_in (operand_at text 1)) (λ rs2.
+    and_then (register_in_text (operand_at text 0)) (λ rs1.
+    and_then (register_in_text (operand_at text 1)) (λ rs2.
     Ok (AimedAt (jump.Branch c rs1 rs2) (operand_at text 2))))
 
 -- what the operands of a mnemonic say, read from left to right; a store's first register is the one that is stored
@@ -152,14 +152,14 @@ operands_read FenceI text = whole (λ (rd, rs1, set). instr.FenceI rd rs1 set) (
 operands_read (Mul op) text = whole (λ (rd, rs1, rs2). instr.Mul op rd rs1 rs2) (register_form text)
 
 -- a count of operands, capped at the greatest number of 32 bits
-abbrev pub counted : ℕ → ℕ
-counted count = min count (2 ^ 32 - 1)
+abbrev pub capped_count : ℕ → ℕ
+capped_count count = min count (2 ^ 32 - 1)
 
 -- what the text after a name says: first the operands are counted
 unfoldable pub statement_by : Mnemonic → List ℕ → Result LineReading TextErr
 statement_by mnemonic text =
-    if takes mnemonic (operand_count text) then operands_read mnemonic text
-    else Err (WrongCount (counted (operand_count text)) (wanted mnemonic))
+    if takes_operands mnemonic (operand_count text) then operands_read mnemonic text
+    else Err (WrongCount (capped_count (operand_count text)) (wanted mnemonic))
 
 -- what a text says: first its name is looked up
 unfoldable pub statement_of : List ℕ → Result LineReading TextErr

@@ -4,12 +4,12 @@ use Rattle.std.specs.Prelude.{ℕ, ◌==◌, ◌&&◌, ℤ, pos, List, [], ◌�
 use Rattle.std.specs.Fmt.{signed_decimal}
 use Rattle.std.specs.List.{prefix_len}
 use Rattle.texts.specs.Hexadecimal.{hex8}
-use Rattle.rv_inst.specs.Words.{word_sum, word_of}
+use Rattle.rv_inst.specs.Words.{word_sum, signed_word}
 use Rattle.rv_inst.specs.declared.instruction.Instr.{Instr}
 use Rattle.rv_inst.specs.declared.instruction.Instr.TheVariants.{Lui, Auipc, Jal, Jalr, Branch, Load, Store, OpImm, Op, Fence, Ecall, Ebreak, FenceI, Mul}
 use Rattle.rv_text.specs.declared.operands.Operand.{Operand}
 use Rattle.rv_text.specs.declared.operands.Operand.TheVariants.{Register, Number, Upper, Target, Address}
-use Rattle.rv_text.specs.Names.{name_of, mnemonic_of}
+use Rattle.rv_text.specs.Names.{mnemonic_name, mnemonic_of}
 
 -- digits without the leading zeros, of which at most seven are left out
 abbrev pub without_zeros : List ℕ → List ℕ
@@ -32,13 +32,13 @@ operand_text (Target address) = codes "0x" ++ hex8 address
 operand_text (Address z r) = signed_decimal z ++ codes "(" ++ register_text r ++ codes ")"
 
 -- the operands in order, with these bytes before the first and `, ` before each of the others
-unfoldable pub listed : List ℕ → List Operand → List ℕ
-listed before [] = []
-listed before (operand ∷ operands) = before ++ operand_text operand ++ listed (codes ", ") operands
+unfoldable pub operands_listed : List ℕ → List Operand → List ℕ
+operands_listed before [] = []
+operands_listed before (operand ∷ operands) = before ++ operand_text operand ++ operands_listed (codes ", ") operands
 
 -- the target of a jump or a branch: the address of the instruction plus the distance, modulo 2 ^ 32
-abbrev pub target_of : ℕ → ℤ → Operand
-target_of pc distance = Target (word_sum pc (word_of distance))
+abbrev pub target_operand : ℕ → ℤ → Operand
+target_operand pc distance = Target (word_sum pc (signed_word distance))
 
 -- the operands of a fence: none where its registers are 0 and its set is the plain one
 abbrev pub fence_operands : ℕ → ℕ → ℕ → ℕ → List Operand
@@ -50,9 +50,9 @@ fence_operands plain rd rs1 set =
 abbrev pub operands_of : Instr → ℕ → List Operand
 operands_of (Lui rd imm) pc = Register rd ∷ Upper imm ∷ []
 operands_of (Auipc rd imm) pc = Register rd ∷ Upper imm ∷ []
-operands_of (Jal rd imm) pc = Register rd ∷ target_of pc imm ∷ []
+operands_of (Jal rd imm) pc = Register rd ∷ target_operand pc imm ∷ []
 operands_of (Jalr rd rs1 imm) pc = Register rd ∷ Address imm rs1 ∷ []
-operands_of (Branch c rs1 rs2 imm) pc = Register rs1 ∷ Register rs2 ∷ target_of pc imm ∷ []
+operands_of (Branch c rs1 rs2 imm) pc = Register rs1 ∷ Register rs2 ∷ target_operand pc imm ∷ []
 operands_of (Load k rd rs1 imm) pc = Register rd ∷ Address imm rs1 ∷ []
 operands_of (Store k rs1 rs2 imm) pc = Register rs2 ∷ Address imm rs1 ∷ []
 operands_of (OpImm op rd rs1 imm) pc = Register rd ∷ Register rs1 ∷ Number imm ∷ []
@@ -65,4 +65,4 @@ operands_of (Mul op rd rs1 rs2) pc = Register rd ∷ Register rs1 ∷ Register r
 
 -- the text of the instruction at an address: its name, and its operands
 unfoldable pub text_of : Instr → ℕ → List ℕ
-text_of i pc = name_of (mnemonic_of i) ++ listed (codes " ") (operands_of i pc)
+text_of i pc = mnemonic_name (mnemonic_of i) ++ operands_listed (codes " ") (operands_of i pc)

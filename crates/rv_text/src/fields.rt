@@ -1,9 +1,9 @@
 //! Operands that are read, each with its range.
-#![tactic(auto, unfolding(crate::specs::Fields::register_in, crate::specs::Fields::number_in, crate::specs::Fields::immediate_of, crate::specs::Fields::offset_in, crate::specs::Fields::base_in))]
+#![tactic(auto, unfolding(crate::specs::Fields::register_in_text, crate::specs::Fields::number_operand, crate::specs::Fields::immediate_of, crate::specs::Fields::offset_in, crate::specs::Fields::base_in))]
 
 ghost use Rattle.std.specs.Prelude.{◌≡◌, ◌-◌, ◌<◌, ◌≤◌, ◌^◌, ◌≤ℤ◌, ◌<ℤ◌, pos, negsuc, Ok, Err, Some, None, MatchOption, IfOk};
 ghost use Rattle.texts.specs.Answers.{needed};
-ghost use Rattle.rv_text.specs.Fields.{register_in, number_in, immediate_in, field_below, is_shift, immediate_of, enclosed, offset_in, base_in};
+ghost use Rattle.rv_text.specs.Fields.{register_in_text, number_operand, immediate_in, field_below, is_shift, immediate_of, enclosed, offset_in, base_in};
 
 use crate::numbers::read_number;
 use crate::pieces::{find_byte, trim};
@@ -13,7 +13,7 @@ use rv_inst::ImmOp;
 
 /// The register that an operand spells, or `BadRegister`.
 pub fn register_in(text: &[u8]) -> Result<u8, TextErr>
-    ensures value { result ≡ register_in text.now }
+    ensures value { result ≡ register_in_text text.now }
     ensures register { IfOk result (λ r. r < 32) }
 {
     read_register(text).ok_or(TextErr::BadRegister)
@@ -22,7 +22,7 @@ pub fn register_in(text: &[u8]) -> Result<u8, TextErr>
 /// The number that an operand spells, from `least` to `greatest`: `BadNumber` where it spells no number, and
 /// `OutOfRange` with the number where it is outside.
 pub fn number_in(least: i32, greatest: i32, text: &[u8]) -> Result<i32, TextErr>
-    ensures value { result ≡ number_in least greatest text.now }
+    ensures value { result ≡ number_operand least greatest text.now }
     ensures least { IfOk result (λ z. least ≤ℤ z) }
     ensures greatest { IfOk result (λ z. z ≤ℤ greatest) }
 {

@@ -1,6 +1,6 @@
 //! The names of the instructions.
 ghost use Rattle.std.specs.Prelude.{◌≡◌, ◌≤◌, length};
-ghost use Rattle.rv_text.specs.Names.{name_of, mnemonic_named, mnemonic_of};
+ghost use Rattle.rv_text.specs.Names.{mnemonic_name, mnemonic_named, mnemonic_of};
 
 use rv_inst::{Cond, ImmOp, Instr, LoadKind, MulOp, RegOp, StoreKind};
 
@@ -77,7 +77,7 @@ const MNEMONICS: [Mnemonic; 49] = [
 ];
 
 fn branch_name(cond: Cond) -> &'static [u8]
-    ensures { result.now ≡ name_of (Mnemonic.Branch cond) }
+    ensures { result.now ≡ mnemonic_name (Mnemonic.Branch cond) }
 {
     match cond {
         Cond::Eq => b"beq",
@@ -90,7 +90,7 @@ fn branch_name(cond: Cond) -> &'static [u8]
 }
 
 fn load_name(kind: LoadKind) -> &'static [u8]
-    ensures { result.now ≡ name_of (Mnemonic.Load kind) }
+    ensures { result.now ≡ mnemonic_name (Mnemonic.Load kind) }
 {
     match kind {
         LoadKind::Byte => b"lb",
@@ -102,7 +102,7 @@ fn load_name(kind: LoadKind) -> &'static [u8]
 }
 
 fn store_name(kind: StoreKind) -> &'static [u8]
-    ensures { result.now ≡ name_of (Mnemonic.Store kind) }
+    ensures { result.now ≡ mnemonic_name (Mnemonic.Store kind) }
 {
     match kind {
         StoreKind::Byte => b"sb",
@@ -112,7 +112,7 @@ fn store_name(kind: StoreKind) -> &'static [u8]
 }
 
 fn imm_name(op: ImmOp) -> &'static [u8]
-    ensures { result.now ≡ name_of (Mnemonic.OpImm op) }
+    ensures { result.now ≡ mnemonic_name (Mnemonic.OpImm op) }
 {
     match op {
         ImmOp::Add => b"addi",
@@ -128,7 +128,7 @@ fn imm_name(op: ImmOp) -> &'static [u8]
 }
 
 fn op_name(op: RegOp) -> &'static [u8]
-    ensures { result.now ≡ name_of (Mnemonic.Op op) }
+    ensures { result.now ≡ mnemonic_name (Mnemonic.Op op) }
 {
     match op {
         RegOp::Add => b"add",
@@ -145,7 +145,7 @@ fn op_name(op: RegOp) -> &'static [u8]
 }
 
 fn mul_name(op: MulOp) -> &'static [u8]
-    ensures { result.now ≡ name_of (Mnemonic.Mul op) }
+    ensures { result.now ≡ mnemonic_name (Mnemonic.Mul op) }
 {
     match op {
         MulOp::Mul => b"mul",
@@ -184,7 +184,7 @@ impl Mnemonic {
 
     /// The name, in lower case.
     pub fn name(self) -> &'static [u8]
-        ensures value { result.now ≡ name_of self }
+        ensures value { result.now ≡ mnemonic_name self }
         ensures short { length result.now ≤ 7 }
     {
         match self {

@@ -1,9 +1,9 @@
 //! The instruction that a text spells.
-#![tactic(auto, unfolding(crate::specs::Reading::upper_form, crate::specs::Reading::address_form, crate::specs::Reading::immediate_form, crate::specs::Reading::register_form, crate::specs::Reading::set_form, crate::specs::Reading::fence_form, crate::specs::Reading::jump_form, crate::specs::Reading::branch_form, crate::specs::Reading::takes))]
+#![tactic(auto, unfolding(crate::specs::Reading::upper_form, crate::specs::Reading::address_form, crate::specs::Reading::immediate_form, crate::specs::Reading::register_form, crate::specs::Reading::set_form, crate::specs::Reading::fence_form, crate::specs::Reading::jump_form, crate::specs::Reading::branch_form, crate::specs::Reading::takes_operands))]
 
 ghost use Rattle.std.specs.Prelude.{◌≡◌, Ok, Err, MatchResult};
 ghost use Rattle.rv_text.specs.Seen.{ReadsStatement};
-ghost use Rattle.rv_text.specs.Reading.{upper_form, address_form, immediate_form, register_form, set_form, fence_form, jump_form, branch_form, operands_read, wanted, is_fence, takes, counted, statement_by, statement_of, aimed_at, read_text};
+ghost use Rattle.rv_text.specs.Reading.{upper_form, address_form, immediate_form, register_form, set_form, fence_form, jump_form, branch_form, operands_read, wanted, is_fence, takes_operands, capped_count, statement_by, statement_of, aimed_at, read_text};
 
 use crate::fields::{base_in, field_below, immediate_of, offset_in, register_in};
 use crate::mnemonic::Mnemonic;
@@ -162,7 +162,7 @@ fn is_fence(mnemonic: Mnemonic) -> bool
 }
 
 fn takes(mnemonic: Mnemonic, count: usize) -> bool
-    ensures { result ≡ takes mnemonic count }
+    ensures { result ≡ takes_operands mnemonic count }
 {
     count == wanted(mnemonic) as usize || is_fence(mnemonic) && count == 0
 }

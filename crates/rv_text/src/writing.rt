@@ -5,7 +5,7 @@ ghost use Rattle.std.specs.Prelude.{◌≡◌, ◌+◌, ◌*◌, ◌<◌, ◌≤
 ghost use Rattle.std.specs.List.{prefix_len};
 ghost use Rattle.std.specs.Fmt.{signed_decimal};
 ghost use Rattle.rv_inst.specs.Ranges.{Fits};
-ghost use Rattle.rv_text.specs.Writing.{hexadecimal, register_text, operand_text, listed, target_of, fence_operands, operands_of, text_of};
+ghost use Rattle.rv_text.specs.Writing.{hexadecimal, register_text, operand_text, operands_listed, target_operand, fence_operands, operands_of, text_of};
 ghost use Rattle.rv_text.specs.Reading.{read_text};
 
 use crate::mnemonic::Mnemonic;
@@ -77,10 +77,10 @@ fn put_operand(line: &mut TextLine, operand: Operand)
     }
 }
 
-#[tactic(auto, unfolding(crate::specs::Writing::listed))]
+#[tactic(auto, unfolding(crate::specs::Writing::operands_listed))]
 fn put_two(line: &mut TextLine, first: Operand, second: Operand)
     requires { length line.old + 37 ≤ 80 }
-    ensures text { line.new ≡ line.old ++ listed (codes " ") (first ∷ second ∷ []) }
+    ensures text { line.new ≡ line.old ++ operands_listed (codes " ") (first ∷ second ∷ []) }
     ensures short { length line.new ≤ length line.old + 37 }
 {
     line.put(b" ");
@@ -89,10 +89,10 @@ fn put_two(line: &mut TextLine, first: Operand, second: Operand)
     put_operand(line, second);
 }
 
-#[tactic(auto, unfolding(crate::specs::Writing::listed))]
+#[tactic(auto, unfolding(crate::specs::Writing::operands_listed))]
 fn put_three(line: &mut TextLine, first: Operand, second: Operand, third: Operand)
     requires { length line.old + 56 ≤ 80 }
-    ensures { line.new ≡ line.old ++ listed (codes " ") (first ∷ second ∷ third ∷ []) }
+    ensures { line.new ≡ line.old ++ operands_listed (codes " ") (first ∷ second ∷ third ∷ []) }
 {
     put_two(line, first, second);
     line.put(b", ");
@@ -100,27 +100,27 @@ fn put_three(line: &mut TextLine, first: Operand, second: Operand, third: Operan
 }
 
 fn target(pc: u32, distance: i32) -> Operand
-    ensures { result ≡ target_of pc distance }
+    ensures { result ≡ target_operand pc distance }
 {
     Target(pc.wrapping_add(distance.cast_unsigned()))
 }
 
-#[tactic(auto, unfolding(crate::specs::Writing::listed))]
+#[tactic(auto, unfolding(crate::specs::Writing::operands_listed))]
 fn put_fence(line: &mut TextLine, plain: u32, rd: u8, rs1: u8, set: u32)
     requires room { length line.old + 57 ≤ 80 }
     requires set { set < 4096 }
-    ensures { line.new ≡ line.old ++ listed (codes " ") (fence_operands plain rd rs1 set) }
+    ensures { line.new ≡ line.old ++ operands_listed (codes " ") (fence_operands plain rd rs1 set) }
 {
     if rd != 0 || rs1 != 0 || set != plain {
         put_three(line, Register(rd), Register(rs1), Number(set as i32));
     }
 }
 
-#[tactic(auto, unfolding(crate::specs::Writing::listed))]
+#[tactic(auto, unfolding(crate::specs::Writing::operands_listed))]
 fn put_operands_of(i: Instr, pc: u32, line: &mut TextLine)
     requires fits { Fits i }
     requires room { length line.old + 57 ≤ 80 }
-    ensures { line.new ≡ line.old ++ listed (codes " ") (operands_of i pc) }
+    ensures { line.new ≡ line.old ++ operands_listed (codes " ") (operands_of i pc) }
 {
     match i {
         Instr::Lui { rd, imm } => put_two(line, Register(rd), Upper(imm)),

@@ -9,7 +9,7 @@ use Rattle.cf_bind.specs.declared.packet.Packet.TheVariants.{Value}
 use Rattle.cf_bind.specs.declared.passenger.Guess.TheVariants.{Next, Wait}
 use Rattle.cf_bind.specs.declared.moves.Move.TheVariants.{Issue, Climb, Execute, Send, Exit}
 use Rattle.cf_semantics.specs.runs.Runs.{opened}
-use Rattle.theory_examples.specs.Samples.{tiny_with_cache, sample, known, issued, done, holds}
+use Rattle.theory_examples.specs.Samples.{tiny_with_cache, sample, known_register, issued_instruction, done, stage_with}
 use Rattle.theory_examples.specs.Follows.{EndsIn}
 use Rattle.theory_examples.proofs.Allowed.{ends}
 use Rattle.theory_examples.proofs.OnLiterals.{on_literals}
@@ -29,8 +29,8 @@ pub kept_and_used : EndsIn tiny_with_cache kept_value
     (Issue Next ∷ Execute 1 ∷ Send 1 ∷ Exit ∷ Climb 1 ∷ Issue Next ∷ Execute 1 ∷ [])
     (record (opened tiny_with_cache kept_value) {
       cells =
-          holds (record (done (issued 0x10004 add_one (known 1 5) None (known 2 6)) 0x10008) { owes = Some (Value 2 6) }) ∷
-          holds (done (issued 0x10000 put_five None None (known 1 5)) 0x10004) ∷ [];
+          stage_with (record (done (issued_instruction 0x10004 add_one (known_register 1 5) None (known_register 2 6)) 0x10008) { owes = Some (Value 2 6) }) ∷
+          stage_with (done (issued_instruction 0x10000 put_five None None (known_register 1 5)) 0x10004) ∷ [];
       cache = slice_set (replicate 32 None) 1 (Some 5);
       fetch = Running 0x10008;
     })
@@ -49,8 +49,8 @@ pub turn_clears : EndsIn tiny_with_cache kept_until_a_turn
     (Issue Next ∷ Execute 1 ∷ Send 1 ∷ Exit ∷ Climb 1 ∷ Issue Wait ∷ Execute 1 ∷ Send 1 ∷ Exit ∷ [])
     (record (opened tiny_with_cache kept_until_a_turn) {
       cells =
-          holds (record (done (issued 0x10004 jump_on None None None) 0x10008) { guess = Wait }) ∷
-          holds (done (issued 0x10000 put_five None None (known 1 5)) 0x10004) ∷ [];
+          stage_with (record (done (issued_instruction 0x10004 jump_on None None None) 0x10008) { guess = Wait }) ∷
+          stage_with (done (issued_instruction 0x10000 put_five None None (known_register 1 5)) 0x10004) ∷ [];
       fetch = Running 0x10008;
     })
 unfolding on_literals

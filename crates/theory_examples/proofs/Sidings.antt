@@ -12,7 +12,7 @@ use Rattle.cf_bind.specs.declared.passenger.Guess.TheVariants.{Next}
 use Rattle.cf_bind.specs.declared.moves.Move.TheVariants.{Issue, Emit, Climb, Fall, Meet, Execute, Send, Launch, Access, Recover, Exit}
 use Rattle.cf_bind.specs.declared.moves.Bar.TheVariants as bar
 use Rattle.cf_semantics.specs.runs.Runs.{opened, empty_cell}
-use Rattle.theory_examples.specs.Samples.{tiny, shifts_aside, sample, unknown, known, issued, done, holds, carries, complete}
+use Rattle.theory_examples.specs.Samples.{tiny, shifts_aside, sample, unknown_register, known_register, issued_instruction, done, stage_with, carries, complete}
 use Rattle.theory_examples.specs.Follows.{EndsIn, IsBarred}
 use Rattle.theory_examples.proofs.Allowed.{ends, barred}
 use Rattle.theory_examples.proofs.OnLiterals.{on_literals}
@@ -30,7 +30,8 @@ pub load_comes_back : EndsIn tiny loading
     (record (opened tiny loading) {
       cells =
           empty_cell ∷
-          complete (record (done (issued 0x10000 load_x1 (known 2 0x7f0ffff0) None (known 1 0)) 0x10004) { launched = true; recovered = true }) (Value 1 0)
+          complete (record (done (issued_instruction 0x10000 load_x1 (known_register 2 0x7f0ffff0) None (known_register 1 0)) 0x10004)
+          { launched = true; recovered = true }) (Value 1 0)
           ∷ [];
       fetch = Running 0x10004;
     })
@@ -60,8 +61,8 @@ pub dead_and_launched : EndsIn shifts_aside skipping_a_shift
     (record (opened shifts_aside skipping_a_shift) {
       cells =
           empty_cell ∷ carries (Turn 0x10008) ∷
-          holds (record (issued 0x10004 shift_x1 None None (unknown 1)) { launched = true; dead = true }) ∷
-          holds (done (issued 0x10000 branch_by_8 None None None) 0x10008) ∷ replicate 4 empty_cell;
+          stage_with (record (issued_instruction 0x10004 shift_x1 None None (unknown_register 1)) { launched = true; dead = true }) ∷
+          stage_with (done (issued_instruction 0x10000 branch_by_8 None None None) 0x10008) ∷ replicate 4 empty_cell;
       sidings = (None ∷ None ∷ []) ∷ (Some (record { pc = 0x10004; instr = shift_x1; a = 0; b = 0; answer = None }) ∷ None ∷ []) ∷ [];
       fetch = Running 0x10008;
     })

@@ -11,7 +11,7 @@ use Rattle.cf_bind.specs.declared.passenger.Guess.TheVariants.{Next}
 use Rattle.cf_bind.specs.declared.moves.Move.TheVariants.{Issue, Climb, Fall, Meet, Execute, Send, Launch, Exit}
 use Rattle.cf_bind.specs.declared.moves.Bar.TheVariants as bar
 use Rattle.cf_semantics.specs.runs.Runs.{opened, empty_cell}
-use Rattle.theory_examples.specs.Samples.{tiny, two_jump_units, sample, unknown, issued, done, holds, complete}
+use Rattle.theory_examples.specs.Samples.{tiny, two_jump_units, sample, unknown_register, issued_instruction, done, stage_with, complete}
 use Rattle.theory_examples.specs.Follows.{EndsIn, IsBarred}
 use Rattle.theory_examples.proofs.Allowed.{ends, barred}
 use Rattle.theory_examples.proofs.OnLiterals.{on_literals}
@@ -31,8 +31,8 @@ pub store_dies : EndsIn tiny skipping_a_store
     (Issue Next ∷ Execute 1 ∷ Send 1 ∷ Climb 1 ∷ Issue Next ∷ Meet 1 ∷ [])
     (record (opened tiny skipping_a_store) {
       cells =
-          complete (record (issued 0x10004 store_x1 (unknown 2) (unknown 1) None) { dead = true }) (Turn 0x10008) ∷
-          holds (done (issued 0x10000 branch_by_8 None None None) 0x10008) ∷ [];
+          complete (record (issued_instruction 0x10004 store_x1 (unknown_register 2) (unknown_register 1) None) { dead = true }) (Turn 0x10008) ∷
+          stage_with (done (issued_instruction 0x10000 branch_by_8 None None None) 0x10008) ∷ [];
       lane = 2 ∷ 1 ∷ [];
       fetch = Running 0x10008;
     })
@@ -61,8 +61,8 @@ pub younger_turn_first : EndsIn two_jump_units two_turns
     (Issue Next ∷ Climb 1 ∷ Climb 2 ∷ Issue Next ∷ Execute 1 ∷ Send 1 ∷ Exit ∷ [])
     (record (opened two_jump_units two_turns) {
       cells =
-          holds (done (issued 0x10004 jump_by_8 None None None) 0x1000c) ∷ empty_cell ∷
-          holds (issued 0x10000 branch_by_16 None None None) ∷ replicate 5 empty_cell;
+          stage_with (done (issued_instruction 0x10004 jump_by_8 None None None) 0x1000c) ∷ empty_cell ∷
+          stage_with (issued_instruction 0x10000 branch_by_16 None None None) ∷ replicate 5 empty_cell;
       fetch = Running 0x1000c;
     })
 unfolding on_literals
@@ -73,8 +73,8 @@ pub older_turn_wins : EndsIn two_jump_units two_turns
     (Issue Next ∷ Climb 1 ∷ Climb 2 ∷ Issue Next ∷ Execute 1 ∷ Send 1 ∷ Exit ∷ Execute 3 ∷ Send 3 ∷ Fall 3 ∷ Fall 2 ∷ Meet 1 ∷ Exit ∷ [])
     (record (opened two_jump_units two_turns) {
       cells =
-          holds (record (done (issued 0x10004 jump_by_8 None None None) 0x1000c) { dead = true }) ∷ empty_cell ∷
-          holds (done (issued 0x10000 branch_by_16 None None None) 0x10010) ∷ replicate 5 empty_cell;
+          stage_with (record (done (issued_instruction 0x10004 jump_by_8 None None None) 0x1000c) { dead = true }) ∷ empty_cell ∷
+          stage_with (done (issued_instruction 0x10000 branch_by_16 None None None) 0x10010) ∷ replicate 5 empty_cell;
       fetch = Running 0x10010;
     })
 unfolding on_literals

@@ -14,7 +14,7 @@ use Rattle.cf_semantics.specs.moves.Moves.{moved}
 use Rattle.cf_semantics.specs.runs.Runs.{opened, empty_cell}
 use Rattle.cf_semantics.specs.moves.Kept.{kept, restored}
 use Rattle.cf_semantics.specs.claims.Weight.{weight}
-use Rattle.theory_examples.specs.Samples.{tiny, sample, unknown, known, issued, done, holds, full, complete}
+use Rattle.theory_examples.specs.Samples.{tiny, sample, unknown_register, known_register, issued_instruction, done, stage_with, full, complete}
 use Rattle.theory_examples.specs.Follows.{EndsIn, IsBarred, after_moves}
 use Rattle.theory_examples.proofs.Allowed.{ends, barred}
 use Rattle.theory_examples.proofs.OnLiterals.{on_literals}
@@ -29,8 +29,10 @@ put_seven = instr.OpImm imm_op.Add 10 0 (pos 7)
 -- The first instruction executes and sends its result: it stays in stage 1, beside the result.
 pub executed_and_sent : EndsIn tiny seven
     (Issue Next ∷ Execute 1 ∷ Send 1 ∷ [])
-    (record (opened tiny seven)
-    { cells = complete (done (issued 0x10000 put_seven None None (known 10 7)) 0x10004) (Value 10 7) ∷ empty_cell ∷ []; fetch = Running 0x10004 })
+    (record (opened tiny seven) {
+      cells = complete (done (issued_instruction 0x10000 put_seven None None (known_register 10 7)) 0x10004) (Value 10 7) ∷ empty_cell ∷ [];
+      fetch = Running 0x10004;
+    })
 unfolding on_literals
 executed_and_sent = ends refl refl
 
@@ -55,8 +57,9 @@ pub three_meetings : EndsIn tiny counting
     (Issue Next ∷ Climb 1 ∷ Issue Next ∷ Emit ∷ Meet 2 ∷ Emit ∷ Execute 2 ∷ Meet 2 ∷ Fall 2 ∷ Meet 1 ∷ [])
     (record (opened tiny counting) {
       cells =
-          holds (issued 0x10004 count_on (known 1 1) None (unknown 1)) ∷
-          holds (record (done (issued 0x10000 count_on (known 1 0) None (known 1 1)) 0x10004) { owes = Some (Value 1 1) }) ∷ [];
+          stage_with (issued_instruction 0x10004 count_on (known_register 1 1) None (unknown_register 1)) ∷
+          stage_with (record (done (issued_instruction 0x10000 count_on (known_register 1 0) None (known_register 1 1)) 0x10004) { owes = Some (Value 1 1) }) ∷
+          [];
       fetch = Running 0x10008;
     })
 unfolding on_literals
@@ -72,8 +75,10 @@ add_one = instr.OpImm imm_op.Add 5 10 (pos 1)
 -- The register file sends the requested value down the pipe, where it finds the instruction that requested it.
 pub asked_and_sent_down : EndsIn tiny asking
     (Issue Next ∷ Climb 1 ∷ Emit ∷ [])
-    (record (opened tiny asking)
-    { cells = empty_cell ∷ full (issued 0x10000 add_one (unknown 10) None (unknown 5)) (Value 10 0) ∷ []; fetch = Running 0x10004 })
+    (record (opened tiny asking) {
+      cells = empty_cell ∷ full (issued_instruction 0x10000 add_one (unknown_register 10) None (unknown_register 5)) (Value 10 0) ∷ [];
+      fetch = Running 0x10004;
+    })
 unfolding on_literals
 asked_and_sent_down = ends refl refl
 
@@ -114,7 +119,8 @@ multiplying = sample (0xb3 ∷ 0x02 ∷ 0x73 ∷ 0x02 ∷ [])
 pub no_multiplication : EndsIn tiny multiplying
     (Issue Next ∷ [])
     (record (opened tiny multiplying) {
-      cells = holds (record (issued 0x10000 put_seven None None None) { what = None; done = true; ending = Some (ending.Trap 2 0x10000 0x027302b3) })
+      cells = stage_with (record (issued_instruction 0x10000 put_seven None None None)
+          { what = None; done = true; ending = Some (ending.Trap 2 0x10000 0x027302b3) })
           ∷ empty_cell ∷ [];
       fetch = Waiting;
     })

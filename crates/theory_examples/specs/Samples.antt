@@ -59,15 +59,15 @@ abbrev pub sample : List ℕ → Machine
 sample bytes = record { hart = start_hart (program bytes) 0x10000; rest = []; output = [] }
 
 -- a register whose value is not known, and one whose value is
-abbrev pub unknown : ℕ → Option Binding
-unknown r = Some (record { reg = r; value = None })
+abbrev pub unknown_register : ℕ → Option Binding
+unknown_register r = Some (record { reg = r; value = None })
 
-abbrev pub known : ℕ → ℕ → Option Binding
-known r v = Some (record { reg = r; value = Some v })
+abbrev pub known_register : ℕ → ℕ → Option Binding
+known_register r v = Some (record { reg = r; value = Some v })
 
 -- an instruction as it is issued, on the guess that the next word follows
-abbrev pub issued : ℕ → Instr → Option Binding → Option Binding → Option Binding → Passenger
-issued pc i src1 src2 dst = record {
+abbrev pub issued_instruction : ℕ → Instr → Option Binding → Option Binding → Option Binding → Passenger
+issued_instruction pc i src1 src2 dst = record {
   pc = pc;
   what = Some i;
   guess = Next;
@@ -88,8 +88,8 @@ abbrev pub done : Passenger → ℕ → Passenger
 done p next = record p { done = true; next = Some next }
 
 -- a stage with an instruction alone, with a result alone, and with both
-abbrev pub holds : Passenger → Cell
-holds p = record { passenger = Some p; packet = None; met = false }
+abbrev pub stage_with : Passenger → Cell
+stage_with p = record { passenger = Some p; packet = None; met = false }
 
 abbrev pub carries : Packet → Cell
 carries k = record { passenger = None; packet = Some k; met = false }

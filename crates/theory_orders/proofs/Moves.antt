@@ -110,7 +110,8 @@ served_rightly plan x m e h =
       r,
       record {
         pc = pc;
-        what = ap (fetched (isa_of plan) x.hart.mem) (sym pc) ∙ is_fetched r.who (fetched (isa_of plan) x.hart.mem r.who.pc) (c.certain.0.unended r.undone) c.certain.0.reads;
+        what = ap (fetched (isa_of plan) x.hart.mem) (sym pc) ∙ is_fetched r.who (fetched (isa_of plan) x.hart.mem r.who.pc) (c.certain.0.unended r.undone)
+            c.certain.0.reads;
         answer = rw (← h.regs, ← c.mem, ← c.input) refl;
       },
     )

@@ -23,7 +23,7 @@ use Rattle.cf_semantics.specs.moves.Bars.{bar}
 use Rattle.cf_semantics.specs.state.Column.{Down, Item, Up, column, column_from, items, packet_in}
 use Rattle.cf_semantics.specs.moves.Instructions.{fetched}
 use Rattle.cf_semantics.specs.state.Layouts.{isa_of}
-use Rattle.cf_semantics.specs.moves.Moves.{fetch_at, keeps, left, moved, turned, without_packet, without_passenger}
+use Rattle.cf_semantics.specs.moves.Moves.{fetch_from, keeps, left, moved, turned, without_packet, without_passenger}
 use Rattle.cf_semantics.specs.state.Passengers.{cached, cleared, forgets, fresh, goto, reg_in, requests}
 use Rattle.cf_semantics.specs.claims.Path.{has_reg}
 use Rattle.cf_semantics.specs.runs.Runs.{opened}
@@ -157,7 +157,7 @@ issue_clear l s x g acc e h k =
     let p : Passenger = fresh s.cache (fetched (isa_of l) s.mem r.pc) r.pc g in
     let new = Up 1 p ∷ [] in
     let c : Cell = record r.here { passenger = Some p; met = false } in
-    let t : State = record s { cells = c ∷ r.others; lane = s.lane ++ requests p; fetch = fetch_at (goto p); cache = forgets (reg_in p.dst) s.cache } in
+    let t : State = record s { cells = c ∷ r.others; lane = s.lane ++ requests p; fetch = fetch_from (goto p); cache = forgets (reg_in p.dst) s.cache } in
     let was : column s ≡ column_from 2 r.others ++ items 1 r.here = ap (column_from 1) r.cells in
     let is : column t ≡ column s ++ new = ap (λ (q : List Item). column_from 2 r.others ++ q) (issue_items r.here p r.free)
     ∙ sym (append_assoc (column_from 2 r.others) (items 1 r.here) new) ∙ ap (λ (q : List Item). q ++ new) (sym was) in

@@ -10,14 +10,14 @@ use Rattle.cf_bind.specs.declared.moves.Move.{Move}
 use Rattle.cf_bind.specs.declared.moves.Move.TheVariants.{Emit, Leave, Exit, Serve, Access, Slide}
 use Rattle.cf_bind.specs.declared.passenger.Passenger.{Passenger}
 use Rattle.cf_layout.specs.Layout.{Plan}
-use Rattle.cf_semantics.specs.moves.Bars.{access_bar, emit_bar, exit_bar, first, is_full, is_taken, last_op, leave_bar, serve_bar, slide_bar}
+use Rattle.cf_semantics.specs.moves.Bars.{access_bar, emit_bar, exit_bar, first, is_full, cell_is_taken, last_op, leave_bar, serve_bar, slide_bar}
 use Rattle.cf_semantics.specs.moves.Instructions.{is_serial}
 use Rattle.cf_semantics.specs.state.Layouts.{port}
 use Rattle.cf_semantics.specs.state.Options.{on, is_some}
 use Rattle.cf_semantics.specs.state.Passengers.{kind}
 use Rattle.cf_semantics.specs.state.State.{State, cell_at, siding_at}
 use Rattle.cf_stages.specs.Changes.{is_full_at, packet_at, passenger_at}
-use Rattle.cf_core.specs.Marks.{is_free}
+use Rattle.cf_core.specs.Marks.{row_allows}
 use Rattle.cf_core.specs.Masks.{is_allowed}
 use Rattle.cf_core.specs.Processors.{IsProcessor}
 use Rattle.cf_core.specs.Riders.{is_out, is_undone}
@@ -25,7 +25,7 @@ use Rattle.cf_core.proofs.Masked.{allowed-as}
 use Rattle.cf_core.proofs.Rides.{here-by}
 
 -- nothing is allowed once the program has ended or failed
-pub allowed-is : (plan : Plan) (s : State) (mv : Move) → is_allowed plan s mv ≡ ((not (is_some s.ending) && not s.failed) && is_free plan s mv)
+pub allowed-is : (plan : Plan) (s : State) (mv : Move) → is_allowed plan s mv ≡ ((not (is_some s.ending) && not s.failed) && row_allows plan s mv)
 allowed-is plan s mv = allowed-as plan s mv (is_some s.ending) s.failed refl refl
 
 pub ruleset allowing = (allowed-is)
@@ -52,7 +52,7 @@ emit_row : (lane : List ℕ) (c : Cell) → not (is_some (emit_bar lane c)) ≡ 
 emit_row [] c = let e : nat_lt 0 (length {A = ℕ} []) ≡ false = grind (arith, nat_tests) in rw e refl
 emit_row (r ∷ lane) c = let e : nat_lt 0 (length (r ∷ lane)) ≡ true = grind (arith, nat_tests) in rw e (one_row (is_some c.packet) Occupied)
 
-pub emit-free : (plan : Plan) (s : State) → IsProcessor plan s → is_free plan s Emit ≡ (nat_lt 0 (length s.lane)
+pub emit-free : (plan : Plan) (s : State) → IsProcessor plan s → row_allows plan s Emit ≡ (nat_lt 0 (length s.lane)
     && not (is_some (packet_at s.cells plan.stages)))
 emit-free plan s h = let t = highest plan s h in rw t.1 (emit_row s.lane t.0)
 
@@ -68,7 +68,7 @@ leave_row full owes p = by full owes (is_undone p) (is_out p)
     by false false false false = refl
 
 pub leave-free : (plan : Plan) (s : State) (p : Passenger) → passenger_at s.cells plan.stages ≡ Some p →
-    is_free plan s Leave ≡ (not (is_full_at s.cells plan.stages) && (not (is_some p.owes) && (not (is_undone p) && not (is_out p))))
+    row_allows plan s Leave ≡ (not (is_full_at s.cells plan.stages) && (not (is_some p.owes) && (not (is_undone p) && not (is_out p))))
 leave-free plan s p e = let h = here-by (cell_at s.cells plan.stages) p e in rw (h.1, h.2)
     (leave_row (is_full (record h.0 { passenger = Some p })) (is_some p.owes) p)
 
@@ -81,7 +81,7 @@ none_serves : (o : Option Cell) → on o None (λ c. c.passenger) ≡ None → n
 none_serves None e = refl
 none_serves (Some c) e = rw e refl
 
-pub leave-none : (plan : Plan) (s : State) → passenger_at s.cells plan.stages ≡ None → is_free plan s Leave ≡ false
+pub leave-none : (plan : Plan) (s : State) → passenger_at s.cells plan.stages ≡ None → row_allows plan s Leave ≡ false
 leave-none plan s e = none_leaves (cell_at s.cells plan.stages) e
 
 pub ruleset leave_free = (leave-free, leave-none)
@@ -95,7 +95,7 @@ exit_row (Some c) = by (is_some c.packet) (is_full c)
     by true true = refl
     by true false = refl
 
-pub exit-free : (plan : Plan) (s : State) → is_free plan s Exit ≡ (is_some (packet_at s.cells 1) && not (is_full_at s.cells 1))
+pub exit-free : (plan : Plan) (s : State) → row_allows plan s Exit ≡ (is_some (packet_at s.cells 1) && not (is_full_at s.cells 1))
 exit-free plan s = exit_row (cell_at s.cells 1)
 
 serve_row : (dead done serial full : Bool) → not (is_some (first dead Dead (first done AlreadyDone (first (not serial) NoUnit (first full NotMet None)))))
@@ -107,11 +107,11 @@ serve_row false false true true = refl
 serve_row false false true false = refl
 
 pub serve-free : (plan : Plan) (s : State) (p : Passenger) → passenger_at s.cells plan.stages ≡ Some p →
-    is_free plan s Serve ≡ (is_undone p && (is_serial (kind p) && not (is_full_at s.cells plan.stages)))
+    row_allows plan s Serve ≡ (is_undone p && (is_serial (kind p) && not (is_full_at s.cells plan.stages)))
 serve-free plan s p e = let h = here-by (cell_at s.cells plan.stages) p e in rw (h.1, h.2)
     (serve_row p.dead p.done (is_serial (kind p)) (is_full (record h.0 { passenger = Some p })))
 
-pub serve-none : (plan : Plan) (s : State) → passenger_at s.cells plan.stages ≡ None → is_free plan s Serve ≡ false
+pub serve-none : (plan : Plan) (s : State) → passenger_at s.cells plan.stages ≡ None → row_allows plan s Serve ≡ false
 serve-none plan s e = none_serves (cell_at s.cells plan.stages) e
 
 pub ruleset serve_free = (serve-free, serve-none)
@@ -120,24 +120,24 @@ access_row : (o : Option Op) → not (is_some (access_bar o)) ≡ on o false (λ
 access_row None = refl
 access_row (Some op) = one_row (is_some op.answer) AlreadyDone
 
-pub access-free : (plan : Plan) (s : State) → is_free plan s Access ≡ on (last_op (siding_at s (port plan))) false (λ op. not (is_some op.answer))
+pub access-free : (plan : Plan) (s : State) → row_allows plan s Access ≡ on (last_op (siding_at s (port plan))) false (λ op. not (is_some op.answer))
 access-free plan s = access_row (last_op (siding_at s (port plan)))
 
 slide_row : (ops : List (Option Op)) (c : ℕ) (next : Option (Option Op)) → slice_get ops (c + 1) ≡ next →
-    not (is_some (slide_bar ops c)) ≡ (is_taken (slice_get ops c) && on next false (λ o. not (is_some o)))
-slide_row ops c None e = rw e (sym (never (is_taken (slice_get ops c))))
+    not (is_some (slide_bar ops c)) ≡ (cell_is_taken (slice_get ops c) && on next false (λ o. not (is_some o)))
+slide_row ops c None e = rw e (sym (never (cell_is_taken (slice_get ops c))))
   where
     never : (b : Bool) → (b && false) ≡ false
     never true = refl
     never false = refl
-slide_row ops c (Some o) e = rw e (by (is_taken (slice_get ops c)) (is_some o))
+slide_row ops c (Some o) e = rw e (by (cell_is_taken (slice_get ops c)) (is_some o))
   where
     by : (a b : Bool) → not (is_some (first (not a) OpNotThere (first b Occupied None))) ≡ (a && not b)
     by false b = refl
     by true true = refl
     by true false = refl
 
-pub slide-free : (plan : Plan) (s : State) (k c : ℕ) → is_free plan s (Slide k c) ≡ (is_taken (slice_get (siding_at s k) c)
+pub slide-free : (plan : Plan) (s : State) (k c : ℕ) → row_allows plan s (Slide k c) ≡ (cell_is_taken (slice_get (siding_at s k) c)
     && on (slice_get (siding_at s k) (c + 1)) false (λ o. not (is_some o)))
 slide-free plan s k c = slide_row (siding_at s k) c (slice_get (siding_at s k) (c + 1)) refl
 

@@ -8,7 +8,7 @@ use Rattle.cf_bind.specs.declared.moves.Bar.TheVariants.{SourceMissing}
 use Rattle.cf_bind.specs.declared.moves.Move.TheVariants.{Launch}
 use Rattle.cf_bind.specs.declared.passenger.Passenger.{Passenger}
 use Rattle.cf_layout.specs.Layout.{Plan, siding_of}
-use Rattle.cf_semantics.specs.moves.Bars.{entry_bar, is_taken, launch_bar, row_bar, source_bar}
+use Rattle.cf_semantics.specs.moves.Bars.{entry_bar, cell_is_taken, launch_bar, row_bar, source_bar}
 use Rattle.cf_semantics.specs.state.Options.{on}
 use Rattle.cf_semantics.specs.state.Passengers.{kind, missing}
 use Rattle.cf_semantics.specs.state.State.{State, cell_at, siding_at}
@@ -26,13 +26,13 @@ source_free p rest = by (missing p.src1) (missing p.src2)
     by (Some r) b e = absurd (cc)
 
 entry_free : (plan : Plan) (s : State) (p : Passenger) (k : ℕ) → entry_bar plan s p ≡ None → siding_of plan (kind p) ≡ Some k →
-    is_taken (slice_get (siding_at s k) 0) ≡ false
+    cell_is_taken (slice_get (siding_at s k) 0) ≡ false
 entry_free plan s p k e at = grind arith
 
 launch_free : (plan : Plan) (s : State) (c : Cell) (i : ℕ) (p : Passenger) → launch_bar plan s c i ≡ None → c.passenger ≡ Some p → entry_bar plan s p ≡ None
 launch_free plan s c i p e at = source_free p (entry_bar plan s p) (grind arith)
 
-empty : (cells : List (Option Op)) → 0 < length cells → is_taken (slice_get cells 0) ≡ false → slice_get cells 0 ≡ Some None
+empty : (cells : List (Option Op)) → 0 < length cells → cell_is_taken (slice_get cells 0) ≡ false → slice_get cells 0 ≡ Some None
 empty [] h e = absurd (omega arith)
 empty (None ∷ cells) h e = refl
 empty (Some op ∷ cells) h e = absurd (cc)

@@ -3,7 +3,7 @@ use Rattle.std.proofs.Common.{◌≡◌, ℕ, List, Option, Some, None, Bool, tr
 use Rattle.std.specs.Prelude.{if◌then◌else◌, ◌==◌, not}
 use Rattle.mem_regions.specs.Memory.{Memory}
 use Rattle.mem_regions.specs.Ranges.{range_of, can_write}
-use Rattle.rv_machine.specs.Call.{Called, Value, Exit, CallAnswer, call, read, write, brk, exit, answered, write_from, is_exit, is_output, number_in, first_argument, second_argument, third_argument, no_such_call}
+use Rattle.rv_machine.specs.Call.{Called, Value, Exit, CallAnswer, call, read, write, brk, exit, answered_alone, write_from, is_exit, is_output, call_number, first_argument, second_argument, third_argument, no_such_call}
 
 -- it is not an exit
 abbrev IsAnswer : Called → Type 0
@@ -39,10 +39,10 @@ alike false c c' d d' status h k e = k e
 pub exit-any_rest : (regs : List ℕ) (mem : Memory) (rest other : List ℕ) (status : ℕ) → call regs mem rest ≡ Exit status → call regs mem other ≡ Exit status
 unfolding call
 exit-any_rest regs mem rest other status e =
-    alike (number_in regs == 63) (read a b c mem rest) (read a b c mem other) _ _ status (λ h. absurd (read_answers a b c mem rest status h))
-    (alike (number_in regs == 64) (write a b c mem rest) (write a b c mem other) _ _ status (λ h. absurd (write_answers a b c mem rest status h))
-    (alike (is_exit (number_in regs)) (exit a) (exit a) _ _ status (λ h. h)
-    (alike (number_in regs == 214) (brk a mem rest) (brk a mem other) (answered no_such_call mem rest) (answered no_such_call mem other) status
+    alike (call_number regs == 63) (read a b c mem rest) (read a b c mem other) _ _ status (λ h. absurd (read_answers a b c mem rest status h))
+    (alike (call_number regs == 64) (write a b c mem rest) (write a b c mem other) _ _ status (λ h. absurd (write_answers a b c mem rest status h))
+    (alike (is_exit (call_number regs)) (exit a) (exit a) _ _ status (λ h. h)
+    (alike (call_number regs == 214) (brk a mem rest) (brk a mem other) (answered_alone no_such_call mem rest) (answered_alone no_such_call mem other) status
     (λ h. absurd (value_answers _ status h)) (λ h. absurd (value_answers _ status h))))) e
   where
     a : ℕ

@@ -26,7 +26,7 @@ use Rattle.cf_semantics.specs.state.Passengers.{fresh, fresh_as, fresh_end, fres
 use Rattle.cf_semantics.specs.state.State.{State, cell_at}
 use Rattle.cf_stages.specs.Changes.{passenger_at}
 use Rattle.cf_core.specs.Ends.{issued_at}
-use Rattle.cf_core.specs.Marks.{is_free}
+use Rattle.cf_core.specs.Marks.{row_allows}
 use Rattle.cf_core.specs.Masks.{is_allowed}
 use Rattle.cf_core.specs.Processors.{IsProcessor}
 
@@ -75,7 +75,7 @@ none_there : (o : Option Cell) (c : Cell) → o ≡ Some c → on o None (λ d. 
 none_there o c here none = rw (rw here at none) refl
 
 issue_here : (plan : Plan) (s : State) (g : Guess) (c : Cell) (pc : ℕ) → s.fetch ≡ Running pc → cell_at s.cells 1 ≡ Some c → is_some c.passenger ≡ false →
-    is_free plan s (Issue g) ≡ (may_guess g (issued_at plan s pc g) && not (nat_lt plan.lane (length s.lane + length (requests (issued_at plan s pc g)))))
+    row_allows plan s (Issue g) ≡ (may_guess g (issued_at plan s pc g) && not (nat_lt plan.lane (length s.lane + length (requests (issued_at plan s pc g)))))
 issue_here plan s g c pc runs here free = rw (here, runs, free) (issue_row false (may_guess g (issued_at plan s pc g))
     (nat_lt plan.lane (length s.lane + length (requests (issued_at plan s pc g)))))
 
@@ -88,7 +88,8 @@ lowest plan s h = first_of s.cells (omega (arith, h.stages, h.accepted.stages.0)
     first_of (c ∷ cells) some = (c, refl)
 
 pub issue-free : (plan : Plan) (s : State) (pc : ℕ) (g : Guess) → IsProcessor plan s → s.fetch ≡ Running pc → passenger_at s.cells 1 ≡ None →
-    is_free plan s (Issue g) ≡ (may_guess g (issued_at plan s pc Next) && not (nat_lt plan.lane (length s.lane + length (requests (issued_at plan s pc Next)))))
+    row_allows plan s (Issue g) ≡ (may_guess g (issued_at plan s pc Next) && not
+    (nat_lt plan.lane (length s.lane + length (requests (issued_at plan s pc Next)))))
 issue-free plan s pc g h runs none =
     let b = lowest plan s h in
     let alike = fresh_alike s.cache (fetched (isa_of plan) s.mem pc) pc Next g in
@@ -98,7 +99,7 @@ issue-free plan s pc g h runs none =
 -- where the lane has no room for the requests, no guess is allowed, and where it has, those that may be made
 pub issue-full : (plan : Plan) (s : State) (pc : ℕ) (g : Guess) (p : Passenger) → IsProcessor plan s → s.fetch ≡ Running pc → passenger_at s.cells 1 ≡ None →
     p ≡ issued_at plan s pc Next →
-    plan.lane < length s.lane + length (requests p) → false ≡ is_free plan s (Issue g)
+    plan.lane < length s.lane + length (requests p) → false ≡ row_allows plan s (Issue g)
 issue-full plan s pc g p h runs none is full =
     let e = rw (← is) at (issue-free plan s pc g h runs none) in
     let t : nat_lt plan.lane (length s.lane + length (requests p)) ≡ true = grind (arith, nat_tests) in
@@ -106,7 +107,7 @@ issue-full plan s pc g p h runs none is full =
 
 pub issue-fits : (plan : Plan) (s : State) (pc : ℕ) (g : Guess) (p : Passenger) → IsProcessor plan s → s.fetch ≡ Running pc → passenger_at s.cells 1 ≡ None →
     p ≡ issued_at plan s pc Next →
-    length s.lane + length (requests p) ≤ plan.lane → may_guess g p ≡ is_free plan s (Issue g)
+    length s.lane + length (requests p) ≤ plan.lane → may_guess g p ≡ row_allows plan s (Issue g)
 issue-fits plan s pc g p h runs none is fits =
     let e = rw (← is) at (issue-free plan s pc g h runs none) in
     let t : nat_lt plan.lane (length s.lane + length (requests p)) ≡ false = grind (arith, nat_tests) in
@@ -118,13 +119,13 @@ taken_row : (plan : Plan) (s : State) (g : Guess) (c : Cell) (f : Fetch) → s.f
 taken_row plan s g c (Running pc) e there = rw (e, there) refl
 taken_row plan s g c Waiting e there = rw e refl
 
-pub issue-taken : (plan : Plan) (s : State) (g : Guess) → IsProcessor plan s → is_some (passenger_at s.cells 1) ≡ true → false ≡ is_free plan s (Issue g)
+pub issue-taken : (plan : Plan) (s : State) (g : Guess) → IsProcessor plan s → is_some (passenger_at s.cells 1) ≡ true → false ≡ row_allows plan s (Issue g)
 issue-taken plan s g h there = let b = lowest plan s h in rw b.1 (sym (taken_row plan s g b.0 s.fetch refl (rw b.1 at there)))
 
 waiting_row : (plan : Plan) (s : State) (g : Guess) (c : Cell) → s.fetch ≡ Waiting → false ≡ not (is_some (issue_bar plan s g c))
 waiting_row plan s g c e = rw e refl
 
-pub issue-waits : (plan : Plan) (s : State) (g : Guess) → IsProcessor plan s → s.fetch ≡ Waiting → false ≡ is_free plan s (Issue g)
+pub issue-waits : (plan : Plan) (s : State) (g : Guess) → IsProcessor plan s → s.fetch ≡ Waiting → false ≡ row_allows plan s (Issue g)
 issue-waits plan s g h waits = let b = lowest plan s h in rw b.1 (waiting_row plan s g b.0 waits)
 
 pub ruleset issue_barred = (issue-taken, issue-waits)

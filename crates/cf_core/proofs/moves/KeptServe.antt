@@ -6,7 +6,7 @@ use Rattle.mem_regions.specs.Access.{bounds_of}
 use Rattle.mem_regions.specs.Ranges.{range_of, can_write}
 use Rattle.mem_regions.proofs.Kept.{bounds-memory_with, bounds-synced}
 use Rattle.rv_inst.specs.declared.instruction.Instr.{Instr}
-use Rattle.rv_machine.specs.Call.{Called, Value, Exit, call, read, write, brk, write_from, with_break, is_break, is_exit, is_output, number_in, second_argument, third_argument}
+use Rattle.rv_machine.specs.Call.{Called, Value, Exit, call, read, write, brk, write_from, with_break, is_break, is_exit, is_output, call_number, second_argument, third_argument}
 use Rattle.rv_machine.specs.Step.{synchronizes}
 use Rattle.rv_machine.specs.Streams.{Streams}
 use Rattle.cf_layout.specs.Layout.{Plan}
@@ -70,10 +70,10 @@ brk_keeps addr mem rest = break_bounds (is_break addr) addr mem
 call_keeps : (regs : List ℕ) (mem : Memory) (rest : List ℕ) → Keeps mem (call regs mem rest)
 unfolding call
 call_keeps regs mem rest =
-    either mem (number_in regs == 63) _ _ (read_keeps _ _ _ mem rest)
-    (either mem (number_in regs == 64) _ _ (write_keeps _ _ _ mem rest)
-    (either mem (is_exit (number_in regs)) _ _ tt
-    (either mem (number_in regs == 214) _ _ (brk_keeps _ mem rest) refl)))
+    either mem (call_number regs == 63) _ _ (read_keeps _ _ _ mem rest)
+    (either mem (call_number regs == 64) _ _ (write_keeps _ _ _ mem rest)
+    (either mem (is_exit (call_number regs)) _ _ tt
+    (either mem (call_number regs == 214) _ _ (brk_keeps _ mem rest) refl)))
 
 serve_keeps : (i : Instr) (regs : List ℕ) (mem : Memory) (rest : List ℕ) → Keeps mem (serve_of i regs mem rest)
 unfolding serve_of

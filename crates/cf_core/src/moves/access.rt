@@ -4,7 +4,7 @@ ghost use Rattle.std.specs.Prelude.{◌≡◌, false, not, None};
 ghost use Rattle.cf_bind.specs.declared.moves.Move.TheVariants as mv;
 ghost use Rattle.cf_semantics.specs.moves.Bars.{row_bar};
 ghost use Rattle.cf_semantics.specs.state.Options.{is_some, on};
-ghost use Rattle.cf_core.specs.Marks.{is_free};
+ghost use Rattle.cf_core.specs.Marks.{row_allows};
 ghost use Rattle.cf_core.specs.Masks.{is_allowed};
 ghost use Rattle.cf_core.specs.Processors.{IsProcessor, after_move};
 
@@ -43,7 +43,7 @@ impl Processor {
     #[tactic(auto, using(crate::proofs::moves::Allows::access_free, crate::proofs::Ported::ported))]
     fn accesses(&self) -> bool
         requires { IsProcessor self.now.plan self.now.state }
-        ensures { result ≡ is_free self.now.plan self.now.state mv.Access }
+        ensures { result ≡ row_allows self.now.plan self.now.state mv.Access }
     {
         is_unanswered(self.last_op(self.port()))
     }

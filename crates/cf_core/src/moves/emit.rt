@@ -3,7 +3,7 @@
 ghost use Rattle.std.specs.Prelude.{◌≡◌, None};
 ghost use Rattle.cf_bind.specs.declared.moves.Move.TheVariants as mv;
 ghost use Rattle.cf_semantics.specs.moves.Bars.{row_bar};
-ghost use Rattle.cf_core.specs.Marks.{is_free};
+ghost use Rattle.cf_core.specs.Marks.{row_allows};
 ghost use Rattle.cf_core.specs.Masks.{is_allowed};
 ghost use Rattle.cf_core.specs.Processors.{IsProcessor, after_move};
 
@@ -30,7 +30,7 @@ impl Processor {
     #[tactic(auto, using(crate::proofs::moves::Allows::emit_free))]
     fn emits(&self) -> bool
         requires { IsProcessor self.now.plan self.now.state }
-        ensures { result ≡ is_free self.now.plan self.now.state mv.Emit }
+        ensures { result ≡ row_allows self.now.plan self.now.state mv.Emit }
     {
         self.ends.lane_len() != 0 && self.stages.packet(self.stages.count()).is_none()
     }

@@ -5,7 +5,7 @@ ghost use Rattle.cf_bind.specs.declared.moves.Move.TheVariants as mv;
 ghost use Rattle.cf_semantics.specs.moves.Bars.{row_bar};
 ghost use Rattle.cf_semantics.specs.state.Passengers.{kind as kind_of_passenger};
 ghost use Rattle.cf_stages.specs.Changes.{passenger_at};
-ghost use Rattle.cf_core.specs.Marks.{is_free};
+ghost use Rattle.cf_core.specs.Marks.{row_allows};
 ghost use Rattle.cf_core.specs.Processors.{IsProcessor, after_move};
 
 use crate::processor::Processor;
@@ -43,7 +43,7 @@ impl Processor {
     pub(crate) fn executes(&self, passenger: &Passenger, class: Class, i: u32) -> bool
         requires here { passenger_at self.now.state.cells i ≡ Some passenger.now }
         requires class { class ≡ kind_of_passenger passenger.now }
-        ensures { result ≡ is_free self.now.plan self.now.state (mv.Execute i) }
+        ensures { result ≡ row_allows self.now.plan self.now.state (mv.Execute i) }
     {
         is_undone(passenger) && self.layout.unit_at(class, i) && has_sources(passenger)
     }

@@ -5,7 +5,7 @@ ghost use Rattle.cf_bind.specs.declared.moves.Move.TheVariants as mv;
 ghost use Rattle.cf_semantics.specs.moves.Bars.{row_bar};
 ghost use Rattle.cf_passengers.specs.Facts.{IsPacket};
 ghost use Rattle.cf_core.specs.Ends.{taken_in};
-ghost use Rattle.cf_core.specs.Marks.{is_free};
+ghost use Rattle.cf_core.specs.Marks.{row_allows};
 ghost use Rattle.cf_core.specs.Masks.{is_allowed};
 ghost use Rattle.cf_core.specs.Processors.{IsProcessor, in_state, after_move};
 
@@ -32,7 +32,7 @@ impl Processor {
     #[tactic(auto, using(crate::proofs::moves::Allows::exit_free))]
     fn exits(&self) -> bool
         requires { IsProcessor self.now.plan self.now.state }
-        ensures { result ≡ is_free self.now.plan self.now.state mv.Exit }
+        ensures { result ≡ row_allows self.now.plan self.now.state mv.Exit }
     {
         self.stages.packet(1).is_some() && !self.stages.is_full(1)
     }

@@ -37,7 +37,7 @@ impl Processor {
 
     /// The result of the stage moves one stage down.
     #[inline(always)]
-    #[tactic(auto, unfolding(cf_stages::specs::Changes::falls, cf_stages::specs::Changes::fallen, cf_semantics::specs::moves::Moves::moved))]
+    #[tactic(auto, unfolding(cf_stages::specs::Changes::falls, cf_stages::specs::Changes::cells_fallen, cf_semantics::specs::moves::Moves::moved))]
     pub(crate) fn fall(&mut self, i: u32)
         requires { row_bar self.old.plan self.old.state (mv.Fall i) ≡ None }
         ensures { self.new ≡ after_move self.old (mv.Fall i) }

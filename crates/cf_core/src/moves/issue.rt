@@ -5,13 +5,13 @@ ghost use Rattle.cf_bind.specs.declared.moves.Move.TheVariants as mv;
 ghost use Rattle.cf_bind.specs.declared.packet.Fetch.TheVariants as fetching;
 ghost use Rattle.cf_bind.specs.declared.passenger.Guess.TheVariants as guess;
 ghost use Rattle.cf_semantics.specs.moves.Bars.{row_bar};
-ghost use Rattle.cf_semantics.specs.moves.Moves.{fetch_at as fetch_there};
+ghost use Rattle.cf_semantics.specs.moves.Moves.{fetch_from as fetch_there};
 ghost use Rattle.cf_semantics.specs.state.Layouts.{isa_of as set_of};
 ghost use Rattle.cf_stages.specs.Changes.{passenger_at};
 ghost use Rattle.cf_passengers.specs.Facts.{IsPassenger, IsWritable, IsBinding};
 ghost use Rattle.cf_passengers.specs.Waiting.{listed_one, listed};
 ghost use Rattle.cf_core.specs.Ends.{issued_at as issued_there, requested, forgotten};
-ghost use Rattle.cf_core.specs.Marks.{is_free};
+ghost use Rattle.cf_core.specs.Marks.{row_allows};
 ghost use Rattle.cf_core.specs.Masks.{is_allowed};
 ghost use Rattle.cf_core.specs.Processors.{IsProcessor, in_state, after_move};
 
@@ -120,9 +120,9 @@ impl Processor {
         requires facts { IsProcessor self.now.plan self.now.state }
         requires runs { self.now.state.fetch ≡ fetching.Running pc }
         requires free { passenger_at self.now.state.cells 1 ≡ None }
-        ensures next { result.next ≡ is_free self.now.plan self.now.state (mv.Issue guess.Next) }
-        ensures taken { result.taken ≡ is_free self.now.plan self.now.state (mv.Issue guess.Taken) }
-        ensures wait { result.wait ≡ is_free self.now.plan self.now.state (mv.Issue guess.Wait) }
+        ensures next { result.next ≡ row_allows self.now.plan self.now.state (mv.Issue guess.Next) }
+        ensures taken { result.taken ≡ row_allows self.now.plan self.now.state (mv.Issue guess.Taken) }
+        ensures wait { result.wait ≡ row_allows self.now.plan self.now.state (mv.Issue guess.Wait) }
     {
         let passenger = self.issued_at(pc, Guess::Next);
         if self.layout.lane() < self.ends.lane_len() + requests(&passenger).count() {
@@ -140,9 +140,9 @@ impl Processor {
     #[tactic(auto, using(crate::proofs::moves::Guesses::issue_barred))]
     fn issuable_now(&self) -> Issuable
         requires { IsProcessor self.now.plan self.now.state }
-        ensures next { result.next ≡ is_free self.now.plan self.now.state (mv.Issue guess.Next) }
-        ensures taken { result.taken ≡ is_free self.now.plan self.now.state (mv.Issue guess.Taken) }
-        ensures wait { result.wait ≡ is_free self.now.plan self.now.state (mv.Issue guess.Wait) }
+        ensures next { result.next ≡ row_allows self.now.plan self.now.state (mv.Issue guess.Next) }
+        ensures taken { result.taken ≡ row_allows self.now.plan self.now.state (mv.Issue guess.Taken) }
+        ensures wait { result.wait ≡ row_allows self.now.plan self.now.state (mv.Issue guess.Wait) }
     {
         if self.stages.passenger(1).is_some() {
             return Issuable::never();

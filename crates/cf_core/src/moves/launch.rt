@@ -8,7 +8,7 @@ ghost use Rattle.cf_semantics.specs.moves.Instructions.{is_memory as loads_or_st
 ghost use Rattle.cf_semantics.specs.state.Options.{is_some};
 ghost use Rattle.cf_semantics.specs.state.Passengers.{kind as kind_of_passenger};
 ghost use Rattle.cf_stages.specs.Changes.{is_full_at};
-ghost use Rattle.cf_core.specs.Marks.{is_free};
+ghost use Rattle.cf_core.specs.Marks.{row_allows};
 ghost use Rattle.cf_core.specs.Processors.{IsProcessor, after_move};
 ghost use Rattle.cf_core.specs.Riders.{is_undone as is_not_done, StandsBeside};
 
@@ -99,7 +99,7 @@ impl Processor {
     pub(crate) fn launches(&self, passenger: &Passenger, class: Class, k: u32, i: u32) -> bool
         requires facts { IsProcessor self.now.plan self.now.state }
         requires stands { StandsBeside self.now.plan self.now.state passenger.now class k i }
-        ensures { result ≡ is_free self.now.plan self.now.state (mv.Launch i) }
+        ensures { result ≡ row_allows self.now.plan self.now.state (mv.Launch i) }
     {
         self.is_to_launch(passenger, k, i)
             && !self.has_to_meet(class, i)

@@ -7,7 +7,7 @@ ghost use Rattle.cf_semantics.specs.moves.Events.{IsEvent};
 ghost use Rattle.cf_semantics.specs.moves.Moves.{left_live};
 ghost use Rattle.cf_passengers.specs.Facts.{IsBinding};
 ghost use Rattle.cf_core.specs.Ends.{written_back};
-ghost use Rattle.cf_core.specs.Marks.{is_free};
+ghost use Rattle.cf_core.specs.Marks.{row_allows};
 ghost use Rattle.cf_core.specs.Masks.{is_allowed};
 ghost use Rattle.cf_core.specs.Processors.{IsProcessor, in_state, after_move};
 
@@ -45,7 +45,7 @@ impl Processor {
     #[tactic(auto, using(crate::proofs::moves::Allows::leave_free))]
     fn leaves(&self) -> bool
         requires { IsProcessor self.now.plan self.now.state }
-        ensures { result ≡ is_free self.now.plan self.now.state mv.Leave }
+        ensures { result ≡ row_allows self.now.plan self.now.state mv.Leave }
     {
         let top = self.stages.count();
         match self.stages.passenger(top) {

@@ -8,7 +8,7 @@ ghost use Rattle.cf_semantics.specs.state.Options.{on};
 ghost use Rattle.cf_core.specs.Marks.{passes_by as stands_by};
 ghost use Rattle.cf_core.specs.Processors.{IsProcessor, after_move};
 ghost use Rattle.cf_core.specs.Riders.{awaits as waits_for, is_passed_by as passed_by};
-ghost use Rattle.cf_core.specs.Seen.{died, seen as seen_of};
+ghost use Rattle.cf_core.specs.Seen.{died, event_seen as seen_of};
 
 use crate::processor::Processor;
 use crate::rows::first_of;
@@ -28,7 +28,7 @@ fn has_died(before: Option<Passenger>, after: Option<Passenger>) -> bool
 
 /// What a meeting shows to the outside, which changed the stage from the first content to the second.
 #[inline(always)]
-#[tactic(auto, unfolding(crate::specs::Seen::seen))]
+#[tactic(auto, unfolding(crate::specs::Seen::event_seen))]
 fn seen(before: Cell, after: Cell) -> Event
     ensures { result ≡ seen_of before after }
 {

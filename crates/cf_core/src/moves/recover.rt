@@ -6,7 +6,7 @@ ghost use Rattle.cf_layout.specs.Layout.{recover_stage, siding_of};
 ghost use Rattle.cf_semantics.specs.moves.Bars.{exit_op_bar as bar_of_return, row_bar};
 ghost use Rattle.cf_semantics.specs.state.Passengers.{kind as kind_of_passenger};
 ghost use Rattle.cf_stages.specs.Changes.{passenger_at};
-ghost use Rattle.cf_core.specs.Marks.{is_free};
+ghost use Rattle.cf_core.specs.Marks.{row_allows};
 ghost use Rattle.cf_core.specs.Processors.{IsProcessor, after_move};
 ghost use Rattle.cf_core.specs.Riders.{is_out as is_beside};
 
@@ -72,7 +72,7 @@ impl Processor {
         requires here { passenger_at self.now.state.cells i ≡ Some passenger.now }
         requires siding { siding_of self.now.plan (kind_of_passenger passenger.now) ≡ Some k }
         requires inside { k < length self.now.plan.sidings }
-        ensures { result ≡ is_free self.now.plan self.now.state (mv.Recover i) }
+        ensures { result ≡ row_allows self.now.plan self.now.state (mv.Recover i) }
     {
         self.is_to_recover(passenger, k, i) && self.return_bar(passenger).is_none()
     }

@@ -7,10 +7,10 @@ ghost use Rattle.cf_semantics.specs.moves.Bars.{row_bar};
 ghost use Rattle.cf_semantics.specs.moves.Instructions.{is_serial as needs_machine};
 ghost use Rattle.cf_stages.specs.Changes.{passenger_at};
 ghost use Rattle.cf_core.specs.Asking.{CallsInput, CallsOutput, LeavesStream};
-ghost use Rattle.cf_core.specs.Marks.{is_free};
+ghost use Rattle.cf_core.specs.Marks.{row_allows};
 ghost use Rattle.cf_core.specs.Masks.{is_allowed};
 ghost use Rattle.cf_core.specs.Processors.{IsProcessor, in_state};
-ghost use Rattle.cf_core.specs.Stepping.{ServesOrFails, input_served, output_served, synchronized, taken, told_of};
+ghost use Rattle.cf_core.specs.Stepping.{ServesOrFails, input_at_serve, output_at_serve, synchronized, taken, told_of};
 
 use crate::counterflow::Core;
 use crate::fault::Fault;
@@ -55,7 +55,7 @@ impl Processor {
     #[tactic(auto, using(crate::proofs::moves::Allows::serve_free))]
     fn serves(&self) -> bool
         requires { IsProcessor self.now.plan self.now.state }
-        ensures { result ≡ is_free self.now.plan self.now.state mv.Serve }
+        ensures { result ≡ row_allows self.now.plan self.now.state mv.Serve }
     {
         let top = self.stages.count();
         match self.stages.passenger(top) {
@@ -79,8 +79,8 @@ impl Processor {
         ensures serves { ServesOrFails self.old self.new
             (streams_of (S.left input.old) (K.written output.old))
             (streams_of (S.left input.new) (K.written output.new)) result }
-        ensures input { LeavesStream S.faults (CallsInput self.old) input.old input.new (input_served result) }
-        ensures output { LeavesStream K.faults (CallsOutput self.old) output.old output.new (output_served result) }
+        ensures input { LeavesStream S.faults (CallsInput self.old) input.old input.new (input_at_serve result) }
+        ensures output { LeavesStream K.faults (CallsOutput self.old) output.old output.new (output_at_serve result) }
     {
         let stage = self.stages.count();
         let Some(passenger) = self.stages.cell(stage).passenger else {

@@ -3,7 +3,7 @@
 ghost use Rattle.std.specs.Prelude.{◌≡◌, ◌<◌, length, None};
 ghost use Rattle.cf_bind.specs.declared.moves.Move.TheVariants as mv;
 ghost use Rattle.cf_semantics.specs.moves.Bars.{row_bar};
-ghost use Rattle.cf_core.specs.Marks.{is_free};
+ghost use Rattle.cf_core.specs.Marks.{row_allows};
 ghost use Rattle.cf_core.specs.Masks.{is_allowed};
 ghost use Rattle.cf_core.specs.Processors.{IsProcessor, after_move};
 
@@ -35,7 +35,7 @@ impl Processor {
     fn slides(&self, k: u32, c: u32) -> bool
         requires facts { IsProcessor self.now.plan self.now.state }
         requires siding { k < length self.now.plan.sidings }
-        ensures { result ≡ is_free self.now.plan self.now.state (mv.Slide k c) }
+        ensures { result ≡ row_allows self.now.plan self.now.state (mv.Slide k c) }
     {
         let cells = self.sidings.siding(k);
         let from = c as usize;

@@ -23,7 +23,7 @@ use Rattle.cf_semantics.specs.state.State.{State, Moment, siding_at}
 use Rattle.cf_semantics.specs.state.Column.{Item, Up, Down, column}
 use Rattle.cf_semantics.specs.state.Passengers.{kind, missing, cached}
 use Rattle.cf_semantics.specs.state.Layouts.{isa_of, port}
-use Rattle.cf_semantics.specs.moves.Moves.{fetch_at, operation}
+use Rattle.cf_semantics.specs.moves.Moves.{fetch_from, operation}
 use Rattle.cf_semantics.specs.claims.Path.{Walk, is_sure, is_trap, turns, has_reg, among, top}
 use Rattle.cf_semantics.specs.claims.Ahead.{flies, served_count, ported_count, answer_there}
 use Rattle.cf_semantics.specs.state.Places.{Standing, Lying, known, IsHarmless, machine_after}
@@ -80,7 +80,7 @@ IsPath isa s x = (p : Standing s) → When (is_sure p.who (known isa s x p.above
 -- (c) Fetch: with no barrier fetch runs where the program goes after the last sure instruction, or waits if the program
 -- goes nowhere
 abbrev pub FetchesOn : Isa → State → Machine → Type 0
-FetchesOn isa s x = When (not (known isa s x (column s)).barred) (s.fetch ≡ fetch_at (known isa s x (column s)).goto)
+FetchesOn isa s x = When (not (known isa s x (column s)).barred) (s.fetch ≡ fetch_from (known isa s x (column s)).goto)
 
 -- the result turns to where the machine is, after a sure instruction that is done without an ending; or it halts, after
 -- one that traps

@@ -27,9 +27,9 @@ first true bar rest = Some bar
 first false bar rest = rest
 
 -- the bar of the first test that holds; where no test holds, what the rest says
-abbrev pub first_of : List (Bool × Bar) → Option Bar → Option Bar
-first_of [] rest = rest
-first_of (row ∷ rows) rest = first row.0 row.1 (first_of rows rest)
+abbrev pub first_bar_of : List (Bool × Bar) → Option Bar → Option Bar
+first_bar_of [] rest = rest
+first_bar_of (row ∷ rows) rest = first row.0 row.1 (first_bar_of rows rest)
 
 -- what bars a move at a stage: there is no stage of this number (NoSuchSite), else as f says
 abbrev pub at : List Cell → ℕ → (Cell → Option Bar) → Option Bar
@@ -57,8 +57,8 @@ last_op (o ∷ []) = o
 last_op (o ∷ p ∷ ops) = last_op (p ∷ ops)
 
 -- there is such a cell, and it holds an operation
-abbrev pub is_taken : Option (Option Op) → Bool
-is_taken cell = on cell false is_some
+abbrev pub cell_is_taken : Option (Option Op) → Bool
+cell_is_taken cell = on cell false is_some
 
 -- the address where fetch runs
 abbrev pub running : Fetch → Option ℕ
@@ -82,7 +82,7 @@ may_guess (To t) p = is_control (kind p) && is_indirect (instruction p)
 abbrev pub issue_bar : Plan → State → Guess → Cell → Option Bar
 issue_bar plan s g c = on (running s.fetch) (Some FetchWaiting) (λ pc.
     let p = fresh s.cache (fetched (isa_of plan) s.mem pc) pc g in
-    first_of (
+    first_bar_of (
     (is_some c.passenger, Occupied) ∷
     (not (may_guess g p), BadGuess) ∷
     (nat_lt plan.lane (length s.lane + length (requests p)), LaneFull) ∷ []) None)
@@ -90,13 +90,13 @@ issue_bar plan s g c = on (running s.fetch) (Some FetchWaiting) (λ pc.
 -- Emit: there is no stage N (NoSuchSite); nothing is requested (LaneEmpty); stage N has a result (Occupied)
 abbrev pub emit_bar : List ℕ → Cell → Option Bar
 emit_bar [] c = Some LaneEmpty
-emit_bar (r ∷ lane) c = first_of ((is_some c.packet, Occupied) ∷ []) None
+emit_bar (r ∷ lane) c = first_bar_of ((is_some c.packet, Occupied) ∷ []) None
 
 -- Climb: there is no stage i, or none above it (NoSuchSite); there is no instruction (NoPassenger); it has not met the
 -- result of the stage (NotMet); it owes a result (Owes); it must be executed, launched or recovered here (NotDone); the
 -- stage above has an instruction (Occupied)
 abbrev pub climb_bar : Plan → Cell → ℕ → Option Cell → Option Bar
-climb_bar plan c i above = on above (Some NoSuchSite) (λ d. of_passenger c (λ p. first_of (
+climb_bar plan c i above = on above (Some NoSuchSite) (λ d. of_passenger c (λ p. first_bar_of (
     (is_full c, NotMet) ∷
     (is_some p.owes, Owes) ∷
     (stops_at plan p i, NotDone) ∷
@@ -105,7 +105,7 @@ climb_bar plan c i above = on above (Some NoSuchSite) (λ d. of_passenger c (λ 
 -- Fall: there is no stage i, or none below it (NoSuchSite); no result is there (NoPacket); it has not met the
 -- instruction of the stage (NotMet); the stage below has a result (Occupied)
 abbrev pub fall_bar : Cell → Option Cell → Option Bar
-fall_bar c below = on below (Some NoSuchSite) (λ d. first_of (
+fall_bar c below = on below (Some NoSuchSite) (λ d. first_bar_of (
     (not (is_some c.packet), NoPacket) ∷
     (is_full c, NotMet) ∷
     (is_some d.packet, Occupied) ∷ []) None)
@@ -113,14 +113,14 @@ fall_bar c below = on below (Some NoSuchSite) (λ d. first_of (
 -- Meet: there is no stage i (NoSuchSite); there is no instruction (NoPassenger); no result is there (NoPacket); they
 -- have met (AlreadyMet)
 abbrev pub meet_bar : Cell → Option Bar
-meet_bar c = of_passenger c (λ p. first_of (
+meet_bar c = of_passenger c (λ p. first_bar_of (
     (not (is_some c.packet), NoPacket) ∷
     (c.met, AlreadyMet) ∷ []) None)
 
 -- Execute: there is no stage i (NoSuchSite); there is no instruction (NoPassenger); the instruction is dead (Dead); it
 -- is done (AlreadyDone); no unit for its class is here (NoUnit); a source has no value (SourceMissing)
 abbrev pub execute_bar : Plan → Cell → ℕ → Option Bar
-execute_bar plan c i = of_passenger c (λ p. first_of (
+execute_bar plan c i = of_passenger c (λ p. first_bar_of (
     (p.dead, Dead) ∷
     (p.done, AlreadyDone) ∷
     (not (unit_at plan (kind p) i), NoUnit) ∷ []) (source_bar p None))
@@ -128,21 +128,21 @@ execute_bar plan c i = of_passenger c (λ p. first_of (
 -- Send: there is no stage i (NoSuchSite); there is no instruction (NoPassenger); the instruction owes no result
 -- (OwesNothing); the stage has a result (Occupied)
 abbrev pub send_bar : Cell → Option Bar
-send_bar c = of_passenger c (λ p. first_of (
+send_bar c = of_passenger c (λ p. first_bar_of (
     (not (is_some p.owes), OwesNothing) ∷
     (is_some c.packet, Occupied) ∷ []) None)
 
 -- what bars entry to the class's siding: its first cell is taken (Occupied); a class without a siding has no bar here,
 -- since NoUnit has barred Launch before
 abbrev pub entry_bar : Plan → State → Passenger → Option Bar
-entry_bar plan s p = on (siding_of plan (kind p)) None (λ k. first_of ((is_taken (slice_get (siding_at s k) 0), Occupied) ∷ []) None)
+entry_bar plan s p = on (siding_of plan (kind p)) None (λ k. first_bar_of ((cell_is_taken (slice_get (siding_at s k) 0), Occupied) ∷ []) None)
 
 -- Launch: there is no stage i (NoSuchSite); there is no instruction (NoPassenger); the instruction is dead (Dead); it
 -- is done or launched (AlreadyDone); no siding for its class is entered from here (NoUnit); it is a load or a store and
 -- has not met the result of the stage (NotMet); a source has no value (SourceMissing); the first cell of the siding is
 -- taken (Occupied)
 abbrev pub launch_bar : Plan → State → Cell → ℕ → Option Bar
-launch_bar plan s c i = of_passenger c (λ p. first_of (
+launch_bar plan s c i = of_passenger c (λ p. first_bar_of (
     (p.dead, Dead) ∷
     (p.done || p.launched, AlreadyDone) ∷
     (not (launches plan (kind p) i), NoUnit) ∷
@@ -151,13 +151,13 @@ launch_bar plan s c i = of_passenger c (λ p. first_of (
 -- Slide: there is no such siding, or no cell after this one (NoSuchSite); no operation is in this cell (OpNotThere);
 -- one is in the next (Occupied)
 abbrev pub slide_bar : List (Option Op) → ℕ → Option Bar
-slide_bar ops c = on (slice_get ops (c + 1)) (Some NoSuchSite) (λ o. first_of (
-    (not (is_taken (slice_get ops c)), OpNotThere) ∷
+slide_bar ops c = on (slice_get ops (c + 1)) (Some NoSuchSite) (λ o. first_bar_of (
+    (not (cell_is_taken (slice_get ops c)), OpNotThere) ∷
     (is_some o, Occupied) ∷ []) None)
 
 -- Access: no operation is at the end of Memory's siding (OpNotThere); it is answered (AlreadyDone)
 abbrev pub access_bar : Option Op → Option Bar
-access_bar o = on o (Some OpNotThere) (λ op. first_of ((is_some op.answer, AlreadyDone) ∷ []) None)
+access_bar o = on o (Some OpNotThere) (λ op. first_bar_of ((is_some op.answer, AlreadyDone) ∷ []) None)
 
 -- what bars taking from the end of the class's siding: the class has no siding (NoUnit); no operation is there
 -- (OpNotThere); it is a load or a store without an answer (NotDone). Right only in reached states: nothing here tests
@@ -165,20 +165,20 @@ access_bar o = on o (Some OpNotThere) (λ op. first_of ((is_some op.answer, Alre
 -- instructions, and none of these climbs past the stage where it is to recover its own.
 abbrev pub exit_op_bar : Plan → State → Passenger → Option Bar
 exit_op_bar plan s p = on (siding_of plan (kind p)) (Some NoUnit) (λ k.
-    on (last_op (siding_at s k)) (Some OpNotThere) (λ op. first_of ((is_memory (kind p) && not (is_some op.answer), NotDone) ∷ []) None))
+    on (last_op (siding_at s k)) (Some OpNotThere) (λ op. first_bar_of ((is_memory (kind p) && not (is_some op.answer), NotDone) ∷ []) None))
 
 -- Recover: there is no stage i (NoSuchSite); there is no instruction (NoPassenger); no siding of its class is recovered
 -- here (NoUnit); the instruction has not launched, or has recovered (AlreadyDone); no operation is at the siding's end
 -- (OpNotThere); it is a load or a store without an answer (NotDone)
 abbrev pub recover_bar : Plan → State → Cell → ℕ → Option Bar
-recover_bar plan s c i = of_passenger c (λ p. first_of (
+recover_bar plan s c i = of_passenger c (λ p. first_bar_of (
     (not (recovers plan (kind p) i), NoUnit) ∷
     (not p.launched || p.recovered, AlreadyDone) ∷ []) (exit_op_bar plan s p))
 
 -- Leave: there is no stage N (NoSuchSite); there is no instruction (NoPassenger); it has not met the result of the
 -- stage (NotMet); it owes a result (Owes); it is live and not done, or what it launched is not back (NotDone)
 abbrev pub leave_bar : Cell → Option Bar
-leave_bar c = of_passenger c (λ p. first_of (
+leave_bar c = of_passenger c (λ p. first_bar_of (
     (is_full c, NotMet) ∷
     (is_some p.owes, Owes) ∷
     ((not p.dead && not p.done) || (p.launched && not p.recovered), NotDone) ∷ []) None)
@@ -186,14 +186,14 @@ leave_bar c = of_passenger c (λ p. first_of (
 -- Exit: there is no stage 1 (NoSuchSite); no result is there (NoPacket); it has not met the instruction of the stage
 -- (NotMet)
 abbrev pub exit_bar : Cell → Option Bar
-exit_bar c = first_of (
+exit_bar c = first_bar_of (
     (not (is_some c.packet), NoPacket) ∷
     (is_full c, NotMet) ∷ []) None
 
 -- Serve: there is no stage N (NoSuchSite); there is no instruction (NoPassenger); the instruction is dead (Dead); it is
 -- done (AlreadyDone); it is neither ECALL nor FENCE.I (NoUnit); it has not met the result of the stage (NotMet)
 abbrev pub serve_bar : Cell → Option Bar
-serve_bar c = of_passenger c (λ p. first_of (
+serve_bar c = of_passenger c (λ p. first_bar_of (
     (p.dead, Dead) ∷
     (p.done, AlreadyDone) ∷
     (not (is_serial (kind p)), NoUnit) ∷
@@ -219,4 +219,4 @@ row_bar plan s Serve = at s.cells plan.stages serve_bar
 -- the first bar of a move, or none where it is allowed; nothing is allowed once the program has ended, or the input or
 -- the output has failed
 unfoldable pub bar : Plan → State → Move → Option Bar
-bar plan s m = first_of ((is_some s.ending, Halted) ∷ (s.failed, Failed) ∷ []) (row_bar plan s m)
+bar plan s m = first_bar_of ((is_some s.ending, Halted) ∷ (s.failed, Failed) ∷ []) (row_bar plan s m)

@@ -14,7 +14,7 @@ use Rattle.rv_inst.specs.declared.classes.Class.TheVariants.{Memory as MemoryCla
 use Rattle.rv_inst.specs.declared.instruction.Instr.{Instr}
 use Rattle.rv_inst.specs.declared.instruction.Instr.TheVariants.{Jal, Jalr, Branch as BranchInstr}
 use Rattle.rv_inst.specs.declared.isa.Isa.{Isa}
-use Rattle.rv_inst.specs.Words.{word_sum, word_of}
+use Rattle.rv_inst.specs.Words.{word_sum, signed_word}
 use Rattle.rv_inst.specs.Decoding.{decoded_as}
 use Rattle.rv_inst.specs.Operands.{class_of, sources_of, dest_of}
 use Rattle.rv_inst.specs.Arithmetic.{next_pc}
@@ -77,8 +77,8 @@ word_after pc = word_sum pc 4
 
 -- the target of a branch or of JAL; for other instructions it means nothing
 unfoldable pub target_of : Instr → ℕ → ℕ
-target_of (Jal rd imm) pc = word_sum pc (word_of imm)
-target_of (BranchInstr c rs1 rs2 imm) pc = word_sum pc (word_of imm)
+target_of (Jal rd imm) pc = word_sum pc (signed_word imm)
+target_of (BranchInstr c rs1 rs2 imm) pc = word_sum pc (signed_word imm)
 target_of _ pc = word_after pc
 
 -- JALR, whose target is not in the instruction

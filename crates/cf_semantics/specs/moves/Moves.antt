@@ -27,9 +27,9 @@ use Rattle.cf_semantics.specs.state.Layouts.{isa_of, port}
 use Rattle.cf_semantics.specs.moves.Bars.{last_op, running}
 
 -- fetch runs at the address, or waits where none is given
-abbrev pub fetch_at : Option ℕ → Fetch
-fetch_at (Some pc) = Running pc
-fetch_at None = Waiting
+abbrev pub fetch_from : Option ℕ → Fetch
+fetch_from (Some pc) = Running pc
+fetch_from None = Waiting
 
 -- a siding with other contents in its last cell
 abbrev pub set_last : List (Option Op) → Option Op → List (Option Op)
@@ -62,7 +62,7 @@ issued plan s g c pc =
     let p = fresh s.cache (fetched (isa_of plan) s.mem pc) pc g in
     record (with_cell s 1 (record c { passenger = Some p; met = false })) {
       lane = s.lane ++ requests p;
-      fetch = fetch_at (goto p);
+      fetch = fetch_from (goto p);
       cache = forgets (reg_in p.dst) s.cache;
     }
 

@@ -19,7 +19,7 @@ use Rattle.cf_bind.specs.declared.passenger.End.TheVariants as ending
 use Rattle.cf_bind.specs.declared.passenger.Guess.{Guess}
 use Rattle.cf_bind.specs.declared.passenger.Passenger.{Passenger}
 use Rattle.cf_semantics.specs.claims.Weight.{counts, is_issue}
-use Rattle.cf_semantics.specs.moves.Bars.{emit_bar, first, is_taken, last_op, meet_bar, running, send_bar}
+use Rattle.cf_semantics.specs.moves.Bars.{emit_bar, first, cell_is_taken, last_op, meet_bar, running, send_bar}
 use Rattle.cf_semantics.specs.moves.Instructions.{fetched, serve_of}
 use Rattle.cf_semantics.specs.moves.Moves.{accessed, answered, asked, back_in, climbed, emitted, exited, fallen, issued, launch_trap, launched, left_live, moved, next, operation, sent, served, set_last, with_passenger, without_packet, without_passenger, written}
 use Rattle.cf_semantics.specs.state.Layouts.{isa_of, launches, port}
@@ -100,7 +100,7 @@ takes_back away p op a = back_is p (sources_without away p op) a (by _).0 (by _)
     by true = (refl, refl)
     by false = (refl, refl)
 
-taken_of : (q : Option (Option Op)) → not (is_taken q) ≡ false → (op : Op) × (q ≡ Some (Some op))
+taken_of : (q : Option (Option Op)) → not (cell_is_taken q) ≡ false → (op : Op) × (q ≡ Some (Some op))
 taken_of None e = absurd (cc)
 taken_of (Some None) e = absurd (cc)
 taken_of (Some (Some op)) e = (op, refl)

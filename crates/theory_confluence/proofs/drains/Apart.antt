@@ -18,7 +18,7 @@ use Rattle.cf_semantics.specs.state.State.{State, Moment}
 use Rattle.cf_semantics.specs.moves.Bars.{bar}
 use Rattle.cf_semantics.specs.state.Column.{Item, Up, column, column_from, items}
 use Rattle.cf_semantics.specs.state.Layouts.{isa_of}
-use Rattle.cf_semantics.specs.moves.Moves.{fetch_at, moved, next}
+use Rattle.cf_semantics.specs.moves.Moves.{fetch_from, moved, next}
 use Rattle.cf_semantics.specs.state.Passengers.{forgets, fresh, goto, reg_in, requests}
 use Rattle.cf_semantics.specs.claims.Right.{Way, begin, follows, goes, past, stops, way}
 use Rattle.cf_semantics.specs.runs.Runs.{IsRun, run}
@@ -75,7 +75,7 @@ grown {rest} {out} l s x g r h =
     let t : State = record s {
       cells = record r.here { passenger = Some p; met = false } ∷ r.others;
       lane = s.lane ++ requests p;
-      fetch = fetch_at (goto p);
+      fetch = fetch_from (goto p);
       cache =
           forgets (reg_in p.dst) s.cache;
     } in

@@ -14,7 +14,7 @@ use Rattle.theory_confluence.proofs.drains.Stuck.{Barred, Head, bar_is, first_cl
 use Rattle.theory_refinement.proofs.invariant.Invariant.{Sound}
 use Rattle.theory_refinement.proofs.invariant.Stands.{Each, Stands}
 use Rattle.theory_refinement.proofs.invariant.Suited.{Suits, is_plain}
-use Rattle.cf_semantics.specs.moves.Bars.{bar, climb_bar, emit_bar, execute_bar, is_taken, last_op, launch_bar, leave_bar, recover_bar, row_bar, send_bar, serve_bar, stops_at}
+use Rattle.cf_semantics.specs.moves.Bars.{bar, climb_bar, emit_bar, execute_bar, cell_is_taken, last_op, launch_bar, leave_bar, recover_bar, row_bar, send_bar, serve_bar, stops_at}
 use Rattle.cf_semantics.specs.state.Column.{Item, Up, column}
 use Rattle.cf_semantics.specs.state.Drained.{IsStuck}
 use Rattle.cf_semantics.specs.moves.Instructions.{fetched, is_free, is_memory, is_serial}
@@ -129,7 +129,7 @@ out_moves {rest} {out} l s x i c p below acc b h a o n = siding (siding_of l (ki
                 same a b e = cc
 
 -- not yet launched
-no_first : (q : List (Option Op)) → operations_in q ≡ [] → is_taken (slice_get q 0) ≡ false
+no_first : (q : List (Option Op)) → operations_in q ≡ [] → cell_is_taken (slice_get q 0) ≡ false
 no_first [] e = refl
 no_first (None ∷ q) e = refl
 no_first (Some op ∷ q) e = absurd (full (operations_in q) e)
@@ -140,7 +140,7 @@ no_first (Some op ∷ q) e = absurd (full (operations_in q) e)
 
 launch_free : (l : Plan) (s : State) (i k : ℕ) (c : Cell) (p : Passenger) → c.passenger ≡ Some p → c.packet ≡ None → p.dead ≡ false → p.done ≡ false →
     p.launched ≡ false → siding_of l (kind p) ≡ Some k → launch_stage l k ≡ i → missing p.src1 ≡ None → missing p.src2 ≡ None →
-    is_taken (slice_get (siding_at s k) 0) ≡ false → launch_bar l s c i ≡ None
+    cell_is_taken (slice_get (siding_at s k) 0) ≡ false → launch_bar l s c i ≡ None
 launch_free l s i k c p e f d u a g st m1 m2 t =
     let at : launches l (kind p) i ≡ true = rw g (grind (arith, st)) in
     rw (e, f) (rw (d, u, a, at, and_false (is_memory (kind p)), m1, m2) (rw g (rw t refl)))
@@ -198,7 +198,7 @@ waits_moves {rest} {out} l s x i c p below acc b h a d u n = class (is_serial (k
             skip : operations_of l k (Up i p ∷ below) ≡ operations_of l k below
             skip = rw n refl
 
-        first : is_taken (slice_get (siding_at s k) 0) ≡ false
+        first : cell_is_taken (slice_get (siding_at s k) 0) ≡ false
         first = no_first (siding_at s k) (h.moored.operations k ∙ none)
 
     execute : is_plain (kind p) ≡ true → siding_of l (kind p) ≡ None → ⊥

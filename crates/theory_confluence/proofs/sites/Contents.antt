@@ -8,7 +8,7 @@ use Rattle.mem_regions.specs.Access.{Bounds, area_bounds, bounds_of, holds, is_a
 use Rattle.mem_regions.specs.Bytes.{le_bytes}
 use Rattle.mem_regions.specs.Writing.{area_with, first_changed, memory_with, overwritten, stored}
 use Rattle.mem_regions.proofs.Kept.{break-stored}
-use Rattle.mem_regions.specs.Ranges.{bytes_in, lies_in, load_at, number_of, range_of, writes_in}
+use Rattle.mem_regions.specs.Ranges.{bytes_in, lies_in, load_at, number_found, range_of, writes_in}
 use Rattle.mem_regions.specs.declared.access.MemErr.{MemErr}
 use Rattle.mem_regions.specs.declared.access.MemErr.TheVariants.{Misaligned}
 use Rattle.rv_inst.specs.declared.instruction.Instr.{Instr}
@@ -72,7 +72,7 @@ find_same addr len (x ∷ xs) (y ∷ ys) e f =
 
 load_same : (m n : Memory) (addr width : ℕ) → bounds_of m ≡ bounds_of n → bytes_of m ≡ bytes_of n → load_at m addr width ≡ load_at n addr width
 unfolding load_at range_of bounds_of bytes_of
-load_same m n addr width e f = ap (λ (o : Option (List ℕ)). if is_aligned addr width then number_of o else Err Misaligned)
+load_same m n addr width e f = ap (λ (o : Option (List ℕ)). if is_aligned addr width then number_found o else Err Misaligned)
     (find_same addr width m.areas n.areas e f)
 
 pub answer_same : (i : Instr) (a b : ℕ) (m n : Memory) → bounds_of m ≡ bounds_of n → bytes_of m ≡ bytes_of n → answer_of i a b m ≡ answer_of i a b n

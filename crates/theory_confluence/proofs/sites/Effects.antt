@@ -17,7 +17,7 @@ use Rattle.cf_semantics.specs.state.State.{State, cell_at, put_cell, siding_at, 
 use Rattle.cf_semantics.specs.state.Passengers.{kind, fresh, goto, requests, reg_in, forgets, finish, trapped}
 use Rattle.cf_semantics.specs.state.Layouts.{isa_of, port}
 use Rattle.cf_semantics.specs.moves.Bars.{last_op, running}
-use Rattle.cf_semantics.specs.moves.Moves.{fetch_at, set_last, without_passenger, without_packet, with_passenger, cell_met, sent, operation, launch_trap, back_in, written, turned, keeps, moved, emitted, accessed, left}
+use Rattle.cf_semantics.specs.moves.Moves.{fetch_from, set_last, without_passenger, without_packet, with_passenger, cell_met, sent, operation, launch_trap, back_in, written, turned, keeps, moved, emitted, accessed, left}
 use Rattle.cf_semantics.specs.moves.Sites.{last_number}
 use Rattle.theory_refinement.proofs.column.Sidings.{cells_in}
 
@@ -84,7 +84,7 @@ abbrev pub issue_effect : List ℕ → List (Option ℕ) → Passenger → Cell 
 issue_effect lane cache p c = record nothing {
   stages = record { stage = 1; cell = record c { passenger = Some p; met = false } } ∷ [];
   lane = Some (lane ++ requests p);
-  fetch = Some (fetch_at (goto p));
+  fetch = Some (fetch_from (goto p));
   cache = Some (forgets (reg_in p.dst) cache);
 }
 

@@ -19,7 +19,7 @@ use Rattle.cf_semantics.specs.moves.Instructions.{access_trap, answer_of, fetche
 use Rattle.cf_semantics.specs.state.State.{State, Moment, cell_at, siding_at}
 use Rattle.cf_semantics.specs.state.Passengers.{finish, fresh, instruction, kind, value_in}
 use Rattle.cf_semantics.specs.state.Layouts.{isa_of, port, launches, recovers}
-use Rattle.cf_semantics.specs.moves.Bars.{bar, row_bar, first_of, last_op, running, source_bar, issue_bar, climb_bar, fall_bar, launch_bar, entry_bar, access_bar, recover_bar, exit_op_bar, is_taken, is_full}
+use Rattle.cf_semantics.specs.moves.Bars.{bar, row_bar, first_bar_of, last_op, running, source_bar, issue_bar, climb_bar, fall_bar, launch_bar, entry_bar, access_bar, recover_bar, exit_op_bar, cell_is_taken, is_full}
 use Rattle.cf_semantics.specs.moves.Moves.{cell_met, keeps, launch_trap, sent, turned, with_passenger, without_packet, without_passenger, written}
 use Rattle.cf_semantics.specs.moves.Sites.{AreAlike, HasFrame, Site, Stage, SidingCell, Lane, Fetching, Cache, Registers, Memory, Code, Count, Ended, Failure, content, among, uses, only_reads, reads, writes, last_number, ends_there, is_way_in, is_way_out, bytes_of, codes_of}
 use Rattle.theory_refinement.proofs.moves.Rows.{bar_row}
@@ -245,8 +245,8 @@ send_local l m i = record {
     cell t h = stage_same m t i (used l m t (Send i) h (Stage i) (self i false))
 
 -- Launch
-stopped : (a b c d : Bool) (p q r u : Bar) (x y : Option Bar) → c ≡ true → first_of ((a, p) ∷ (b, q) ∷ (c, r) ∷ (d, u) ∷ []) x
-    ≡ first_of ((a, p) ∷ (b, q) ∷ (c, r) ∷ (d, u) ∷ []) y
+stopped : (a b c d : Bool) (p q r u : Bar) (x y : Option Bar) → c ≡ true → first_bar_of ((a, p) ∷ (b, q) ∷ (c, r) ∷ (d, u) ∷ []) x
+    ≡ first_bar_of ((a, p) ∷ (b, q) ∷ (c, r) ∷ (d, u) ∷ []) y
 stopped true b c d p q r u x y e = refl
 stopped false true c d p q r u x y e = refl
 stopped false false true d p q r u x y e = refl
@@ -259,8 +259,8 @@ entry_same : (l : Plan) (m t : Moment) (i : ℕ) (p : Passenger) → launches l 
     ((k : ℕ) → launch_stage l k ≡ i → slice_get (siding_at m.state k) 0 ≡ slice_get (siding_at t.state k) 0) → entry_bar l m.state p ≡ entry_bar l t.state p
 entry_same l m t i p e h = go (siding_of l (kind p)) refl
   where
-    go : (o : Option ℕ) → siding_of l (kind p) ≡ o → on o None (λ k. first_of ((is_taken (slice_get (siding_at m.state k) 0), Occupied) ∷ []) None)
-        ≡ on o None (λ k. first_of ((is_taken (slice_get (siding_at t.state k) 0), Occupied) ∷ []) None)
+    go : (o : Option ℕ) → siding_of l (kind p) ≡ o → on o None (λ k. first_bar_of ((cell_is_taken (slice_get (siding_at m.state k) 0), Occupied) ∷ []) None)
+        ≡ on o None (λ k. first_bar_of ((cell_is_taken (slice_get (siding_at t.state k) 0), Occupied) ∷ []) None)
     go None f = refl
     go (Some k) f = rw (h k (launches_at l p i k e f)) refl
 
@@ -269,11 +269,12 @@ launch_row : (l : Plan) (m t : Moment) (i : ℕ) (c : Cell) → ((k : ℕ) → l
 launch_row l m t i c h = on_same c.passenger _ _ _ (λ p. go p (launches l (kind p) i) refl)
   where
     row : Passenger → State → Option Bar
-    row p s = first_of ((p.dead, Dead) ∷ (p.done || p.launched, AlreadyDone) ∷ (not (launches l (kind p) i), NoUnit) ∷ (is_memory (kind p) && is_full c, NotMet)
+    row p s = first_bar_of ((p.dead, Dead) ∷ (p.done || p.launched, AlreadyDone) ∷ (not (launches l (kind p) i), NoUnit) ∷
+        (is_memory (kind p) && is_full c, NotMet)
         ∷ []) (source_bar p (entry_bar l s p))
 
     go : (p : Passenger) (b : Bool) → launches l (kind p) i ≡ b → row p m.state ≡ row p t.state
-    go p true e = ap (λ (r : Option Bar). first_of ((p.dead, Dead) ∷ (p.done || p.launched, AlreadyDone) ∷ (not (launches l (kind p) i), NoUnit)
+    go p true e = ap (λ (r : Option Bar). first_bar_of ((p.dead, Dead) ∷ (p.done || p.launched, AlreadyDone) ∷ (not (launches l (kind p) i), NoUnit)
         ∷ (is_memory (kind p) && is_full c, NotMet) ∷ []) (source_bar p r)) (entry_same l m t i p e h)
     go p false e = stopped p.dead (p.done || p.launched) (not (launches l (kind p) i)) (is_memory (kind p) && is_full c) Dead AlreadyDone NoUnit NotMet _ _
         (rw e refl)
@@ -314,8 +315,9 @@ slide_within : (k c : ℕ) (o : Option Op) (x : Site) → touches (slide_effect 
     (among x (SidingCell k c ∷ SidingCell k (c + 1) ∷ []) || false) ≡ true
 slide_within k c o x e = grind (arith, e)
 
-slide_row : {p q p' q' : Option (Option Op)} → p ≡ p' → q ≡ q' → on q (Some NoSuchSite) (λ o. first_of ((not (is_taken p), OpNotThere) ∷ (is_some o, Occupied)
-    ∷ []) None) ≡ on q' (Some NoSuchSite) (λ o. first_of ((not (is_taken p'), OpNotThere) ∷ (is_some o, Occupied) ∷ []) None)
+slide_row : {p q p' q' : Option (Option Op)} → p ≡ p' → q ≡ q' → on q (Some NoSuchSite)
+    (λ o. first_bar_of ((not (cell_is_taken p), OpNotThere) ∷ (is_some o, Occupied)
+    ∷ []) None) ≡ on q' (Some NoSuchSite) (λ o. first_bar_of ((not (cell_is_taken p'), OpNotThere) ∷ (is_some o, Occupied) ∷ []) None)
 slide_row e f = rw (e, f) refl
 
 pub slide_local : (l : Plan) (m : Moment) (k c : ℕ) → HasLaw l m (Slide k c)
@@ -370,7 +372,7 @@ access_local l m = record {
         (used l m t Access h (SidingCell (port l) (last_number m.state (port l))) (self_cell (port l) (last_number m.state (port l)) _)))
 
 -- Recover
-held_first : (a b : Bool) (p q : Bar) (x y : Option Bar) → a ≡ true → first_of ((a, p) ∷ (b, q) ∷ []) x ≡ first_of ((a, p) ∷ (b, q) ∷ []) y
+held_first : (a b : Bool) (p q : Bar) (x y : Option Bar) → a ≡ true → first_bar_of ((a, p) ∷ (b, q) ∷ []) x ≡ first_bar_of ((a, p) ∷ (b, q) ∷ []) y
 held_first true b p q x y e = refl
 held_first false b p q x y e = absurd (cc)
 
@@ -382,7 +384,7 @@ exit_same : (l : Plan) (m t : Moment) (i : ℕ) (p : Passenger) → recovers l (
 exit_same l m t i p e h = go (siding_of l (kind p)) refl
   where
     bar_of : Option Op → Option Bar
-    bar_of q = on q (Some OpNotThere) (λ op. first_of ((is_memory (kind p) && not (is_some op.answer), NotDone) ∷ []) None)
+    bar_of q = on q (Some OpNotThere) (λ op. first_bar_of ((is_memory (kind p) && not (is_some op.answer), NotDone) ∷ []) None)
 
     go : (o : Option ℕ) → siding_of l (kind p) ≡ o → on o (Some NoUnit) (λ k. bar_of (last_op (siding_at m.state k)))
         ≡ on o (Some NoUnit) (λ k. bar_of (last_op (siding_at t.state k)))
@@ -394,7 +396,7 @@ recover_row : (l : Plan) (m t : Moment) (i : ℕ) (c : Cell) → ((k : ℕ) → 
 recover_row l m t i c h = on_same c.passenger _ _ _ (λ p. go p (recovers l (kind p) i) refl)
   where
     row : Passenger → Option Bar → Option Bar
-    row p r = first_of ((not (recovers l (kind p) i), NoUnit) ∷ (not p.launched || p.recovered, AlreadyDone) ∷ []) r
+    row p r = first_bar_of ((not (recovers l (kind p) i), NoUnit) ∷ (not p.launched || p.recovered, AlreadyDone) ∷ []) r
 
     go : (p : Passenger) (b : Bool) → recovers l (kind p) i ≡ b → row p (exit_op_bar l m.state p) ≡ row p (exit_op_bar l t.state p)
     go p true e = ap (row p) (exit_same l m t i p e h)

@@ -5,7 +5,7 @@ use Rattle.mem_regions.specs.Area.{Area}
 use Rattle.mem_regions.specs.Memory.{Memory}
 use Rattle.mem_regions.specs.Bytes.{le_number}
 use Rattle.mem_regions.specs.Access.{is_aligned}
-use Rattle.mem_regions.specs.Fetching.{fetches_in, word_of, fetch_at}
+use Rattle.mem_regions.specs.Fetching.{fetches_in, word_found, fetch_at}
 use Rattle.mem_regions.specs.declared.access.MemErr.{MemErr}
 use Rattle.mem_regions.specs.declared.access.MemErr.TheVariants.{Misaligned, NoAccess}
 use Rattle.rv_inst.specs.declared.isa.Isa.{Isa}
@@ -22,12 +22,12 @@ abbrev text_word : ℕ → Option Text → Result ℕ MemErr
 text_word pc None = Err NoAccess
 text_word pc (Some t) = Ok (le_number (take 4 (drop (pc - t.base) t.code)))
 
-word_in_text : (pc : ℕ) (areas : List Area) → word_of pc (find (fetches_in pc) areas) ≡ text_word pc (find (text_holds pc) (map area_text areas))
+word_in_text : (pc : ℕ) (areas : List Area) → word_found pc (find (fetches_in pc) areas) ≡ text_word pc (find (text_holds pc) (map area_text areas))
 word_in_text pc [] = refl
 word_in_text pc (a ∷ areas) = go (fetches_in pc a) (word_in_text pc areas)
   where
-    go : (b : Bool) → word_of pc (find (fetches_in pc) areas) ≡ text_word pc (find (text_holds pc) (map area_text areas)) →
-        word_of pc (cond b (Some a) (find (fetches_in pc) areas)) ≡ text_word pc (cond b (Some (area_text a)) (find (text_holds pc) (map area_text areas)))
+    go : (b : Bool) → word_found pc (find (fetches_in pc) areas) ≡ text_word pc (find (text_holds pc) (map area_text areas)) →
+        word_found pc (cond b (Some a) (find (fetches_in pc) areas)) ≡ text_word pc (cond b (Some (area_text a)) (find (text_holds pc) (map area_text areas)))
     go true e = refl
     go false e = e
 
@@ -35,7 +35,7 @@ word_in_text pc (a ∷ areas) = go (fetches_in pc a) (word_in_text pc areas)
 fetch_alike : (m n : Memory) (pc : ℕ) → code_of m ≡ code_of n → fetch_at m pc ≡ fetch_at n pc
 unfolding code_of fetch_at
 fetch_alike m n pc e =
-    let w : word_of pc (find (fetches_in pc) m.areas) ≡ word_of pc (find (fetches_in pc) n.areas) =
+    let w : word_found pc (find (fetches_in pc) m.areas) ≡ word_found pc (find (fetches_in pc) n.areas) =
     word_in_text pc m.areas ∙ ap (λ (ts : List Text). text_word pc (find (text_holds pc) ts)) e ∙ sym (word_in_text pc n.areas) in
     ap (λ (r : Result ℕ MemErr). cond (is_aligned pc 4) r (Err Misaligned)) w
 

@@ -451,7 +451,7 @@ bounds_after i a b mem = go (access_made i a b)
         by false = refl
 
 -- a call that answers leaves the bounds
-answer_bounds : (mem : Memory) (rest : List ℕ) (value : ℕ) (a : called.CallAnswer) → called.answered value mem rest ≡ called.Value a →
+answer_bounds : (mem : Memory) (rest : List ℕ) (value : ℕ) (a : called.CallAnswer) → called.answered_alone value mem rest ≡ called.Value a →
     bounds_of a.mem ≡ bounds_of mem
 answer_bounds mem rest value a e =
     let g : record { value = value; mem = mem; rest = rest; output = [] } ≡ a = cc in
@@ -494,7 +494,8 @@ brk_bounds : (addr : ℕ) (mem : Memory) (rest : List ℕ) (a : called.CallAnswe
 unfolding called.with_break
 brk_bounds addr mem rest a e = by (called.is_break addr) e
   where
-    by : (b : Bool) → (let moved = if b then record mem { program_break = addr } else mem in called.answered moved.program_break moved rest) ≡ called.Value a →
+    by : (b : Bool) → (let moved = if b then record mem { program_break = addr } else mem in called.answered_alone moved.program_break moved rest) ≡
+        called.Value a →
         bounds_of a.mem ≡ bounds_of mem
     by true f = answer_bounds (record mem { program_break = addr }) rest addr a f ∙ bounds-break mem addr
     by false f = answer_bounds mem rest mem.program_break a f
@@ -506,10 +507,10 @@ call_bounds regs mem rest a e =
     let x = called.first_argument regs in
     let y = called.second_argument regs in
     let z = called.third_argument regs in
-    choice_bounds (called.number_in regs == 63) mem _ _ a (read_bounds x y z mem rest a)
-    (choice_bounds (called.number_in regs == 64) mem _ _ a (write_bounds x y z mem rest a)
-    (choice_bounds (called.is_exit (called.number_in regs)) mem _ _ a (λ f. absurd (cc))
-    (choice_bounds (called.number_in regs == 214) mem _ _ a (brk_bounds x mem rest a) (answer_bounds mem rest called.no_such_call a)))) e
+    choice_bounds (called.call_number regs == 63) mem _ _ a (read_bounds x y z mem rest a)
+    (choice_bounds (called.call_number regs == 64) mem _ _ a (write_bounds x y z mem rest a)
+    (choice_bounds (called.is_exit (called.call_number regs)) mem _ _ a (λ f. absurd (cc))
+    (choice_bounds (called.call_number regs == 214) mem _ _ a (brk_bounds x mem rest a) (answer_bounds mem rest called.no_such_call a)))) e
 
 pub served_bounds : (i : Instr) (regs : List ℕ) (mem : Memory) (rest : List ℕ) (a : called.CallAnswer) → serve_of i regs mem rest ≡ called.Value a →
     bounds_of a.mem ≡ bounds_of mem

@@ -14,7 +14,7 @@ use Rattle.cf_semantics.specs.state.Options.{When}
 use Rattle.cf_semantics.specs.moves.Instructions.{src1_of, src2_of, dst_of, fetched, StepResult, step_at}
 use Rattle.cf_semantics.specs.state.Column.{Item, Up, Down}
 use Rattle.cf_semantics.specs.state.Passengers.{reg_in, missing, cached}
-use Rattle.cf_semantics.specs.moves.Moves.{fetch_at}
+use Rattle.cf_semantics.specs.moves.Moves.{fetch_from}
 use Rattle.cf_semantics.specs.claims.Path.{Walk, is_trap, is_sure}
 use Rattle.cf_semantics.specs.claims.Soundness.{HasValues, Holds, PacketHasValue}
 
@@ -66,7 +66,7 @@ Fits isa (Down i k) w = When (not w.barred) (PacketFits k w)
 
 -- below all, with no barrier: fetch runs where the program goes
 abbrev pub Ends : Walk → Fetch → Type 0
-Ends w f = When (not w.barred) (f ≡ fetch_at w.goto)
+Ends w f = When (not w.barred) (f ≡ fetch_from w.goto)
 
 -- each cached value is the register's
 abbrev pub AreRegisters : List (Option ℕ) → List ℕ → Type 0

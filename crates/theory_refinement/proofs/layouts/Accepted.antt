@@ -5,7 +5,7 @@ use Rattle.std.specs.List.{list_any}
 use Rattle.std.proofs.lemmas.Bool.Decides.{nat_tests}
 use Rattle.rv_inst.specs.declared.classes.Class.{Class}
 use Rattle.rv_inst.specs.declared.classes.Class.TheVariants.{Add, Logic, Shift, Compare, Branch, Jump, Memory, Serial, Free, Mul, Div}
-use Rattle.cf_layout.specs.Layout.{Plan, cells_of, homes, is_homed, last_of, last_stage, launch_stage, place_of, recover_stage, recovers_by, serves, siding_at, siding_of, stages_of, unit_at, unit_homes}
+use Rattle.cf_layout.specs.Layout.{Plan, cells_of, homes, is_homed, last_of, last_stage, launch_stage, place_of, recover_stage, recovers_by, serves, siding_plan_at, siding_of, stages_of, unit_at, unit_homes}
 use Rattle.cf_layout.specs.Accepted as accepted
 use Rattle.cf_layout.specs.Accepted.{IsAccepted, IsSiding, IsStage, memory_launch}
 use Rattle.cf_layout.specs.Accepted.{is_control}
@@ -26,7 +26,7 @@ launch_is plan = go (siding_of plan Memory)
     go (Some k) = refl
 
 -- the siding of a class is a siding
-siding_is : (plan : Plan) → IsAccepted plan → (c : Class) (k : ℕ) → siding_of plan c ≡ Some k → IsSiding plan (siding_at plan k)
+siding_is : (plan : Plan) → IsAccepted plan → (c : Class) (k : ℕ) → siding_of plan c ≡ Some k → IsSiding plan (siding_plan_at plan k)
 siding_is plan acc c k e = of_sided (IsSiding plan) plan c k e acc.sidings
 
 -- a class with units has no siding
@@ -149,7 +149,7 @@ control_siding : (plan : Plan) → IsAccepted plan → (c : Class) (k : ℕ) →
     recover_stage plan k ≤ launch_stage plan (port plan)
 unfolding recover_stage
 control_siding plan acc c k t e =
-    subst (λ (m : ℕ). (siding_at plan k).recover ≤ m) (launch_is plan)
+    subst (λ (m : ℕ). (siding_plan_at plan k).recover ≤ m) (launch_is plan)
     (of_sided (λ siding. serves siding c ≡ true → siding.recover ≤ memory_launch plan) plan c k e (acc.control_sidings c t) (sided_for plan c k e))
 
 -- a class of the base set has a home
@@ -172,7 +172,7 @@ memory_sided plan acc = go (siding_of plan Memory) refl
 -- a siding is for what is computed
 sided_plain : (plan : Plan) → IsAccepted plan → (c : Class) (k : ℕ) → siding_of plan c ≡ Some k → (is_plain c || is_memory c) ≡ true
 unfolding serves
-sided_plain plan acc c k e = by c (computed (siding_at plan k).classes c (siding_is plan acc c k e).computed (sided_for plan c k e))
+sided_plain plan acc c k e = by c (computed (siding_plan_at plan k).classes c (siding_is plan acc c k e).computed (sided_for plan c k e))
   where
     by : (c : Class) → place_of c < 9 → (is_plain c || is_memory c) ≡ true
     by Serial n = absurd (omega arith)
@@ -192,7 +192,7 @@ memory_alone : (plan : Plan) → IsAccepted plan → (c : Class) → siding_of p
 memory_alone plan acc c e =
     let m = memory_sided plan acc in
     let only = (siding_is plan acc Memory (port plan) m).memory_alone (sided_for plan Memory (port plan) m) in
-    memory_only c (siding_at plan (port plan)) only (sided_for plan c (port plan) e)
+    memory_only c (siding_plan_at plan (port plan)) only (sided_for plan c (port plan) e)
 
 -- an accepted layout suits the moves
 pub accepted_suits : (plan : Plan) → IsAccepted plan → Suits plan
@@ -204,7 +204,7 @@ accepted_suits plan acc = record {
   control_siding = control_siding plan acc;
   order = λ c k e. let q = (siding_is plan acc c k e).order in unfold launch_stage recover_stage in q;
   memory = memory_sided plan acc;
-  berth = λ c k e. let q = (siding_is plan acc c k e).cells.0 in unfold cells_of in some (siding_at plan k).cells q;
+  berth = λ c k e. let q = (siding_is plan acc c k e).cells.0 in unfold cells_of in some (siding_plan_at plan k).cells q;
   sided = sided_plain plan acc;
   unsided = unit_unsided plan acc;
   in_pipe = λ c k e. let q = (siding_is plan acc c k e).recovers.1 in unfold recover_stage in q;

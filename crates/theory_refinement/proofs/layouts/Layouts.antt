@@ -9,7 +9,7 @@ use Rattle.std.proofs.lemmas.Option.{slice_get_cases, slice_get_past, unwrap_or-
 use Rattle.mem_regions.proofs.Finding.{position-cons}
 use Rattle.rv_inst.specs.declared.classes.Class.{Class}
 use Rattle.rv_inst.specs.declared.classes.Class.TheVariants.{Memory}
-use Rattle.cf_layout.specs.Layout.{Plan, SidingPlan, homes, last_of, no_siding, place_of, same_class, serves, siding_at, siding_of, stages_of, unit_homes}
+use Rattle.cf_layout.specs.Layout.{Plan, SidingPlan, homes, last_of, no_siding, place_of, same_class, serves, siding_plan_at, siding_of, stages_of, unit_homes}
 use Rattle.cf_layout.specs.Accepted.{IsAccepted, IsStage}
 use Rattle.cf_semantics.specs.state.Options.{is_some}
 
@@ -37,14 +37,14 @@ unfolding siding_of sidings_of
 sided_is plan c = first_kept (λ siding. serves siding c) plan.sidings
 
 -- the siding of a class is for the class
-pub sided_for : (plan : Plan) (c : Class) (k : ℕ) → siding_of plan c ≡ Some k → serves (siding_at plan k) c ≡ true
+pub sided_for : (plan : Plan) (c : Class) (k : ℕ) → siding_of plan c ≡ Some k → serves (siding_plan_at plan k) c ≡ true
 unfolding siding_of
 sided_for plan c k e =
     let q = position-Some (λ siding. serves siding c) plan.sidings k no_siding e in
     ap (λ (s : SidingPlan). serves s c) (unwrap_or-slice_get plan.sidings k no_siding) ∙ q.1
 
 -- and what holds of all sidings holds of it
-pub of_sided : (P : SidingPlan → Type 0) (plan : Plan) (c : Class) (k : ℕ) → siding_of plan c ≡ Some k → All P plan.sidings → P (siding_at plan k)
+pub of_sided : (P : SidingPlan → Type 0) (plan : Plan) (c : Class) (k : ℕ) → siding_of plan c ≡ Some k → All P plan.sidings → P (siding_plan_at plan k)
 unfolding siding_of
 of_sided P plan c k e h =
     let q = position-Some (λ siding. serves siding c) plan.sidings k no_siding e in

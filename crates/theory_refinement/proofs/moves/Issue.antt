@@ -39,7 +39,7 @@ use Rattle.cf_semantics.specs.state.Column.{Item, Up, column, column_from, items
 use Rattle.cf_layout.specs.Accepted.{is_control}
 use Rattle.cf_semantics.specs.moves.Instructions.{after_step, dst_of, fetched, is_free, is_serial, step_at}
 use Rattle.cf_semantics.specs.state.Layouts.{isa_of}
-use Rattle.cf_semantics.specs.moves.Moves.{fetch_at, moved}
+use Rattle.cf_semantics.specs.moves.Moves.{fetch_from, moved}
 use Rattle.cf_semantics.specs.state.Options.{When, is_some, on}
 use Rattle.cf_semantics.specs.state.Passengers.{destination, forgets, fresh, goto, instruction, kind, reg_in, requests}
 use Rattle.cf_semantics.specs.state.State.{State, cell_at}
@@ -78,7 +78,7 @@ pub next_issue : (l : Plan) (s : State) (g : Guess) (c : Cell) (cs : List Cell) 
     ≡ record s {
       cells = record c { passenger = Some p; met = false } ∷ cs;
       lane = s.lane ++ requests p;
-      fetch = fetch_at (goto p);
+      fetch = fetch_from (goto p);
       cache =
           forgets (reg_in p.dst) s.cache;
     }
@@ -88,7 +88,7 @@ next_issue l s g c cs pc p e f h = rw (e, f, h)
 pub issue_items : (c : Cell) (p : Passenger) → c.passenger ≡ None → items 1 (record c { passenger = Some p; met = false }) ≡ items 1 c ++ Up 1 p ∷ []
 issue_items c p e = grind arith
 
-running_goto : (o : Option ℕ) (pc : ℕ) → Running pc ≡ fetch_at o → o ≡ Some pc
+running_goto : (o : Option ℕ) (pc : ℕ) → Running pc ≡ fetch_from o → o ≡ Some pc
 running_goto o pc e = grind arith
 
 -- fetch runs, so that nothing is shut
@@ -129,15 +129,15 @@ fits_path isa p w d f = (λ e. absurd (cc), go w.barred refl)
     go true e = subst (λ (z : Bool). When (not z && not true) (sure.SureAt isa p w)) (sym d) tt
     go false e = subst (λ (z : Bool). When (not z && not false) (sure.SureAt isa p w)) (sym d) (f e)
 
-below_ends : (isa : Isa) (p : Passenger) (w : trail.Walk) → p.dead ≡ false → sure.Ends (trail.past isa (Up 1 p) w) (fetch_at (goto p))
+below_ends : (isa : Isa) (p : Passenger) (w : trail.Walk) → p.dead ≡ false → sure.Ends (trail.past isa (Up 1 p) w) (fetch_from (goto p))
 unfolding trail.past
-below_ends isa p w d = subst (λ (z : Bool). sure.Ends (trail.past_passenger isa (not z && not w.barred) p w) (fetch_at (goto p))) (sym d) (go w.barred refl)
+below_ends isa p w d = subst (λ (z : Bool). sure.Ends (trail.past_passenger isa (not z && not w.barred) p w) (fetch_from (goto p))) (sym d) (go w.barred refl)
   where
-    go : (b : Bool) → w.barred ≡ b → sure.Ends (trail.past_passenger isa (not false && not b) p w) (fetch_at (goto p))
-    go true e = subst (λ (z : Bool). When (not z) (fetch_at (goto p) ≡ fetch_at w.goto)) (sym e) tt
+    go : (b : Bool) → w.barred ≡ b → sure.Ends (trail.past_passenger isa (not false && not b) p w) (fetch_from (goto p))
+    go true e = subst (λ (z : Bool). When (not z) (fetch_from (goto p) ≡ fetch_from w.goto)) (sym e) tt
     go false e = turn (trail.turns p.owes)
       where
-        turn : (c : Bool) → When (not c) (fetch_at (goto p) ≡ fetch_at (goto p))
+        turn : (c : Bool) → When (not c) (fetch_from (goto p) ≡ fetch_from (goto p))
         turn true = tt
         turn false = refl
 
@@ -177,7 +177,7 @@ lone_fits p b e = e
 serial_goto : (p : Passenger) → p.done ≡ false → (is_serial (kind p) || waits p.guess) ≡ true → goto p ≡ None
 serial_goto p d e = grind arith
 
-lone_ends : (l : Plan) (p : Passenger) (g : Guess) (b : Bool) → IsFresh p g → b ≡ false → lone.Ends (lone.past l (Up 1 p) b) (fetch_at (goto p))
+lone_ends : (l : Plan) (p : Passenger) (g : Guess) (b : Bool) → IsFresh p g → b ≡ false → lone.Ends (lone.past l (Up 1 p) b) (fetch_from (goto p))
 unfolding lone.past
 lone_ends l p g b n e = λ h. rw (go p.done (is_some p.ending) refl refl h)
   where
@@ -306,7 +306,7 @@ issue_kept {rest} {out} l s x g acc e h =
     let new = Up 1 p ∷ [] in
     let n : IsFresh p g = fresh_is (fetched (isa_of l) s.mem r.pc) s.cache r.pc g in
     let c : Cell = record r.here { passenger = Some p; met = false } in
-    let t : State = record s { cells = c ∷ r.others; lane = s.lane ++ requests p; fetch = fetch_at (goto p); cache = forgets (reg_in p.dst) s.cache } in
+    let t : State = record s { cells = c ∷ r.others; lane = s.lane ++ requests p; fetch = fetch_from (goto p); cache = forgets (reg_in p.dst) s.cache } in
     let was : column s ≡ column_from 2 r.others ++ items 1 r.here = ap (column_from 1) r.cells in
     let is : column t ≡ column s ++ new = ap (λ (q : List Item). column_from 2 r.others ++ q) (issue_items r.here p r.free)
     ∙ sym (append_assoc (column_from 2 r.others) (items 1 r.here) new) ∙ ap (λ (q : List Item). q ++ new) (sym was) in
@@ -346,7 +346,7 @@ issue_kept {rest} {out} l s x g acc e h =
         q ≡ fetched (isa_of l) w.machine.hart.mem pc → ((r : ℕ) → trail.among r (requests (fresh c q pc g)) ≡ true → w.coming r ≡ true) → w.barred ≡ false →
         sure.Ends w f → sure.Keeps w c → sure.SureAt (isa_of l) (fresh c q pc g) w
     sure_new c q pc g f w e y a b n k =
-        let n' : f ≡ fetch_at w.goto = subst (λ (z : Bool). When (not z) (f ≡ fetch_at w.goto)) b n in
+        let n' : f ≡ fetch_from w.goto = subst (λ (z : Bool). When (not z) (f ≡ fetch_from w.goto)) b n in
         let k' : sure.AreRegisters c w.machine.hart.regs = subst (λ (z : Bool). When (not z) (sure.AreRegisters c w.machine.hart.regs)) b k in
         subst (λ (z : Fetched). sure.SureAt (isa_of l) (fresh c z pc g) w) (sym y) (fresh_at (isa_of l) w c pc g k' (running_goto w.goto pc (sym e ∙ n'))
         (subst (λ (z : Fetched). (r : ℕ) → trail.among r (requests (fresh c z pc g)) ≡ true → w.coming r ≡ true) y a))

@@ -29,7 +29,7 @@ use Rattle.theory_refinement.proofs.instructions.Steps.{access_traps}
 use Rattle.theory_refinement.proofs.invariant.Invariant.{Sound}
 use Rattle.theory_refinement.proofs.invariant.Stands.{Each, Stands}
 use Rattle.theory_refinement.proofs.invariant.Suited.{Suits}
-use Rattle.cf_semantics.specs.moves.Bars.{bar, first, is_full, is_taken, launch_bar, row_bar, source_bar}
+use Rattle.cf_semantics.specs.moves.Bars.{bar, first, is_full, cell_is_taken, launch_bar, row_bar, source_bar}
 use Rattle.cf_semantics.specs.state.Column.{Down, Item, Up, column}
 use Rattle.cf_semantics.specs.moves.Instructions.{access_trap, is_memory, step_at}
 use Rattle.cf_semantics.specs.state.Layouts.{isa_of, launches, port}
@@ -68,7 +68,7 @@ pub record Launches (l : Plan) (s : State) (i : ℕ) : Type 0 where
   pub clear : is_memory (kind who) ≡ true → is_full here ≡ false
   pub has1 : missing who.src1 ≡ None
   pub has2 : missing who.src2 ≡ None
-  pub free : is_taken (slice_get (siding_at s number) 0) ≡ false
+  pub free : cell_is_taken (slice_get (siding_at s number) 0) ≡ false
 
 pub first_none : (b : Bool) (x : Bar) (r : Option Bar) → first b x r ≡ None → (b ≡ false) × (r ≡ None)
 first_none true x r e = absurd (cc)
@@ -90,7 +90,7 @@ launch_ready l s i e = go (cell_at s.cells i) refl e
     inner : (c : Cell) (o : Option Passenger) → cell_at s.cells i ≡ Some c → c.passenger ≡ o →
         on o (Some NoPassenger) (λ p. first p.dead Dead (first (p.done || p.launched) AlreadyDone
         (first (not (launches l (kind p) i)) NoUnit (first (is_memory (kind p) && is_full c) NotMet
-        (source_bar p (on (siding_of l (kind p)) None (λ k. first (is_taken (slice_get (siding_at s k) 0)) Occupied None))))))) ≡ None → Launches l s i
+        (source_bar p (on (siding_of l (kind p)) None (λ k. first (cell_is_taken (slice_get (siding_at s k) 0)) Occupied None))))))) ≡ None → Launches l s i
     inner c None f h e = absurd (cc)
     inner c (Some p) f h e =
         let e1 = first_none _ _ _ e in
@@ -99,7 +99,7 @@ launch_ready l s i e = go (cell_at s.cells i) refl e
         let e4 = first_none _ _ _ e3.1 in
         let e5 = source_none p _ e4.1 in
         let k = siding_there l p i e3.0 in
-        let free : first (is_taken (slice_get (siding_at s k.0) 0)) Occupied None ≡ None = rw k.1 at e5.2 in
+        let free : first (cell_is_taken (slice_get (siding_at s k.0) 0)) Occupied None ≡ None = rw k.1 at e5.2 in
         record {
           here = c;
           who = p;
@@ -142,7 +142,7 @@ pub launched_trap : (l : Plan) (s : State) (i : ℕ) (c : Cell) (p : Passenger) 
     launched l s i c p ≡ with_cell s i (with_passenger c (trapped p b))
 launched_trap l s i c p b e = rw e
 
-pub first_free : (q : List (Option Op)) (n : ℕ) → length q ≡ suc n → is_taken (slice_get q 0) ≡ false → (r : List (Option Op)) × (q ≡ None ∷ r)
+pub first_free : (q : List (Option Op)) (n : ℕ) → length q ≡ suc n → cell_is_taken (slice_get q 0) ≡ false → (r : List (Option Op)) × (q ≡ None ∷ r)
 first_free [] n e f = absurd (cc)
 first_free (None ∷ r) n e f = (r, refl)
 first_free (Some o ∷ r) n e f = absurd (cc)

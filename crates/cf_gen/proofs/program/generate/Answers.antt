@@ -1,7 +1,7 @@
 use Rattle.std.proofs.Common.{◌≡◌, ℕ, ◌+◌, ◌-◌, ◌≤◌, Option, List, ◌++◌, [], ap, sym, subst, ◌∙◌, arith, append-nil}
 use Rattle.std.specs.List.{flat_map, range_with_len}
 use Rattle.std.proofs.lemmas.Result.{on_err_weaker}
-use Rattle.cf_gen.specs.Draws.{state_after}
+use Rattle.cf_gen.specs.Draws.{state_after_draws}
 use Rattle.cf_gen.specs.Program.{drawn_statement, numbered_statement, closing_text, program_text}
 use Rattle.cf_gen.proofs.Steps.{lines-before, lines-none, after-statement}
 use Rattle.cf_io.proofs.Owing.{Owes, owes-next, owes-front, err-owes}
@@ -32,7 +32,7 @@ loop-i-preserved g c =
     record {
       owes = owes-next _ _ _ _ _ _ _ c.loop-i.invariant.owes
           (lines-before (numbered_statement n) i (n + 1) _ (closing_text n) (omega arith) text) c.in_ok-put_all-2.ensures.all;
-      state = c.statement.ensures.state ∙ ap (state_after 5) c.loop-i.invariant.state ∙ sym (after-statement i n (omega arith));
+      state = c.statement.ensures.state ∙ ap (state_after_draws 5) c.loop-i.invariant.state ∙ sym (after-statement i n (omega arith));
       still = c.in_ok-put_all-2.ensures.cause.still ∙ c.loop-i.invariant.still;
     }
 

@@ -1,13 +1,13 @@
 use Rattle.std.proofs.Common.{◌≡◌, fold, map}
-use Rattle.cf_index.specs.Places.{places}
+use Rattle.cf_index.specs.Places.{set_places}
 use Rattle.cf_index.specs.Spread.{numbered}
 use Rattle.cf_index.proofs.visiting.visit_word.Given as goal
 
 -- with those that are left the visitor becomes what it becomes with all
 abbrev pub invariant-loop-rest : goal.invariant-loop-rest
 invariant-loop-rest g l =
-    fold g.V.Visitor.after l.visitor (map (numbered l.kind) (places 64 l.rest))
-    ≡ fold g.V.Visitor.after l.initial.visitor (map (numbered l.kind) (places 64 l.word))
+    fold g.V.Visitor.after l.visitor (map (numbered l.kind) (set_places 64 l.rest))
+    ≡ fold g.V.Visitor.after l.initial.visitor (map (numbered l.kind) (set_places 64 l.word))
 
 abbrev pub decreases-loop-rest : goal.decreases-loop-rest
 decreases-loop-rest g l = l.rest

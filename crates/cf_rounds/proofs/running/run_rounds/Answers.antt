@@ -59,7 +59,8 @@ returns-in-Some-clause-run g c = said-end c.args.options.every c.args.options.ru
     c.loop-clocked.invariant.said c.in-Some.ensures.turns
 
 pub returns-in-Some-clause-ends : goal.returns-in-Some-clause-ends
-returns-in-Some-clause-ends g c = rounds-end c.args.options.rule _ _ _ _ _ _ _ _ c.known.ensures.accepted c.known.ensures.registers c.loop-clocked.invariant.said.0
+returns-in-Some-clause-ends g c = rounds-end c.args.options.rule _ _ _ _ _ _ _ _ c.known.ensures.accepted c.known.ensures.registers
+    c.loop-clocked.invariant.said.0
     c.in-Some.ensures.turns
 
 pub returns-in-Some-clause-bounded : goal.returns-in-Some-clause-bounded

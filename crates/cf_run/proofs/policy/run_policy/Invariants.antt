@@ -2,7 +2,7 @@ use Rattle.std.proofs.Common.{◌≡◌, ◌-◌, ◌≤◌}
 use Rattle.rv_machine.specs.Streams.{streams_of}
 use Rattle.cf_core.specs.Asking.{AsksInput, AsksOutput}
 use Rattle.cf_run.specs.Asking.{SomeAsks}
-use Rattle.cf_run.specs.Moving.{RunPlace, place_of}
+use Rattle.cf_run.specs.Moving.{RunPlace, run_place_of}
 use Rattle.cf_run.specs.Policies.{most_moves}
 use Rattle.cf_run.specs.Sweeps.{HasPicked}
 use Rattle.cf_run.proofs.policy.run_policy.Given as goal
@@ -13,8 +13,9 @@ invariant-loop-ran g l =
     let left = g.S.Source.left in
     let written = g.K.Sink.written in
     let reported = g.R.Sink.written in
-    let start : RunPlace = place_of l.initial.core (streams_of (left l.initial.input) (written l.initial.output)) (reported l.initial.report) l.initial.tally in
-    let now : RunPlace = place_of l.core (streams_of (left l.input) (written l.output)) (reported l.report) l.tally in
+    let start : RunPlace = run_place_of l.initial.core (streams_of (left l.initial.input) (written l.initial.output)) (reported l.initial.report)
+    l.initial.tally in
+    let now : RunPlace = run_place_of l.core (streams_of (left l.input) (written l.output)) (reported l.report) l.tally in
     record {
       comes : HasPicked l.fn.rule g.P.Policy.picked g.P.Policy.onward l.limit l.reporting start now l.initial.policy l.policy l.pace.count;
       rule : l.pace.rule ≡ l.fn.rule;

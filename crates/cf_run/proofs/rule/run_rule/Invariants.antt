@@ -3,7 +3,7 @@ use Rattle.rv_machine.specs.Streams.{streams_of}
 use Rattle.cf_core.specs.Asking.{AsksInput, AsksOutput}
 use Rattle.cf_sched.specs.Policies.{round_on, round_pick}
 use Rattle.cf_run.specs.Asking.{SomeAsks}
-use Rattle.cf_run.specs.Moving.{RunPlace, place_of}
+use Rattle.cf_run.specs.Moving.{RunPlace, run_place_of}
 use Rattle.cf_run.specs.Policies.{most_moves}
 use Rattle.cf_run.specs.Sweeps.{HasPicked}
 use Rattle.cf_run.proofs.rule.run_rule.Given as goal
@@ -14,8 +14,9 @@ invariant-loop-ran g l =
     let left = g.S.Source.left in
     let written = g.K.Sink.written in
     let reported = g.R.Sink.written in
-    let start : RunPlace = place_of l.initial.core (streams_of (left l.initial.input) (written l.initial.output)) (reported l.initial.report) l.initial.tally in
-    let now : RunPlace = place_of l.core (streams_of (left l.input) (written l.output)) (reported l.report) l.tally in
+    let start : RunPlace = run_place_of l.initial.core (streams_of (left l.initial.input) (written l.initial.output)) (reported l.initial.report)
+    l.initial.tally in
+    let now : RunPlace = run_place_of l.core (streams_of (left l.input) (written l.output)) (reported l.report) l.tally in
     record {
       comes : HasPicked l.fn.rule round_pick round_on l.limit l.reporting start now l.initial.round l.round l.pace.count;
       rule : l.pace.rule ≡ l.fn.rule;

@@ -2,8 +2,8 @@ use Rattle.std.proofs.Common.{◌≡◌, ◌+◌, ◌<◌, ◌≤◌, ◌^◌, l
 use Rattle.rv_machine.specs.Streams.{streams_of}
 use Rattle.cf_core.specs.Asking.{AsksInput, AsksOutput}
 use Rattle.cf_run.specs.Asking.{SomeAsks}
-use Rattle.cf_run.specs.Moving.{place_of}
-use Rattle.cf_run.specs.Scripts.{ScriptRun, stand_of, Follows}
+use Rattle.cf_run.specs.Moving.{run_place_of}
+use Rattle.cf_run.specs.Scripts.{ScriptRun, script_run_of, Follows}
 use Rattle.cf_run.proofs.script.run_script.Given as goal
 
 -- the moves that were made so far lead here, and no fault was counted
@@ -12,9 +12,9 @@ invariant-loop-end g l =
     let left = g.S.Source.left in
     let written = g.K.Sink.written in
     let reported = g.R.Sink.written in
-    let start : ScriptRun = stand_of (place_of l.initial.core (streams_of (left l.initial.input) (written l.initial.output))
+    let start : ScriptRun = script_run_of (run_place_of l.initial.core (streams_of (left l.initial.input) (written l.initial.output))
     (reported l.initial.report) l.initial.tally) l.initial.script in
-    let now : ScriptRun = stand_of (place_of l.core (streams_of (left l.input) (written l.output)) (reported l.report) l.tally) l.script in
+    let now : ScriptRun = script_run_of (run_place_of l.core (streams_of (left l.input) (written l.output)) (reported l.report) l.tally) l.script in
     record {
       followed : Follows l.limit l.reporting start now;
       input_asked : (SomeAsks AsksInput start.place.core.plan start.place.core.state followed.reaches.trace → ⊥) → l.input ≡ l.initial.input;

@@ -15,5 +15,6 @@ pub returns-in_ok-put_retirement_and_progress-in-Moves : goal.returns-in_ok-put_
 unfolding shown
 returns-in_ok-put_retirement_and_progress-in-Moves g c =
     let moved = has-more c.in_ok-put_move-in-Moves.was (put-nothing _ _) c.put_move.ensures in
-    let line = has-more c.in_ok-put_retirement_and_progress-in-Moves.was moved (rw c.retired-retired.ensures at c.put_retirement_and_progress-in-Moves.ensures) in
+    let line = has-more c.in_ok-put_retirement_and_progress-in-Moves.was moved
+    (rw c.retired-retired.ensures at c.put_retirement_and_progress-in-Moves.ensures) in
     rw c.in-Moves.is (has-last line c.put_picture.ensures)

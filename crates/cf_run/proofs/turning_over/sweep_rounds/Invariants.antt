@@ -2,7 +2,7 @@ use Rattle.std.proofs.Common.{◌≡◌, ◌-◌, Some}
 use Rattle.rv_machine.specs.Streams.{streams_of}
 use Rattle.cf_index.specs.PickedFrom.{from_emit}
 use Rattle.cf_index.specs.Ranks.{first_rank}
-use Rattle.cf_run.specs.Moving.{RunPlace, place_of}
+use Rattle.cf_run.specs.Moving.{RunPlace, run_place_of}
 use Rattle.cf_run.specs.Policies.{most_moves}
 use Rattle.cf_run.specs.Sweeps.{CanSweep, IsUnderway, PicksFrom, SweepsTo}
 use Rattle.cf_run.proofs.turning_over.sweep_rounds.Given as goal
@@ -13,8 +13,8 @@ invariant-loop-reporting g l =
     let left = g.S.Source.left in
     let written = g.K.Sink.written in
     let reported = g.R.Sink.written l.report in
-    let start : RunPlace = place_of l.initial.core (streams_of (left l.initial.input) (written l.initial.output)) reported l.initial.tally in
-    let now : RunPlace = place_of l.core (streams_of (left l.input) (written l.output)) reported l.tally in
+    let start : RunPlace = run_place_of l.initial.core (streams_of (left l.initial.input) (written l.initial.output)) reported l.initial.tally in
+    let now : RunPlace = run_place_of l.core (streams_of (left l.input) (written l.output)) reported l.tally in
     record {
       sweeps : SweepsTo l.initial.pace.rule l.limit l.reporting start now (Some l.fn.last) (Some l.last) l.initial.pace.count l.pace.count;
       underway : IsUnderway l.pace.rule l.limit l.reporting now (Some l.last) l.pace.count;

@@ -1,8 +1,8 @@
 use Rattle.std.proofs.Common.{◌≡◌, ◌-◌, ◌≤◌, None}
 use Rattle.rv_machine.specs.Streams.{streams_of}
-use Rattle.cf_run.specs.Moving.{RunPlace, place_of}
+use Rattle.cf_run.specs.Moving.{RunPlace, run_place_of}
 use Rattle.cf_run.specs.Policies.{most_moves}
-use Rattle.cf_timed.specs.Clocks.{rule_of}
+use Rattle.cf_timed.specs.Clocks.{rule_of_clock}
 use Rattle.cf_timed.proofs.Watched.{ComesWatched}
 use Rattle.cf_timed.proofs.run.run_watched.Given as goal
 
@@ -12,10 +12,11 @@ invariant-loop-step g l =
     let left = g.S.Source.left in
     let written = g.K.Sink.written in
     let reported = g.R.Sink.written in
-    let start : RunPlace = place_of l.initial.core (streams_of (left l.initial.input) (written l.initial.output)) None l.initial.tally in
-    let now : RunPlace = place_of l.core (streams_of (left l.input) (written l.output)) None l.tally in
+    let start : RunPlace = run_place_of l.initial.core (streams_of (left l.initial.input) (written l.initial.output)) None l.initial.tally in
+    let now : RunPlace = run_place_of l.core (streams_of (left l.input) (written l.output)) None l.tally in
     record {
-      comes : ComesWatched g.W.Watcher.noted g.W.Watcher.text l.options.rule (rule_of l.initial.clock) l.options.limit start now l.clock l.initial.watcher l.watcher
+      comes : ComesWatched g.W.Watcher.noted g.W.Watcher.text l.options.rule (rule_of_clock l.initial.clock) l.options.limit start now l.clock l.initial.watcher
+          l.watcher
           (reported l.initial.report) (reported l.report) l.pace.count;
       rule : l.pace.rule ≡ l.options.rule;
       stages : l.pace.stages ≡ l.core.plan.stages;

@@ -9,7 +9,8 @@ use Rattle.cli_orders.proofs.edges.all_edges.Goals as goal
 pub loop-number-preserved : goal.loop-number-preserved
 loop-number-preserved c =
     let r : OrdersReached = c.args.reached.now in
-    let here = subst (λ (x : OrdersReached). AreNumberedMoves x.graph.trial (states_of x) c.loop-number.number c.in_ok-row.row.items) c.loop-number.invariant.same
+    let here = subst (λ (x : OrdersReached). AreNumberedMoves x.graph.trial (states_of x) c.loop-number.number c.in_ok-row.row.items)
+    c.loop-number.invariant.same
     c.in_ok-row.ensures.moves in
     let text = c.in_ok-push_row.ensures ∙ ap (λ row. c.loop-number.text.items ++ flat_map (edge_line c.loop-number.number) row) c.as_slice.ensures.value in
     record {

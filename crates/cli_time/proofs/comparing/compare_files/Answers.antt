@@ -1,6 +1,6 @@
 use Rattle.std.proofs.Common.{inl, inr, []}
 use Rattle.cf_io.proofs.Owing.{writes-nothing}
-use Rattle.cli_files.specs.Image.{opened}
+use Rattle.cli_files.specs.Image.{hart_at_start}
 use Rattle.cli_time.proofs.Comparisons.{limit-chosen}
 use Rattle.cli_time.proofs.LayoutLists.{words-length}
 use Rattle.cli_time.proofs.NoStreams.{counts-file, lacks-file-says}
@@ -29,7 +29,7 @@ returns-clause-answers g c = (
   inr (inr (record {
     delays = c.in-Ok.ready.delays;
     plans = c.in-Ok.ready.layouts.items;
-    hart = opened c.in-Ok.ready.image.items;
+    hart = hart_at_start c.in-Ok.ready.image.items;
     between = _;
     read = c.in-Ok.ensures.reads.gives;
     lacks = c.in-Err-input_at.ensures.refused;

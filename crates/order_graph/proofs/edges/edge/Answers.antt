@@ -18,7 +18,8 @@ returns-clause-kept c = c.in_ok-fault.ensures.kept
     ∙ sym c.requires.memory
 
 pub returns-clause-key : goal.returns-clause-key
-returns-clause-key c = key_told c.args.trial.now c.args.node.now c.step_into.new.next c.args.m c.in_ok-fault.fault c.in_ok-key.key.items c.note_trial.ensures c.requires.node
+returns-clause-key c = key_told c.args.trial.now c.args.node.now c.step_into.new.next c.args.m c.in_ok-fault.fault c.in_ok-key.key.items c.note_trial.ensures
+    c.requires.node
     c.requires.leads c.in_ok-step_into.ensures.node c.in_ok-fault.ensures.fault c.in_ok-key.ensures.key c.in_ok-key.ensures.whole
 
 pub returns-clause-fault : goal.returns-clause-fault

@@ -20,7 +20,8 @@ place-requires c = node_place c.args.trial.now c.args.node.now c.note_trial.ensu
 pub returns : goal.returns
 returns c =
     state_told c.args.trial.now c.args.node.now c.place.result.now c.as_slice.result.now c.judge_state-found.result c.told.result c.note_trial.ensures
-    (order_node c.args.trial.now c.args.node.now c.requires.node) (node_place c.args.trial.now c.args.node.now c.note_trial.ensures c.requires.node) c.place.ensures.place
+    (order_node c.args.trial.now c.args.node.now c.requires.node) (node_place c.args.trial.now c.args.node.now c.note_trial.ensures c.requires.node)
+    c.place.ensures.place
     (subst (λ (t : OrderTrial). (x : Machine) (mem : Memory) → IsPlaceOf (isa_of t.plan) (memory_loaded t) x c.place.result.now →
     AreChangesOf (memory_loaded t) mem c.args.node.now.changes → IsStateJudged x c.as_slice.result.now (in_memory c.args.node.now.situation mem)
     c.judge_state-found.result) c.trial.view_is

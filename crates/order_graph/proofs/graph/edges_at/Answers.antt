@@ -1,7 +1,7 @@
 -- The edges of a key are those of its node.
 use Rattle.std.proofs.Common.{ap, sym, subst, ◌∙◌}
 use Rattle.mem_changes.specs.Differing.{AreChanges}
-use Rattle.order_keys.specs.Keys.{key_of}
+use Rattle.order_keys.specs.Keys.{key_of_node}
 use Rattle.order_graph.specs.OrderTrial.{OrderTrial}
 use Rattle.order_graph.specs.KeyGraph.{memory_loaded}
 use Rattle.order_graph.proofs.EdgeFacts.{all_judged, edges_few, edges_of_key}
@@ -15,7 +15,7 @@ apply-requires-clause-lists c = subst (λ (t : OrderTrial). AreChanges (memory_l
 
 pub edges_of-requires-clause-key : goal.edges_of-requires-clause-key
 edges_of-requires-clause-key c = c.requires.key.is
-    ∙ ap key_of (sym (c.in_ok-read_node.ensures.node ∙ key_node c.args.trial.now c.args.key.now c.note_trial.ensures c.requires.key))
+    ∙ ap key_of_node (sym (c.in_ok-read_node.ensures.node ∙ key_node c.args.trial.now c.args.key.now c.note_trial.ensures c.requires.key))
 
 pub take_back-requires-clause-lists : goal.take_back-requires-clause-lists
 take_back-requires-clause-lists c = subst (λ (t : OrderTrial). AreChanges (memory_loaded t) c.read_node.new.node.changes) (sym c.trial.view_is)

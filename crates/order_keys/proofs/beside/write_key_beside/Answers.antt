@@ -33,6 +33,13 @@ returns-clause-key c =
     let key = c.args.key.now in
     let rest = take_rest key (length key - slice_index c.args.lefts.now c.args.high) in
     let cells = c.deref.ensures.value ∙ ap (λ (k : Node). k.situation.cells) c.node.view_is in
-    rw (c.in_ok-extend_from_slice-2.ensures.items, c.in_ok-pack_items.ensures, c.in_ok-extend_from_slice.ensures.items, c.in_ok-changed.ensures.items, rest, cells)
+    rw (
+      c.in_ok-extend_from_slice-2.ensures.items,
+      c.in_ok-pack_items.ensures,
+      c.in_ok-extend_from_slice.ensures.items,
+      c.in_ok-changed.ensures.items,
+      rest,
+      cells,
+    )
     (whole_key c.args.before.now c.args.node.now key c.args.lefts.now c.args.low c.args.high c.requires.key c.requires.lefts
     c.requires.order c.requires.inside c.requires.beside)

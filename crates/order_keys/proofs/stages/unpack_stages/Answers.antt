@@ -13,7 +13,8 @@ pub loop-i-preserved : goal.loop-i-preserved
 loop-i-preserved c =
     let within : c.loop-i.i < length c.loop-i.cells = subst (λ n. c.loop-i.i < n) (sym c.loop-i.invariant.many) c.loop-i-test.true in record {
       many = length-set c.loop-i.cells c.loop-i.i c.unpack_cell.new.cell ∙ c.loop-i.invariant.many;
-      whole = read_more unpacked_cell c.unpack-count.result c.loop-i.i c.loop-i.key c.unpack_cell.new.key c.unpack_cell.new.cell (take c.loop-i.i c.loop-i.cells) _ _
+      whole = read_more unpacked_cell c.unpack-count.result c.loop-i.i c.loop-i.key c.unpack_cell.new.key c.unpack_cell.new.cell
+          (take c.loop-i.i c.loop-i.cells) _ _
           c.loop-i-test.true (ap (λ (x : Unpacked Cell). x.value) c.unpack_cell.ensures) (ap (λ (x : Unpacked Cell). x.left) c.unpack_cell.ensures)
           (take_more_set c.loop-i.cells c.loop-i.i c.unpack_cell.new.cell within) c.loop-i.invariant.whole;
       lefts = one_left c.unpack-count.result c.loop-i.i c.loop-i.key c.unpack_cell.new.key c.loop-i.lefts.items c.push-in-loop-i.new.self.items _

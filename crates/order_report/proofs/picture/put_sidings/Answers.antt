@@ -22,4 +22,5 @@ returns-in_err-put_siding g c =
 pub loop-siding-preserved : goal.loop-siding-preserved
 loop-siding-preserved g c =
     has-same _ (siding-next c.args.sidings.now c.loop-siding.siding)
-    (has-more c.in_ok-put_siding.was c.loop-siding.invariant (rw (held c.args.sidings.now c.loop-siding.siding c.ops_of.result.now c.ops_of.ensures.cells) at c.put_siding.ensures))
+    (has-more c.in_ok-put_siding.was c.loop-siding.invariant (rw (held c.args.sidings.now c.loop-siding.siding c.ops_of.result.now c.ops_of.ensures.cells) at
+    c.put_siding.ensures))

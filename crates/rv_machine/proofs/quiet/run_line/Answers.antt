@@ -2,7 +2,7 @@ use Rattle.std.proofs.Common.{◌≡◌, ◌≢◌, ◌+◌, ◌-◌, ◌*◌, �
 use Rattle.rv_inst.specs.Words.{word_sum}
 use Rattle.rv_machine.specs.declared.flat_acting.Continuation.TheVariants.{On, To, Stop}
 use Rattle.rv_machine.specs.declared.flat_acting.Continuation.{Continuation}
-use Rattle.rv_machine.specs.Quick.{address_of}
+use Rattle.rv_machine.specs.Quick.{spot_address}
 use Rattle.rv_machine.proofs.Quick.{same-code, index-is}
 use Rattle.rv_machine.proofs.Lines.{line-same, same-again, inside-more}
 use Rattle.rv_machine.proofs.LineSteps.{stands-there, passes-on, turned-on, turned-to}
@@ -13,7 +13,7 @@ use Rattle.rv_machine.proofs.quiet.run_line.Goals as goal
 pub act-requires-clause-fits : goal.act-requires-clause-fits
 act-requires-clause-fits c =
     let i = c.loop-spot.invariant in
-    at-fits c.loop-spot.mem (address_of c.loop-spot.spot) _
+    at-fits c.loop-spot.mem (spot_address c.loop-spot.spot) _
     (stands-there c.loop-spot.mem c.args.line.now c.loop-spot.spot c.op.result.now i.base i.line i.inside c.op.ensures).is
 
 pub act-requires-clause-written : goal.act-requires-clause-written

@@ -13,11 +13,13 @@ returns-in-Some-clause-here c =
     let plan = c.args.core.now.plan in
     let s = c.args.core.now.state in
     ap (find (is_past c.args.last)) (after_climbs plan s)
-    ∙ sym (word_here c.args.last Climb (passing_of plan s).climb c.climbs_after.result c.in-Some.k (from_fall plan s) c.climbs_after.ensures (sym c.in-Some.is ∙ c.lowest.ensures.number))
+    ∙ sym (word_here c.args.last Climb (passing_of plan s).climb c.climbs_after.result c.in-Some.k (from_fall plan s) c.climbs_after.ensures
+    (sym c.in-Some.is ∙ c.lowest.ensures.number))
 
 pub returns-in-None-clause-gone : goal.returns-in-None-clause-gone
 returns-in-None-clause-gone c = λ none.
     let plan = c.args.core.now.plan in
     let s = c.args.core.now.state in
-    word_gone c.args.last Climb (passing_of plan s).climb c.climbs_after.result (from_fall plan s) c.climbs_after.ensures (sym c.in-None.is ∙ c.lowest.ensures.number)
+    word_gone c.args.last Climb (passing_of plan s).climb c.climbs_after.result (from_fall plan s) c.climbs_after.ensures
+    (sym c.in-None.is ∙ c.lowest.ensures.number)
     ∙ ap (find (is_past c.args.last)) (sym (after_climbs plan s))

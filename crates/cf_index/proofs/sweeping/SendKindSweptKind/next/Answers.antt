@@ -15,7 +15,8 @@ returns-in-Some-clause-here c =
     let s = c.args.core.now.state in
     let past = λ (j : ℕ). c.after.ensures j ∙ ap (λ (w : ℕ). has_bit w j && is_past c.args.last (Send (j + 1))) c.sends.ensures in
     ap (find (is_past c.args.last)) (after_sends plan s)
-    ∙ sym (word_here c.args.last Send (passing_of plan s).send c.after.result c.in-Some.k (from_launch plan s) past (sym c.in-Some.is ∙ c.lowest.ensures.number))
+    ∙ sym (word_here c.args.last Send (passing_of plan s).send c.after.result c.in-Some.k (from_launch plan s) past
+    (sym c.in-Some.is ∙ c.lowest.ensures.number))
 
 pub returns-in-None-clause-gone : goal.returns-in-None-clause-gone
 returns-in-None-clause-gone c = λ none.

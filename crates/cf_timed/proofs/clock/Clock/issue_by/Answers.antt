@@ -3,12 +3,15 @@ use Rattle.cf_timed.proofs.Sooner.{issue_there, none_held, none_sooner}
 use Rattle.cf_timed.proofs.clock.Clock.issue_by.Goals as goal
 
 pub returns-then-held-clause-none : goal.returns-then-held-clause-none
-returns-then-held-clause-none c = λ none. none_held (clocked c.args.self.now c.args.core.now.state) c.args.rule c.args.core.now.plan c.args.core.now.state c.args.held c.args.by c.if-held.true
+returns-then-held-clause-none c = λ none. none_held (clocked c.args.self.now c.args.core.now.state) c.args.rule c.args.core.now.plan c.args.core.now.state
+    c.args.held c.args.by c.if-held.true
 
 pub returns-then-by-time-clause-none : goal.returns-then-by-time-clause-none
-returns-then-by-time-clause-none c = λ none. none_sooner (clocked c.args.self.now c.args.core.now.state) c.args.rule c.args.core.now.plan c.args.core.now.state c.args.held c.args.by
+returns-then-by-time-clause-none c = λ none. none_sooner (clocked c.args.self.now c.args.core.now.state) c.args.rule c.args.core.now.plan c.args.core.now.state
+    c.args.held c.args.by
     c.capped-time.result c.capped-time.ensures c.if-by-time.true
 
 pub returns-in-Some-clause-some : goal.returns-in-Some-clause-some
-returns-in-Some-clause-some c = issue_there (clocked c.args.self.now c.args.core.now.state) c.args.rule c.args.core.now.plan c.args.core.now.state c.args.held c.args.by
+returns-in-Some-clause-some c = issue_there (clocked c.args.self.now c.args.core.now.state) c.args.rule c.args.core.now.plan c.args.core.now.state c.args.held
+    c.args.by
     c.capped-time.result c.in-Some.mv c.capped-time.ensures c.if-held.false c.if-by-time.false c.in-Some.ensures

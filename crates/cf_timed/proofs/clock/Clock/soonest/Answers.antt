@@ -15,7 +15,8 @@ returns-in-Some c =
     ∙ ap (λ (n : Seeking). fold shown n (allowed_others plan s)) c.new-least.ensures in
     let by : c.least.inside.time ≡ seek.time = ap (λ (n : Seeking). n.time) c.least.view_is in
     issue_soonest (clocked c.args.self.now c.args.core.now.state) c.args.rule plan s c.args.held seek c.in-Some.due c.visit_others.ensures.few all
-    (subst (λ (n : ℕ). IsIssueBy (clocked c.args.self.now c.args.core.now.state) (unheld_issues c.args.held c.args.rule plan s) n c.in-Some.due) by c.in-Some.ensures.some)
+    (subst (λ (n : ℕ). IsIssueBy (clocked c.args.self.now c.args.core.now.state) (unheld_issues c.args.held c.args.rule plan s) n c.in-Some.due) by
+    c.in-Some.ensures.some)
 
 pub returns-in-None : goal.returns-in-None
 returns-in-None c =
@@ -26,4 +27,5 @@ returns-in-None c =
     ∙ ap (λ (n : Seeking). fold shown n (allowed_others plan s)) c.new-least.ensures in
     let by : c.least.inside.time ≡ seek.time = ap (λ (n : Seeking). n.time) c.least.view_is in
     rw c.due.ensures (other_soonest (clocked c.args.self.now c.args.core.now.state) c.args.rule plan s c.args.held seek c.visit_others.ensures.few all
-    (subst (λ (n : ℕ). AreLater (clocked c.args.self.now c.args.core.now.state) (unheld_issues c.args.held c.args.rule plan s) n) by (c.in-None.ensures.none refl)))
+    (subst (λ (n : ℕ). AreLater (clocked c.args.self.now c.args.core.now.state) (unheld_issues c.args.held c.args.rule plan s) n) by
+    (c.in-None.ensures.none refl)))
