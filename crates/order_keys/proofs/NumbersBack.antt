@@ -2,7 +2,7 @@
 use Rattle.std.proofs.Common.{◌≡◌, ℕ, ◌+◌, ◌*◌, ◌/◌, ◌%◌, ◌^◌, ℤ, pos, negsuc, Bool, true, false, nat_lt, List, ◌++◌, refl, ap, append_assoc, arith, ◌==◌}
 use Rattle.std.proofs.lemmas.Bool.Decides.{nat_tests}
 use Rattle.order_keys.specs.Unpacked.{got, ReadsBack}
-use Rattle.order_keys.specs.Numbers.{leading_byte, behind, packed_byte, unpacked_byte, packed_bit, unpacked_bit, packed_two, unpacked_two, packed_four, unpacked_four, packed_word, unpacked_word, packed_eight, unpacked_eight, packed_long, unpacked_long, folded, unfolded, packed_signed, unpacked_signed}
+use Rattle.order_keys.specs.Numbers.{leading_byte, behind, packed_byte, unpacked_byte, packed_two, unpacked_two, packed_four, unpacked_four, packed_word, unpacked_word, packed_eight, unpacked_eight, packed_long, unpacked_long, folded, unfolded, packed_signed, unpacked_signed}
 
 byte_reads : (x : ℕ) (rest : List ℕ) → unpacked_byte (packed_byte x ++ rest) ≡ got x rest
 unfolding packed_byte unpacked_byte leading_byte behind
@@ -10,14 +10,6 @@ byte_reads x rest = refl
 
 pub byte_back : ReadsBack packed_byte unpacked_byte
 byte_back = record { back = byte_reads }
-
-bit_reads : (x : Bool) (rest : List ℕ) → unpacked_bit (packed_bit x ++ rest) ≡ got x rest
-unfolding packed_bit unpacked_bit leading_byte behind
-bit_reads true rest = refl
-bit_reads false rest = refl
-
-pub bit_back : ReadsBack packed_bit unpacked_bit
-bit_back = record { back = bit_reads }
 
 two_reads : (x : ℕ) (rest : List ℕ) → unpacked_two (packed_two x ++ rest) ≡ got x rest
 unfolding packed_two unpacked_two leading_byte behind

@@ -1,5 +1,5 @@
 -- What stands in stages and in cells of sidings is read back.
-use Rattle.std.proofs.Common.{◌≡◌, ℕ, Bool, true, false, Option, None, Some, List, ◌++◌, refl, append_assoc}
+use Rattle.std.proofs.Common.{◌≡◌, ℕ, Bool, true, false, List, ◌++◌, refl, append_assoc}
 use Rattle.cf_bind.specs.declared.packet.Packet.{Packet}
 use Rattle.cf_bind.specs.declared.packet.Packet.TheVariants.{Value, Turn, Halt}
 use Rattle.cf_bind.specs.declared.packet.Fetch.{Fetch}
@@ -8,18 +8,18 @@ use Rattle.cf_bind.specs.declared.passenger.Guess.{Guess}
 use Rattle.cf_bind.specs.declared.passenger.Guess.TheVariants.{Next, Taken, Wait, To}
 use Rattle.cf_bind.specs.declared.passenger.End.{End}
 use Rattle.cf_bind.specs.declared.passenger.End.TheVariants.{Trap, Exit}
-use Rattle.cf_bind.specs.declared.passenger.Passenger.{Passenger}
-use Rattle.cf_bind.specs.declared.cell.Cell.{Cell}
 use Rattle.order_keys.specs.declared.passenger_flags.PassengerFlags.{PassengerFlags}
+use Rattle.order_keys.specs.declared.stage_flags.StageFlags.{StageFlags}
 use Rattle.order_keys.specs.Unpacked.{got, ReadsBack}
 use Rattle.order_keys.specs.Numbers.{leading_byte, behind}
 use Rattle.order_keys.specs.Bindings.{packed_binding, unpacked_binding}
 use Rattle.order_keys.specs.Results.{packed_packet, unpacked_packet, packed_fetch, unpacked_fetch}
 use Rattle.order_keys.specs.PassengerFlags.{packed_flags, unpacked_flags}
+use Rattle.order_keys.specs.StageFlags.{packed_stage_flags, unpacked_stage_flags}
 use Rattle.order_keys.specs.Passengers.{packed_guess, unpacked_guess, packed_end, unpacked_end, packed_origin, unpacked_origin, packed_bindings, unpacked_bindings, packed_outcome, unpacked_outcome, packed_passenger, unpacked_passenger}
-use Rattle.order_keys.specs.Cells.{packed_contents, unpacked_contents, packed_cell, unpacked_cell, packed_source, unpacked_source, packed_values, unpacked_values, packed_op, unpacked_op}
-use Rattle.order_keys.proofs.NumbersBack.{byte_back, bit_back, word_back}
-use Rattle.order_keys.proofs.CompoundsBack.{pair_back, triple_back, option_back}
+use Rattle.order_keys.specs.Cells.{packed_cell, unpacked_cell, packed_source, unpacked_source, packed_values, unpacked_values, packed_op, unpacked_op}
+use Rattle.order_keys.proofs.NumbersBack.{byte_back, word_back}
+use Rattle.order_keys.proofs.CompoundsBack.{pair_back, triple_back, option_back, some_read}
 use Rattle.order_keys.proofs.InstructionsBack.{instr_back}
 
 pub binding_back : ReadsBack packed_binding unpacked_binding
@@ -100,20 +100,27 @@ passenger_back = record {
   back = λ p rest. simp (append_assoc, origin_back.back, bindings_back.back, flags_back.back, outcome_back.back) refl;
 }
 
-contents_back : ReadsBack packed_contents unpacked_contents
-contents_back = triple_back (option_back passenger_back) (option_back packet_back) bit_back
+stage_flags_read : (instruction result met : Bool) (rest : List ℕ) →
+    let f : StageFlags = record { instruction = instruction; result = result; met = met } in
+    unpacked_stage_flags (packed_stage_flags f ++ rest) ≡ got f rest
+unfolding packed_stage_flags unpacked_stage_flags leading_byte behind
+stage_flags_read true true true rest = refl
+stage_flags_read true true false rest = refl
+stage_flags_read true false true rest = refl
+stage_flags_read true false false rest = refl
+stage_flags_read false true true rest = refl
+stage_flags_read false true false rest = refl
+stage_flags_read false false true rest = refl
+stage_flags_read false false false rest = refl
 
-cell_reads : (passenger : Option Passenger) (packet : Option Packet) (met : Bool) (rest : List ℕ) →
-    let c : Cell = record { passenger = passenger; packet = packet; met = met } in
-    unpacked_cell (packed_cell c ++ rest) ≡ got c rest
-unfolding packed_cell unpacked_cell leading_byte behind
-cell_reads None None false rest = refl
-cell_reads None None true rest = simp (contents_back.back (None, None, true) rest) refl
-cell_reads None (Some k) met rest = simp (contents_back.back (None, Some k, met) rest) refl
-cell_reads (Some p) packet met rest = simp (contents_back.back (Some p, packet, met) rest) refl
+stage_flags_back : ReadsBack packed_stage_flags unpacked_stage_flags
+stage_flags_back = record { back = λ f rest. stage_flags_read f.instruction f.result f.met rest }
 
 pub cell_back : ReadsBack packed_cell unpacked_cell
-cell_back = record { back = λ c rest. cell_reads c.passenger c.packet c.met rest }
+unfolding packed_cell unpacked_cell
+cell_back = record {
+  back = λ c rest. simp (append_assoc, stage_flags_back.back, some_read passenger_back, some_read packet_back) refl;
+}
 
 source_back : ReadsBack packed_source unpacked_source
 source_back = pair_back word_back instr_back

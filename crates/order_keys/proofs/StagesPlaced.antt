@@ -1,5 +1,5 @@
 -- The stages of a key stand where they are noted to stand, and others may be put in their place.
-use Rattle.std.proofs.Common.{◌≡◌, ℕ, zero, suc, ◌+◌, ◌-◌, ◌<◌, ◌≤◌, List, [], ◌∷◌, ◌++◌, length, get_or, take, drop, refl, sym, ap, subst, ◌∙◌, append_assoc, arith}
+use Rattle.std.proofs.Common.{◌≡◌, ℕ, zero, suc, ◌+◌, ◌-◌, ◌<◌, ◌≤◌, List, [], ◌∷◌, ◌++◌, length, take, drop, refl, sym, ap, subst, ◌∙◌, append_assoc, arith}
 use Rattle.std.specs.Prelude.{slice_index}
 use Rattle.std.specs.List.{between}
 use Rattle.std.proofs.lemmas.List.{append-nil, drop_at, length-append, take_at}
@@ -7,7 +7,6 @@ use Rattle.std.proofs.lemmas.List.Edits.{split_between}
 use Rattle.mem_changes.specs.MemoryChanges.{MemoryChanges}
 use Rattle.cf_semantics.specs.state.State.{State}
 use Rattle.cf_bind.specs.declared.cell.Cell.{Cell}
-use Rattle.order_keys.specs.Unpacked.{Unpacked, got}
 use Rattle.order_keys.specs.Numbers.{packed_byte, packed_long, unpacked_long}
 use Rattle.order_keys.specs.Lists.{packed_items, packed_list}
 use Rattle.order_keys.specs.Cells.{packed_cell, unpacked_cell}

@@ -1,41 +1,40 @@
 -- What stands in a stage, and in a cell of a siding, as bytes.
-use Rattle.std.specs.Prelude.{ℕ, ◌==◌, if◌then◌else◌, Bool, false, not, ◌&&◌, Option, None, List, [], ◌∷◌, ◌++◌}
+use Rattle.std.specs.Prelude.{ℕ, Bool, false, not, ◌&&◌, Option, None, List, ◌++◌}
 use Rattle.rv_inst.specs.declared.instruction.Instr.{Instr}
 use Rattle.cf_bind.specs.declared.cell.Cell.{Cell}
 use Rattle.cf_bind.specs.declared.cell.Op.{Op}
-use Rattle.cf_bind.specs.declared.packet.Packet.{Packet}
-use Rattle.cf_bind.specs.declared.passenger.Passenger.{Passenger}
 use Rattle.cf_semantics.specs.state.Options.{is_some}
-use Rattle.order_keys.specs.Unpacked.{Unpacked, got, as_read}
-use Rattle.order_keys.specs.Numbers.{leading_byte, behind, packed_bit, unpacked_bit, packed_word, unpacked_word}
-use Rattle.order_keys.specs.Compounds.{packed_pair, unpacked_pair, packed_triple, unpacked_triple, packed_option, unpacked_option}
+use Rattle.order_keys.specs.declared.stage_flags.StageFlags.{StageFlags}
+use Rattle.order_keys.specs.Unpacked.{Unpacked, got}
+use Rattle.order_keys.specs.Numbers.{packed_word, unpacked_word}
+use Rattle.order_keys.specs.Compounds.{packed_pair, unpacked_pair, packed_triple, unpacked_triple, packed_option, unpacked_option, packed_some, unpacked_some}
 use Rattle.order_keys.specs.Instructions.{packed_instr, unpacked_instr}
 use Rattle.order_keys.specs.Results.{packed_packet, unpacked_packet}
 use Rattle.order_keys.specs.Passengers.{packed_passenger, unpacked_passenger}
+use Rattle.order_keys.specs.StageFlags.{packed_stage_flags, unpacked_stage_flags}
 
 -- the stage is as it is with nothing in it
 abbrev pub is_empty_stage : Cell → Bool
 is_empty_stage c = not (is_some c.passenger) && not (is_some c.packet) && not c.met
 
--- what the stage holds, and whether its two have met
-abbrev pub packed_contents : Option Passenger × Option Packet × Bool → List ℕ
-packed_contents = packed_triple (packed_option packed_passenger) (packed_option packed_packet) packed_bit
-
-abbrev pub unpacked_contents : List ℕ → Unpacked (Option Passenger × Option Packet × Bool)
-unpacked_contents = unpacked_triple (unpacked_option unpacked_passenger) (unpacked_option unpacked_packet) unpacked_bit
-
--- a stage with nothing in it is one byte
-unfoldable pub packed_cell : Cell → List ℕ
-packed_cell c = if is_empty_stage c then 0 ∷ [] else (1 ∷ []) ++ packed_contents (c.passenger, c.packet, c.met)
-
 abbrev pub empty_cell : Cell
 empty_cell = record { passenger = None; packet = None; met = false }
 
-abbrev pub cell_of : Option Passenger × Option Packet × Bool → Cell
-cell_of x = record { passenger = x.0; packet = x.1; met = x.2 }
+-- which of the two are in the stage, and whether they have met
+abbrev pub stage_flags_of : Cell → StageFlags
+stage_flags_of c = record { instruction = is_some c.passenger; result = is_some c.packet; met = c.met }
+
+-- the byte that says what is in the stage, then the instruction, then the result; an empty stage is the byte 0
+unfoldable pub packed_cell : Cell → List ℕ
+packed_cell c =
+    packed_stage_flags (stage_flags_of c) ++ (packed_some packed_passenger c.passenger ++ packed_some packed_packet c.packet)
 
 unfoldable pub unpacked_cell : List ℕ → Unpacked Cell
-unpacked_cell bs = if leading_byte bs == 0 then got empty_cell (behind bs) else as_read cell_of (unpacked_contents (behind bs))
+unpacked_cell bs =
+    let flags = unpacked_stage_flags bs in
+    let passenger = unpacked_some unpacked_passenger flags.value.instruction flags.left in
+    let packet = unpacked_some unpacked_packet flags.value.result passenger.left in
+    got (record { passenger = passenger.value; packet = packet.value; met = flags.value.met }) packet.left
 
 -- the address and the instruction of an operation
 abbrev pub packed_source : ℕ × Instr → List ℕ

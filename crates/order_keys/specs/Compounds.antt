@@ -1,5 +1,5 @@
 -- Pairs, optional values and lists as bytes, from the bytes of what they hold.
-use Rattle.std.specs.Prelude.{ℕ, ◌==◌, if◌then◌else◌, Option, None, Some, List, [], ◌∷◌, ◌++◌}
+use Rattle.std.specs.Prelude.{ℕ, ◌==◌, if◌then◌else◌, Bool, Option, None, Some, List, [], ◌∷◌, ◌++◌}
 use Rattle.order_keys.specs.Unpacked.{Unpacked, got, as_read}
 use Rattle.order_keys.specs.Numbers.{leading_byte, behind}
 
@@ -32,3 +32,12 @@ packed_option packed (Some x) = (1 ∷ []) ++ packed x
 
 unfoldable pub unpacked_option : {A : Type 0} → (List ℕ → Unpacked A) → List ℕ → Unpacked (Option A)
 unpacked_option unpacked bs = if leading_byte bs == 0 then got None (behind bs) else as_read Some (unpacked (behind bs))
+
+-- the value, if there is one
+unfoldable pub packed_some : {A : Type 0} → (A → List ℕ) → Option A → List ℕ
+packed_some packed None = []
+packed_some packed (Some x) = packed x
+
+-- the value, if there is said to be one
+unfoldable pub unpacked_some : {A : Type 0} → (List ℕ → Unpacked A) → Bool → List ℕ → Unpacked (Option A)
+unpacked_some unpacked there bs = if there then as_read Some (unpacked bs) else got None bs

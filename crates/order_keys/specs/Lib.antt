@@ -5,8 +5,10 @@ pub mod Operations
 pub mod Instructions
 pub mod Bindings
 pub mod Results
+pub mod Bits
 pub mod PassengerFlags
 pub mod Passengers
+pub mod StageFlags
 pub mod Cells
 pub mod Lists
 pub mod Stages

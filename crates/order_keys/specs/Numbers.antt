@@ -1,5 +1,5 @@
 -- Numbers as bytes: one that is small as a byte, and else behind a byte that says how many there are, the lowest first.
-use Rattle.std.specs.Prelude.{ℕ, ◌+◌, ◌*◌, ◌/◌, ◌%◌, ◌^◌, ℤ, pos, negsuc, Bool, true, false, nat_lt, ◌==◌, if◌then◌else◌, List, [], ◌∷◌, ◌++◌}
+use Rattle.std.specs.Prelude.{ℕ, ◌+◌, ◌*◌, ◌/◌, ◌%◌, ◌^◌, ℤ, pos, negsuc, nat_lt, ◌==◌, if◌then◌else◌, List, [], ◌∷◌, ◌++◌}
 use Rattle.order_keys.specs.Unpacked.{Unpacked, got}
 
 -- the first byte, 0 where there is none
@@ -18,14 +18,6 @@ packed_byte n = n ∷ []
 
 unfoldable pub unpacked_byte : List ℕ → Unpacked ℕ
 unpacked_byte bs = got (leading_byte bs) (behind bs)
-
--- yes or no
-unfoldable pub packed_bit : Bool → List ℕ
-packed_bit true = 1 ∷ []
-packed_bit false = 0 ∷ []
-
-unfoldable pub unpacked_bit : List ℕ → Unpacked Bool
-unpacked_bit bs = got (if leading_byte bs == 0 then false else true) (behind bs)
 
 -- a number below 2 ^ 16, its lower byte first
 unfoldable pub packed_two : ℕ → List ℕ

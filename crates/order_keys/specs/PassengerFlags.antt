@@ -1,17 +1,9 @@
 -- What is yes or no of an instruction on its way up, as the bits of one byte.
-use Rattle.std.specs.Prelude.{ℕ, ◌+◌, ◌/◌, ◌%◌, ◌==◌, Bool, true, false, List, [], ◌∷◌}
+use Rattle.std.specs.Prelude.{ℕ, ◌+◌, List, [], ◌∷◌}
 use Rattle.order_keys.specs.declared.passenger_flags.PassengerFlags.{PassengerFlags}
 use Rattle.order_keys.specs.Unpacked.{Unpacked, got}
 use Rattle.order_keys.specs.Numbers.{leading_byte, behind}
-
--- the bit of this weight, if the answer is yes
-abbrev pub bit : ℕ → Bool → ℕ
-bit weight true = weight
-bit weight false = 0
-
--- whether the bit of this weight is set
-abbrev pub is_set : ℕ → ℕ → Bool
-is_set weight bits = bits / weight % 2 == 1
+use Rattle.order_keys.specs.Bits.{bit, is_set}
 
 unfoldable pub packed_flags : PassengerFlags → List ℕ
 packed_flags p = (bit 1 p.done + bit 2 p.launched + bit 4 p.recovered + bit 8 p.dead) ∷ []

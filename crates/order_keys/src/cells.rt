@@ -1,11 +1,13 @@
 //! What stands in a stage, and in a cell of a siding, in keys.
 
 ghost use Rattle.std.specs.Prelude.{◌≡◌};
-ghost use Rattle.order_keys.specs.Cells.{is_empty_stage as is_empty_in, unpacked_cell};
+ghost use Rattle.order_keys.specs.Cells.{is_empty_stage as is_empty_in, stage_flags_of, unpacked_cell};
 
+use crate::compound::{pack_some, unpack_some};
 use crate::pack::Pack;
+use crate::stage_flags::StageFlags;
 use crate::unread::Unread;
-use cf_bind::{Cell, Op, Packet, Passenger};
+use cf_bind::{Cell, Op};
 use rv_inst::Instr;
 use std::alloc::AllocError;
 
@@ -24,6 +26,18 @@ fn is_empty(cell: &Cell) -> bool
     cell.passenger.is_none() && cell.packet.is_none() && !cell.met
 }
 
+/// What is in the stage.
+#[inline(always)]
+fn flags(cell: &Cell) -> StageFlags
+    ensures { result ≡ stage_flags_of cell.now }
+{
+    StageFlags {
+        instruction: cell.passenger.is_some(),
+        result: cell.packet.is_some(),
+        met: cell.met,
+    }
+}
+
 impl Pack for Cell {
     ghost use Rattle.order_keys.specs.Cells.{packed_cell, unpacked_cell};
 
@@ -34,46 +48,36 @@ impl Pack for Cell {
     #[inline(always)]
     #[tactic(auto, unfolding(crate::specs::Cells::packed_cell))]
     fn pack(&self, key: &mut Vec<u8>) -> Result<(), AllocError> {
-        if is_empty(self) {
-            key.push(0)?;
-            Ok(())
-        } else {
-            key.push(1)?;
-            (self.passenger, self.packet, self.met).pack(key)
-        }
+        flags(self).pack(key)?;
+        pack_some(&self.passenger, key)?;
+        pack_some(&self.packet, key)
     }
 
     #[inline(always)]
-    #[tactic(auto, unfolding(crate::specs::Cells::unpacked_cell))]
     fn unpack(key: &mut Unread<'_>) -> Cell {
-        if key.byte() == 0 {
-            EMPTY
-        } else {
-            let (passenger, packet, met) = <(Option<Passenger>, Option<Packet>, bool)>::unpack(key);
-            Cell {
-                passenger,
-                packet,
-                met,
-            }
-        }
+        let mut cell = EMPTY;
+        unpack_cell(&mut cell, key);
+        cell
     }
 }
 
 /// Makes a stage the one at the front of what is left of a key, which it takes from there. One that is empty and stays so is not
 /// written.
 #[inline(always)]
-#[tactic(auto, unfolding(crate::specs::Cells::unpacked_cell, crate::specs::Compounds::unpacked_triple))]
+#[tactic(auto, unfolding(crate::specs::Cells::unpacked_cell, crate::specs::StageFlags::unpacked_stage_flags, crate::specs::Compounds::unpacked_some))]
 pub(crate) fn unpack_cell(cell: &mut Cell, key: &mut Unread<'_>)
     ensures { record { value = cell.new; left = key.new } ≡ unpacked_cell key.old }
 {
-    if key.byte() == 0 {
+    let bits = key.byte();
+    if bits == 0 {
         if !is_empty(&*cell) {
             *cell = EMPTY;
         }
     } else {
-        cell.passenger = <Option<Passenger>>::unpack(key);
-        cell.packet = <Option<Packet>>::unpack(key);
-        cell.met = bool::unpack(key);
+        let flags = StageFlags::of(bits);
+        cell.passenger = unpack_some(flags.instruction, key);
+        cell.packet = unpack_some(flags.result, key);
+        cell.met = flags.met;
     }
 }
 

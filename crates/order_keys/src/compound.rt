@@ -1,6 +1,7 @@
 //! Pairs, optional values and lists in keys.
 
 ghost use Rattle.std.specs.Prelude.{◌≡◌, ◌++◌, IfOk};
+ghost use Rattle.order_keys.specs.Compounds.{packed_some, unpacked_some};
 
 use crate::pack::Pack;
 use crate::unread::Unread;
@@ -85,4 +86,26 @@ impl<T: Pack> Pack for Option<T> {
             Some(T::unpack(key))
         }
     }
+}
+
+/// Appends the value, if there is one, to a key of which another byte says whether there is.
+#[inline(always)]
+#[tactic(auto, unfolding(crate::specs::Compounds::packed_some))]
+pub(crate) fn pack_some<T: Pack>(value: &Option<T>, key: &mut Vec<u8>) -> Result<(), AllocError>
+    ensures { IfOk result (λ _. key.new.items ≡ key.old.items ++ packed_some T.packed value.now) }
+{
+    match value {
+        None => Ok(()),
+        Some(value) => value.pack(key),
+    }
+}
+
+/// Takes a value from the front of what is left of a key, if there is said to be one.
+#[inline(always)]
+#[tactic(auto, unfolding(crate::specs::Compounds::unpacked_some))]
+pub(crate) fn unpack_some<T: Pack>(there: bool, key: &mut Unread<'_>) -> Option<T>
+    ensures value { result ≡ (unpacked_some T.unpacked there key.old).value }
+    ensures left { key.new ≡ (unpacked_some T.unpacked there key.old).left }
+{
+    if there { Some(T::unpack(key)) } else { None }
 }

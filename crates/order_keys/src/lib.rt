@@ -3,6 +3,7 @@
 
 mod beside;
 mod bindings;
+mod bits;
 mod cells;
 mod changes;
 mod compound;
@@ -19,6 +20,7 @@ mod places;
 mod results;
 mod situation_parts;
 mod situations;
+mod stage_flags;
 mod stages;
 mod unread;
 

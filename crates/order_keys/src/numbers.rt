@@ -165,27 +165,6 @@ impl Pack for u8 {
     }
 }
 
-impl Pack for bool {
-    ghost use Rattle.order_keys.specs.Numbers.{packed_bit, unpacked_bit};
-
-    ghost packed = { packed_bit };
-
-    ghost unpacked = { unpacked_bit };
-
-    #[inline(always)]
-    #[tactic(auto, unfolding(crate::specs::Numbers::packed_bit))]
-    fn pack(&self, key: &mut Vec<u8>) -> Result<(), AllocError> {
-        key.push(if *self { 1 } else { 0 })?;
-        Ok(())
-    }
-
-    #[inline(always)]
-    #[tactic(auto, unfolding(crate::specs::Numbers::unpacked_bit))]
-    fn unpack(key: &mut Unread<'_>) -> bool {
-        key.byte() != 0
-    }
-}
-
 impl Pack for u32 {
     ghost use Rattle.order_keys.specs.Numbers.{packed_word, unpacked_word};
 

@@ -1,8 +1,6 @@
 //! How far an instruction has come, in keys.
 
-ghost use Rattle.std.specs.Prelude.{◌≡◌, ◌<◌};
-ghost use Rattle.order_keys.specs.PassengerFlags.{bit, is_set};
-
+use crate::bits::{bit, is_set};
 use crate::pack::Pack;
 use crate::unread::Unread;
 use std::alloc::AllocError;
@@ -14,23 +12,6 @@ pub(crate) struct PassengerFlags {
     pub(crate) launched: bool,
     pub(crate) recovered: bool,
     pub(crate) dead: bool,
-}
-
-/// A bit of this weight if the answer is yes.
-#[inline(always)]
-fn bit(weight: u8, yes: bool) -> u8
-    ensures { result ≡ bit weight yes }
-{
-    if yes { weight } else { 0 }
-}
-
-/// Whether the bit of this weight is set.
-#[inline(always)]
-fn is_set(weight: u8, bits: u8) -> bool
-    requires { 0 < weight }
-    ensures { result ≡ is_set weight bits }
-{
-    bits / weight % 2 == 1
 }
 
 impl Pack for PassengerFlags {

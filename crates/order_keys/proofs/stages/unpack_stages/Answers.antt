@@ -5,8 +5,8 @@ use Rattle.cf_bind.specs.declared.cell.Cell.{Cell}
 use Rattle.order_keys.specs.Unpacked.{Unpacked, got}
 use Rattle.order_keys.specs.Cells.{unpacked_cell}
 use Rattle.order_keys.specs.Lists.{unpacked_items, unpacked_list}
-use Rattle.order_keys.proofs.ListSteps.{read_first, read_more, read_all}
-use Rattle.order_keys.proofs.StagesPlaced.{all_left, all_taken, no_left, one_left, written_back}
+use Rattle.order_keys.proofs.ListSteps.{read_more, read_all}
+use Rattle.order_keys.proofs.StagesPlaced.{all_left, all_taken, one_left, written_back}
 use Rattle.order_keys.proofs.stages.unpack_stages.Goals as goal
 
 pub loop-i-preserved : goal.loop-i-preserved
