@@ -1,6 +1,6 @@
 //! Numbers by bucket: for each bucket a chain of the numbers in it.
 
-ghost use Rattle.std.specs.Prelude.{◌≡◌, ◌<◌, ℕ, List, [], ◌∷◌, ◌++◌, length, IfOk, OnOk};
+ghost use Rattle.std.specs.Prelude.{◌≡◌, ◌+◌, ◌<◌, ◌^◌, ℕ, List, [], ◌∷◌, ◌++◌, length, IfOk, OnOk};
 ghost use Rattle.std.specs.Vec.{vec_capacity};
 ghost use Rattle.order_search.specs.Chains.{AreChains};
 
@@ -11,10 +11,10 @@ use std::alloc::{AllocError, Global};
 #[derive(Drop)]
 pub(crate) struct Chains {
     /// The first of each chain.
-    pub(crate) heads: Vec<usize>,
+    pub(crate) heads: Vec<u32>,
 
     /// For each number the next of its chain.
-    pub(crate) links: Vec<usize>,
+    pub(crate) links: Vec<u32>,
 }
 
 impl Chains {
@@ -32,12 +32,17 @@ impl Chains {
         })
     }
 
-    /// Makes room for one number more; or an error where there is no memory for it.
+    /// Makes room for one number more; or an error where there is no memory for it, or where there are 2^32 - 1 numbers: no machine
+    /// has the memory for so many nodes.
     pub(crate) fn reserve(&mut self) -> Result<(), AllocError>
         ensures heads { self.new.heads ≡ self.old.heads }
         ensures links { self.new.links.items ≡ self.old.links.items }
         ensures room { OnOk result (length self.new.links.items < vec_capacity self.new.links) }
+        ensures few { OnOk result (length self.new.links.items + 1 < 2 ^ 32) }
     {
+        if self.links.len() >= u32::MAX as usize {
+            return Err(AllocError);
+        }
         self.links.reserve(1)
     }
 
@@ -46,11 +51,12 @@ impl Chains {
     pub(crate) fn add(&mut self, bucket: usize)
         requires inside { bucket < length self.old.heads.items }
         requires room { length self.old.links.items < vec_capacity self.old.links }
+        requires few { length self.old.links.items + 1 < 2 ^ 32 }
         ensures size { length self.new.heads.items ≡ length self.old.heads.items }
         ensures chains { (buckets : List ℕ) → AreChains buckets self.old.heads.items self.old.links.items →
             AreChains (buckets ++ bucket ∷ []) self.new.heads.items self.new.links.items }
     {
-        let top = self.links.len() + 1;
+        let top = (self.links.len() + 1) as u32;
         self.links.push_reserved(self.heads[bucket]);
         self.heads[bucket] = top;
     }

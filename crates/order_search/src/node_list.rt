@@ -98,7 +98,7 @@ fn find(
 {
     let mut top = chains.heads[bucket];
     while top > 0 {
-        let number = top - 1;
+        let number = (top - 1) as usize;
         if is_there(nodes, hashes, number, node, hash) {
             return Some(number);
         }
