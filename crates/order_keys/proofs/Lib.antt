@@ -3,6 +3,7 @@ pub mod NumbersBack
 pub mod OperationsBack
 pub mod CompoundsBack
 pub mod InstructionsBack
+pub mod BitsBack
 pub mod StagesBack
 pub mod ListSteps
 pub mod PlaceSteps

@@ -1,5 +1,8 @@
 -- What stands in stages and in cells of sidings is read back.
-use Rattle.std.proofs.Common.{◌≡◌, ℕ, Bool, true, false, List, ◌++◌, refl, append_assoc}
+use Rattle.std.proofs.Common.{◌≡◌, ℕ, ◌+◌, ◌%◌, ◌^◌, if◌then◌else◌, Bool, true, false, true≢false, Option, None, Some, List, [], ◌++◌, refl, sym, ap, append_assoc, arith}
+use Rattle.std.proofs.lemmas.Bool.Decides.{nat_tests}
+use Rattle.cf_semantics.specs.state.Options.{is_some, on}
+use Rattle.cf_bind.specs.declared.binding.Binding.{Binding}
 use Rattle.cf_bind.specs.declared.packet.Packet.{Packet}
 use Rattle.cf_bind.specs.declared.packet.Packet.TheVariants.{Value, Turn, Halt}
 use Rattle.cf_bind.specs.declared.packet.Fetch.{Fetch}
@@ -8,23 +11,28 @@ use Rattle.cf_bind.specs.declared.passenger.Guess.{Guess}
 use Rattle.cf_bind.specs.declared.passenger.Guess.TheVariants.{Next, Taken, Wait, To}
 use Rattle.cf_bind.specs.declared.passenger.End.{End}
 use Rattle.cf_bind.specs.declared.passenger.End.TheVariants.{Trap, Exit}
-use Rattle.order_keys.specs.declared.passenger_flags.PassengerFlags.{PassengerFlags}
-use Rattle.order_keys.specs.declared.stage_flags.StageFlags.{StageFlags}
-use Rattle.order_keys.specs.Unpacked.{got, ReadsBack}
-use Rattle.order_keys.specs.Numbers.{leading_byte, behind}
-use Rattle.order_keys.specs.Bindings.{packed_binding, unpacked_binding}
+use Rattle.cf_bind.specs.declared.passenger.Passenger.{Passenger}
+use Rattle.order_keys.specs.Unpacked.{Unpacked, got, ReadsBack}
+use Rattle.order_keys.specs.Numbers.{leading_byte, behind, packed_word}
+use Rattle.order_keys.specs.Bindings.{packed_binding, unpacked_binding, has_value}
+use Rattle.order_keys.specs.Compounds.{packed_some, unpacked_some}
 use Rattle.order_keys.specs.Results.{packed_packet, unpacked_packet, packed_fetch, unpacked_fetch}
-use Rattle.order_keys.specs.PassengerFlags.{packed_flags, unpacked_flags}
-use Rattle.order_keys.specs.StageFlags.{packed_stage_flags, unpacked_stage_flags}
-use Rattle.order_keys.specs.Passengers.{packed_guess, unpacked_guess, packed_end, unpacked_end, packed_origin, unpacked_origin, packed_bindings, unpacked_bindings, packed_outcome, unpacked_outcome, packed_passenger, unpacked_passenger}
+use Rattle.order_keys.specs.Passengers.{packed_guess, unpacked_guess, packed_end, unpacked_end, other_guess, follows, packed_next, unpacked_next, flags_of, origin_flags_of, packed_origin, unpacked_origin, packed_bindings, unpacked_bindings, packed_outcome, unpacked_outcome, packed_passenger, unpacked_passenger}
 use Rattle.order_keys.specs.Cells.{packed_cell, unpacked_cell, packed_source, unpacked_source, packed_values, unpacked_values, packed_op, unpacked_op}
 use Rattle.order_keys.proofs.NumbersBack.{byte_back, word_back}
+use Rattle.order_keys.proofs.BitsBack.{flags_back, origin_flags_back, stage_flags_back}
 use Rattle.order_keys.proofs.CompoundsBack.{pair_back, triple_back, option_back, some_read}
 use Rattle.order_keys.proofs.InstructionsBack.{instr_back}
 
-pub binding_back : ReadsBack packed_binding unpacked_binding
+binding_read : (b : Binding) (rest : List ℕ) → unpacked_binding (is_some b.value) (packed_binding b ++ rest) ≡ got b rest
 unfolding packed_binding unpacked_binding
-binding_back = record { back = λ b rest. simp ((pair_back byte_back (option_back word_back)).back (b.reg, b.value) rest) refl }
+binding_read b rest = simp (append_assoc, byte_back.back, some_read word_back) refl
+
+bound_read : (bound : Option Binding) (rest : List ℕ) →
+    unpacked_some (unpacked_binding (has_value bound)) (is_some bound) (packed_some packed_binding bound ++ rest) ≡ got bound rest
+unfolding packed_some unpacked_some
+bound_read None rest = refl
+bound_read (Some b) rest = simp (binding_read b rest) refl
 
 packet_reads : (x : Packet) (rest : List ℕ) → unpacked_packet (packed_packet x ++ rest) ≡ got x rest
 unfolding packed_packet unpacked_packet leading_byte behind
@@ -61,60 +69,47 @@ end_reads (Exit status) rest = simp (byte_back.back status rest) refl
 pub end_back : ReadsBack packed_end unpacked_end
 end_back = record { back = end_reads }
 
-flags_read : (done launched recovered dead : Bool) (rest : List ℕ) →
-    let p : PassengerFlags = record { done = done; launched = launched; recovered = recovered; dead = dead } in
-    unpacked_flags (packed_flags p ++ rest) ≡ got p rest
-unfolding packed_flags unpacked_flags leading_byte behind
-flags_read true true true true rest = refl
-flags_read true true true false rest = refl
-flags_read true true false true rest = refl
-flags_read true true false false rest = refl
-flags_read true false true true rest = refl
-flags_read true false true false rest = refl
-flags_read true false false true rest = refl
-flags_read true false false false rest = refl
-flags_read false true true true rest = refl
-flags_read false true true false rest = refl
-flags_read false true false true rest = refl
-flags_read false true false false rest = refl
-flags_read false false true true rest = refl
-flags_read false false true false rest = refl
-flags_read false false false true rest = refl
-flags_read false false false false rest = refl
+guess_read : (guess : Guess) (rest : List ℕ) →
+    let read = unpacked_some unpacked_guess (is_some (other_guess guess)) (packed_some packed_guess (other_guess guess) ++ rest) in
+    got (on read.value Next (λ g. g)) read.left ≡ got guess rest
+guess_read Next rest = simp (some_read guess_back) refl
+guess_read Taken rest = simp (some_read guess_back) refl
+guess_read Wait rest = simp (some_read guess_back) refl
+guess_read (To target) rest = simp (some_read guess_back) refl
 
-flags_back : ReadsBack packed_flags unpacked_flags
-flags_back = record { back = λ p rest. flags_read p.done p.launched p.recovered p.dead rest }
+next_cases : (pc : ℕ) (next : Option ℕ) (rest : List ℕ) (behind_it : Bool) → follows pc next ≡ behind_it →
+    unpacked_next pc behind_it (is_some next) ((if behind_it then [] else packed_some packed_word next) ++ rest) ≡ got next rest
+unfolding unpacked_next
+next_cases pc next rest false e = some_read word_back next rest
+next_cases pc None rest true e = absurd (true≢false (sym e))
+next_cases pc (Some n) rest true e = let is : (pc + 4) % 2 ^ 32 ≡ n = grind (arith, e, nat_tests) in ap (λ (k : ℕ). got (Some k) rest) is
 
-origin_back : ReadsBack packed_origin unpacked_origin
-origin_back = triple_back word_back (option_back instr_back) guess_back
+next_read : (pc : ℕ) (next : Option ℕ) (rest : List ℕ) →
+    unpacked_next pc (follows pc next) (is_some next) (packed_next pc next ++ rest) ≡ got next rest
+unfolding packed_next
+next_read pc next rest = next_cases pc next rest (follows pc next) refl
 
-bindings_back : ReadsBack packed_bindings unpacked_bindings
-bindings_back = triple_back (option_back binding_back) (option_back binding_back) (option_back binding_back)
+origin_read : (p : Passenger) (rest : List ℕ) →
+    unpacked_origin (origin_flags_of p) (packed_origin (p.pc, p.what, p.guess) ++ rest) ≡ got (p.pc, p.what, p.guess) rest
+unfolding packed_origin unpacked_origin
+origin_read p rest =
+    simp (append_assoc, word_back.back, some_read instr_back) (ap (λ (g : Unpacked Guess). got (p.pc, p.what, g.value) g.left) (guess_read p.guess rest))
 
-outcome_back : ReadsBack packed_outcome unpacked_outcome
-outcome_back = triple_back (option_back word_back) (option_back end_back) (option_back packet_back)
+bindings_read : (p : Passenger) (rest : List ℕ) →
+    unpacked_bindings (origin_flags_of p) (packed_bindings (p.src1, p.src2, p.dst) ++ rest) ≡ got (p.src1, p.src2, p.dst) rest
+unfolding packed_bindings unpacked_bindings
+bindings_read p rest = simp (append_assoc, bound_read) refl
+
+outcome_read : (p : Passenger) (rest : List ℕ) →
+    unpacked_outcome p.pc (flags_of p) (packed_outcome p.pc (p.next, p.ending, p.owes) ++ rest) ≡ got (p.next, p.ending, p.owes) rest
+unfolding packed_outcome unpacked_outcome
+outcome_read p rest = simp (append_assoc, next_read, some_read end_back, some_read packet_back) refl
 
 pub passenger_back : ReadsBack packed_passenger unpacked_passenger
 unfolding packed_passenger unpacked_passenger
 passenger_back = record {
-  back = λ p rest. simp (append_assoc, origin_back.back, bindings_back.back, flags_back.back, outcome_back.back) refl;
+  back = λ p rest. simp (append_assoc, flags_back.back, origin_flags_back.back, origin_read p, bindings_read p, outcome_read p) refl;
 }
-
-stage_flags_read : (instruction result met : Bool) (rest : List ℕ) →
-    let f : StageFlags = record { instruction = instruction; result = result; met = met } in
-    unpacked_stage_flags (packed_stage_flags f ++ rest) ≡ got f rest
-unfolding packed_stage_flags unpacked_stage_flags leading_byte behind
-stage_flags_read true true true rest = refl
-stage_flags_read true true false rest = refl
-stage_flags_read true false true rest = refl
-stage_flags_read true false false rest = refl
-stage_flags_read false true true rest = refl
-stage_flags_read false true false rest = refl
-stage_flags_read false false true rest = refl
-stage_flags_read false false false rest = refl
-
-stage_flags_back : ReadsBack packed_stage_flags unpacked_stage_flags
-stage_flags_back = record { back = λ f rest. stage_flags_read f.instruction f.result f.met rest }
 
 pub cell_back : ReadsBack packed_cell unpacked_cell
 unfolding packed_cell unpacked_cell

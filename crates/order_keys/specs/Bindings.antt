@@ -1,15 +1,21 @@
--- Bindings as bytes: the register, then its value if it is known.
-use Rattle.std.specs.Prelude.{ℕ, Option, List}
+-- Bindings as bytes: the register, then its value if it is known; whether it is stands elsewhere.
+use Rattle.std.specs.Prelude.{ℕ, Bool, false, Option, List, ◌++◌}
 use Rattle.cf_bind.specs.declared.binding.Binding.{Binding}
-use Rattle.order_keys.specs.Unpacked.{Unpacked, as_read}
+use Rattle.cf_semantics.specs.state.Options.{is_some, on}
+use Rattle.order_keys.specs.Unpacked.{Unpacked, got}
 use Rattle.order_keys.specs.Numbers.{packed_byte, unpacked_byte, packed_word, unpacked_word}
-use Rattle.order_keys.specs.Compounds.{packed_pair, unpacked_pair, packed_option, unpacked_option}
+use Rattle.order_keys.specs.Compounds.{packed_some, unpacked_some}
 
 unfoldable pub packed_binding : Binding → List ℕ
-packed_binding b = packed_pair packed_byte (packed_option packed_word) (b.reg, b.value)
+packed_binding b = packed_byte b.reg ++ packed_some packed_word b.value
 
-abbrev pub binding_of : ℕ × Option ℕ → Binding
-binding_of x = record { reg = x.0; value = x.1 }
+-- a binding whose value is known or is not
+unfoldable pub unpacked_binding : Bool → List ℕ → Unpacked Binding
+unpacked_binding known bs =
+    let reg = unpacked_byte bs in
+    let value = unpacked_some unpacked_word known reg.left in
+    got (record { reg = reg.value; value = value.value }) value.left
 
-unfoldable pub unpacked_binding : List ℕ → Unpacked Binding
-unpacked_binding bs = as_read binding_of (unpacked_pair unpacked_byte (unpacked_option unpacked_word) bs)
+-- whether there is a binding, and its value is known
+abbrev pub has_value : Option Binding → Bool
+has_value bound = on bound false (λ b. is_some b.value)

@@ -1,17 +1,38 @@
-//! How far an instruction has come, in keys.
+//! What is yes or no of an instruction on its way up, in keys.
 
-use crate::bits::{bit, is_set};
+use crate::bits::{half, is_set};
 use crate::pack::Pack;
 use crate::unread::Unread;
 use std::alloc::AllocError;
 
-/// What is yes or no of an instruction on its way up, in the words of `Passenger`.
+/// How far an instruction has come, in the words of `Passenger`; of what it may have, whether it is there.
 #[derive(Clone, Copy)]
 pub(crate) struct PassengerFlags {
     pub(crate) done: bool,
     pub(crate) launched: bool,
     pub(crate) recovered: bool,
     pub(crate) dead: bool,
+    pub(crate) next: bool,
+
+    /// The program goes on with the instruction behind it.
+    pub(crate) follows: bool,
+    pub(crate) ending: bool,
+    pub(crate) owes: bool,
+}
+
+/// Which parts an instruction has of those that it may have from the first, in the words of `Passenger`.
+#[derive(Clone, Copy)]
+pub(crate) struct OriginFlags {
+    pub(crate) what: bool,
+
+    /// Fetch did not go on with the instruction behind it.
+    pub(crate) guess: bool,
+    pub(crate) src1: bool,
+    pub(crate) src1_value: bool,
+    pub(crate) src2: bool,
+    pub(crate) src2_value: bool,
+    pub(crate) dst: bool,
+    pub(crate) dst_value: bool,
 }
 
 impl Pack for PassengerFlags {
@@ -24,8 +45,9 @@ impl Pack for PassengerFlags {
     #[inline(always)]
     #[tactic(auto, unfolding(crate::specs::PassengerFlags::packed_flags))]
     fn pack(&self, key: &mut Vec<u8>) -> Result<(), AllocError> {
-        let made = bit(1, self.done) + bit(2, self.launched);
-        key.push(made + bit(4, self.recovered) + bit(8, self.dead))?;
+        let low = half(self.done, self.launched, self.recovered, self.dead);
+        let high = half(self.next, self.follows, self.ending, self.owes);
+        key.push(low + 16 * high)?;
         Ok(())
     }
 
@@ -38,6 +60,43 @@ impl Pack for PassengerFlags {
             launched: is_set(2, bits),
             recovered: is_set(4, bits),
             dead: is_set(8, bits),
+            next: is_set(16, bits),
+            follows: is_set(32, bits),
+            ending: is_set(64, bits),
+            owes: is_set(128, bits),
+        }
+    }
+}
+
+impl Pack for OriginFlags {
+    ghost use Rattle.order_keys.specs.PassengerFlags.{packed_origin_flags, unpacked_origin_flags};
+
+    ghost packed = { packed_origin_flags };
+
+    ghost unpacked = { unpacked_origin_flags };
+
+    #[inline(always)]
+    #[tactic(auto, unfolding(crate::specs::PassengerFlags::packed_origin_flags))]
+    fn pack(&self, key: &mut Vec<u8>) -> Result<(), AllocError> {
+        let low = half(self.what, self.guess, self.src1, self.src1_value);
+        let high = half(self.src2, self.src2_value, self.dst, self.dst_value);
+        key.push(low + 16 * high)?;
+        Ok(())
+    }
+
+    #[inline(always)]
+    #[tactic(auto, unfolding(crate::specs::PassengerFlags::unpacked_origin_flags))]
+    fn unpack(key: &mut Unread<'_>) -> OriginFlags {
+        let bits = key.byte();
+        OriginFlags {
+            what: is_set(1, bits),
+            guess: is_set(2, bits),
+            src1: is_set(4, bits),
+            src1_value: is_set(8, bits),
+            src2: is_set(16, bits),
+            src2_value: is_set(32, bits),
+            dst: is_set(64, bits),
+            dst_value: is_set(128, bits),
         }
     }
 }
