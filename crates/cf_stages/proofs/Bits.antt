@@ -63,8 +63,8 @@ same_bit a b k e = let g = bit_at-lt a k in let h = bit_at-lt b k in grind (arit
 pub same-words : (a b : ℕ) → a < 2 ^ 32 → b < 2 ^ 32 → ((k : ℕ) → k < 32 → has_bit a k ≡ has_bit b k) → a ≡ b
 same-words a b small less same = same_from_bits_below 32 a b small less (λ k below. same_bit a b k (same k below))
 
-word_small : (test : ℕ → Bool) (n : ℕ) → n ≤ 32 → word_of test n < 2 ^ 32
-word_small test n h = let e = word-lt test n in let f : 2 ^ n ≤ 2 ^ 32 = pow-le-pow_right (omega arith) h in omega arith
+pub word-small : (test : ℕ → Bool) (n : ℕ) → n ≤ 32 → word_of test n < 2 ^ 32
+word-small test n h = let e = word-lt test n in let f : 2 ^ n ≤ 2 ^ 32 = pow-le-pow_right (omega arith) h in omega arith
 
 -- tests that agree give one word
 pub word-agrees : (test other : ℕ → Bool) (n : ℕ) → ((i : ℕ) → 0 < i → i ≤ n → test i ≡ other i) → word_of test n ≡ word_of other n
@@ -76,8 +76,8 @@ word-agrees test other (suc n) same = rw (same (suc n) (omega arith) (omega arit
 pub word-with-bit : (test other : ℕ → Bool) (n k : ℕ) → n ≤ 32 → k < n → ((i : ℕ) → i ≢ suc k → other i ≡ test i) →
     word_of other n ≡ with_bit (word_of test n) k (other (suc k))
 word-with-bit test other n k few within same =
-    same-words (word_of other n) (with_bit (word_of test n) k (other (suc k))) (word_small other n few)
-    (with_bit-lt (word_of test n) k (other (suc k)) (omega arith) (word_small test n few)) bits
+    same-words (word_of other n) (with_bit (word_of test n) k (other (suc k))) (word-small other n few)
+    (with_bit-lt (word_of test n) k (other (suc k)) (omega arith) (word-small test n few)) bits
   where
     bit : (j : ℕ) (here inner : Bool) → nat_eq j k ≡ here → nat_lt j n ≡ inner → j < 32 → has_bit (word_of other n) j
         ≡ has_bit (with_bit (word_of test n) k (other (suc k))) j

@@ -1,4 +1,5 @@
 pub mod Bits
+pub mod Carries
 pub mod Cells
 pub mod Deciding
 pub mod Empty
@@ -8,5 +9,6 @@ pub mod Meetings
 pub mod Neighbours
 pub mod Order
 pub mod Parts
+pub mod Remaining
 pub mod Sameness
 pub mod Returned

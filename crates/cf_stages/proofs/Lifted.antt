@@ -1,18 +1,23 @@
 -- The contents of the stages and the bit words after an instruction moved to the stage above, or a result to the one
 -- below.
-use Rattle.std.proofs.Common.{◌≡◌, ◌∙◌, ℕ, ◌+◌, ◌-◌, ◌<◌, ◌≤◌, List, Option, Some, None, Bool, true, false, IsTrue, length, length-set, refl, sym, ap, subst, arith}
-use Rattle.std.specs.Prelude.{IsSome, slice_get, slice_index_or, slice_set}
+use Rattle.std.proofs.Common.{◌≡◌, ◌∙◌, ℕ, suc, ◌+◌, ◌-◌, ◌^◌, ◌<◌, ◌≤◌, ◌≢◌, All, List, Option, Some, None, Bool, true, false, IsTrue, length, length-set, refl, sym, ap, subst, arith}
+use Rattle.std.specs.Prelude.{IsSome, slice_index_or, slice_set}
 use Rattle.std.proofs.lemmas.List.{set_comm}
 use Rattle.std.proofs.lemmas.Option.{slice_get-get_or}
 use Rattle.cf_bind.specs.declared.cell.Cell.{Cell}
 use Rattle.cf_bind.specs.declared.packet.Packet.{Packet}
 use Rattle.cf_bind.specs.declared.passenger.Passenger.{Passenger}
+use Rattle.cf_layout.specs.Words.{has_bit}
 use Rattle.cf_semantics.specs.state.Options.{on, is_some}
-use Rattle.cf_stages.specs.Changes.{changed, climbs, cells_climbed, falls, cells_fallen, packet_at, passenger_at, with_new_passenger}
+use Rattle.cf_semantics.specs.state.State.{cell_at}
+use Rattle.cf_stages.specs.Changes.{IsCell, changed, climbs, cells_climbed, falls, cells_fallen, packet_at, passenger_at, with_new_passenger}
 use Rattle.cf_stages.specs.Parts.{AreParts, all_cells, with_place}
-use Rattle.cf_stages.specs.Words.{with_bit}
-use Rattle.cf_stages.proofs.Kept.{count-read, passenger-parts, passenger-placed, passenger-read, packet-parts, packet-placed, packet-read, pipes-read}
-use Rattle.cf_stages.proofs.Neighbours.{climbed-is, climbs-high, climbs-low, climbs-rider, fallen-is, falls-low, falls-result, falls-within}
+use Rattle.cf_stages.specs.Words.{with_bit, word_where}
+use Rattle.cf_stages.proofs.Bits.{bit-other, with_bit-lt, word-bit, word-small}
+use Rattle.cf_stages.proofs.Carries.{bit-kept}
+use Rattle.cf_stages.proofs.Cells.{cell-in}
+use Rattle.cf_stages.proofs.Kept.{count-read, few-read, passenger-parts, passenger-placed, passenger-read, packet-parts, packet-placed, packet-read, pipes-read}
+use Rattle.cf_stages.proofs.Neighbours.{climbed-is, climbs-high, climbs-low, climbs-rider, climbs-room, fallen-is, falls-low, falls-result, falls-room, falls-within}
 
 -- what was read does not depend on what would be read where there is no entry
 read_any : {A : Type 0} (xs : List A) (k : ℕ) (x y : A) → k < length xs → slice_index_or xs k x ≡ slice_index_or xs k y
@@ -50,6 +55,69 @@ lifts ps qs riding flying met i h c =
       rides = some_true rider (subst (λ (o : Option Passenger). IsSome o) (sym e) (climbs-rider cells i c));
     }
 
+-- the bits of the stage and of its neighbour, before a move
+record Bits (w met j k : ℕ) : Type 0 where
+  pub small : w < 2 ^ 32
+  pub set : has_bit w j ≡ true
+  pub clear : has_bit w k ≡ false
+  -- nothing has met in the neighbour
+  pub unmet : with_bit (with_bit met j false) k false ≡ with_bit met j false
+
+-- the bit of a stage says what the test says of its contents
+pub bit-of : (test : Cell → Bool) (cells : List Cell) (w k : ℕ) → w ≡ word_where test cells → k < length cells → has_bit w k
+    ≡ on (cell_at cells (suc k)) false test
+bit-of test cells w k is within =
+    ap (λ (v : ℕ). has_bit v k) is ∙ word-bit (λ j. on (cell_at cells j) false test) (length cells) k within
+
+-- where something is missing nothing has met
+not_met : (cells : List Cell) (i : ℕ) (o : Option Cell) (half : Cell → Bool) → All IsCell cells → cell_at cells i ≡ o → ((c : Cell) → IsCell c → IsTrue c.met →
+    half c ≡ true) → on o false half ≡ false → on o false (λ c. c.met) ≡ false
+not_met cells i None half all e both none = refl
+not_met cells i (Some c) half all e both none = by c.met refl
+  where
+    by : (b : Bool) → c.met ≡ b → c.met ≡ false
+    by false m = m
+    by true m = let t = both c (cell-in cells i c all e) (rw m refl) in absurd (cc)
+
+rider_some : (o : Option Cell) → IsSome (on o None (λ c. c.passenger)) → on o false (λ c. is_some c.passenger) ≡ true
+rider_some None h = absurd (cc)
+rider_some (Some c) h = grind arith
+
+pub result-some : (o : Option Cell) → IsSome (on o None (λ c. c.packet)) → on o false (λ c. is_some c.packet) ≡ true
+result-some None h = absurd (cc)
+result-some (Some c) h = grind arith
+
+rider_met : (c : Cell) → IsCell c → IsTrue c.met → is_some c.passenger ≡ true
+rider_met c one met = let b = one met in grind arith
+
+result_met : (c : Cell) → IsCell c → IsTrue c.met → is_some c.packet ≡ true
+result_met c one met = let b = one met in grind arith
+
+-- a bit of the stage is cleared, and that of the neighbour was not set
+unmet_there : (met j k : ℕ) → j < 32 → k < 32 → k ≢ j → met < 2 ^ 32 → has_bit met k ≡ false → with_bit (with_bit met j false) k false ≡ with_bit met j false
+unmet_there met j k below high off small clear =
+    bit-kept (with_bit met j false) k false high (with_bit-lt met j false below small) (bit-other met j k false below high off ∙ clear)
+
+rises : (ps : List (Option Passenger)) (qs : List (Option Packet)) (riding flying met i : ℕ) → AreParts ps qs riding flying met →
+    IsTrue (climbs (all_cells ps qs met) i) → Bits riding met (i - 1) i
+rises ps qs riding flying met i h c =
+    let cells = all_cells ps qs met in
+    let n = count-read ps qs riding flying met h in
+    let low = climbs-low cells i c in
+    let high = climbs-high cells i c in
+    let here : suc (i - 1) ≡ i = omega arith in
+    let above : suc i ≡ i + 1 = omega arith in
+    let clear = ap (λ (j : ℕ). on (cell_at cells j) false (λ d. is_some d.passenger)) above ∙ climbs-room cells i c in
+    let none = not_met cells (suc i) (cell_at cells (suc i)) (λ d. is_some d.passenger) h.cells refl rider_met clear in
+    record {
+      small = rw h.passenger_bits (word-small _ (length cells) (omega (arith, h.most)));
+      set = bit-of (λ d. is_some d.passenger) cells riding (i - 1) h.passenger_bits (omega arith)
+          ∙ ap (λ (j : ℕ). on (cell_at cells j) false (λ d. is_some d.passenger)) here ∙ rider_some (cell_at cells i) (climbs-rider cells i c);
+      clear = bit-of (λ d. is_some d.passenger) cells riding i h.passenger_bits (omega arith) ∙ clear;
+      unmet = unmet_there met (i - 1) i (omega (arith, h.most)) (omega (arith, h.most)) (λ g. absurd (omega arith))
+          (rw h.met_bits (word-small _ (length cells) (omega (arith, h.most)))) (bit-of (λ d. d.met) cells met i h.met_bits (omega arith) ∙ none);
+    }
+
 -- the two entries are changed in either order
 swapped : (ps : List (Option Passenger)) (i : ℕ) (p : Option Passenger) → 0 < i → slice_set (slice_set ps i p) (i - 1) None
     ≡ slice_set (slice_set ps (i - 1) None) (i + 1 - 1) p
@@ -59,8 +127,8 @@ swapped ps i p low =
 
 pub lifted-parts : (ps ps1 : List (Option Passenger)) (qs : List (Option Packet)) (riding flying met riding1 met1 i : ℕ) → AreParts ps qs riding flying met →
     IsTrue (climbs (all_cells ps qs met) i) →
-    ps1 ≡ slice_set ps i (slice_index_or ps (i - 1) None) → riding1 ≡ with_bit (with_bit riding (i - 1) false) (i + 1 - 1) true →
-    met1 ≡ with_bit (with_bit met (i - 1) false) (i + 1 - 1) false →
+    ps1 ≡ slice_set ps i (slice_index_or ps (i - 1) None) → riding1 ≡ with_bit (with_bit riding (i - 1) false) i true →
+    met1 ≡ with_bit met (i - 1) false →
     AreParts (slice_set ps1 (i - 1) None) qs riding1 flying met1
 lifted-parts ps ps1 qs riding flying met riding1 met1 i h c e r m =
     let l = lifts ps qs riding flying met i h c in
@@ -68,13 +136,15 @@ lifted-parts ps ps1 qs riding flying met riding1 met1 i h c e r m =
     in
     let empty : Option Passenger = None in
     let long = length-set ps (i - 1) empty in
+    let j : i + 1 - 1 ≡ i = omega arith in
     let two = passenger-parts (slice_set ps (i - 1) None) qs (with_bit riding (i - 1) false) flying (with_bit met (i - 1) false) riding1 met1 (i + 1)
-    (slice_index_or ps (i - 1) None) true one (omega arith) (omega (arith, l.above)) l.rides r m in
+    (slice_index_or ps (i - 1) None) true one (omega arith) (omega (arith, l.above)) l.rides (rw j r) (rw j (m ∙ sym (rises ps qs riding flying met i h c).unmet))
+    in
     rw (e, swapped ps i (slice_index_or ps (i - 1) None) l.low) two
 
 pub lifted-is : (ps ps1 : List (Option Passenger)) (qs : List (Option Packet)) (riding flying met met1 i : ℕ) → AreParts ps qs riding flying met →
     IsTrue (climbs (all_cells ps qs met) i) →
-    ps1 ≡ slice_set ps i (slice_index_or ps (i - 1) None) → met1 ≡ with_bit (with_bit met (i - 1) false) (i + 1 - 1) false →
+    ps1 ≡ slice_set ps i (slice_index_or ps (i - 1) None) → met1 ≡ with_bit met (i - 1) false →
     all_cells (slice_set ps1 (i - 1) None) qs met1 ≡ cells_climbed (all_cells ps qs met) i
 lifted-is ps ps1 qs riding flying met met1 i h c e m =
     let l = lifts ps qs riding flying met i h c in
@@ -83,16 +153,26 @@ lifted-is ps ps1 qs riding flying met met1 i h c e m =
     in
     let empty : Option Passenger = None in
     let long = length-set ps (i - 1) empty in
+    let j : i + 1 - 1 ≡ i = omega arith in
     let first = passenger-placed ps qs riding flying met (with_bit met (i - 1) false) i None h l.low l.within refl in
     let second = passenger-placed (slice_set ps (i - 1) None) qs (with_bit riding (i - 1) false) flying (with_bit met (i - 1) false) met1 (i + 1) q one
-    (omega arith) (omega (arith, l.above)) m in
+    (omega arith) (omega (arith, l.above)) (rw j (m ∙ sym (rises ps qs riding flying met i h c).unmet)) in
     ap (λ (xs : List (Option Passenger)). all_cells (slice_set xs (i - 1) None) qs met1) e
     ∙ ap (λ (xs : List (Option Passenger)). all_cells xs qs met1) (swapped ps i q l.low)
     ∙ second
     ∙ ap (λ (cells : List Cell). changed cells (i + 1) (with_new_passenger q)) first
     ∙ climbed-is (all_cells ps qs met) i q c l.is
 
-pub ruleset lifting = (lifted-parts, lifted-is, climbs-low, climbs-high, count-read)
+-- the bits of a stage that an instruction leaves, and of the one above
+pub rising-set : (ps : List (Option Passenger)) (qs : List (Option Packet)) (riding flying met i : ℕ) → AreParts ps qs riding flying met →
+    IsTrue (climbs (all_cells ps qs met) i) → has_bit riding (i - 1) ≡ true
+rising-set ps qs riding flying met i h c = (rises ps qs riding flying met i h c).set
+
+pub rising-clear : (ps : List (Option Passenger)) (qs : List (Option Packet)) (riding flying met i : ℕ) → AreParts ps qs riding flying met →
+    IsTrue (climbs (all_cells ps qs met) i) → has_bit riding i ≡ false
+rising-clear ps qs riding flying met i h c = (rises ps qs riding flying met i h c).clear
+
+pub ruleset lifting = (lifted-parts, lifted-is, rising-set, rising-clear, climbs-low, climbs-high, count-read, few-read)
 
 -- the result is in the stage below, and none is left in the stage where it was
 record Drops (ps : List (Option Passenger)) (qs : List (Option Packet)) (met i : ℕ) (q : Option Packet) : Type 0 where
@@ -121,6 +201,26 @@ drops ps qs riding flying met i q h c e =
       flies = some_packet q (subst (λ (o : Option Packet). IsSome o) (sym is) (falls-result cells i c));
     }
 
+sinks : (ps : List (Option Passenger)) (qs : List (Option Packet)) (riding flying met i : ℕ) → AreParts ps qs riding flying met →
+    IsTrue (falls (all_cells ps qs met) i) → Bits flying met (i - 1) (i - 2)
+sinks ps qs riding flying met i h c =
+    let cells = all_cells ps qs met in
+    let n = count-read ps qs riding flying met h in
+    let low = falls-low cells i c in
+    let high = falls-within cells i c in
+    let here : suc (i - 1) ≡ i = omega arith in
+    let below : suc (i - 2) ≡ i - 1 = omega arith in
+    let clear = ap (λ (j : ℕ). on (cell_at cells j) false (λ d. is_some d.packet)) below ∙ falls-room cells i c in
+    let none = not_met cells (suc (i - 2)) (cell_at cells (suc (i - 2))) (λ d. is_some d.packet) h.cells refl result_met clear in
+    record {
+      small = rw h.packet_bits (word-small _ (length cells) (omega (arith, h.most)));
+      set = bit-of (λ d. is_some d.packet) cells flying (i - 1) h.packet_bits (omega arith)
+          ∙ ap (λ (j : ℕ). on (cell_at cells j) false (λ d. is_some d.packet)) here ∙ result-some (cell_at cells i) (falls-result cells i c);
+      clear = bit-of (λ d. is_some d.packet) cells flying (i - 2) h.packet_bits (omega arith) ∙ clear;
+      unmet = unmet_there met (i - 1) (i - 2) (omega (arith, h.most)) (omega (arith, h.most)) (λ g. absurd (omega arith))
+          (rw h.met_bits (word-small _ (length cells) (omega (arith, h.most)))) (bit-of (λ d. d.met) cells met (i - 2) h.met_bits (omega arith) ∙ none);
+    }
+
 lowered : (qs : List (Option Packet)) (i : ℕ) (q : Option Packet) → 1 < i → slice_set (slice_set qs (i - 2) q) (i - 1) None
     ≡ slice_set (slice_set qs (i - 1) None) (i - 1 - 1) q
 lowered qs i q low =
@@ -129,31 +229,44 @@ lowered qs i q low =
 
 pub dropped-parts : (ps : List (Option Passenger)) (qs : List (Option Packet)) (riding flying met flying1 met1 i : ℕ) (q : Option Packet) →
     AreParts ps qs riding flying met → IsTrue (falls (all_cells ps qs met) i) →
-    q ≡ slice_index_or qs (i - 1) q → flying1 ≡ with_bit (with_bit flying (i - 1) false) (i - 1 - 1) true →
-    met1 ≡ with_bit (with_bit met (i - 1) false) (i - 1 - 1) false →
+    q ≡ slice_index_or qs (i - 1) q → flying1 ≡ with_bit (with_bit flying (i - 1) false) (i - 2) true →
+    met1 ≡ with_bit met (i - 1) false →
     AreParts ps (slice_set (slice_set qs (i - 2) q) (i - 1) None) riding flying1 met1
 dropped-parts ps qs riding flying met flying1 met1 i q h c e f m =
     let l = drops ps qs riding flying met i q h c e in
+    let j : i - 1 - 1 ≡ i - 2 = omega (arith, l.low) in
+    let still : met1 ≡ with_bit (with_bit met (i - 1) false) (i - 1 - 1) false = rw j (m ∙ sym (sinks ps qs riding flying met i h c).unmet) in
     let one = packet-parts ps qs riding flying met (with_bit flying (i - 1) false) (with_bit met (i - 1) false) i None false false h
     (omega (arith, l.low)) l.within (λ g. absurd (cc)) (λ g. absurd (cc)) refl refl refl in
     let two = packet-parts ps (slice_set qs (i - 1) None) riding (with_bit flying (i - 1) false) (with_bit met (i - 1) false) flying1 met1
-    (i - 1) q false true one (omega (arith, l.low)) (omega (arith, l.within)) (λ g. absurd (cc)) (λ g. absurd (cc)) l.flies f m in
+    (i - 1) q false true one (omega (arith, l.low)) (omega (arith, l.within)) (λ g. absurd (cc)) (λ g. absurd (cc)) l.flies (rw j f) still in
     rw (lowered qs i q l.low) two
 
 pub dropped-is : (ps : List (Option Passenger)) (qs : List (Option Packet)) (riding flying met met1 i : ℕ) (q : Option Packet) →
     AreParts ps qs riding flying met → IsTrue (falls (all_cells ps qs met) i) →
-    q ≡ slice_index_or qs (i - 1) q → met1 ≡ with_bit (with_bit met (i - 1) false) (i - 1 - 1) false →
+    q ≡ slice_index_or qs (i - 1) q → met1 ≡ with_bit met (i - 1) false →
     all_cells ps (slice_set (slice_set qs (i - 2) q) (i - 1) None) met1 ≡ cells_fallen (all_cells ps qs met) i
 dropped-is ps qs riding flying met met1 i q h c e m =
     let l = drops ps qs riding flying met i q h c e in
+    let j : i - 1 - 1 ≡ i - 2 = omega (arith, l.low) in
+    let still : met1 ≡ with_bit (with_bit met (i - 1) false) (i - 1 - 1) false = rw j (m ∙ sym (sinks ps qs riding flying met i h c).unmet) in
     let one = packet-parts ps qs riding flying met (with_bit flying (i - 1) false) (with_bit met (i - 1) false) i None false false h
     (omega (arith, l.low)) l.within (λ g. absurd (cc)) (λ g. absurd (cc)) refl refl refl in
     let first = packet-placed ps qs riding flying met (with_bit met (i - 1) false) i None false h (omega (arith, l.low)) l.within refl in
     let second = packet-placed ps (slice_set qs (i - 1) None) riding (with_bit flying (i - 1) false) (with_bit met (i - 1) false) met1 (i - 1) q false one
-    (omega (arith, l.low)) (omega (arith, l.within)) m in
+    (omega (arith, l.low)) (omega (arith, l.within)) still in
     ap (λ (xs : List (Option Packet)). all_cells ps xs met1) (lowered qs i q l.low)
     ∙ second
     ∙ ap (λ (cells : List Cell). changed cells (i - 1) (with_place q false)) first
     ∙ fallen-is (all_cells ps qs met) i q c l.is
 
-pub ruleset dropping = (dropped-parts, dropped-is, falls-low, falls-within, count-read, pipes-read)
+-- the bits of a stage that a result leaves, and of the one below
+pub sinking-set : (ps : List (Option Passenger)) (qs : List (Option Packet)) (riding flying met i : ℕ) → AreParts ps qs riding flying met →
+    IsTrue (falls (all_cells ps qs met) i) → has_bit flying (i - 1) ≡ true
+sinking-set ps qs riding flying met i h c = (sinks ps qs riding flying met i h c).set
+
+pub sinking-clear : (ps : List (Option Passenger)) (qs : List (Option Packet)) (riding flying met i : ℕ) → AreParts ps qs riding flying met →
+    IsTrue (falls (all_cells ps qs met) i) → has_bit flying (i - 2) ≡ false
+sinking-clear ps qs riding flying met i h c = (sinks ps qs riding flying met i h c).clear
+
+pub ruleset dropping = (dropped-parts, dropped-is, sinking-set, sinking-clear, falls-low, falls-within, count-read, pipes-read, few-read)

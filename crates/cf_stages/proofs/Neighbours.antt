@@ -4,7 +4,7 @@ use Rattle.std.specs.Prelude.{IsSome}
 use Rattle.cf_bind.specs.declared.cell.Cell.{Cell}
 use Rattle.cf_bind.specs.declared.packet.Packet.{Packet}
 use Rattle.cf_bind.specs.declared.passenger.Passenger.{Passenger}
-use Rattle.cf_semantics.specs.state.Options.{on}
+use Rattle.cf_semantics.specs.state.Options.{on, is_some}
 use Rattle.cf_semantics.specs.state.State.{cell_at, put_cell}
 use Rattle.cf_semantics.specs.moves.Moves.{without_passenger, without_packet}
 use Rattle.cf_stages.specs.Changes.{can_climb, can_fall, changed, passenger_at, packet_at, cells_climbed, cells_fallen, climbs, falls, with_new_passenger, with_new_packet}
@@ -60,6 +60,15 @@ climbs-rider cells i h = rider_by (cell_at cells i) (cell_at cells (i + 1)) h
     rider_by (Some c) None g = absurd (cc)
     rider_by (Some c) (Some d) g = grind arith
 
+pub climbs-room : (cells : List Cell) (i : ℕ) → IsTrue (climbs cells i) → on (cell_at cells (i + 1)) false (λ c. is_some c.passenger) ≡ false
+unfolding climbs
+climbs-room cells i h = room_by (cell_at cells i) (cell_at cells (i + 1)) h
+  where
+    room_by : (o q : Option Cell) → IsTrue (on o false (λ c. can_climb c q)) → on q false (λ c. is_some c.passenger) ≡ false
+    room_by None q g = absurd (cc)
+    room_by (Some c) None g = absurd (cc)
+    room_by (Some c) (Some d) g = grind arith
+
 pub climbed-is : (cells : List Cell) (i : ℕ) (p : Option Passenger) → IsTrue (climbs cells i) → p ≡ passenger_at cells i →
     changed (changed cells i (with_new_passenger None)) (i + 1) (with_new_passenger p) ≡ cells_climbed cells i
 climbed-is cells i p h e =
@@ -101,6 +110,15 @@ falls-result cells i h = result_by (cell_at cells i) (cell_at cells (i - 1)) h
     result_by None q g = absurd (cc)
     result_by (Some c) None g = absurd (cc)
     result_by (Some c) (Some d) g = grind arith
+
+pub falls-room : (cells : List Cell) (i : ℕ) → IsTrue (falls cells i) → on (cell_at cells (i - 1)) false (λ c. is_some c.packet) ≡ false
+unfolding falls
+falls-room cells i h = room_by (cell_at cells i) (cell_at cells (i - 1)) h
+  where
+    room_by : (o q : Option Cell) → IsTrue (on o false (λ c. can_fall c q)) → on q false (λ c. is_some c.packet) ≡ false
+    room_by None q g = absurd (cc)
+    room_by (Some c) None g = absurd (cc)
+    room_by (Some c) (Some d) g = grind arith
 
 pub fallen-is : (cells : List Cell) (i : ℕ) (q : Option Packet) → IsTrue (falls cells i) → q ≡ packet_at cells i →
     changed (changed cells i (with_place None false)) (i - 1) (with_place q false) ≡ cells_fallen cells i

@@ -7,7 +7,6 @@ ghost use Rattle.cf_semantics.specs.state.Options.{on};
 ghost use Rattle.cf_stages.specs.Changes.{changed, is_full_at, met_in, packet_at, passenger_at, rider_met, with_new_passenger, with_packet};
 
 use crate::stages::Stages;
-use crate::words::is_there;
 use cf_bind::{Packet, Passenger, meet};
 
 impl Stages {
@@ -31,14 +30,17 @@ impl Stages {
     /// Makes the instruction and the result of the stage meet. Afterwards they have met, or the result was killed and
     /// only the instruction is left.
     #[inline(always)]
+    #[tactic(auto, using(crate::proofs::Remaining::still_there))]
     pub fn meet_at(&mut self, i: u32)
         requires { IsTrue (is_full_at self.old i) }
         ensures stages { self.new ≡ changed self.old i met_in }
         ensures count { length self.new ≡ length self.old }
     {
         if let Some(packet) = self.packet(i) {
-            let left = self.meet_passenger(i, packet);
-            self.place_packet(i, left, is_there(&left));
+            match self.meet_passenger(i, packet) {
+                Some(left) => self.keep_packet(i, left),
+                None => self.remove_packet(i),
+            }
         }
     }
 

@@ -1,14 +1,14 @@
 //! One entry of a pipe gets new contents, and the bit words follow.
 
-ghost use Rattle.std.specs.Prelude.{◌≡◌, ◌-◌, ◌<◌, ◌≤◌, IsSome, IsTrue, None, length, slice_index_or, slice_set};
+ghost use Rattle.std.specs.Prelude.{◌≡◌, ◌-◌, ◌<◌, ◌≤◌, IsSome, IsTrue, None, Some, false, length, slice_index_or, slice_set, true};
 ghost use Rattle.cf_semantics.specs.moves.Moves.{with_passenger};
 ghost use Rattle.cf_semantics.specs.state.Options.{is_some};
 ghost use Rattle.cf_semantics.specs.state.State.{put_cell};
-ghost use Rattle.cf_stages.specs.Changes.{IsCell, changed, cells_climbed, climbs, cells_fallen, falls, passenger_at, with_new_passenger};
+ghost use Rattle.cf_stages.specs.Changes.{IsCell, changed, cells_climbed, climbs, cells_fallen, falls, has_met_at, packet_at, passenger_at, with_new_passenger};
 ghost use Rattle.cf_stages.specs.Parts.{with_place};
 
 use crate::stages::Stages;
-use crate::words::{is_there, with_bit};
+use crate::words::{is_there, lowered, raised, with_bit};
 use cf_bind::{Cell, Packet, Passenger};
 
 /// Copies the instruction of the entry below into this entry.
@@ -38,7 +38,8 @@ impl Stages {
     }
 
     /// The instruction of the stage goes to the one above, which has none, where it has met nothing.
-    // It is copied directly from one entry to the other; a temporary would make it two copies.
+    // It is copied directly from one entry to the other; a temporary would make it two copies. The bit of the stage above
+    // needs no clearing: nothing has met where no instruction is.
     #[inline(always)]
     #[tactic(auto, using(crate::proofs::Lifted::lifting, crate::proofs::Kept::counting))]
     pub(crate) fn lift_passenger(&mut self, i: u32)
@@ -46,8 +47,8 @@ impl Stages {
         ensures stages { self.new ≡ cells_climbed self.old i }
         ensures count { length self.new ≡ length self.old }
     {
-        self.passenger_mask = with_bit(with_bit(self.passenger_mask, i, false), i + 1, true);
-        self.met_mask = with_bit(with_bit(self.met_mask, i, false), i + 1, false);
+        self.passenger_mask = raised(self.passenger_mask, i);
+        self.met_mask = with_bit(self.met_mask, i, false);
         carry(&mut self.passengers, i as usize);
         self.passengers[i as usize - 1] = None;
     }
@@ -76,9 +77,38 @@ impl Stages {
         ensures stages { self.new ≡ cells_fallen self.old i }
         ensures count { length self.new ≡ length self.old }
     {
-        self.packet_mask = with_bit(with_bit(self.packet_mask, i, false), i - 1, true);
-        self.met_mask = with_bit(with_bit(self.met_mask, i, false), i - 1, false);
+        self.packet_mask = lowered(self.packet_mask, i);
+        self.met_mask = with_bit(self.met_mask, i, false);
         self.packets[i as usize - 2] = self.packets[i as usize - 1];
+        self.packets[i as usize - 1] = None;
+    }
+
+    /// Replaces the result of the stage by what is left of it. It has met the instruction there now.
+    #[inline(always)]
+    #[tactic(auto, using(crate::proofs::Remaining::staying, crate::proofs::Kept::counting))]
+    pub(crate) fn keep_packet(&mut self, i: u32, packet: Packet)
+        requires above { 0 < i }
+        requires within { i ≤ length self.old }
+        requires there { IsSome (packet_at self.old i) }
+        requires passenger { IsSome (passenger_at self.old i) }
+        ensures stages { self.new ≡ changed self.old i (with_place (Some packet) true) }
+        ensures count { length self.new ≡ length self.old }
+    {
+        self.met_mask = with_bit(self.met_mask, i, true);
+        self.packets[i as usize - 1] = Some(packet);
+    }
+
+    /// Removes the result of the stage, which was killed: the instruction there has met nothing.
+    #[inline(always)]
+    #[tactic(auto, using(crate::proofs::Remaining::killing, crate::proofs::Kept::counting))]
+    pub(crate) fn remove_packet(&mut self, i: u32)
+        requires above { 0 < i }
+        requires within { i ≤ length self.old }
+        requires unmet { has_met_at self.old i ≡ false }
+        ensures stages { self.new ≡ changed self.old i (with_place None false) }
+        ensures count { length self.new ≡ length self.old }
+    {
+        self.packet_mask = with_bit(self.packet_mask, i, false);
         self.packets[i as usize - 1] = None;
     }
 

@@ -1,6 +1,6 @@
 //! Bit words, with one bit for each stage.
 
-ghost use Rattle.std.specs.Prelude.{◌≡◌, ◌<◌, ◌≤◌, ◌-◌};
+ghost use Rattle.std.specs.Prelude.{◌≡◌, ◌<◌, ◌≤◌, ◌-◌, true, false};
 ghost use Rattle.cf_layout.specs.Words.{has_bit as is_bit_set};
 ghost use Rattle.cf_semantics.specs.state.Options.{is_some};
 ghost use Rattle.cf_stages.specs.Words.{with_bit as with_bit_put};
@@ -26,6 +26,31 @@ pub fn with_bit(word: u32, i: u32, set: bool) -> u32
 {
     let bit = 1 << (i - 1);
     if set { word | bit } else { word & !bit }
+}
+
+/// The word after what a stage has went to the stage above, which had nothing: bit i - 1 goes to bit i.
+// One addition moves the bit, since the bit above is not set and no carry goes further.
+#[inline(always)]
+pub(crate) fn raised(word: u32, i: u32) -> u32
+    requires above { 0 < i }
+    requires within { i < 32 }
+    requires set { is_bit_set word (i - 1) ≡ true }
+    requires clear { is_bit_set word i ≡ false }
+    ensures { result ≡ with_bit_put (with_bit_put word (i - 1) false) i true }
+{
+    word + (1 << (i - 1))
+}
+
+/// The word after what a stage has went to the stage below, which had nothing: bit i - 1 goes to bit i - 2.
+#[inline(always)]
+pub(crate) fn lowered(word: u32, i: u32) -> u32
+    requires above { 1 < i }
+    requires within { i ≤ 32 }
+    requires set { is_bit_set word (i - 1) ≡ true }
+    requires clear { is_bit_set word (i - 2) ≡ false }
+    ensures { result ≡ with_bit_put (with_bit_put word (i - 1) false) (i - 2) true }
+{
+    word - (1 << (i - 2))
 }
 
 /// Whether the entry has contents.

@@ -1,14 +1,11 @@
 -- The bit words follow a result to the stage below.
-use Rattle.std.proofs.Common.{◌∙◌, ◌-◌, ℕ, IsTrue, List, sym, ap, subst, true, false}
+use Rattle.std.proofs.Common.{IsTrue, List, sym, subst}
 use Rattle.cf_bind.specs.declared.cell.Cell.{Cell}
 use Rattle.cf_stages.specs.Changes.{falls}
-use Rattle.cf_stages.specs.Words.{with_bit}
 use Rattle.cf_stages.proofs.Lifted.{dropped-parts}
 use Rattle.cf_stages.proofs.stages.Stages.drop_packet.Goals as goal
 
 pub invariant_of-self : goal.invariant_of-self
 invariant_of-self c =
     dropped-parts _ _ _ _ _ _ _ c.args.i c.index.result.now c.self.invariant (subst (λ (cells : List Cell). IsTrue (falls cells c.args.i))
-    (sym c.self.view_is) c.requires) c.index.ensures
-    (c.with_bit-self-inside.ensures ∙ ap (λ (w : ℕ). with_bit w (c.args.i - 1 - 1) true) c.with_bit.ensures)
-    (c.with_bit-self-inside-2.ensures ∙ ap (λ (w : ℕ). with_bit w (c.args.i - 1 - 1) false) c.with_bit-2.ensures)
+    (sym c.self.view_is) c.requires) c.index.ensures c.lowered-self-inside.ensures c.with_bit-self-inside.ensures

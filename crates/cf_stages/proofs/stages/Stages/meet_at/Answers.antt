@@ -1,14 +1,23 @@
 -- The contents of the stage after its instruction and its result have met.
-use Rattle.std.proofs.Common.{◌∙◌, ap, List, sym}
+use Rattle.std.proofs.Common.{◌∙◌, ap, List, Some, None, refl, sym, true, false}
 use Rattle.cf_bind.specs.declared.cell.Cell.{Cell}
 use Rattle.cf_stages.specs.Changes.{changed}
 use Rattle.cf_stages.specs.Parts.{with_place}
 use Rattle.cf_stages.proofs.Meetings.{met-is}
 use Rattle.cf_stages.proofs.stages.Stages.meet_at.Goals as goal
 
-pub returns-in-Some-clause-stages : goal.returns-in-Some-clause-stages
-returns-in-Some-clause-stages c =
-    c.place_packet.ensures.stages
-    ∙ ap (λ (cells : List Cell). changed cells c.args.i (with_place c.meet_passenger-left.result c.is_there.result)) c.meet_passenger-left.ensures.stages
-    ∙ met-is c.args.self.now c.args.i c.in-Some.packet c.meet_passenger-left.result c.is_there.result c.requires (sym c.in-Some.is
-    ∙ c.packet.ensures) c.meet_passenger-left.ensures.left c.is_there.ensures
+-- the result stays
+pub returns-in-Some-meet_passenger-clause-stages : goal.returns-in-Some-meet_passenger-clause-stages
+returns-in-Some-meet_passenger-clause-stages c =
+    c.keep_packet.ensures.stages
+    ∙ ap (λ (cells : List Cell). changed cells c.args.i (with_place (Some c.in-Some-meet_passenger.left) true)) c.meet_passenger.ensures.stages
+    ∙ met-is c.args.self.now c.args.i c.in-Some.packet (Some c.in-Some-meet_passenger.left) true c.requires (sym c.in-Some.is
+    ∙ c.packet.ensures) (sym c.in-Some-meet_passenger.is ∙ c.meet_passenger.ensures.left) refl
+
+-- it was killed
+pub returns-in-None-clause-stages : goal.returns-in-None-clause-stages
+returns-in-None-clause-stages c =
+    c.remove_packet.ensures.stages
+    ∙ ap (λ (cells : List Cell). changed cells c.args.i (with_place None false)) c.meet_passenger.ensures.stages
+    ∙ met-is c.args.self.now c.args.i c.in-Some.packet None false c.requires (sym c.in-Some.is
+    ∙ c.packet.ensures) (sym c.in-None.is ∙ c.meet_passenger.ensures.left) refl
