@@ -136,6 +136,9 @@ slides_off q k (siding ∷ sidings) off =
     filter-append q (map (Slide k) (counted_from 0 (siding.cells - 1))) (slides_from (suc k) sidings)
     ∙ rw (mapped_off q (Slide k) (counted_from 0 (siding.cells - 1)) (off k)) (slides_off q (suc k) sidings off)
 
+pub no_slides : (plan : Plan) (s : State) → ((k : ℕ) → list_any is_some (siding_at s k) ≡ false) → filter (is_allowed plan s) (slides_from 0 plan.sidings) ≡ []
+no_slides plan s none = slides_off (is_allowed plan s) 0 plan.sidings (λ k c. slide_off plan s k c (none k))
+
 pub idle_outward : (plan : Plan) (s : State) (r : Rank) → ((k : ℕ) → list_any is_some (siding_at s k) ≡ false) →
     find (is_past r) (from_leave plan s) ≡ find (is_past r) (outward_on plan s)
 unfolding from_leave

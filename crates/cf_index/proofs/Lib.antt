@@ -29,3 +29,4 @@ pub mod AnyIssue
 pub mod StartsOver
 pub mod KnownMoves
 pub mod EmptySidings
+pub mod PackedWords

@@ -1,5 +1,6 @@
 pub mod Places
 pub mod Listed
+pub mod Packed
 pub mod Most
 pub mod Order
 pub mod Ranks

@@ -5,7 +5,7 @@ ghost use Rattle.cf_layout.specs.Layout.{cells_of};
 ghost use Rattle.cf_layout.specs.Words.{has_bit};
 ghost use Rattle.cf_semantics.specs.moves.Candidates.{candidates, slides_from};
 ghost use Rattle.cf_core.specs.Masks.{masks_of};
-ghost use Rattle.cf_index.specs.Allowed.{all_entering, all_leaving, all_passing, is_allowed};
+ghost use Rattle.cf_index.specs.Allowed.{all_entering, all_leaving, all_passing, is_allowed, passing_of};
 ghost use Rattle.cf_index.specs.GuessRules.{guided, keeps_move};
 ghost use Rattle.cf_index.specs.Listed.{entering_moves, leaving_moves, passing_moves, slide_at, slides_of};
 
@@ -71,13 +71,12 @@ fn entering(core: &Core, rule: GuessRule) -> Entering
     }
 }
 
-/// The candidates within the stages.
+/// The words of the candidates within the stages.
 #[inline(always)]
-pub(crate) fn passing(core: &Core, masks: &Masks) -> Passing
+pub(crate) fn passing_words(core: &Core, masks: &Masks) -> Passing
     requires { masks.now ≡ masks_of core.now.plan core.now.state }
-    ensures { passing_moves result ≡ filter (is_allowed core.now.plan core.now.state) (all_passing core.now.plan) }
+    ensures { result ≡ passing_of core.now.plan core.now.state }
 {
-    let _stages = stages(core);
     let on = goes_on(core);
     Passing {
         climb: climbs(core, masks, on),
@@ -89,11 +88,22 @@ pub(crate) fn passing(core: &Core, masks: &Masks) -> Passing
     }
 }
 
+/// The candidates within the stages.
+#[inline(always)]
+pub(crate) fn passing(core: &Core, masks: &Masks) -> Passing
+    requires { masks.now ≡ masks_of core.now.plan core.now.state }
+    ensures { passing_moves result ≡ filter (is_allowed core.now.plan core.now.state) (all_passing core.now.plan) }
+{
+    let _stages = stages(core);
+    passing_words(core, masks)
+}
+
 /// The candidates by which something leaves.
 #[inline(always)]
 pub(crate) fn leaving(core: &Core, masks: &Masks) -> Leaving
     requires { masks.now ≡ masks_of core.now.plan core.now.state }
-    ensures { leaving_moves result ≡ filter (is_allowed core.now.plan core.now.state) (all_leaving core.now.plan) }
+    ensures recover { result.recover ≡ masks.now.recover }
+    ensures moves { leaving_moves result ≡ filter (is_allowed core.now.plan core.now.state) (all_leaving core.now.plan) }
 {
     let _stages = stages(core);
     Leaving {

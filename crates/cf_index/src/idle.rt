@@ -22,7 +22,7 @@ fn holds_some(cells: &[Option<Op>]) -> bool
 
 /// Whether no siding has an operation.
 #[inline(always)]
-fn are_empty(core: &Core) -> bool
+pub(crate) fn are_empty(core: &Core) -> bool
     ensures { result ≡ true → (k : ℕ) → list_any is_some (siding_at core.now.state k) ≡ false }
 {
     for k in 0..core.layout().siding_count() {

@@ -13,6 +13,8 @@ mod idle;
 mod known;
 mod leaving;
 mod outward;
+mod packed;
+mod packing;
 mod passing;
 mod plainly;
 mod rank;
@@ -27,6 +29,7 @@ mod words;
 pub use candidates::Candidates;
 pub use ending_kinds::{AccessKind, ExitKind, LeaveKind, RecoverKind};
 pub use known::is_known_allowed;
+pub use packed::PackedCandidates;
 pub use rank::Rank;
 pub use sharing::shares;
 pub use sweeping::{

@@ -1,11 +1,15 @@
 //! The random policy.
 
-ghost use Rattle.std.specs.Prelude.{◌≡◌, ◌<◌, length};
+ghost use Rattle.std.specs.Prelude.{◌≡◌, ◌<◌, Some, length, slice_get};
 ghost use Rattle.rand_pcg.specs.Pcg.{pcg32};
+ghost use Rattle.cf_sched.specs.Paces.{offers};
 ghost use Rattle.cf_sched.specs.Policies.{drawn_from_seed, drawn_on, drawn_pick};
 
+use crate::pace::Pace;
 use crate::policy::Policy;
-use cf_index::Candidates;
+use cf_bind::Move;
+use cf_core::Core;
+use cf_index::{Candidates, PackedCandidates};
 use rand_core::utils::NextWord;
 use rand_pcg::Lcg64Xsh32;
 use std::marker::Model;
@@ -42,6 +46,20 @@ impl Drawn {
     {
         self.generator.next_word()
     }
+
+    /// Picks one of the moves that a processor offers, from the list of all.
+    // The list is seldom needed, and is then made in a call, so that the pick from a word is part of a run's loop.
+    #[inline(never)]
+    fn choose_of_all(&mut self, core: &Core, candidates: &mut Candidates, pace: &Pace) -> Move
+        requires { 0 < length (offers pace.now core.now.plan core.now.state) }
+        ensures choice { Some result ≡ slice_get (offers pace.now core.now.plan core.now.state)
+            (drawn_pick self.old (offers pace.now core.now.plan core.now.state)) }
+        ensures onward { self.new ≡ drawn_on self.old }
+    {
+        pace.offer(core, candidates);
+        let place = self.pick(candidates);
+        candidates.pick(place)
+    }
 }
 
 impl Policy for Drawn {
@@ -52,5 +70,13 @@ impl Policy for Drawn {
     #[inline(always)]
     fn pick(&mut self, candidates: &Candidates) -> usize {
         self.draw() as usize % candidates.len()
+    }
+
+    #[inline(always)]
+    fn choose(&mut self, core: &Core, candidates: &mut Candidates, pace: &Pace) -> Move {
+        match PackedCandidates::of(core, pace.rule(), pace.held()) {
+            Some(packed) => packed.pick(self.draw() as usize % packed.len()),
+            None => self.choose_of_all(core, candidates, pace),
+        }
     }
 }

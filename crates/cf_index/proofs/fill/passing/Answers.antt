@@ -9,12 +9,4 @@ returns c =
     let plan = c.args.core.now.plan in
     let s = c.args.core.now.state in
     let few : plan.stages ≤ 32 = omega (arith, c.stages-stages.ensures.few, c.stages-stages.ensures.stages) in
-    ap passing_moves (λ x.
-    record {
-      climb = c.climbs.ensures x;
-      fall = c.falls.ensures x;
-      meet = c.meets.ensures x;
-      execute = c.executes.ensures x;
-      send = c.sends.ensures x;
-      launch = c.launches.ensures x;
-    }) ∙ passing-moves plan s few
+    ap passing_moves c.passing_words.ensures ∙ passing-moves plan s few

@@ -1,0 +1,284 @@
+-- The candidates of a small processor as the bits of one word, part by part.
+use Rattle.std.proofs.Common.{◌≡◌, ◌∙◌, sym, refl, ap, ℕ, zero, suc, ◌+◌, ◌-◌, ◌*◌, ◌/◌, ◌%◌, ◌^◌, ◌<◌, ◌≤◌, List, [], ◌∷◌, ◌++◌, length, map, append_assoc, append-nil, Bool, true, false, Some, Option, nat_eq, nat_lt, arith}
+use Rattle.std.specs.Prelude.{◌&&◌, filter, slice_get, if◌then◌else◌}
+use mir.Val.{bool_byte}
+use Rattle.std.proofs.Math.Nat.{pow-le-pow_right}
+use Rattle.std.proofs.lemmas.Bool.Decides.{nat_tests}
+use Rattle.std.proofs.lemmas.List.{length-map, map-append}
+use Rattle.std.proofs.lemmas.Option.{slice_get-map}
+use Rattle.run_options.specs.declared.guess_rule.GuessRule.{GuessRule}
+use Rattle.cf_layout.specs.Layout.{Plan}
+use Rattle.cf_layout.specs.Words.{has_bit}
+use Rattle.cf_bind.specs.declared.passenger.Guess.TheVariants.{Next, Taken, Wait}
+use Rattle.cf_bind.specs.declared.moves.Move.{Move}
+use Rattle.cf_bind.specs.declared.moves.Move.TheVariants.{Issue, Emit, Climb, Fall, Meet, Execute, Send, Launch, Access, Recover, Leave, Exit, Serve}
+use Rattle.cf_semantics.specs.moves.Candidates.{counted_from, held_back, other_moves, slides_from}
+use Rattle.cf_semantics.specs.state.State.{State}
+use Rattle.cf_stages.proofs.Bits.{word-lt}
+use Rattle.cf_core.specs.declared.masks.Masks.{Masks}
+use Rattle.cf_core.specs.Masks.{masks_of}
+use Rattle.cf_index.specs.declared.passing.Passing.{Passing}
+use Rattle.cf_index.specs.declared.leaving.Leaving.{Leaving}
+use Rattle.cf_index.specs.Allowed.{all_leaving, all_passing, allowed_others, is_allowed, kept_issues, may_issue, passing_of, withheld, word_allowed}
+use Rattle.cf_index.specs.GuessRules.{guided, keeps_move}
+use Rattle.cf_index.specs.Listed.{at_word, flagged, leaving_moves, passing_moves, slides_of}
+use Rattle.cf_index.specs.Packed.{FitsEight, IsPackable, packed_at, packed_from, packed_moves}
+use Rattle.cf_index.specs.Places.{set_places}
+use Rattle.cf_index.proofs.AllowedWords.{passing-moves}
+use Rattle.cf_index.proofs.Counted.{map_choice}
+use Rattle.cf_index.proofs.Firsts.{guided_others, guided_parts}
+use Rattle.cf_index.proofs.Guided.{three-flagged}
+use Rattle.cf_index.proofs.Parts.{slides_of-zero}
+use Rattle.cf_index.proofs.Places.{lowest, places_split, places_zero}
+
+-- moves of the same bits, by two functions that agree on them
+same_kept : (f g : ℕ → Move) (p : ℕ → Bool) (a n : ℕ) → ((k : ℕ) → a ≤ k → k < a + n → f k ≡ g k) →
+    map f (filter p (counted_from a n)) ≡ map g (filter p (counted_from a n))
+same_kept f g p a zero same = refl
+same_kept f g p a (suc n) same =
+    let h = same a (omega arith) (omega arith) in
+    let r = same_kept f g p (suc a) n (λ k low high. same k (omega arith) (omega arith)) in
+    rw (map_choice f (p a) a (filter p (counted_from (suc a) n)), map_choice g (p a) a (filter p (counted_from (suc a) n)), h, r) refl
+
+same_moves : (f g : ℕ → Move) (n w : ℕ) → ((k : ℕ) → k < n → f k ≡ g k) → map f (set_places n w) ≡ map g (set_places n w)
+unfolding set_places
+same_moves f g n w same = same_kept f g (has_bit w) 0 n (λ k low high. same k (omega arith))
+
+-- all bits are those from 0 on
+pub from_first : (w : ℕ) → packed_moves w ≡ packed_from 0 64 w
+unfolding packed_moves packed_from
+from_first w = same_moves packed_at (λ j. packed_at (0 + j)) 64 w (λ k below. ap packed_at (omega arith))
+
+-- the bits of two parts
+shifted : (c a : ℕ) (ks : List ℕ) → map (λ j. packed_at (c + j)) (map (λ j. a + j) ks) ≡ map (λ j. packed_at (c + a + j)) ks
+shifted c a [] = refl
+shifted c a (k ∷ ks) = let e : c + (a + k) ≡ c + a + k = omega arith in rw (e, shifted c a ks) refl
+
+joined : (c a b low high w : ℕ) → w % 2 ^ a ≡ low → w / 2 ^ a ≡ high → packed_from c (a + b) w ≡ packed_from c a low ++ packed_from (c + a) b high
+unfolding packed_from
+joined c a b low high w r q =
+    rw (
+      places_split a b w,
+      r,
+      q,
+      map-append (λ j. packed_at (c + j)) (set_places a low) (map (λ j. a + j) (set_places b high)),
+      shifted c a (set_places b high),
+    ) refl
+
+-- no bits
+pub from_none : (c n : ℕ) → packed_from c n 0 ≡ []
+unfolding packed_from
+from_none c n = rw (places_zero n) refl
+
+-- the bits of eight stages
+narrow : (w : ℕ) → w < 256 → set_places 64 w ≡ set_places 8 w
+narrow w small =
+    let r : w % 2 ^ 8 ≡ w = omega arith in
+    let q : w / 2 ^ 8 ≡ 0 = omega arith in
+    places_split 8 56 w ∙ rw (r, q, places_zero 56, append-nil) refl
+
+eight : (kind : ℕ → Move) (c w : ℕ) → ((j : ℕ) → j < 8 → packed_at (c + j) ≡ kind (j + 1)) → w < 256 → packed_from c 8 w ≡ at_word kind w
+unfolding packed_from at_word
+eight kind c w same small = rw (narrow w small) (same_moves (λ j. packed_at (c + j)) (λ j. kind (j + 1)) 8 w same)
+
+eight_joined : (kind : ℕ → Move) (c b low high : ℕ) → ((j : ℕ) → j < 8 → packed_at (c + j) ≡ kind (j + 1)) → low < 256 →
+    packed_from c (8 + b) (low + 256 * high) ≡ at_word kind low ++ packed_from (c + 8) b high
+eight_joined kind c b low high same small =
+    joined c 8 b low high (low + 256 * high) (omega arith) (omega arith) ∙ ap (λ (l : List Move). l ++ packed_from (c + 8) b high) (eight kind c low same small)
+
+-- the bit of a flag
+flag_bit : (c : ℕ) (f : Bool) (mv : Move) → packed_at (c + 0) ≡ mv → packed_from c 1 (bool_byte f) ≡ flagged f mv
+unfolding packed_from set_places has_bit
+flag_bit c true mv e = ap (λ (m : Move). m ∷ []) e
+flag_bit c false mv e = refl
+
+flag_joined : (mv : Move) (c b : ℕ) (f : Bool) (high : ℕ) → packed_at (c + 0) ≡ mv →
+    packed_from c (1 + b) (bool_byte f + 2 * high) ≡ flagged f mv ++ packed_from (c + 1) b high
+flag_joined mv c b f high e =
+    joined c 1 b (bool_byte f) high (bool_byte f + 2 * high) (low f) (rest f) ∙ ap (λ (l : List Move). l ++ packed_from (c + 1) b high) (flag_bit c f mv e)
+  where
+    low : (f : Bool) → (bool_byte f + 2 * high) % 2 ^ 1 ≡ bool_byte f
+    low true = omega arith
+    low false = omega arith
+
+    rest : (f : Bool) → (bool_byte f + 2 * high) / 2 ^ 1 ≡ high
+    rest true = omega arith
+    rest false = omega arith
+
+-- which moves the bits are
+climb_at : (j : ℕ) → j < 8 → packed_at (4 + j) ≡ Climb (j + 1)
+unfolding packed_at
+climb_at j below = let q : (4 + j + 4) / 8 ≡ 1 = omega arith in let r : (4 + j + 4) % 8 + 1 ≡ j + 1 = omega arith in rw (q, r) refl
+
+fall_at : (j : ℕ) → j < 8 → packed_at (12 + j) ≡ Fall (j + 1)
+unfolding packed_at
+fall_at j below = let q : (12 + j + 4) / 8 ≡ 2 = omega arith in let r : (12 + j + 4) % 8 + 1 ≡ j + 1 = omega arith in rw (q, r) refl
+
+meet_at : (j : ℕ) → j < 8 → packed_at (20 + j) ≡ Meet (j + 1)
+unfolding packed_at
+meet_at j below = let q : (20 + j + 4) / 8 ≡ 3 = omega arith in let r : (20 + j + 4) % 8 + 1 ≡ j + 1 = omega arith in rw (q, r) refl
+
+execute_at : (j : ℕ) → j < 8 → packed_at (28 + j) ≡ Execute (j + 1)
+unfolding packed_at
+execute_at j below = let q : (28 + j + 4) / 8 ≡ 4 = omega arith in let r : (28 + j + 4) % 8 + 1 ≡ j + 1 = omega arith in rw (q, r) refl
+
+send_at : (j : ℕ) → j < 8 → packed_at (36 + j) ≡ Send (j + 1)
+unfolding packed_at
+send_at j below = let q : (36 + j + 4) / 8 ≡ 5 = omega arith in let r : (36 + j + 4) % 8 + 1 ≡ j + 1 = omega arith in rw (q, r) refl
+
+launch_at : (j : ℕ) → j < 8 → packed_at (44 + j) ≡ Launch (j + 1)
+unfolding packed_at
+launch_at j below = let q : (44 + j + 4) / 8 ≡ 6 = omega arith in let r : (44 + j + 4) % 8 + 1 ≡ j + 1 = omega arith in rw (q, r) refl
+
+recover_at : (j : ℕ) → j < 8 → packed_at (53 + j) ≡ Recover (j + 1)
+unfolding packed_at
+recover_at zero below = refl
+recover_at (suc zero) below = refl
+recover_at (suc (suc zero)) below = refl
+recover_at (suc (suc (suc zero))) below = refl
+recover_at (suc (suc (suc (suc zero)))) below = refl
+recover_at (suc (suc (suc (suc (suc zero))))) below = refl
+recover_at (suc (suc (suc (suc (suc (suc zero)))))) below = refl
+recover_at (suc (suc (suc (suc (suc (suc (suc zero))))))) below = refl
+recover_at (suc (suc (suc (suc (suc (suc (suc (suc j)))))))) below = absurd (omega arith)
+
+one_at : (packed_at (0 + 0) ≡ Issue Next) × (packed_at (1 + 0) ≡ Issue Taken) × (packed_at (2 + 0) ≡ Issue Wait) × (packed_at (3 + 0) ≡ Emit)
+    × (packed_at (52 + 0) ≡ Access) × (packed_at (61 + 0) ≡ Leave) × (packed_at (62 + 0) ≡ Exit) × (packed_at (63 + 0) ≡ Serve)
+unfolding packed_at
+one_at = (refl, refl, refl, refl, refl, refl, refl, refl)
+
+-- the bits of the moves within the stages, and those behind them
+pub passing_joined : (p : Passing) (rest : ℕ) → FitsEight p →
+    packed_from 4 60 (p.climb + 256 * (p.fall + 256 * (p.meet + 256 * (p.execute + 256 * (p.send + 256 * (p.launch + 256 * rest))))))
+    ≡ passing_moves p ++ packed_from 52 12 rest
+unfolding passing_moves
+passing_joined p rest fits =
+    let launch = eight_joined Launch 44 12 p.launch rest launch_at fits.launch in
+    let send = eight_joined Send 36 20 p.send _ send_at fits.send in
+    let execute = eight_joined Execute 28 28 p.execute _ execute_at fits.execute in
+    let meet = eight_joined Meet 20 36 p.meet _ meet_at fits.meet in
+    let fall = eight_joined Fall 12 44 p.fall _ fall_at fits.fall in
+    let climb = eight_joined Climb 4 52 p.climb _ climb_at fits.climb in
+    climb ∙ behind (at_word Climb p.climb) (
+    fall ∙ behind (at_word Fall p.fall) (
+    meet ∙ behind (at_word Meet p.meet) (
+    execute ∙ behind (at_word Execute p.execute) (
+    send ∙ behind (at_word Send p.send) launch)))) ∙ simp append_assoc
+  where
+    behind : (xs : List Move) {ys zs : List Move} → ys ≡ zs → xs ++ ys ≡ xs ++ zs
+    behind xs e = ap (λ (l : List Move). xs ++ l) e
+
+-- the bits of the moves by which something leaves
+pub leaving_joined : (l : Leaving) → l.recover < 256 →
+    packed_from 52 12 (bool_byte l.access + 2 * (l.recover + 256 * (bool_byte l.leave + 2 * (bool_byte l.exit + 2 * bool_byte l.serve)))) ≡ leaving_moves l
+unfolding leaving_moves
+leaving_joined l small =
+    flag_joined Access 52 11 l.access _ one_at.4 ∙ behind (flagged l.access Access) (
+    eight_joined Recover 53 3 l.recover _ recover_at small ∙ behind (at_word Recover l.recover) (
+    flag_joined Leave 61 2 l.leave _ one_at.5 ∙ behind (flagged l.leave Leave) (
+    flag_joined Exit 62 1 l.exit _ one_at.6 ∙ behind (flagged l.exit Exit) (flag_bit 63 l.serve Serve one_at.7))))
+  where
+    behind : (xs : List Move) {ys zs : List Move} → ys ≡ zs → xs ++ ys ≡ xs ++ zs
+    behind xs e = ap (λ (l : List Move). xs ++ l) e
+
+-- Emit, and the bits behind it
+pub emit_joined : (f : Bool) (rest : ℕ) → packed_from 3 61 (bool_byte f + 2 * rest) ≡ flagged f Emit ++ packed_from 4 60 rest
+emit_joined f rest = flag_joined Emit 3 60 f rest one_at.3
+
+-- the bits of each Issue
+pub issues_joined : (n t w : Bool) → packed_from 0 3 (bool_byte n + 2 * (bool_byte t + 2 * bool_byte w))
+    ≡ flagged n (Issue Next) ++ (flagged t (Issue Taken) ++ flagged w (Issue Wait))
+issues_joined n t w =
+    flag_joined (Issue Next) 0 2 n _ one_at.0 ∙ ap (λ (l : List Move). flagged n (Issue Next) ++ l) (
+    flag_joined (Issue Taken) 1 1 t _ one_at.1 ∙ ap (λ (l : List Move). flagged t (Issue Taken) ++ l) (flag_bit 2 w (Issue Wait) one_at.2))
+
+-- the bits of all
+pub all_joined : (issues others : ℕ) → issues < 8 → packed_moves (issues + 8 * others) ≡ packed_from 0 3 issues ++ packed_from 3 61 others
+all_joined issues others small = from_first (issues + 8 * others) ∙ joined 0 3 61 issues others (issues + 8 * others) (omega arith) (omega arith)
+
+-- How many they are, and which is at a place --
+
+pub length_packed : (w : ℕ) → length (packed_moves w) ≡ length (set_places 64 w)
+unfolding packed_moves
+length_packed w = length-map (set_places 64 w) packed_at
+
+pub picked : (w k i : ℕ) → Some k ≡ slice_get (set_places 64 w) i → Some (packed_at k) ≡ slice_get (packed_moves w) i
+unfolding packed_moves
+picked w k i e = rw (slice_get-map packed_at (set_places 64 w) i, ← e) refl
+
+-- The words of a processor --
+
+few_stages : (plan : Plan) (s : State) (kind : ℕ → Move) → plan.stages ≤ 8 → word_allowed plan s kind < 256
+few_stages plan s kind few =
+    let small = word-lt (λ i. is_allowed plan s (kind i)) plan.stages in
+    let most : 2 ^ plan.stages ≤ 2 ^ 8 = pow-le-pow_right (omega arith) few in
+    omega (arith, small, most)
+
+pub fits : (plan : Plan) (s : State) → plan.stages ≤ 8 → FitsEight (passing_of plan s)
+unfolding passing_of
+fits plan s few = record {
+  climb = few_stages plan s Climb few;
+  fall = few_stages plan s Fall few;
+  meet = few_stages plan s Meet few;
+  execute = few_stages plan s Execute few;
+  send = few_stages plan s Send few;
+  launch = few_stages plan s Launch few;
+}
+
+pub few_recovers : (plan : Plan) (s : State) (m : Masks) → m ≡ masks_of plan s → plan.stages ≤ 8 → m.recover < 256
+unfolding masks_of
+few_recovers plan s m e few = rw e (few_stages plan s Recover few)
+
+-- the flags of what issues, and all the others
+pub issues_kept : (rule : GuessRule) (plan : Plan) (s : State) (n t w : Bool) → n ≡ may_issue rule plan s Next → t ≡ may_issue rule plan s Taken →
+    w ≡ may_issue rule plan s Wait → flagged n (Issue Next) ++ (flagged t (Issue Taken) ++ flagged w (Issue Wait)) ≡ kept_issues rule plan s
+issues_kept rule plan s n t w next taken wait =
+    let e = three-flagged (keeps_move rule plan s) (is_allowed plan s) n t w next taken wait in
+    rw append-nil at e
+
+flag_filter : (p : Move → Bool) (b : Bool) (mv : Move) → b ≡ p mv → flagged b mv ≡ filter p (mv ∷ [])
+flag_filter p true mv e = rw (← e) refl
+flag_filter p false mv e = rw (← e) refl
+
+pub others_joined : (plan : Plan) (s : State) (emit : Bool) (p : Passing) (l : Leaving) (rest : ℕ) (passes : ℕ) → IsPackable plan s →
+    emit ≡ is_allowed plan s Emit → p ≡ passing_of plan s → leaving_moves l ≡ filter (is_allowed plan s) (all_leaving plan) →
+    packed_from 52 12 rest ≡ leaving_moves l → packed_from 4 60 passes ≡ passing_moves p ++ packed_from 52 12 rest →
+    flagged emit Emit ++ packed_from 4 60 passes ≡ allowed_others plan s
+others_joined plan s emit p l rest passes small emits words leaves bits all =
+    let few : plan.stages ≤ 32 = omega (arith, small.stages) in
+    let passed = ap passing_moves words ∙ passing-moves plan s few in
+    rw (all, bits, leaves, passed, flag_filter (is_allowed plan s) emit Emit emits, small.slides) refl
+
+pub no_slide : (w : ℕ) → nat_eq w 0 ≡ true → slides_of w ≡ []
+no_slide w none = let e : w ≡ 0 = grind (arith, nat_tests) in rw e slides_of-zero
+
+-- where no other move is a candidate, none is held back
+offered_by : (held any : Bool) (rule : GuessRule) (plan : Plan) (s : State) → any ≡ nat_lt 0 (length (allowed_others plan s)) →
+    (if held && any then [] else kept_issues rule plan s) ++ allowed_others plan s ≡ withheld held (guided rule plan s)
+unfolding held_back
+offered_by false any rule plan s some = sym (guided_parts rule plan s)
+offered_by true true rule plan s some = rw (guided_others rule plan s, ← some) refl
+offered_by true false rule plan s some = rw (guided_others rule plan s, ← some) (sym (guided_parts rule plan s))
+
+-- a word has a bit where it is not 0
+some_move : (issues others : ℕ) → others < 2 ^ 61 → 0 < others → 0 < length (packed_from 3 61 others)
+some_move issues others small some =
+    let l = lowest (0 + 8 * others) (omega arith) (omega arith) in
+    let e = sym (length_packed (0 + 8 * others)) ∙ ap length (all_joined 0 others (omega arith) ∙ ap (λ (l : List Move). l ++ packed_from 3 61 others) (from_none 0 3)) in
+    let more : 0 < length (set_places 64 (0 + 8 * others)) = there (set_places 64 (0 + 8 * others)) _ l in
+    omega (arith, e, more)
+  where
+    there : (xs : List ℕ) (k : ℕ) → slice_get xs 0 ≡ Some k → 0 < length xs
+    there [] k e = absurd (cc)
+    there (x ∷ xs) k e = omega arith
+
+any_others : (others : ℕ) (xs : List Move) → others < 2 ^ 61 → packed_from 3 61 others ≡ xs → nat_lt 0 others ≡ nat_lt 0 (length xs)
+any_others zero xs small e = let n : length xs ≡ 0 = ap length (sym e ∙ from_none 3 61) in grind (arith, nat_tests)
+any_others (suc k) xs small e = let n = some_move 0 (suc k) small (omega arith) in let l = ap length e in grind (arith, nat_tests)
+
+-- so what is offered is the word of both
+pub offered : (held : Bool) (rule : GuessRule) (plan : Plan) (s : State) (issues others : ℕ) → issues < 8 → others < 2 ^ 61 →
+    packed_from 0 3 issues ≡ (if held && nat_lt 0 others then [] else kept_issues rule plan s) → packed_from 3 61 others ≡ allowed_others plan s →
+    packed_moves (issues + 8 * others) ≡ withheld held (guided rule plan s)
+offered held rule plan s issues others few small enter rest =
+    all_joined issues others few ∙ rw (enter, rest) (offered_by held (nat_lt 0 others) rule plan s (any_others others (allowed_others plan s) small rest))
