@@ -1,17 +1,18 @@
 //! The processor, and what can be seen of it.
 
-ghost use Rattle.std.specs.Prelude.{◌≡◌, ◌+◌, ◌<◌, ◌≤◌, ◌^◌, IfOk, IfSome, None, Some, length, slice_get, slice_index};
+ghost use Rattle.std.specs.Prelude.{◌≡◌, ◌≢◌, ◌+◌, ◌<◌, ◌≤◌, ◌^◌, IfOk, IfSome, None, Some, length, slice_get, slice_index};
 ghost use Rattle.cf_io.specs.Causes.{HasCause};
 ghost use Rattle.rv_machine.specs.Streams.{streams_of};
 ghost use Rattle.cf_bind.specs.declared.moves.Move.TheVariants as mv;
 ghost use Rattle.cf_semantics.specs.moves.Bars.{bar as first_bar};
+ghost use Rattle.cf_semantics.specs.moves.Events.{IsEvent};
 ghost use Rattle.mem_regions.specs.Access.{bounds_of};
 ghost use Rattle.cf_layout.specs.Layout.{cells_of};
 ghost use Rattle.cf_semantics.specs.state.State.{cell_at, siding_at};
 ghost use Rattle.cf_semantics.specs.state.Layouts.{isa_of};
 ghost use Rattle.cf_semantics.specs.state.Passengers.{cached as kept_value};
 ghost use Rattle.cf_core.specs.Asking.{AsksInput, AsksOutput};
-ghost use Rattle.cf_core.specs.Processors.{opened_processor, IsOp, IsProcessor, IsCellOfSet};
+ghost use Rattle.cf_core.specs.Processors.{after_move, opened_processor, IsOp, IsProcessor, IsCellOfSet};
 ghost use Rattle.cf_core.specs.Stepping.{MakesOrFails, StepsOrBarred, input_made, input_at_step, output_made, output_at_step};
 
 use crate::fault::Fault;
@@ -31,7 +32,7 @@ use std::alloc::{AllocError, Global};
 use std::marker::Model;
 
 /// A counterflow pipeline processor (Sproull, Sutherland and Molnar, "Counterflow Pipeline Processor Architecture", 1994),
-/// seen as its layout and its state. It changes only by `make`, `step` and `back`: one local move is made, or taken back.
+/// seen as its layout and its state. It changes only by `make`, `make_inside`, `step` and `back`: one local move is made, or taken back.
 /// No call but `new` takes memory.
 ///
 /// It holds of every processor that each instruction in the pipes is one of its instruction set, or ends the program where
@@ -245,6 +246,26 @@ impl Core {
         }
         self.marks = self.processor.remarked(self.marks, touched);
         made
+    }
+
+    /// Makes an allowed move other than Serve, without testing its bars again, and answers what is seen of it from outside.
+    /// Neither the input nor the output has a part in it.
+    #[inline(always)]
+    pub fn make_inside(&mut self, m: Move) -> Event
+        requires allowed { first_bar self.old.plan self.old.state m ≡ None }
+        requires count { m ≡ mv.Leave → self.old.state.retired + 1 < 2 ^ 64 }
+        requires other { m ≢ mv.Serve }
+        ensures processor { self.new ≡ after_move self.old m }
+        ensures event { IsEvent self.old.plan self.old.state m result }
+    {
+        let keeps = self.processor.keeps_marks(self.marks, m);
+        let touched = self.processor.touched(m);
+        let event = self.processor.make_inside(m);
+        if keeps {
+            return event;
+        }
+        self.marks = self.processor.remarked(self.marks, touched);
+        event
     }
 
     /// Makes a move, if nothing bars it.

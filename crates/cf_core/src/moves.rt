@@ -78,7 +78,7 @@ impl Processor {
     /// Makes an allowed move, which is not Serve, and answers what is seen of it.
     // Rare moves stay calls; the frequent ones become a part of the loop of a run.
     #[inline(always)]
-    fn make_inside(&mut self, m: Move) -> Event
+    pub(crate) fn make_inside(&mut self, m: Move) -> Event
         requires facts { IsProcessor self.old.plan self.old.state }
         requires allowed { bar_of_row self.old.plan self.old.state m ≡ None }
         requires count { m ≡ mv.Leave → self.old.state.retired + 1 < 2 ^ 64 }

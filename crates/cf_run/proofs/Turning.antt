@@ -1,13 +1,13 @@
--- Turns of the rule: what a move of a swept kind leaves as it is, and where some turns lead.
-use Rattle.std.specs.Prelude.{find, slice_get, slice_set}
-use Rattle.std.proofs.Common.{◌≡◌, ◌≢◌, ◌∙◌, sym, refl, ap, subst, ℕ, zero, suc, ◌+◌, ◌-◌, ◌≤◌, ◌<◌, List, [], ◌∷◌, Bool, true, false, cond, Option, Some, None, Ok, Err, arith}
-use Rattle.run_options.specs.Limits.{most_limit}
+-- Turns of the rule: what a move of a sweep leaves as it is, and where some turns lead.
+use Rattle.std.specs.Prelude.{IfSome, MatchOption, find, is_some, slice_get, slice_set}
+use Rattle.std.proofs.Common.{◌≡◌, ◌≢◌, ◌∙◌, sym, refl, ap, subst, ℕ, zero, suc, ◌+◌, ◌-◌, ◌≤◌, ◌<◌, ◌^◌, List, [], ◌∷◌, Bool, true, false, cond, Option, Some, None, Ok, arith}
 use Rattle.run_options.specs.declared.guess_rule.GuessRule.{GuessRule}
 use Rattle.run_options.specs.declared.reporting.Reporting.{Reporting}
+use Rattle.run_options.specs.declared.show.Show.{Show}
+use Rattle.run_options.specs.declared.show.Show.TheVariants as shows
 use Rattle.cf_io.specs.Puts.{Writes}
 use Rattle.cf_io.proofs.Owing.{writes-nothing}
-use Rattle.rv_machine.specs.Streams.{Streams}
-use Rattle.cf_layout.specs.Accepted.{IsAccepted}
+use Rattle.rv_machine.specs.Streams.{Streams, streams_of}
 use Rattle.cf_layout.specs.Layout.{Plan, siding_of}
 use Rattle.cf_bind.specs.declared.cell.Cell.{Cell}
 use Rattle.cf_bind.specs.declared.passenger.End.{End}
@@ -16,35 +16,35 @@ use Rattle.cf_bind.specs.declared.moves.Move.{Move}
 use Rattle.cf_bind.specs.declared.moves.Move.TheVariants as mv
 use Rattle.cf_semantics.specs.declared.event.Event.{Event}
 use Rattle.cf_semantics.specs.moves.Bars.{bar, last_op, running}
-use Rattle.cf_semantics.specs.moves.Moves.{emitted, launch_trap, launched, left, moved, next, operation, recovered, with_passenger, without_passenger, written}
+use Rattle.cf_semantics.specs.moves.Events.{IsEvent}
+use Rattle.cf_semantics.specs.moves.Holding.{is_held}
+use Rattle.cf_semantics.specs.moves.Moves.{emitted, launch_trap, launched, left, moved, operation, recovered, with_passenger, without_passenger, written}
+use Rattle.cf_semantics.specs.state.Drained.{is_drained}
 use Rattle.cf_semantics.specs.state.Layouts.{port}
 use Rattle.cf_semantics.specs.state.Options.{on}
 use Rattle.cf_semantics.specs.state.Passengers.{kind, trapped}
-use Rattle.cf_semantics.specs.state.State.{State, Moment, cell_at, siding_at, with_cell, with_siding}
-use Rattle.cf_core.specs.Processors.{Processor}
-use Rattle.cf_core.specs.Stepping.{MakesOrFails}
-use Rattle.cf_core.specs.declared.fault.Fault.{Fault}
-use Rattle.cf_core.specs.declared.fault.Fault.TheVariants as fault
+use Rattle.cf_semantics.specs.state.State.{State, cell_at, siding_at, with_cell, with_siding}
+use Rattle.cf_core.specs.Asking.{AsksInput, AsksOutput}
+use Rattle.cf_core.specs.Processors.{Processor, after_move}
+use Rattle.cf_core.proofs.Steps.{move-makes}
 use Rattle.cf_index.specs.Order.{kind_place, leave_place, slide_place}
 use Rattle.cf_index.specs.PickedFrom.{IsLast, IsPicked, IsPickedFrom}
 use Rattle.cf_index.specs.Ranks.{is_past}
 use Rattle.cf_index.specs.Words.{goes_on}
 use Rattle.cf_index.specs.declared.rank.Rank.{Rank}
-use Rattle.cf_sched.specs.Paces.{offered_by, stopped}
+use Rattle.cf_sched.specs.Paces.{PaceCount, offered_by, saw}
 use Rattle.cf_sched.specs.Policies.{round_on, round_pick}
-use Rattle.cf_semantics.specs.moves.Holding.{is_held, paced}
-use Rattle.cf_semantics.specs.state.Drained.{is_drained}
 use Rattle.cf_report.specs.declared.tally.Tally.{Tally}
+use Rattle.run_finishes.specs.declared.finish.Ran.{Ran as Answer}
+use Rattle.cf_run.specs.Asking.{SomeAsks}
 use Rattle.cf_run.specs.Made.{CanCount, Made, counted_event, shown}
 use Rattle.cf_run.specs.Moving.{RunPlace, MoveDoes, run_place_of}
 use Rattle.cf_run.specs.Policies.{Turned, chooser, choice, most_moves}
-use Rattle.cf_run.specs.Reaching.{GoesOn}
-use Rattle.cf_run.specs.Sweeps.{CanSweep, HasPicked, IsUnderway, Keeps, ShowsNothing, SweepsTo, TurnsTo}
+use Rattle.cf_run.specs.Reaching.{GoesOn, IsOver}
+use Rattle.cf_run.specs.Sweeps.{HasCome, HasPicked, IsSweeping, Keeps, PicksNext, RulePlace, SweepsTo, TurnsOnce, TurnsTo, exposing, rule_at, silent}
 use Rattle.cf_run.proofs.ByRule.{ruled-allowed}
+use Rattle.cf_run.proofs.Coming.{asked-comes, comes-bounded, comes-counted, comes-more, seen-count, turned-counted, turned-plan, turned-within}
 use Rattle.cf_run.proofs.Runs.{can-count}
-use Rattle.cf_run.specs.Asking.{SomeAsks}
-use Rattle.cf_core.specs.Asking.{AsksInput, AsksOutput}
-use Rattle.cf_run.proofs.Coming.{asked-comes, comes-bounded, comes-counted, comes-more, comes-nearer, turned-counted, turned-plan}
 
 -- What stays --
 
@@ -143,83 +143,38 @@ moved_works plan s mv.Leave = on_works (cell_at s.cells plan.stages) s _ (λ c. 
 moved_works plan s mv.Exit = on_works (cell_at s.cells 1) s _ (λ c. on_works c.packet s _ (λ k. refl))
 moved_works plan s mv.Serve = refl
 
-next_state : (plan : Plan) (m : Moment) (v : Move) → kind_place v ≤ 12 → (next plan m v).state ≡ moved plan m.state v
-unfolding next
-next_state plan m (mv.Issue g) before = refl
-next_state plan m mv.Emit before = refl
-next_state plan m (mv.Climb i) before = refl
-next_state plan m (mv.Fall i) before = refl
-next_state plan m (mv.Meet i) before = refl
-next_state plan m (mv.Execute i) before = refl
-next_state plan m (mv.Send i) before = refl
-next_state plan m (mv.Launch i) before = refl
-next_state plan m (mv.Slide k c) before = refl
-next_state plan m mv.Access before = refl
-next_state plan m (mv.Recover i) before = refl
-next_state plan m mv.Leave before = refl
-next_state plan m mv.Exit before = refl
-next_state plan m mv.Serve before = absurd (omega (arith, before))
+abbrev reporting_of : Show → Option ℕ → Reporting
+reporting_of show every = record { show = show; every = every }
 
-pub makes_keeps : (old new : Processor) (m : Move) (before after : Streams) (e : Event) → kind_place m ≤ 12 → kind_place m ≢ leave_place →
-    MakesOrFails old new m before after (Ok e) → Keeps old.state new.state
-unfolding MakesOrFails
-makes_keeps old new m before after e early other makes =
-    let from : Moment = record { state = old.state; rest = makes.0.rest; output = [] } in
-    let state : moved old.plan old.state m ≡ new.state = sym (next_state old.plan from m early) ∙ ap (λ (t : Moment). t.state) makes.0.is in
-    subst (Keeps old.state) state (moved_keeps old.plan old.state m other)
+-- so a move of a sweep leaves them
+pub after_keeps : (old new : Processor) (m : Move) → kind_place m ≢ leave_place → new ≡ after_move old m → Keeps old.state new.state
+after_keeps old new m other is = subst (λ (p : Processor). Keeps old.state p.state) (sym is) (moved_keeps old.plan old.state m other)
 
-pub makes_works : (old new : Processor) (m : Move) (before after : Streams) (e : Event) → kind_place m ≤ 12 →
-    MakesOrFails old new m before after (Ok e) → new.state.failed ≡ old.state.failed
-unfolding MakesOrFails
-makes_works old new m before after e early makes =
-    let from : Moment = record { state = old.state; rest = makes.0.rest; output = [] } in
-    let state : moved old.plan old.state m ≡ new.state = sym (next_state old.plan from m early) ∙ ap (λ (t : Moment). t.state) makes.0.is in
-    ap (λ (t : State). t.failed) (sym state) ∙ moved_works old.plan old.state m
+after_works : (old new : Processor) (m : Move) → new ≡ after_move old m → new.state.failed ≡ old.state.failed
+after_works old new m is = ap (λ (p : Processor). p.state.failed) is ∙ moved_works old.plan old.state m
 
--- so the run goes on as before
-pub goes_kept : (limit : ℕ) (s t : State) → CanSweep limit s → Keeps s t → t.failed ≡ s.failed → CanSweep limit t
-goes_kept limit s t can keeps works =
-    let below = can.goes.below in
-    let retired = keeps.retired in
-    record {
-      goes = record { unended = keeps.ending ∙ can.goes.unended; below = omega (arith, below, retired) };
-      works = works ∙ can.works;
-    }
-
-pub goes_on_so : (limit : ℕ) (s : State) → CanSweep limit s → goes_on s ≡ true
-goes_on_so limit s can = rw (can.goes.unended, can.works) refl
-
-pub all_kept : (s : State) → Keeps s s
-all_kept s = record { ending = refl; retired = refl }
-
--- no Serve
-pub no_serve : (m : Move) → kind_place m ≤ 12 → m ≡ mv.Serve → ⊥
+-- it is not Serve
+pub no_serve : (m : Move) → kind_place m ≤ 12 → m ≢ mv.Serve
 no_serve m early is = let late = ap kind_place is in absurd (omega (arith, early, late))
 
--- so neither stream fails it
-pub never_fails : (old new : Processor) (m : Move) (before after : Streams) (f : Fault) → kind_place m ≤ 12 → MakesOrFails old new m before after (Err f) → ⊥
-unfolding MakesOrFails
-never_fails old new m before after fault.Read early h = no_serve m early h.0
-never_fails old new m before after fault.Write early h = no_serve m early h.0
-
--- where nothing is shown of a move
-unshown : (show : Reporting) (plan : Plan) (n : ℕ) (made : Made) → ShowsNothing show → [] ≡ shown show plan n made
+-- and nothing is shown of it
+unshown : (plan : Plan) (n : ℕ) (made : Made) → [] ≡ shown silent plan n made
 unfolding shown
-unshown show plan n made none = rw (none.report, none.never) refl
+unshown plan n made = refl
 
-pub does_unshown : (show : Reporting) (m : Move) (old new : Processor) (before after : Streams) (report : Option (List ℕ)) (tally later : Tally) (e : Event) →
-    ShowsNothing show → bar old.plan old.state m ≡ None → MakesOrFails old new m before after (Ok e) → later ≡ counted_event tally m e →
-    MoveDoes show m (run_place_of old before report tally) (run_place_of new after report later) (Ok e)
-unfolding MakesOrFails MoveDoes
-does_unshown show m old new before after report tally later e none free makes counts = record {
-  makes = record { allowed = free; makes = makes.0; is_event = makes.1; tally = counts };
-  report = subst (Writes report report) (unshown show old.plan later.moves (record { move = m; event = e; state = new.state }) none) (writes-nothing report);
+does_unshown : (m : Move) (old new : Processor) (streams : Streams) (report : Option (List ℕ)) (tally later : Tally) (e : Event) →
+    kind_place m ≤ 12 → bar old.plan old.state m ≡ None → new ≡ after_move old m → IsEvent old.plan old.state m e → later ≡ counted_event tally m e →
+    MoveDoes silent m (run_place_of old streams report tally) (run_place_of new streams report later) (Ok e)
+unfolding MoveDoes
+does_unshown m old new streams report tally later e early free is event counts = record {
+  makes = record { allowed = free; makes = move-makes old new m streams (no_serve m early) is; is_event = event; tally = counts };
+  report = subst (Writes report report) (unshown old.plan later.moves (record { move = m; event = e; state = new.state })) (writes-nothing report);
 }
 
 -- What is picked --
 
 -- the move that is picked is the rule's choice
-pub chosen_so : (rule : GuessRule) (plan : Plan) (count : ℕ) (s : State) (last : Option Move) (m : Move) →
+chosen_so : (rule : GuessRule) (plan : Plan) (count : ℕ) (s : State) (last : Option Move) (m : Move) →
     IsPicked rule (is_held plan count) plan s last m → choice round_pick plan (chooser rule last count) s ≡ Some m
 unfolding offered_by
 chosen_so rule plan count s last m picked = picked
@@ -229,166 +184,256 @@ pub picked_free : (rule : GuessRule) (plan : Plan) (count : ℕ) (s : State) (la
     IsPicked rule (is_held plan count) plan s last m → bar plan s m ≡ None
 picked_free rule plan count s last m picked = ruled-allowed rule plan count s _ m (chosen_so rule plan count s last m picked)
 
--- and once it is made, the rule has made one turn
-pub picked_turn : (rule : GuessRule) (limit : ℕ) (show : Reporting) (now new : RunPlace) (last : Option Move) (held count : ℕ)
-    (m : Move) (e : Event) → IsPicked rule (is_held now.core.plan held) now.core.plan now.core.state last m →
-    GoesOn limit now.core.state → MoveDoes show m now new (Ok e) →
-    count ≡ stopped now.core.plan.stages (paced held m e (is_drained new.core.state)) →
-    Turned round_pick round_on limit show now new (chooser rule last held) (chooser rule (Some m) count)
-picked_turn rule limit show now new last held count m e picked goes does counts =
-    let c = chosen_so rule now.core.plan held now.core.state last m picked in
+-- and once it is made, counted and told to the pace, the rule has made one turn
+picked_turn : (limit : ℕ) (now : RulePlace) (core : Processor) (m : Move) (pace : PaceCount) (tally : Tally) (e : Event) (seen : Bool) →
+    kind_place m ≤ 12 → IsSweeping limit now → PicksNext now.pace now.core now.last m → core ≡ after_move now.core m →
+    IsEvent now.core.plan now.core.state m e → tally ≡ counted_event now.tally m e → pace ≡ saw now.pace m e seen → seen ≡ is_drained core.state →
+    TurnsOnce limit silent now (rule_at core (Some m) pace tally)
+picked_turn limit now core m pace tally e seen early ready picked is event counts told drained =
+    let plan = now.core.plan in
+    let chosen = chosen_so now.pace.rule plan now.pace.count now.core.state now.last m picked in
+    let free = picked_free now.pace.rule plan now.pace.count now.core.state now.last m picked in
     record {
-      takes = record { goes = goes; move = m; choice_is = c; event = e; does = does };
-      policy_is = sym c;
-      count_is = counts;
+      turned = λ streams report. record {
+        takes = record {
+          goes = ready.goes;
+          move = m;
+          choice_is = chosen;
+          event = e;
+          does = does_unshown m now.core core streams report now.tally tally e early free is event counts;
+        };
+        policy_is = sym chosen;
+        count_is = seen-count now.pace pace m e seen (is_drained core.state) plan.stages told drained ready.come.stages;
+      };
+      rule = ap (λ (p : PaceCount). p.rule) told;
+      stages = ap (λ (p : PaceCount). p.stages) told;
+      works = after_works now.core core m is;
     }
 
 -- Turn after turn --
 
-pub no_turns : (rule : GuessRule) (limit : ℕ) (show : Reporting) (now : RunPlace) (last : Option Move) (held : ℕ) →
-    SweepsTo rule limit show now now last last held held
+pub no_turns : (limit : ℕ) (show : Reporting) (now : RulePlace) → SweepsTo limit show now now
 unfolding SweepsTo TurnsTo
-no_turns rule limit show now last held = (0, (refl, refl, refl))
+no_turns limit show now = (0, refl)
 
-pub one_more_turn : (rule : GuessRule) (limit : ℕ) (show : Reporting) (now between new : RunPlace) (last pick later : Option Move) (held count new_held : ℕ) →
-    SweepsTo rule limit show now between last pick held count →
-    Turned round_pick round_on limit show between new (chooser rule pick count) (chooser rule later new_held) →
-    SweepsTo rule limit show now new last later held new_held
+one_more_turn : (limit : ℕ) (show : Reporting) (now between new : RulePlace) → SweepsTo limit show now between → TurnsOnce limit show between new →
+    SweepsTo limit show now new
 unfolding SweepsTo TurnsTo
-one_more_turn rule limit show now between new last pick later held count new_held (n, turns) t = (suc n, (between, pick, count, turns, t))
+one_more_turn limit show now between new (n, turns) t = (suc n, (between, turns, t))
 
-turns_on : (rule : GuessRule) (limit : ℕ) (show : Reporting) (now between new : RunPlace) (last pick later : Option Move) (held count new_held n : ℕ) →
-    SweepsTo rule limit show now between last pick held count → TurnsTo rule limit show n between new pick later count new_held →
-    SweepsTo rule limit show now new last later held new_held
+turns_on : (limit : ℕ) (show : Reporting) (now between new : RulePlace) (n : ℕ) → SweepsTo limit show now between → TurnsTo limit show n between new →
+    SweepsTo limit show now new
 unfolding TurnsTo
-turns_on rule limit show now between new last pick later held count new_held zero first (place, policy, counts) =
-    rw (place, policy, counts) first
-turns_on rule limit show now between new last pick later held count new_held (suc n) first (place, p, c, turns, t) =
-    one_more_turn rule limit show now place new last p later held c new_held
-    (turns_on rule limit show now between place last pick p held count c n first turns) t
+turns_on limit show now between new zero first same = subst (SweepsTo limit show now) (sym same) first
+turns_on limit show now between new (suc n) first (place, turns, t) =
+    one_more_turn limit show now place new (turns_on limit show now between place n first turns) t
 
 -- one sweep after another
-pub sweeps_on : (rule : GuessRule) (limit : ℕ) (show : Reporting) (now between new : RunPlace) (last pick later : Option Move) (held count new_held : ℕ) →
-    SweepsTo rule limit show now between last pick held count → SweepsTo rule limit show between new pick later count new_held →
-    SweepsTo rule limit show now new last later held new_held
+pub sweeps_on : (limit : ℕ) (show : Reporting) (now between new : RulePlace) → SweepsTo limit show now between → SweepsTo limit show between new →
+    SweepsTo limit show now new
 unfolding SweepsTo
-sweeps_on rule limit show now between new last pick later held count new_held first (n, turns) =
-    turns_on rule limit show now between new last pick later held count new_held n first turns
-
--- a run that is under way still is after one more turn
-pub underway_more : (rule : GuessRule) (limit : ℕ) (show : Reporting) (now new : RunPlace) (last later : Option Move) (held count : ℕ) →
-    IsUnderway rule limit show now last held → Turned round_pick round_on limit show now new (chooser rule last held) (chooser rule later count) →
-    IsUnderway rule limit show new later count
-underway_more rule limit show now new last later held count u t = record {
-  begin = u.begin;
-  first = u.first;
-  accepted = u.accepted;
-  registers = u.registers;
-  opened = u.opened;
-  comes = comes-more rule round_pick round_on limit show u.begin now new u.first last held (chooser rule later count) u.comes t;
-}
+sweeps_on limit show now between new first (n, turns) = turns_on limit show now between new n first turns
 
 -- where a run has come by a sweep, whose moves used what was used before
-pub record ComesBy (rule : GuessRule) (limit : ℕ) (show : Reporting) (begin now new : RunPlace) (first current later : Option Move) (held count : ℕ)
-    (c : HasPicked rule round_pick round_on limit show begin now first current held) : Type 0 where
-  pub comes : HasPicked rule round_pick round_on limit show begin new first later count
+pub record ComesBy (rule : GuessRule) (limit : ℕ) (show : Reporting) (begin : RunPlace) (first : Option Move) (streams : Streams) (report : Option (List ℕ))
+    (now new : RulePlace)
+    (c : HasPicked rule round_pick round_on limit show begin (exposing now streams report) first now.last now.pace.count) : Type 0 where
+  pub rule_is : new.pace.rule ≡ rule
+  pub comes : HasPicked rule round_pick round_on limit show begin (exposing new streams report) first new.last new.pace.count
   pub input : SomeAsks AsksInput begin.core.plan begin.core.state c.reached.trace →
       SomeAsks AsksInput begin.core.plan begin.core.state comes.reached.trace
   pub output : SomeAsks AsksOutput begin.core.plan begin.core.state c.reached.trace →
       SomeAsks AsksOutput begin.core.plan begin.core.state comes.reached.trace
 
-comes_turns : (rule : GuessRule) (limit : ℕ) (show : Reporting) (begin now new : RunPlace) (first current later : Option Move) (held count n : ℕ)
-    (c : HasPicked rule round_pick round_on limit show begin now first current held) → TurnsTo rule limit show n now new current later held count →
-    ComesBy rule limit show begin now new first current later held count c
+comes_turns : (rule : GuessRule) (limit : ℕ) (show : Reporting) (begin : RunPlace) (first : Option Move) (streams : Streams) (report : Option (List ℕ))
+    (now new : RulePlace) (n : ℕ)
+    (c : HasPicked rule round_pick round_on limit show begin (exposing now streams report) first now.last now.pace.count) → now.pace.rule ≡ rule →
+    TurnsTo limit show n now new → ComesBy rule limit show begin first streams report now new c
 unfolding TurnsTo
-comes_turns rule limit show begin now new first current later held count zero c (place, policy, counts) =
-    subst (λ (p : RunPlace). ComesBy rule limit show begin now p first current later held count c) (sym place)
-    (subst (λ (p : Option Move). ComesBy rule limit show begin now now first current p held count c) (sym policy)
-    (subst (λ (k : ℕ). ComesBy rule limit show begin now now first current current held k c) (sym counts)
-    (record { comes = c; input = λ a. a; output = λ a. a })))
-comes_turns rule limit show begin now new first current later held count (suc n) c (between, pick, k, turns, t) =
-    let so_far = comes_turns rule limit show begin now between first current pick held k n c turns in
+comes_turns rule limit show begin first streams report now new zero c is same =
+    subst (λ (p : RulePlace). ComesBy rule limit show begin first streams report now p c) (sym same)
+    (record { rule_is = is; comes = c; input = λ a. a; output = λ a. a })
+comes_turns rule limit show begin first streams report now new (suc n) c is (between, turns, t) =
+    let so_far = comes_turns rule limit show begin first streams report now between n c is turns in
+    let before = exposing between streams report in
+    let after = exposing new streams report in
+    let later = chooser rule new.last new.pace.count in
+    let turn : Turned round_pick round_on limit show before after (chooser rule between.last between.pace.count) later =
+    subst (λ (r : GuessRule). Turned round_pick round_on limit show before after (chooser r between.last between.pace.count)
+    (chooser r new.last new.pace.count)) so_far.rule_is (t.turned streams report) in
     record {
-      comes = comes-more rule round_pick round_on limit show begin between new first pick k (chooser rule later count) so_far.comes t;
-      input = λ a. asked-comes rule round_pick round_on AsksInput limit show begin between new first pick k (chooser rule later count) so_far.comes t
+      rule_is = t.rule ∙ so_far.rule_is;
+      comes = comes-more rule round_pick round_on limit show begin before after first between.last between.pace.count later so_far.comes turn;
+      input = λ a. asked-comes rule round_pick round_on AsksInput limit show begin before after first between.last between.pace.count later so_far.comes turn
           (so_far.input a);
-      output = λ a. asked-comes rule round_pick round_on AsksOutput limit show begin between new first pick k (chooser rule later count) so_far.comes t
+      output = λ a. asked-comes rule round_pick round_on AsksOutput limit show begin before after first between.last between.pace.count later so_far.comes turn
           (so_far.output a);
     }
 
-pub comes-by : (rule : GuessRule) (limit : ℕ) (show : Reporting) (begin now new : RunPlace) (first current later : Option Move) (held count : ℕ)
-    (c : HasPicked rule round_pick round_on limit show begin now first current held) → SweepsTo rule limit show now new current later held count →
-    ComesBy rule limit show begin now new first current later held count c
+pub comes-by : (rule : GuessRule) (limit : ℕ) (show : Reporting) (begin : RunPlace) (first : Option Move) (streams : Streams) (report : Option (List ℕ))
+    (now new : RulePlace) (c : HasPicked rule round_pick round_on limit show begin (exposing now streams report) first now.last now.pace.count) →
+    now.pace.rule ≡ rule → SweepsTo limit show now new → ComesBy rule limit show begin first streams report now new c
 unfolding SweepsTo
-comes-by rule limit show begin now new first current later held count c (n, turns) =
-    comes_turns rule limit show begin now new first current later held count n c turns
+comes-by rule limit show begin first streams report now new c is (n, turns) = comes_turns rule limit show begin first streams report now new n c is turns
 
--- the layout is unchanged, and no fewer moves are counted
-pub record Grows (now new : RunPlace) : Type 0 where
+-- What a sweep leaves --
+
+-- the rule, the layout and the streams' faults are unchanged, the limit is not passed, and no fewer moves are counted
+pub record Onward (limit : ℕ) (now new : RulePlace) : Type 0 where
+  pub rule : new.pace.rule ≡ now.pace.rule
+  pub stages : new.pace.stages ≡ now.pace.stages
   pub plan : new.core.plan ≡ now.core.plan
+  pub works : new.core.state.failed ≡ now.core.state.failed
+  pub within : now.core.state.retired ≤ limit → new.core.state.retired ≤ limit
   pub moves : now.tally.moves ≤ new.tally.moves
 
-turns_grow : (rule : GuessRule) (limit : ℕ) (show : Reporting) (now new : RunPlace) (current later : Option Move) (held count n : ℕ) →
-    TurnsTo rule limit show n now new current later held count → Grows now new
+turns_onward : (limit : ℕ) (show : Reporting) (now new : RulePlace) (n : ℕ) → TurnsTo limit show n now new → Onward limit now new
 unfolding TurnsTo
-turns_grow rule limit show now new current later held count zero (place, policy, counts) = rw place (record { plan = refl; moves = omega arith })
-turns_grow rule limit show now new current later held count (suc n) (between, pick, k, turns, t) =
-    let so_far = turns_grow rule limit show now between current pick held k n turns in
-    let counted_one = turned-counted round_pick round_on limit show between new (chooser rule pick k) (chooser rule later count) t in
+turns_onward limit show now new zero same =
+    rw same (record { rule = refl; stages = refl; plan = refl; works = refl; within = λ h. h; moves = omega arith })
+turns_onward limit show now new (suc n) (between, turns, t) =
+    let so_far = turns_onward limit show now between n turns in
+    let turn = t.turned (streams_of None None) None in
     record {
-      plan = turned-plan round_pick round_on limit show between new (chooser rule pick k) (chooser rule later count) t ∙ so_far.plan;
-      moves = let m = so_far.moves in omega (arith, m, counted_one);
+      rule = t.rule ∙ so_far.rule;
+      stages = t.stages ∙ so_far.stages;
+      plan = turned-plan round_pick round_on limit show _ _ _ _ turn ∙ so_far.plan;
+      works = t.works ∙ so_far.works;
+      within = λ before. turned-within round_pick round_on limit show _ _ _ _ turn;
+      moves =
+          let more = so_far.moves in
+          let one = turned-counted round_pick round_on limit show _ _ _ _ turn in
+          omega (arith, more, one);
     }
 
-pub sweeps_grow : (rule : GuessRule) (limit : ℕ) (show : Reporting) (now new : RunPlace) (current later : Option Move) (held count : ℕ) →
-    SweepsTo rule limit show now new current later held count → Grows now new
+pub sweeps-onward : (limit : ℕ) (show : Reporting) (now new : RulePlace) → SweepsTo limit show now new → Onward limit now new
 unfolding SweepsTo
-sweeps_grow rule limit show now new current later held count (n, turns) = turns_grow rule limit show now new current later held count n turns
+sweeps-onward limit show now new (n, turns) = turns_onward limit show now new n turns
 
--- so one more move can be counted, and fewer are left after a turn
-pub underway_counts : (rule : GuessRule) (limit : ℕ) (show : Reporting) (now : RunPlace) (last : Option Move) (held : ℕ) →
-    IsUnderway rule limit show now last held → GoesOn limit now.core.state → limit ≤ most_limit → CanCount now.tally
-underway_counts rule limit show now last held u goes few_limit =
-    let below = goes.below in
-    let few = comes-counted rule round_pick round_on limit show u.begin now u.first last held u.accepted u.registers u.opened u.comes (omega (arith, below))
-    few_limit in
-    can-count limit show u.begin now u.comes.reached (omega (arith, few))
+-- a run that has come to where a sweep begins has come to where it ends
+pub come_on : (limit : ℕ) (show : Reporting) (now new : RulePlace) → HasCome limit show now → SweepsTo limit show now new → HasCome limit show new
+come_on limit show now new come swept =
+    let on = sweeps-onward limit show now new swept in
+    let by = comes-by now.pace.rule limit show come.begin come.first come.streams come.report now new come.comes refl swept in
+    record {
+      begin = come.begin;
+      first = come.first;
+      accepted = come.accepted;
+      registers = come.registers;
+      opened = come.opened;
+      streams = come.streams;
+      report = come.report;
+      comes = subst (λ (r : GuessRule). HasPicked r round_pick round_on limit show come.begin (exposing new come.streams come.report) come.first new.last
+          new.pace.count) (sym on.rule) by.comes;
+      limit_allowed = come.limit_allowed;
+      within = on.within come.within;
+      stages = on.stages ∙ come.stages ∙ ap (λ (p : Plan). p.stages) (sym on.plan);
+    }
 
-pub underway_nearer : (rule : GuessRule) (limit : ℕ) (show : Reporting) (now new : RunPlace) (last later : Option Move) (held count : ℕ) (plan : Plan) →
-    IsUnderway rule limit show now last held → Turned round_pick round_on limit show now new (chooser rule last held) (chooser rule later count) →
-    now.core.plan ≡ plan → most_moves plan limit - new.tally.moves < most_moves plan limit - now.tally.moves
-underway_nearer rule limit show now new last later held count plan u t is =
-    let same : now.core.plan ≡ u.begin.core.plan = ap (λ (p : Processor). p.plan) u.comes.reached.core in
-    subst (λ (p : Plan). most_moves p limit - new.tally.moves < most_moves p limit - now.tally.moves) (sym same ∙ is)
-    (comes-nearer rule round_pick round_on limit show u.begin now new u.first last held (chooser rule later count) u.accepted u.registers u.opened u.comes t)
+-- and the next part of the sweep begins there if the run goes on
+pub sweeping-on : (limit : ℕ) (now new : RulePlace) → IsSweeping limit now → SweepsTo limit silent now new → GoesOn limit new.core.state →
+    IsSweeping limit new
+sweeping-on limit now new ready swept goes = record {
+  come = come_on limit silent now new ready.come swept;
+  goes = goes;
+  works = (sweeps-onward limit silent now new swept).works ∙ ready.works;
+}
 
--- an accepted layout has at most 32 stages
-pub few_stages : (plan old shown : Plan) → plan ≡ old → shown ≡ old → IsAccepted shown → plan.stages ≤ 32
-few_stages plan old shown is same accepted = (subst IsAccepted (same ∙ sym is) accepted).stages.1
+-- nothing is shown where this is asked
+pub shows-nothing : (show : Reporting) → show.show ≡ shows.Report → show.every ≡ None → silent ≡ show
+shows-nothing show report never =
+    sym (ap (λ (s : Show). reporting_of s show.every) report ∙ ap (λ (o : Option ℕ). reporting_of shows.Report o) never)
+
+-- where it is known not to be over it goes on
+pub not-over : (limit : ℕ) (s : State) (o : Option Answer) → MatchOption o (GoesOn limit s) (IsOver limit s) → is_some o ≡ false → GoesOn limit s
+not-over limit s None goes none = goes
+not-over limit s (Some answer) over none = absurd (cc)
+
+-- what holds where there is something
+pub known-there : {A P : Type 0} (o : Option A) → IfSome o (λ x. P) → is_some o ≡ true → P
+known-there None h some = absurd (cc)
+known-there (Some x) h some = h
+
+-- What holds on the way --
+
+-- one more move can be counted
+pub come-counts : (limit : ℕ) (show : Reporting) (at : RulePlace) → HasCome limit show at → CanCount at.tally
+come-counts limit show at h =
+    let few = comes-counted at.pace.rule round_pick round_on limit show h.begin (exposing at h.streams h.report) h.first at.last at.pace.count h.accepted
+    h.registers h.opened h.comes h.within h.limit_allowed in
+    can-count limit show h.begin (exposing at h.streams h.report) h.comes.reached (omega (arith, few))
+
+-- one more instruction too
+pub can-retire : (limit : ℕ) (at : RulePlace) → IsSweeping limit at → at.core.state.retired + 1 < 2 ^ 64
+can-retire limit at ready =
+    let below = ready.goes.below in
+    let few = ready.come.limit_allowed in
+    omega (arith, below, few)
+
+-- the layout is the one that was opened
+same_plan : (limit : ℕ) (show : Reporting) (at : RulePlace) (h : HasCome limit show at) → at.core.plan ≡ h.begin.core.plan
+same_plan limit show at h = ap (λ (p : Processor). p.plan) h.comes.reached.core
+
+-- so it has at most 32 stages
+pub few-stages : (limit : ℕ) (at : RulePlace) → IsSweeping limit at → at.core.plan.stages ≤ 32
+few-stages limit at ready =
+    let few = ready.come.accepted.stages.1 in
+    let same = ap (λ (p : Plan). p.stages) (same_plan limit silent at ready.come) in
+    omega (arith, few, same)
+
+-- also after a sweep
+pub few_after : (limit : ℕ) (now new : RulePlace) → IsSweeping limit now → SweepsTo limit silent now new → new.core.plan.stages ≤ 32
+few_after limit now new ready swept =
+    let few = few-stages limit now ready in
+    let same = ap (λ (p : Plan). p.stages) (sweeps-onward limit silent now new swept).plan in
+    omega (arith, few, same)
+
+-- and fewer moves are left after some that were counted
+pub come-nearer : (limit : ℕ) (show : Reporting) (begin at : RulePlace) (made : ℕ) → HasCome limit show at → SweepsTo limit show begin at →
+    made < at.tally.moves → most_moves begin.core.plan limit - at.tally.moves < most_moves begin.core.plan limit - made
+come-nearer limit show begin at made h swept more =
+    let few = comes-bounded at.pace.rule round_pick round_on limit show h.begin (exposing at h.streams h.report) h.first at.last at.pace.count h.accepted
+    h.registers h.opened h.comes h.within in
+    let same = (sweeps-onward limit show begin at swept).plan in
+    subst (λ (p : Plan). most_moves p limit - at.tally.moves < most_moves p limit - made) (sym (same_plan limit show at h) ∙ same)
+    (less (most_moves h.begin.core.plan limit) made at.tally.moves few more)
+  where
+    less : (most made new : ℕ) → new ≤ most → made < new → most - new < most - made
+    less most made new few more = omega (arith, few, more)
+
+-- also after a sweep and one move
+pub made-nearer : (limit : ℕ) (begin now new : RulePlace) → IsSweeping limit new → SweepsTo limit silent begin now → SweepsTo limit silent now new →
+    new.tally.moves ≡ now.tally.moves + 1 → most_moves begin.core.plan limit - new.tally.moves < most_moves begin.core.plan limit - now.tally.moves
+made-nearer limit begin now new ready first swept counted =
+    come-nearer limit silent begin new now.tally.moves ready.come (sweeps_on limit silent begin now new first swept) (omega (arith, counted))
 
 -- fewer are left after a sweep and one more turn
 pub fewer_left : (most now between new : ℕ) → now ≤ between → most - new < most - between → most - new < most - now
 fewer_left most now between new grows near = omega (arith, grows, near)
 
--- and after some moves that were counted
-pub underway_less : (rule : GuessRule) (limit : ℕ) (show : Reporting) (new : RunPlace) (last : Option Move) (held made : ℕ) (plan : Plan) →
-    IsUnderway rule limit show new last held → new.core.state.retired ≤ limit → new.core.plan ≡ plan → made < new.tally.moves →
-    most_moves plan limit - new.tally.moves < most_moves plan limit - made
-underway_less rule limit show new last held made plan u within is more =
-    let same : new.core.plan ≡ u.begin.core.plan = ap (λ (p : Processor). p.plan) u.comes.reached.core in
-    let few = comes-bounded rule round_pick round_on limit show u.begin new u.first last held u.accepted u.registers u.opened u.comes within in
-    subst (λ (p : Plan). most_moves p limit - new.tally.moves < most_moves p limit - made) (sym same ∙ is)
-    (less (most_moves u.begin.core.plan limit) made new.tally.moves few more)
-  where
-    less : (most made new : ℕ) → new ≤ most → made < new → most - new < most - made
-    less most made new few more = omega (arith, few, more)
+pub goes_on_so : (limit : ℕ) (at : RulePlace) → IsSweeping limit at → goes_on at.core.state ≡ true
+goes_on_so limit at ready = rw (ready.goes.unended, ready.works) refl
 
--- so a sweep does not make fewer
-pub swept_more : (rule : GuessRule) (limit : ℕ) (show : Reporting) (now new : RunPlace) (current later : Option Move) (held count made : ℕ) →
-    made ≤ now.tally.moves → SweepsTo rule limit show now new current later held count → made ≤ new.tally.moves
-swept_more rule limit show now new current later held count made before swept =
-    let grows = (sweeps_grow rule limit show now new current later held count swept).moves in
-    omega (arith, before, grows)
+-- One pick --
+
+-- a picked move that was made, counted and told to the pace is a sweep
+pub picked-sweeps : (limit : ℕ) (now : RulePlace) (core : Processor) (m : Move) (pace : PaceCount) (tally : Tally) (e : Event) (seen : Bool) →
+    kind_place m ≤ 12 → IsSweeping limit now → PicksNext now.pace now.core now.last m → core ≡ after_move now.core m →
+    IsEvent now.core.plan now.core.state m e → tally ≡ counted_event now.tally m e → pace ≡ saw now.pace m e seen → seen ≡ is_drained core.state →
+    SweepsTo limit silent now (rule_at core (Some m) pace tally)
+picked-sweeps limit now core m pace tally e seen early ready picked is event counts told drained =
+    one_more_turn limit silent now now (rule_at core (Some m) pace tally) (no_turns limit silent now)
+    (picked_turn limit now core m pace tally e seen early ready picked is event counts told drained)
+
+-- unless it is Leave, the run goes on
+pub sweeping-kept : (limit : ℕ) (now new : RulePlace) → IsSweeping limit now → SweepsTo limit silent now new → Keeps now.core.state new.core.state →
+    IsSweeping limit new
+sweeping-kept limit now new ready swept keeps =
+    let below = ready.goes.below in
+    let retired = keeps.retired in
+    sweeping-on limit now new ready swept (record { unended = keeps.ending ∙ ready.goes.unended; below = omega (arith, below, retired) })
+
+-- Where the next pick is looked for --
 
 -- the parts in which a pick is looked for are the same
 pub picks_same : (rule : GuessRule) (held : Bool) (plan : Plan) (s : State) (last : Option Move) (r : Rank) (xs ys : List Move) → xs ≡ ys →
@@ -410,9 +455,3 @@ pub picked_here : (rule : GuessRule) (held : Bool) (plan : Plan) (s : State) (la
     IsPickedFrom rule held plan s last r xs → find (is_past r) xs ≡ Some m → IsPicked rule held plan s last m
 unfolding IsPickedFrom
 picked_here rule held plan s last r xs m picked found = picked.here m found
-
--- one turn is a sweep
-pub one_turn : (rule : GuessRule) (limit : ℕ) (show : Reporting) (now new : RunPlace) (last later : Option Move) (held count : ℕ) →
-    Turned round_pick round_on limit show now new (chooser rule last held) (chooser rule later count) → SweepsTo rule limit show now new last later held count
-one_turn rule limit show now new last later held count t =
-    one_more_turn rule limit show now now new last last later held held count (no_turns rule limit show now last held) t

@@ -1,19 +1,23 @@
--- Turns of a policy that lead from one place of a run to another, none of which stops it; and those of the rule, which picks
--- one move of a kind after another.
-use Rattle.std.specs.Prelude.{◌≡◌, ℕ, zero, suc, List, None, Option, length, false}
+-- Turns of a policy that lead from one place of a run to another, none of which stops it; and the sweeps of the rule, which picks one
+-- move of a kind after another. A sweep uses neither stream and shows nothing, so what is said of it holds whatever these expose.
+use Rattle.std.specs.Prelude.{◌≡◌, ◌≤◌, ℕ, zero, suc, List, None, Option, length, false}
+use Rattle.run_options.specs.Limits.{most_limit}
 use Rattle.run_options.specs.declared.guess_rule.GuessRule.{GuessRule}
 use Rattle.run_options.specs.declared.reporting.Reporting.{Reporting}
 use Rattle.run_options.specs.declared.show.Show.TheVariants as shows
+use Rattle.rv_machine.specs.Streams.{Streams}
 use Rattle.cf_layout.specs.Accepted.{IsAccepted}
+use Rattle.cf_layout.specs.Layout.{Plan}
 use Rattle.cf_bind.specs.declared.moves.Move.{Move}
 use Rattle.cf_semantics.specs.moves.Holding.{is_held}
 use Rattle.cf_semantics.specs.state.State.{State}
-use Rattle.cf_index.specs.PickedFrom.{IsPickedFrom}
+use Rattle.cf_index.specs.PickedFrom.{IsPicked, IsPickedFrom}
 use Rattle.cf_index.specs.declared.rank.Rank.{Rank}
 use Rattle.cf_core.specs.Processors.{IsOpened, Processor}
+use Rattle.cf_report.specs.declared.tally.Tally.{Tally}
 use Rattle.cf_sched.specs.Paces.{PaceCount, stopped}
 use Rattle.cf_sched.specs.Policies.{round_on, round_pick}
-use Rattle.cf_run.specs.Moving.{RunPlace}
+use Rattle.cf_run.specs.Moving.{RunPlace, run_place_of}
 use Rattle.cf_run.specs.Policies.{Chooser, Picks, Turned, chooser, fresh_chooser}
 use Rattle.cf_run.specs.Reaching.{GoesOn, Reaches}
 
@@ -30,41 +34,76 @@ pub record HasPicked {P : Type 0} (rule : GuessRule) (picked : P → List Move �
   pub policy_is : current ≡ at.policy
   pub count_is : held ≡ stopped begin.core.plan.stages at.count
 
--- this many turns of the rule lead from one place to another, and from one pick and count to another
-unfoldable pub TurnsTo : GuessRule → (limit : ℕ) → Reporting → ℕ → (now new : RunPlace) → (last later : Option Move) → (held new_held : ℕ) → Type 0
-TurnsTo rule limit show zero now new last later held new_held = (new ≡ now) × (later ≡ last) × (new_held ≡ held)
-TurnsTo rule limit show (suc n) now new last later held new_held =
-    (between : RunPlace) × (pick : Option Move) × (count : ℕ) × TurnsTo rule limit show n now between last pick held count
-    × Turned round_pick round_on limit show between new (chooser rule pick count) (chooser rule later new_held)
-
--- some turns of the rule do
-unfoldable pub SweepsTo : GuessRule → (limit : ℕ) → Reporting → (now new : RunPlace) → (last later : Option Move) → (held new_held : ℕ) → Type 0
-SweepsTo rule limit show now new last later held new_held = (n : ℕ) × TurnsTo rule limit show n now new last later held new_held
-
--- a run by the rule has come here from an opened processor
-pub record IsUnderway (rule : GuessRule) (limit : ℕ) (show : Reporting) (now : RunPlace) (last : Option Move) (held : ℕ) : Type 0 where
-  pub begin : RunPlace
-  pub first : Option Move
-  pub accepted : IsAccepted begin.core.plan
-  pub registers : length begin.core.state.regs ≡ 32
-  pub opened : IsOpened begin.core
-  pub comes : HasPicked rule round_pick round_on limit show begin now first last held
-
 -- the program has ended as before, and as many instructions have retired
 pub record Keeps (s t : State) : Type 0 where
   pub ending : t.ending ≡ s.ending
   pub retired : t.retired ≡ s.retired
 
--- the run goes on, and neither the input nor the output has failed
-pub record CanSweep (limit : ℕ) (s : State) : Type 0 where
-  pub goes : GoesOn limit s
-  pub works : s.failed ≡ false
-
 -- nothing is shown during the run
-pub record ShowsNothing (show : Reporting) : Type 0 where
-  pub report : show.show ≡ shows.Report
-  pub never : show.every ≡ None
+abbrev pub silent : Reporting
+silent = record { show = shows.Report; every = None }
 
--- the first of these moves past the rank is what the rule picks after its last pick
-abbrev pub PicksFrom : PaceCount → Processor → (last : Option Move) → Rank → List Move → Type 0
-PicksFrom pace core last rank moves = IsPickedFrom pace.rule (is_held core.plan pace.count) core.plan core.state last rank moves
+-- where a run by the rule has arrived, but for what its streams and its report expose: the processor, the last pick, the pace, and
+-- what was counted
+pub record RulePlace : Type 0 where
+  pub core : Processor
+  pub last : Option Move
+  pub pace : PaceCount
+  pub tally : Tally
+
+-- the RulePlace with these parts
+abbrev pub rule_at : Processor → Option Move → PaceCount → Tally → RulePlace
+rule_at core last pace tally = record { core = core; last = last; pace = pace; tally = tally }
+
+-- the RunPlace where the streams and the report expose this
+abbrev pub exposing : RulePlace → Streams → Option (List ℕ) → RunPlace
+exposing at streams report = run_place_of at.core streams report at.tally
+
+-- one turn of the rule leads from one place to another, whatever the streams and the report expose, and it leaves these as they are
+pub record TurnsOnce (limit : ℕ) (show : Reporting) (now new : RulePlace) : Type 0 where
+  pub turned : (streams : Streams) (report : Option (List ℕ)) → Turned round_pick round_on limit show
+      (exposing now streams report)
+      (exposing new streams report)
+      (chooser now.pace.rule now.last now.pace.count)
+      (chooser now.pace.rule new.last new.pace.count)
+  pub rule : new.pace.rule ≡ now.pace.rule
+  pub stages : new.pace.stages ≡ now.pace.stages
+  pub works : new.core.state.failed ≡ now.core.state.failed
+
+-- this many turns do
+unfoldable pub TurnsTo : (limit : ℕ) → Reporting → ℕ → (now new : RulePlace) → Type 0
+TurnsTo limit show zero now new = new ≡ now
+TurnsTo limit show (suc n) now new = (between : RulePlace) × TurnsTo limit show n now between × TurnsOnce limit show between new
+
+-- some turns do
+unfoldable pub SweepsTo : (limit : ℕ) → Reporting → (now new : RulePlace) → Type 0
+SweepsTo limit show now new = (n : ℕ) × TurnsTo limit show n now new
+
+-- a run by the rule that shows this has come here from an opened processor, over some streams and within a permitted limit
+pub record HasCome (limit : ℕ) (show : Reporting) (at : RulePlace) : Type 0 where
+  pub begin : RunPlace
+  pub first : Option Move
+  pub accepted : IsAccepted begin.core.plan
+  pub registers : length begin.core.state.regs ≡ 32
+  pub opened : IsOpened begin.core
+  pub streams : Streams
+  pub report : Option (List ℕ)
+  pub comes : HasPicked at.pace.rule round_pick round_on limit show begin (exposing at streams report) first at.last at.pace.count
+  pub limit_allowed : limit ≤ most_limit
+  pub within : at.core.state.retired ≤ limit
+  pub stages : at.pace.stages ≡ at.core.plan.stages
+
+-- a run by the rule that shows nothing has come here and goes on, and neither the input nor the output has failed
+pub record IsSweeping (limit : ℕ) (at : RulePlace) : Type 0 where
+  pub come : HasCome limit silent at
+  pub goes : GoesOn limit at.core.state
+  pub works : at.core.state.failed ≡ false
+
+-- the rule picks the move after its last pick
+abbrev pub PicksNext : PaceCount → Processor → (last : Option Move) → Move → Type 0
+PicksNext pace core last mv = IsPicked pace.rule (is_held core.plan pace.count) core.plan core.state last mv
+
+-- the first of the moves of this part that is past the rank is what the rule picks after its last pick
+abbrev pub PicksFrom : PaceCount → Processor → (last : Option Move) → Rank → (part : Plan → State → List Move) → Type 0
+PicksFrom pace core last rank part =
+    IsPickedFrom pace.rule (is_held core.plan pace.count) core.plan core.state last rank (part core.plan core.state)

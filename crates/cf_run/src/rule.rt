@@ -1,7 +1,6 @@
 //! The run by the rule.
 
 ghost use Rattle.std.specs.Prelude.{◌≡◌, ◌-◌, ◌≤◌, Some, true};
-ghost use Rattle.run_options.specs.Limits.{most_limit};
 ghost use Rattle.cf_io.specs.Causes.{HasCause};
 ghost use Rattle.run_finishes.specs.declared.finish.Scripted.TheVariants as scripted;
 ghost use Rattle.cf_index.specs.PickedFrom.{from_emit};
@@ -12,7 +11,7 @@ ghost use Rattle.cf_run.specs.Moving.{place_by};
 ghost use Rattle.cf_run.specs.Policies.{CanRun, PolicyUnasked, RunsRight, most_moves};
 ghost use Rattle.run_finishes.specs.Stopped.{input_stopped, output_stopped, report_stopped};
 ghost use Rattle.cf_run.specs.Reaching.{no_tally};
-ghost use Rattle.cf_run.specs.Sweeps.{IsUnderway, PicksFrom, ShowsNothing, SweepsTo};
+ghost use Rattle.cf_run.specs.Sweeps.{HasCome, PicksFrom, SweepsTo, rule_at, silent};
 
 use crate::facts::known;
 use crate::finished::over;
@@ -32,7 +31,7 @@ use run_options::{GuessRule, Reporting, Show};
 fn starts_over(core: &Core, last: Move, round: &Round, pace: &Pace) -> bool
     requires last { round.now ≡ Some last }
     requires stages { pace.now.stages ≡ core.now.plan.stages }
-    ensures { result ≡ true → PicksFrom pace.now core.now (Some last) first_rank (from_emit core.now.plan core.now.state) }
+    ensures { result ≡ true → PicksFrom pace.now core.now (Some last) first_rank from_emit }
 {
     let _last = last;
     let _stages = core.layout().stages();
@@ -41,78 +40,45 @@ fn starts_over(core: &Core, last: Move, round: &Round, pace: &Pace) -> bool
 
 /// Makes moves that the rule picks next, one after another, where the search starts over and nothing is shown of them.
 #[inline(always)]
-fn sweep_after<S: Source, K: Sink, R: Sink>(
+#[tactic(auto, using(crate::proofs::Turning::no_turns))]
+fn sweep_after(
     core: &mut Core,
     last: Move,
     round: &mut Round,
     pace: &mut Pace,
     limit: u64,
-    reporting: Reporting,
-    input: &mut S,
-    output: &mut K,
-    report: &R,
     tally: &mut Tally,
 )
     requires last { round.old ≡ Some last }
-    requires underway { IsUnderway pace.old.rule limit reporting
-        (place_by S.left K.written R.written core.old input.old output.old report.now tally.old) round.old pace.old.count }
-    requires limit { limit ≤ most_limit }
-    requires within { core.old.state.retired ≤ limit }
-    requires stages { pace.old.stages ≡ core.old.plan.stages }
-    requires shows { ShowsNothing reporting }
-    ensures sweeps { SweepsTo pace.old.rule limit reporting
-        (place_by S.left K.written R.written core.old input.old output.old report.now tally.old)
-        (place_by S.left K.written R.written core.new input.new output.new report.now tally.new)
-        round.old round.new pace.old.count pace.new.count }
-    ensures within { core.new.state.retired ≤ limit }
-    ensures rule { pace.new.rule ≡ pace.old.rule }
-    ensures stages { pace.new.stages ≡ core.new.plan.stages }
-    ensures input { input.new ≡ input.old }
-    ensures output { output.new ≡ output.old }
+    requires come { HasCome limit silent (rule_at core.old round.old pace.old tally.old) }
+    ensures swept { SweepsTo limit silent (rule_at core.old round.old pace.old tally.old) (rule_at core.new round.new pace.new tally.new) }
 {
     if !starts_over(core, last, round, pace) {
         return;
     }
     if over(core, limit).is_none() && !core.failed() {
-        let last = sweep_rounds(
-            core, last, pace, limit, reporting, input, output, report, tally,
-        );
+        let last = sweep_rounds(core, last, pace, limit, tally);
         round.keep(last);
     }
 }
 
 /// Makes some of the moves that the rule picks next, one after another; none where something is shown of them.
 #[inline(always)]
-fn sweep<S: Source, K: Sink, R: Sink>(
+#[tactic(auto, using(crate::proofs::Turning::no_turns))]
+fn sweep(
     core: &mut Core,
     round: &mut Round,
     pace: &mut Pace,
     limit: u64,
     reporting: Reporting,
-    input: &mut S,
-    output: &mut K,
-    report: &R,
     tally: &mut Tally,
 )
-    requires underway { IsUnderway pace.old.rule limit reporting
-        (place_by S.left K.written R.written core.old input.old output.old report.now tally.old) round.old pace.old.count }
-    requires limit { limit ≤ most_limit }
-    requires within { core.old.state.retired ≤ limit }
-    requires stages { pace.old.stages ≡ core.old.plan.stages }
-    ensures sweeps { SweepsTo pace.old.rule limit reporting
-        (place_by S.left K.written R.written core.old input.old output.old report.now tally.old)
-        (place_by S.left K.written R.written core.new input.new output.new report.now tally.new)
-        round.old round.new pace.old.count pace.new.count }
-    ensures within { core.new.state.retired ≤ limit }
-    ensures rule { pace.new.rule ≡ pace.old.rule }
-    ensures stages { pace.new.stages ≡ core.new.plan.stages }
-    ensures input { input.new ≡ input.old }
-    ensures output { output.new ≡ output.old }
+    requires come { HasCome limit reporting (rule_at core.old round.old pace.old tally.old) }
+    ensures swept { SweepsTo limit reporting (rule_at core.old round.old pace.old tally.old) (rule_at core.new round.new pace.new tally.new) }
+    ensures come { HasCome limit reporting (rule_at core.new round.new pace.new tally.new) }
 {
     match (round.last(), reporting.show, reporting.every) {
-        (Some(last), Show::Report, None) => sweep_after(
-            core, last, round, pace, limit, reporting, input, output, report, tally,
-        ),
+        (Some(last), Show::Report, None) => sweep_after(core, last, round, pace, limit, tally),
         _ => {}
     }
 }
@@ -153,9 +119,7 @@ pub fn run_rule<S: Source, K: Sink, R: ReportSink>(
     known(core);
     let mut pace = Pace::new(rule, core.layout().stages());
     loop {
-        sweep(
-            core, round, &mut pace, limit, reporting, input, output, report, tally,
-        );
+        sweep(core, round, &mut pace, limit, reporting, tally);
         let end = advance(
             core, candidates, round, &mut pace, limit, reporting, input, output, report, tally,
         );

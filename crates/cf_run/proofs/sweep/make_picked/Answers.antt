@@ -1,22 +1,26 @@
-use Rattle.cf_run.specs.Moving.{MoveDoes}
-use Rattle.cf_run.proofs.Coming.{seen-count, turned-within}
-use Rattle.cf_run.proofs.Turning.{picked_free, picked_turn}
+use Rattle.cf_run.proofs.Turning.{after_keeps, can-retire, come-counts, no_serve, picked-sweeps, picked_free, sweeping-kept}
 use Rattle.cf_run.proofs.sweep.make_picked.Goals as goal
 
-pub make_unshown-event-requires-clause-allowed : goal.make_unshown-event-requires-clause-allowed
-make_unshown-event-requires-clause-allowed g c = picked_free _ _ _ _ _ _ c.requires.picked
+pub make_inside-event-requires-clause-allowed : goal.make_inside-event-requires-clause-allowed
+make_inside-event-requires-clause-allowed c = picked_free _ _ _ _ _ _ c.requires.picked
 
-pub returns-clause-turned : goal.returns-clause-turned
-returns-clause-turned g c =
-    picked_turn _ _ _ _ _ _ _ _ _ _ c.requires.picked c.requires.goes c.make_unshown-event.ensures.does
-    (seen-count _ _ _ _ _ _ _ c.saw.ensures.value c.drained.ensures c.requires.stages)
+pub make_inside-event-requires-clause-count : goal.make_inside-event-requires-clause-count
+make_inside-event-requires-clause-count c = λ leaves. can-retire _ _ c.requires.ready
 
-pub returns-clause-within : goal.returns-clause-within
-returns-clause-within g c =
-    turned-within _ _ _ _ _ _ _ _
-    (picked_turn _ _ _ _ _ _ _ _ _ _ c.requires.picked c.requires.goes c.make_unshown-event.ensures.does
-    (seen-count _ _ _ _ _ _ _ c.saw.ensures.value c.drained.ensures c.requires.stages))
+pub make_inside-event-requires-clause-other : goal.make_inside-event-requires-clause-other
+make_inside-event-requires-clause-other c = no_serve _ c.requires.before
 
-pub returns-clause-plan : goal.returns-clause-plan
-unfolding MoveDoes
-returns-clause-plan g c = c.make_unshown-event.ensures.does.makes.makes.plan
+pub count-requires : goal.count-requires
+count-requires c = come-counts _ _ _ c.requires.ready.come
+
+pub returns-clause-swept : goal.returns-clause-swept
+returns-clause-swept c =
+    picked-sweeps _ _ _ _ _ _ _ _ c.requires.before c.requires.ready c.requires.picked c.make_inside-event.ensures.processor
+    c.make_inside-event.ensures.event c.count.ensures c.saw.ensures.value c.drained.ensures
+
+pub returns-clause-ready : goal.returns-clause-ready
+returns-clause-ready c = λ other.
+    sweeping-kept _ _ _ c.requires.ready
+    (picked-sweeps _ _ _ _ _ _ _ _ c.requires.before c.requires.ready c.requires.picked c.make_inside-event.ensures.processor
+    c.make_inside-event.ensures.event c.count.ensures c.saw.ensures.value c.drained.ensures)
+    (after_keeps _ _ _ other c.make_inside-event.ensures.processor)

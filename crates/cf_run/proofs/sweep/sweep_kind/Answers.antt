@@ -1,38 +1,26 @@
-use Rattle.std.proofs.Common.{◌∙◌, ap, refl, sym}
-use Rattle.cf_layout.specs.Layout.{Plan}
-use Rattle.cf_run.proofs.Turning.{goes_kept, no_turns, one_more_turn, picks_same, underway_counts, underway_more, underway_nearer}
+use Rattle.cf_index.proofs.PickedFrom.{picked_on}
+use Rattle.cf_run.proofs.Turning.{goes_on_so, made-nearer, no_turns, picked_here, picks_same, sweeps_on}
 use Rattle.cf_run.proofs.sweep.sweep_kind.Goals as goal
 
-pub loop-next-init : goal.loop-next-init
-loop-next-init g c = record {
-  sweeps = no_turns _ _ _ _ _ _;
-  underway = c.requires.underway;
-  picked = c.requires.picked;
-  goes = c.requires.goes;
-  rule = refl;
-  stages = c.requires.stages;
-  plan = refl;
-  input = refl;
-  output = refl;
+pub loop-stage-init : goal.loop-stage-init
+loop-stage-init g c = record { swept = no_turns _ _ _; ready = c.requires.ready; picked = c.requires.picked }
+
+pub next-requires : goal.next-requires
+next-requires g c = goes_on_so _ _ c.loop-stage.invariant.ready
+
+pub make_at-place-requires-clause-picked : goal.make_at-place-requires-clause-picked
+make_at-place-requires-clause-picked g c = picked_here _ _ _ _ _ _ _ _ c.loop-stage.invariant.picked c.in-Some.ensures.here
+
+pub loop-stage-smaller : goal.loop-stage-smaller
+loop-stage-smaller g c = made-nearer _ _ _ _ (c.make_at-place.ensures.ready (c.requires.keeps _)) c.loop-stage.invariant.swept c.make_at-place.ensures.swept
+    c.make_at-place.ensures.counted
+
+pub loop-stage-preserved : goal.loop-stage-preserved
+loop-stage-preserved g c = record {
+  swept = sweeps_on _ _ _ _ _ c.loop-stage.invariant.swept c.make_at-place.ensures.swept;
+  ready = c.make_at-place.ensures.ready (c.requires.keeps _);
+  picked = picks_same _ _ _ _ _ _ _ _ (c.requires.again _ _) c.make_at-place.ensures.picked;
 }
 
-pub take_turn-turned-requires-clause-counts : goal.take_turn-turned-requires-clause-counts
-take_turn-turned-requires-clause-counts g c =
-    underway_counts _ _ _ _ _ _ c.loop-next.invariant.underway c.loop-next.invariant.goes.goes c.requires.limit
-
-pub loop-next-smaller : goal.loop-next-smaller
-loop-next-smaller g c =
-    underway_nearer _ _ _ _ _ _ _ _ _ _ c.loop-next.invariant.underway c.in-Some.ensures.turned c.loop-next.invariant.plan
-
-pub loop-next-preserved : goal.loop-next-preserved
-loop-next-preserved g c = record {
-  sweeps = one_more_turn _ _ _ _ _ _ _ _ _ _ _ _ c.loop-next.invariant.sweeps (rw c.loop-next.invariant.rule at c.in-Some.ensures.turned);
-  underway = rw (sym c.in-Some.ensures.rule) at (underway_more _ _ _ _ _ _ _ _ _ c.loop-next.invariant.underway c.in-Some.ensures.turned);
-  picked = picks_same _ _ _ _ _ _ _ _ (c.requires.again _ _) c.in-Some.ensures.picked;
-  goes = goes_kept _ _ _ c.loop-next.invariant.goes (c.in-Some.ensures.keeps c.requires.keeps) c.in-Some.ensures.works;
-  rule = c.in-Some.ensures.rule ∙ c.loop-next.invariant.rule;
-  stages = c.in-Some.ensures.stages ∙ c.loop-next.invariant.stages ∙ ap (λ (plan : Plan). plan.stages) (sym c.in-Some.ensures.plan);
-  plan = c.in-Some.ensures.plan ∙ c.loop-next.invariant.plan;
-  input = c.in-Some.ensures.input ∙ c.loop-next.invariant.input;
-  output = c.in-Some.ensures.output ∙ c.loop-next.invariant.output;
-}
+pub returns-in-None-clause-picked : goal.returns-in-None-clause-picked
+returns-in-None-clause-picked g c = picked_on _ _ _ _ _ _ _ _ (c.next.ensures.gone c.in-None.is) c.loop-stage.invariant.picked

@@ -1,24 +1,18 @@
-use Rattle.std.proofs.Common.{refl, sym}
-use Rattle.cf_run.proofs.Turning.{goes_kept, no_turns, one_turn, picks_same, underway_counts, underway_more}
+use Rattle.cf_index.proofs.PickedFrom.{picked_on}
+use Rattle.cf_run.proofs.Turning.{goes_on_so, no_turns, picked_here, picks_same}
 use Rattle.cf_run.proofs.sweep.sweep_once.Goals as goal
 
-pub take_turn-turned-requires-clause-counts : goal.take_turn-turned-requires-clause-counts
-take_turn-turned-requires-clause-counts g c = underway_counts _ _ _ _ _ _ c.requires.underway c.requires.goes.goes c.requires.limit
+pub next-requires : goal.next-requires
+next-requires g c = goes_on_so _ _ c.requires.ready
 
-pub returns-in-Some-clause-sweeps : goal.returns-in-Some-clause-sweeps
-returns-in-Some-clause-sweeps g c = one_turn _ _ _ _ _ _ _ _ _ c.in-Some.ensures.turned
+pub make_at-requires-clause-picked : goal.make_at-requires-clause-picked
+make_at-requires-clause-picked g c = picked_here _ _ _ _ _ _ _ _ c.requires.picked c.in-Some.ensures.here
 
 pub returns-in-Some-clause-picked : goal.returns-in-Some-clause-picked
-returns-in-Some-clause-picked g c = picks_same _ _ _ _ _ _ _ _ (c.requires.once _ _) c.in-Some.ensures.picked
+returns-in-Some-clause-picked g c = picks_same _ _ _ _ _ _ _ _ (c.requires.once _ _) c.make_at.ensures.picked
 
-pub returns-in-Some-clause-underway : goal.returns-in-Some-clause-underway
-returns-in-Some-clause-underway g c =
-    rw (sym c.in-Some.ensures.rule) at (underway_more _ _ _ _ _ _ _ _ _ c.requires.underway c.in-Some.ensures.turned)
+pub returns-in-None-clause-swept : goal.returns-in-None-clause-swept
+returns-in-None-clause-swept g c = no_turns _ _ _
 
-pub returns-in-Some-clause-goes : goal.returns-in-Some-clause-goes
-returns-in-Some-clause-goes g c = λ other. goes_kept _ _ _ c.requires.goes (c.in-Some.ensures.keeps other) c.in-Some.ensures.works
-
-pub returns-in-None-clause-sweeps : goal.returns-in-None-clause-sweeps
-returns-in-None-clause-sweeps g c =
-    rw (c.in-None.ensures.core refl, c.in-None.ensures.pace refl, c.in-None.ensures.tally refl, c.in-None.ensures.input, c.in-None.ensures.output)
-    (no_turns _ _ _ _ _ _)
+pub returns-in-None-clause-picked : goal.returns-in-None-clause-picked
+returns-in-None-clause-picked g c = picked_on _ _ _ _ _ _ _ _ (c.next.ensures.gone c.in-None.is) c.requires.picked
