@@ -43,6 +43,15 @@ pub swept_on : (rows : List (List ℕ)) (first old new : List Count) → Sweeps 
 swept_on rows first old new h (unchanged _ same) = subst (Sweeps rows first) (sym same) h
 swept_on rows first old new h (one_more before _ number rest follows) = one_more before new number (swept_on rows first old before h rest) follows
 
+-- at the start
+pub not_swept : (rows : List (List ℕ)) (counts : List Count) → Sweeps rows counts counts
+not_swept rows counts = unchanged counts refl
+
+-- after one node was looked at
+pub one_swept : (rows : List (List ℕ)) (old new : List Count) (number : ℕ) (settled : Bool) → SettlesCount rows old new number settled → Sweeps rows old new
+one_swept rows old new number true k = one_more old new number (unchanged old refl) k
+one_swept rows old new number false k = unchanged new k.0
+
 -- a turn that finds something, and one that does not
 pub turn_on : (rows : List (List ℕ)) (first old new : List Count) (found : Bool) → found ≡ true → Sweeps rows first old →
     SettlesFrom rows old new 0 found → Sweeps rows first new

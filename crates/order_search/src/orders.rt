@@ -1,6 +1,6 @@
 //! How many routes lead from the first node to the ends.
 
-ghost use Rattle.std.specs.Prelude.{◌≡◌, ◌<◌, ℕ, length, true, IfOk};
+ghost use Rattle.std.specs.Prelude.{◌≡◌, ◌<◌, ℕ, length, true, IfOk, IfSome, OnOk};
 ghost use Rattle.std.specs.List.{All};
 ghost use Rattle.order_search.specs.Counting.{IsSettled, IsStuckFrom, SettlesCount, SettlesFrom, Sweeps, count_of as count_from, is_open_count as is_unknown, counted_orders, plus_count as sum_of, total_count as sum_over};
 ghost use Rattle.order_search.specs.declared.orders.Count.TheVariants as known;
@@ -126,6 +126,66 @@ fn settle(rows: &Rows<u32>, counts: &mut [Count], number: usize) -> bool
     true
 }
 
+/// The first of some nodes whose routes are not counted.
+fn first_open(counts: &[Count], row: &[u32]) -> Option<u32>
+    requires { All (λ to. to < length counts.now) row.now }
+    ensures { IfSome result (λ to. to < length counts.now) }
+{
+    for to in row {
+        if counts[*to as usize].is_open() {
+            return Some(*to);
+        }
+    }
+    None
+}
+
+/// Takes the node that waits last, and counts the routes from it; where those from a node to which one of its edges leads are not
+/// counted, both wait instead.
+fn settle_last(
+    rows: &Rows<u32>,
+    counts: &mut [Count],
+    waiting: &mut Vec<u32>,
+) -> Result<(), AllocError>
+    requires as_many { length counts.old ≡ length rows.now }
+    requires within { All (λ row. All (λ to. to < length rows.now) row) rows.now }
+    requires waiting { All (λ number. number < length rows.now) waiting.old.items }
+    ensures as_many { length counts.new ≡ length rows.now }
+    ensures waiting { All (λ number. number < length rows.now) waiting.new.items }
+    ensures swept { Sweeps rows.now counts.old counts.new }
+{
+    let Some(number) = waiting.pop() else {
+        return Ok(());
+    };
+    if let Some(to) = first_open(counts, rows.row(number as usize)) {
+        waiting.push(number)?;
+        waiting.push(to)?;
+        return Ok(());
+    }
+    settle(rows, counts, number as usize);
+    Ok(())
+}
+
+/// Counts the routes from the first node, and on the way to the ends those from each node that its paths pass: two steps a node, where
+/// no path comes back to a node. Where one does, not all are counted.
+fn settle_along_paths(
+    alloc: Global,
+    rows: &Rows<u32>,
+    counts: &mut [Count],
+) -> Result<(), AllocError>
+    requires some { 0 < length rows.now }
+    requires as_many { length counts.old ≡ length rows.now }
+    requires within { All (λ row. All (λ to. to < length rows.now) row) rows.now }
+    ensures as_many { length counts.new ≡ length rows.now }
+    ensures swept { Sweeps rows.now counts.old counts.new }
+{
+    let mut waiting = Vec::new(alloc);
+    waiting.push(0)?;
+    for _ in 0..rows.len().saturating_mul(2) {
+        settle_last(rows, counts, &mut waiting)?;
+    }
+    Ok(())
+}
+
 /// Goes through the nodes from the last to the first, and counts the routes where it can. Whether it counted any.
 fn settle_all(rows: &Rows<u32>, counts: &mut [Count]) -> bool
     requires as_many { length counts.old ≡ length rows.now }
@@ -139,8 +199,7 @@ fn settle_all(rows: &Rows<u32>, counts: &mut [Count]) -> bool
     found
 }
 
-/// Goes through the nodes until no more routes can be counted. Since most edges lead to nodes that were reached later, this takes
-/// few turns.
+/// Goes through the nodes until no more routes can be counted.
 fn settle_in_turns(rows: &Rows<u32>, counts: &mut [Count])
     requires as_many { length counts.old ≡ length rows.now }
     requires within { All (λ row. All (λ to. to < length rows.now) row) rows.now }
@@ -148,6 +207,19 @@ fn settle_in_turns(rows: &Rows<u32>, counts: &mut [Count])
     ensures stuck { IsStuckFrom rows.now counts.new 0 }
 {
     'turns: while settle_all(rows, counts) {}
+}
+
+/// Counts the routes from the nodes until no more can be counted: along the paths first, and then in turns what these leave.
+fn settle_nodes(alloc: Global, rows: &Rows<u32>, counts: &mut [Count]) -> Result<(), AllocError>
+    requires some { 0 < length rows.now }
+    requires as_many { length counts.old ≡ length rows.now }
+    requires within { All (λ row. All (λ to. to < length rows.now) row) rows.now }
+    ensures swept { OnOk result (Sweeps rows.now counts.old counts.new) }
+    ensures stuck { OnOk result (IsStuckFrom rows.now counts.new 0) }
+{
+    settle_along_paths(alloc, rows, counts)?;
+    settle_in_turns(rows, counts);
+    Ok(())
 }
 
 /// How many routes lead from the first node to the ends.
@@ -159,6 +231,6 @@ pub(crate) fn count_orders(alloc: Global, rows: &Rows<u32>) -> Result<Orders, Al
     let mut counts = Vec::new(alloc);
     counts.resize(rows.len(), Count::Open)?;
     let counts = counts.as_mut_slice();
-    settle_in_turns(rows, counts);
+    settle_nodes(alloc, rows, counts)?;
     Ok(counts[0].orders())
 }
