@@ -1,13 +1,13 @@
 -- The words that are kept of the stages are those of the state after a move was taken back.
-use Rattle.std.proofs.Common.{◌≡◌, ◌∙◌, ℕ, None, sym, ap, subst}
+use Rattle.std.proofs.Common.{◌≡◌, ◌∙◌, None, sym, ap, subst}
 use Rattle.cf_bind.specs.declared.moves.Move.{Move}
 use Rattle.cf_layout.specs.Layout.{Plan}
-use Rattle.cf_semantics.specs.moves.Bars.{bar, row_bar}
+use Rattle.cf_semantics.specs.moves.Bars.{row_bar}
 use Rattle.cf_semantics.specs.moves.Kept.{Kept, restored}
 use Rattle.cf_semantics.specs.moves.Moves.{moved}
 use Rattle.cf_semantics.specs.state.State.{State}
 use Rattle.cf_core.specs.Marks.{Within, marks_of, remarked, touched}
-use Rattle.cf_core.specs.Processors.{Processor, IsProcessor, in_state}
+use Rattle.cf_core.specs.Processors.{Processor, IsProcessor}
 use Rattle.cf_core.specs.Undo.{HasJustMade}
 use Rattle.cf_core.specs.declared.marks.Marks.{Marks}
 use Rattle.cf_core.specs.declared.touching.Touched.{Touched}

@@ -24,3 +24,4 @@ pub mod Widths
 pub mod OldOps
 pub mod Rides
 pub mod StillMarks
+pub mod Tabled

@@ -1,9 +1,8 @@
 -- A processor is as one that was opened exactly if nothing is in it, fetch runs, no value is cached, and the program has
 -- neither ended nor failed.
-use Rattle.std.proofs.Common.{◌≡◌, ◌≢◌, ℕ, zero, suc, List, [], ◌∷◌, All, Option, Some, None, Bool, true, false, map, length, refl, sym, ap, ◌∙◌, arith}
+use Rattle.std.proofs.Common.{◌≡◌, ℕ, zero, suc, List, [], ◌∷◌, All, Option, Some, None, Bool, true, false, map, length, refl, ap, ◌∙◌}
 use Rattle.std.specs.Prelude.{replicate, not, ◌&&◌, ◌||◌, IsTrue}
 use Rattle.std.specs.List.{list_any}
-use Rattle.std.proofs.lemmas.Bool.{not-false}
 use Rattle.std.proofs.lemmas.List.Elements.{All-head, All-tail}
 use Rattle.rv_machine.specs.Hart.{Hart}
 use Rattle.rv_inst.specs.declared.isa.Isa.{Isa}

@@ -1,12 +1,12 @@
 -- The cells of sidings that an allowed move writes are there.
-use Rattle.std.proofs.Common.{◌≡◌, ℕ, ◌+◌, ◌-◌, ◌<◌, ◌≤◌, List, Option, Some, None, length, refl, sym, subst, arith}
+use Rattle.std.proofs.Common.{◌≡◌, ℕ, ◌+◌, ◌<◌, ◌≤◌, List, Option, Some, None, length, refl, sym, subst, arith}
 use Rattle.std.specs.Prelude.{IfSome, slice_get}
 use Rattle.std.proofs.lemmas.Option.{slice_get_within}
 use Rattle.cf_bind.specs.declared.cell.Cell.{Cell}
 use Rattle.cf_bind.specs.declared.cell.Op.{Op}
-use Rattle.cf_bind.specs.declared.moves.Move.TheVariants.{Access, Launch, Recover, Slide}
+use Rattle.cf_bind.specs.declared.moves.Move.TheVariants.{Slide}
 use Rattle.cf_bind.specs.declared.passenger.Passenger.{Passenger}
-use Rattle.cf_layout.specs.Layout.{Plan, cells_of, siding_of}
+use Rattle.cf_layout.specs.Layout.{Plan, siding_of}
 use Rattle.cf_layout.proofs.Facts.{memory_alone, siding_found}
 use Rattle.mem_regions.specs.Access.{bounds_of}
 use Rattle.rv_inst.specs.Operands.{class_of}

@@ -1,5 +1,5 @@
 -- What was kept of a move has its place in the processor that has made it.
-use Rattle.std.proofs.Common.{◌≡◌, ◌∙◌, ℕ, zero, suc, ◌+◌, ◌-◌, ◌<◌, ◌≤◌, List, [], ◌∷◌, All, Option, Some, None, length, map, take, refl, sym, ap, subst, arith}
+use Rattle.std.proofs.Common.{◌≡◌, ◌∙◌, ℕ, zero, suc, ◌+◌, ◌-◌, ◌<◌, ◌≤◌, List, [], ◌∷◌, All, Option, Some, None, length, map, refl, sym, ap, subst, arith}
 use Rattle.std.specs.Prelude.{IfSome, slice_get, slice_index, slice_index_or}
 use Rattle.rv_inst.specs.declared.isa.Isa.{Isa}
 use Rattle.cf_bind.specs.declared.binding.Binding.{Binding}
@@ -10,8 +10,7 @@ use Rattle.cf_bind.specs.declared.moves.Move.TheVariants.{Issue, Emit, Climb, Fa
 use Rattle.cf_bind.specs.declared.passenger.Passenger.{Passenger}
 use Rattle.cf_layout.specs.Layout.{Plan}
 use Rattle.cf_passengers.specs.Facts.{IsBinding, IsPassenger, IsWritable}
-use Rattle.cf_semantics.specs.moves.Kept.{Kept, KeptCell, KeptLane, KeptOp, KeptRegister, kept, kept_cell, kept_cells, kept_lane, kept_op, kept_ops, kept_register, lane_back, last_place, restored, siding_there}
-use Rattle.cf_semantics.specs.moves.Kept as lane
+use Rattle.cf_semantics.specs.moves.Kept.{Kept, KeptCell, KeptOp, KeptRegister, kept, kept_cell, kept_cells, kept_op, kept_ops, kept_register, lane_back, last_place, restored, siding_there}
 use Rattle.cf_semantics.specs.state.Layouts.{isa_of, port}
 use Rattle.cf_semantics.specs.moves.Moves.{moved}
 use Rattle.cf_semantics.specs.state.Options.{on}
@@ -21,7 +20,7 @@ use Rattle.cf_stages.proofs.Parts.{stage-high, stage-low}
 use Rattle.theory_confluence.proofs.back.TakenBack.{state_back}
 use Rattle.cf_core.specs.Places.{CanReturn, Each, FitsLane, IsOldCell, IsOldOp}
 use Rattle.cf_core.specs.Processors.{Processor, IsProcessor, IsCellOfSet}
-use Rattle.cf_core.specs.Undo.{CanStand, HasJustMade, cell_kept, kept_by, lane_kept, list_of_few, op_kept, register_kept}
+use Rattle.cf_core.specs.Undo.{HasJustMade, cell_kept, kept_by, lane_kept, list_of_few, op_kept, register_kept}
 use Rattle.cf_core.specs.declared.undo.Few.{Few}
 use Rattle.cf_core.specs.declared.undo.Few.TheVariants.{Nothing, One, Two}
 use Rattle.cf_core.specs.declared.undo.OldCell.{OldCell}

@@ -1,5 +1,5 @@
 -- What holds of a stage by what stands there: no instruction, or one of a class with units or with a siding.
-use Rattle.std.proofs.Common.{◌≡◌, ◌∙◌, ℕ, List, Option, Some, None, Bool, true, false, refl, sym, ap}
+use Rattle.std.proofs.Common.{◌≡◌, ◌∙◌, ℕ, Option, Some, None, Bool, true, false, refl, sym, ap}
 use Rattle.std.specs.Prelude.{◌==◌, ◌&&◌, ◌||◌, not}
 use Rattle.cf_bind.specs.declared.cell.Cell.{Cell}
 use Rattle.cf_bind.specs.declared.moves.Bar.{Bar}
@@ -14,7 +14,6 @@ use Rattle.cf_semantics.specs.state.Options.{on, is_some}
 use Rattle.cf_semantics.specs.state.Passengers.{kind, missing}
 use Rattle.cf_semantics.specs.state.State.{State, cell_at}
 use Rattle.cf_stages.specs.Changes.{is_full_at, passenger_at}
-use Rattle.cf_passengers.specs.Waiting.{first_unknown}
 use Rattle.cf_core.specs.Marks.{row_allows, mark_at, no_mark}
 use Rattle.cf_core.specs.Masks.{owes_at, stops_there}
 use Rattle.cf_core.specs.Riders.{has_sources, is_idle, is_out, is_undone}

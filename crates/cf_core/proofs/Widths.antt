@@ -1,5 +1,5 @@
 -- The widths of accesses, as they are tested and as they are listed.
-use Rattle.std.proofs.Common.{◌≡◌, ◌⊎◌, ℕ, inl, inr, arith}
+use Rattle.std.proofs.Common.{ℕ, arith}
 use Rattle.std.specs.Prelude.{◌==◌, ◌||◌, IsTrue}
 use Rattle.std.proofs.lemmas.Bool.Decides.{nat_tests}
 use Rattle.mem_regions.specs.Access.{IsWidth}

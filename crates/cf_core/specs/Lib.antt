@@ -8,3 +8,4 @@ pub mod Marks
 pub mod Undo
 pub mod Places
 pub mod Riders
+pub mod Stations

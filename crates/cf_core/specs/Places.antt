@@ -4,7 +4,6 @@ use Rattle.mem_regions.specs.Memory.{Memory}
 use Rattle.cf_bind.specs.declared.cell.Cell.{Cell}
 use Rattle.cf_bind.specs.declared.cell.Op.{Op}
 use Rattle.cf_passengers.specs.Facts.{IsWritable}
-use Rattle.cf_semantics.specs.state.State.{State}
 use Rattle.cf_stages.specs.Changes.{IsCell}
 use Rattle.cf_core.specs.Processors.{Processor, in_state}
 use Rattle.cf_core.specs.declared.undo.Few.{Few}

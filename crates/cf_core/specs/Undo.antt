@@ -1,6 +1,6 @@
 -- What a processor keeps of a move so that it can be taken back, and when it can be ("Counterflow Pipeline Processor
 -- Architecture", 1994: each change is local, so little is kept of it).
-use Rattle.std.specs.Prelude.{◌≡◌, ◌≢◌, ℕ, ◌<◌, ◌≤◌, List, [], ◌∷◌, Option, Some, None, length, map, slice_get}
+use Rattle.std.specs.Prelude.{◌≡◌, ◌≢◌, ◌≤◌, List, [], ◌∷◌, Option, Some, None, length, map, slice_get}
 use Rattle.mem_regions.specs.Bytes.{le_bytes}
 use Rattle.cf_layout.specs.Layout.{Plan}
 use Rattle.cf_bind.specs.declared.moves.Move.{Move}

@@ -18,6 +18,7 @@ ghost use Rattle.cf_core.specs.Stepping.{MakesOrFails, StepsOrBarred, input_made
 use crate::fault::Fault;
 use crate::marks::Marks;
 use crate::processor::Processor;
+use crate::stations::stations_of;
 use crate::step::Step;
 use cf_bind::{Bar, Cell, End, Fetch, Move, Op};
 use cf_ends::Ends;
@@ -63,6 +64,7 @@ impl Core {
     pub fn new(alloc: Global, layout: Layout, machine: Machine) -> Result<Core, AllocError>
         ensures { IfOk result (λ core. core ≡ opened_processor layout machine) }
     {
+        let stations = stations_of(&layout);
         let stages = Stages::new(alloc, layout.stages())?;
         let sidings = Sidings::new(alloc, &layout)?;
         let parts = machine.into_parts();
@@ -70,6 +72,7 @@ impl Core {
         Ok(Core {
             processor: Processor {
                 layout,
+                stations,
                 stages,
                 sidings,
                 ends,

@@ -21,6 +21,7 @@ mod riding;
 mod rows;
 mod same;
 mod siding_ends;
+mod stations;
 mod step;
 mod touching;
 mod undo;

@@ -7,10 +7,12 @@ ghost use Rattle.cf_stages.specs.Changes.{passenger_at};
 ghost use Rattle.cf_core.specs.Marks.{mark_at, marked, Within, remarked as remarked_by};
 ghost use Rattle.cf_core.specs.Processors.{IsProcessor};
 ghost use Rattle.cf_core.specs.Riders.{StandsBeside, is_idle};
+ghost use Rattle.cf_core.specs.Stations.{IsSite, station_of};
 
 use crate::marks::{Marks, StageMark};
 use crate::processor::Processor;
 use crate::riding::is_idle;
+use crate::stations::{Site, Station};
 use crate::touching::Touched;
 use cf_bind::Passenger;
 use cf_passengers::kind;
@@ -19,41 +21,46 @@ use rv_inst::Class;
 impl Processor {
     /// The marks of the stage, whose instruction is of a class without a siding.
     #[inline(always)]
-    #[tactic(auto, using(crate::proofs::Rides::units), unfolding(crate::specs::Marks::mark_at))]
-    fn mark_at_units(&self, passenger: &Passenger, class: Class, i: u32) -> StageMark
+    #[tactic(auto, using(crate::proofs::Rides::units, crate::proofs::Tabled::fields), unfolding(crate::specs::Marks::mark_at))]
+    fn mark_at_units(&self, passenger: &Passenger, station: &Station, i: u32) -> StageMark
+        requires above { 0 < i }
+        requires within { i ≤ self.now.plan.stages }
         requires here { passenger_at self.now.state.cells i ≡ Some passenger.now }
-        requires class { class ≡ kind_of_passenger passenger.now }
-        requires units { siding_of self.now.plan class ≡ None }
+        requires station { station.now ≡ station_of self.now.plan (kind_of_passenger passenger.now) }
+        requires units { siding_of self.now.plan (kind_of_passenger passenger.now) ≡ None }
         ensures { result ≡ mark_at self.now.plan self.now.state i }
     {
         StageMark {
             owes: passenger.owes.is_some(),
-            stops: self.stops_at_units(passenger, class, i),
-            execute: self.executes(passenger, class, i),
+            stops: self.stops_at_units(passenger, station.last, i),
+            execute: self.executes(passenger, station.units, i),
             launch: false,
             recover: false,
         }
     }
 
-    /// The marks of the stage, whose instruction is of a class with a siding.
-    #[inline(always)]
-    #[tactic(auto, using(crate::proofs::Rides::owed), unfolding(crate::specs::Marks::mark_at))]
-    fn mark_at_siding(&self, passenger: &Passenger, class: Class, k: u32, i: u32) -> StageMark
+    /// The marks of the stage, whose instruction is of a class with this siding.
+    // It stays a call: most instructions are of a class with units.
+    #[inline(never)]
+    #[tactic(auto, using(crate::proofs::Rides::owed, crate::proofs::Tabled::fields), unfolding(crate::specs::Marks::mark_at))]
+    fn mark_at_siding(&self, passenger: &Passenger, class: Class, site: Site, i: u32) -> StageMark
         requires facts { IsProcessor self.now.plan self.now.state }
-        requires stands { StandsBeside self.now.plan self.now.state passenger.now class k i }
+        requires stands { StandsBeside self.now.plan self.now.state passenger.now class site.number i }
+        requires site { IsSite self.now.plan class site }
         ensures { result ≡ mark_at self.now.plan self.now.state i }
     {
         StageMark {
             owes: passenger.owes.is_some(),
-            stops: self.stops_at_siding(passenger, k, i),
-            execute: self.executes(passenger, class, i),
-            launch: self.launches(passenger, class, k, i),
-            recover: self.recovers(passenger, k, i),
+            stops: self.stops_at_siding(passenger, site, i),
+            execute: self.executes(passenger, self.station(class).units, i),
+            launch: self.launches(passenger, class, site, i),
+            recover: self.recovers(passenger, site, i),
         }
     }
 
     /// The marks of the stage in which this instruction stands.
-    #[inline(never)]
+    #[inline(always)]
+    #[tactic(auto, using(crate::proofs::Tabled::sites))]
     pub(crate) fn mark_of(&self, passenger: &Passenger, i: u32) -> StageMark
         requires above { 0 < i }
         requires within { i ≤ self.now.plan.stages }
@@ -62,9 +69,10 @@ impl Processor {
         ensures { result ≡ mark_at self.now.plan self.now.state i }
     {
         let class = kind(passenger);
-        match self.layout.siding_of(class) {
-            Some(k) => self.mark_at_siding(passenger, class, k, i),
-            None => self.mark_at_units(passenger, class, i),
+        let station = self.station(class);
+        match station.siding {
+            Some(site) => self.mark_at_siding(passenger, class, site, i),
+            None => self.mark_at_units(passenger, station, i),
         }
     }
 

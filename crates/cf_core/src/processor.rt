@@ -2,6 +2,7 @@
 
 ghost use Rattle.cf_layout.specs.Accepted.{IsAccepted};
 
+use crate::stations::Station;
 use cf_bind::End;
 use cf_ends::Ends;
 use cf_layout::Layout;
@@ -11,9 +12,12 @@ use mem_regions::Regions;
 use std::marker::Model;
 
 /// A processor: its layout, and its state in parts.
+///
+/// Beside the layout it has the table of where each class is computed, made from the layout once.
 #[derive(Drop)]
 pub(crate) struct Processor {
     pub(crate) layout: Layout,
+    pub(crate) stations: [Station; 11],
     pub(crate) stages: Stages,
     pub(crate) sidings: Sidings,
     pub(crate) ends: Ends,
@@ -26,12 +30,13 @@ pub(crate) struct Processor {
 impl Model for Processor {
     ghost use Rattle.std.specs.Prelude.{◌≡◌};
     ghost use Rattle.cf_core.specs.Processors.{Processor as Whole};
+    ghost use Rattle.cf_core.specs.Stations.{stations_of};
 
     ghost Value = { Whole };
 
     ghost view = { λ p. record { plan = p.layout; state = record { cells = p.stages; sidings = p.sidings; lane = p.ends.lane; fetch = p.ends.fetch; cache = p.ends.cache; regs = p.ends.regs; mem = p.memory; retired = p.retired; ending = p.ending; failed = p.failed } } };
 
-    ghost invariant = { λ p. p.ends.room ≡ p.layout.lane };
+    ghost invariant = { λ p. (p.ends.room ≡ p.layout.lane) × (p.stations ≡ stations_of p.layout) };
 }
 
 impl Processor {

@@ -1,5 +1,5 @@
 -- Whether an instruction can be issued is the same for all guesses that it may have.
-use Rattle.std.proofs.Common.{◌≡◌, ◌∙◌, ℕ, ◌+◌, List, Option, Some, None, Bool, true, false, refl, sym, ap, length, [], ◌∷◌, ◌<◌, ◌≤◌, arith}
+use Rattle.std.proofs.Common.{◌≡◌, ◌∙◌, ℕ, ◌+◌, List, Option, Some, None, Bool, true, false, refl, sym, length, [], ◌∷◌, ◌<◌, ◌≤◌, arith}
 use Rattle.std.specs.Prelude.{◌&&◌, not, nat_lt}
 use Rattle.std.proofs.lemmas.Bool.Decides.{nat_tests}
 use Rattle.std.proofs.Math.Bool.{and-true, and-false}
@@ -7,9 +7,7 @@ use Rattle.rv_inst.specs.declared.classes.Class.{Class}
 use Rattle.rv_inst.specs.declared.classes.Class.TheVariants.{Free}
 use Rattle.rv_inst.specs.declared.instruction.Instr.{Instr}
 use Rattle.cf_bind.specs.declared.cell.Cell.{Cell}
-use Rattle.cf_bind.specs.declared.moves.Bar.{Bar}
-use Rattle.cf_bind.specs.declared.moves.Bar.TheVariants.{Occupied, BadGuess, LaneFull, FetchWaiting, NoSuchSite}
-use Rattle.cf_bind.specs.declared.moves.Move.{Move}
+use Rattle.cf_bind.specs.declared.moves.Bar.TheVariants.{Occupied, BadGuess, LaneFull}
 use Rattle.cf_bind.specs.declared.moves.Move.TheVariants.{Issue}
 use Rattle.cf_bind.specs.declared.packet.Fetch.{Fetch}
 use Rattle.cf_bind.specs.declared.packet.Fetch.TheVariants.{Running, Waiting}
@@ -18,7 +16,7 @@ use Rattle.cf_bind.specs.declared.passenger.Guess.{Guess}
 use Rattle.cf_bind.specs.declared.passenger.Guess.TheVariants.{Next, Taken, Wait, To}
 use Rattle.cf_bind.specs.declared.passenger.Passenger.{Passenger}
 use Rattle.cf_layout.specs.Layout.{Plan}
-use Rattle.cf_semantics.specs.moves.Bars.{first, issue_bar, may_guess, running}
+use Rattle.cf_semantics.specs.moves.Bars.{first, issue_bar, may_guess}
 use Rattle.cf_semantics.specs.moves.Instructions.{Fetched, Got, Bad, fetched, free_trap, kind_of}
 use Rattle.cf_semantics.specs.state.Layouts.{isa_of}
 use Rattle.cf_semantics.specs.state.Options.{on, is_some}
@@ -27,7 +25,6 @@ use Rattle.cf_semantics.specs.state.State.{State, cell_at}
 use Rattle.cf_stages.specs.Changes.{passenger_at}
 use Rattle.cf_core.specs.Ends.{issued_at}
 use Rattle.cf_core.specs.Marks.{row_allows}
-use Rattle.cf_core.specs.Masks.{is_allowed}
 use Rattle.cf_core.specs.Processors.{IsProcessor}
 
 -- the passenger with another guess

@@ -1,20 +1,23 @@
 //! Climb: the instruction of a stage moves one stage up.
 
-ghost use Rattle.std.specs.Prelude.{◌≡◌, None, Some, ◌<◌, length};
+ghost use Rattle.std.specs.Prelude.{◌≡◌, None, Some};
 ghost use Rattle.cf_bind.specs.declared.moves.Move.TheVariants as mv;
-ghost use Rattle.cf_layout.specs.Layout.{siding_of};
+ghost use Rattle.cf_layout.specs.Layout.{last_stage, siding_of};
 ghost use Rattle.cf_semantics.specs.moves.Bars.{row_bar};
 ghost use Rattle.cf_semantics.specs.state.Passengers.{kind as kind_of_passenger};
 ghost use Rattle.cf_stages.specs.Changes.{passenger_at};
 ghost use Rattle.cf_core.specs.Masks.{stops_there};
 ghost use Rattle.cf_core.specs.Processors.{IsProcessor, after_move};
+ghost use Rattle.cf_core.specs.Stations.{IsSite};
 
+use crate::moves::launch::is_to_launch;
+use crate::moves::recover::is_to_recover;
 use crate::processor::Processor;
 use crate::riding::is_undone;
 use crate::rows::first_of;
+use crate::stations::Site;
 use cf_bind::{Bar, Passenger};
 use cf_passengers::stops_at;
-use rv_inst::Class;
 
 impl Processor {
     /// The first bar of Climb from this stage.
@@ -41,25 +44,24 @@ impl Processor {
     /// Whether the instruction must not climb on yet, because this is the last stage with a unit of its class. Its class has no siding.
     #[inline(always)]
     #[tactic(auto, using(crate::proofs::Rides::stops_units))]
-    pub(crate) fn stops_at_units(&self, passenger: &Passenger, class: Class, i: u32) -> bool
+    pub(crate) fn stops_at_units(&self, passenger: &Passenger, last: u32, i: u32) -> bool
         requires here { passenger_at self.now.state.cells i ≡ Some passenger.now }
-        requires class { class ≡ kind_of_passenger passenger.now }
-        requires units { siding_of self.now.plan class ≡ None }
+        requires units { siding_of self.now.plan (kind_of_passenger passenger.now) ≡ None }
+        requires last { last ≡ last_stage self.now.plan (kind_of_passenger passenger.now) }
         ensures { result ≡ stops_there self.now.plan self.now.state i }
     {
-        is_undone(passenger) && !passenger.launched && self.layout.last_unit_stage(class) == i
+        is_undone(passenger) && !passenger.launched && last == i
     }
 
-    /// Whether the instruction must not climb on yet, because its siding launches or recovers here. Its class has a siding.
+    /// Whether the instruction must not climb on yet, because its siding launches or recovers here.
     #[inline(always)]
     #[tactic(auto, using(crate::proofs::Rides::stops_siding))]
-    pub(crate) fn stops_at_siding(&self, passenger: &Passenger, k: u32, i: u32) -> bool
+    pub(crate) fn stops_at_siding(&self, passenger: &Passenger, site: Site, i: u32) -> bool
         requires here { passenger_at self.now.state.cells i ≡ Some passenger.now }
-        requires siding { siding_of self.now.plan (kind_of_passenger passenger.now) ≡ Some k }
-        requires inside { k < length self.now.plan.sidings }
+        requires site { IsSite self.now.plan (kind_of_passenger passenger.now) site }
         ensures { result ≡ stops_there self.now.plan self.now.state i }
     {
-        self.is_to_recover(passenger, k, i) || self.is_to_launch(passenger, k, i)
+        is_to_recover(passenger, site, i) || is_to_launch(passenger, site, i)
     }
 
     /// The instruction of the stage moves one stage up.

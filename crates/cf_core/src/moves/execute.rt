@@ -1,10 +1,12 @@
 //! Execute: a unit of a stage executes the instruction there.
 
-ghost use Rattle.std.specs.Prelude.{◌≡◌, Some, None};
+ghost use Rattle.std.specs.Prelude.{◌≡◌, ◌<◌, ◌≤◌, Some, None};
 ghost use Rattle.cf_bind.specs.declared.moves.Move.TheVariants as mv;
+ghost use Rattle.cf_layout.specs.Layout.{unit_at};
 ghost use Rattle.cf_semantics.specs.moves.Bars.{row_bar};
 ghost use Rattle.cf_semantics.specs.state.Passengers.{kind as kind_of_passenger};
 ghost use Rattle.cf_stages.specs.Changes.{passenger_at};
+ghost use Rattle.cf_stages.specs.Words.{word_of};
 ghost use Rattle.cf_core.specs.Marks.{row_allows};
 ghost use Rattle.cf_core.specs.Processors.{IsProcessor, after_move};
 
@@ -13,7 +15,7 @@ use crate::riding::{has_sources, is_undone};
 use crate::rows::{first_of, source_bar};
 use cf_bind::{Bar, Passenger};
 use cf_passengers::{finish, kind};
-use rv_inst::Class;
+use cf_stages::has_bit;
 
 impl Processor {
     /// The first bar of Execute in this stage.
@@ -37,15 +39,18 @@ impl Processor {
         source_bar(&passenger)
     }
 
-    /// Whether no test in the row of Execute holds.
+    /// Whether no test in the row of Execute holds, given the word of the stages with units of the class.
     #[inline(always)]
-    #[tactic(auto, using(crate::proofs::Rides::execute_free))]
-    pub(crate) fn executes(&self, passenger: &Passenger, class: Class, i: u32) -> bool
+    #[tactic(auto, using(crate::proofs::Rides::execute_free, crate::proofs::Tabled::unit_bits))]
+    pub(crate) fn executes(&self, passenger: &Passenger, units: u32, i: u32) -> bool
+        requires above { 0 < i }
+        requires within { i ≤ self.now.plan.stages }
         requires here { passenger_at self.now.state.cells i ≡ Some passenger.now }
-        requires class { class ≡ kind_of_passenger passenger.now }
+        requires units { units ≡ word_of (unit_at self.now.plan (kind_of_passenger passenger.now)) self.now.plan.stages }
         ensures { result ≡ row_allows self.now.plan self.now.state (mv.Execute i) }
     {
-        is_undone(passenger) && self.layout.unit_at(class, i) && has_sources(passenger)
+        self.know_stages();
+        is_undone(passenger) && has_bit(units, i) && has_sources(passenger)
     }
 
     /// A unit of the stage executes its instruction.

@@ -2,7 +2,7 @@
 
 ghost use Rattle.std.specs.Prelude.{◌≡◌, ◌==◌, ◌<◌, ◌&&◌, length, not, Some, ◌≤◌, None};
 ghost use Rattle.cf_bind.specs.declared.moves.Move.TheVariants as mv;
-ghost use Rattle.cf_layout.specs.Layout.{launch_stage, siding_of};
+ghost use Rattle.cf_layout.specs.Layout.{siding_of};
 ghost use Rattle.cf_semantics.specs.moves.Bars.{entry_bar as bar_of_entry, row_bar, entry_bar};
 ghost use Rattle.cf_semantics.specs.moves.Instructions.{is_memory as loads_or_stores};
 ghost use Rattle.cf_semantics.specs.state.Options.{is_some};
@@ -11,14 +11,24 @@ ghost use Rattle.cf_stages.specs.Changes.{is_full_at};
 ghost use Rattle.cf_core.specs.Marks.{row_allows};
 ghost use Rattle.cf_core.specs.Processors.{IsProcessor, after_move};
 ghost use Rattle.cf_core.specs.Riders.{is_undone as is_not_done, StandsBeside};
+ghost use Rattle.cf_core.specs.Stations.{IsSite};
 
 use crate::processor::Processor;
 use crate::riding::{has_sources, is_undone};
 use crate::rows::first_of;
 use crate::siding_ends::is_memory;
+use crate::stations::Site;
 use cf_bind::{Bar, Passenger};
 use cf_passengers::{first_missing, kind, launch_trap, launches, operation, trapped};
 use rv_inst::Class;
+
+/// Whether the siding launches from this stage, and the instruction is yet to be launched.
+#[inline(always)]
+pub(crate) fn is_to_launch(passenger: &Passenger, site: Site, i: u32) -> bool
+    ensures { result ≡ (is_not_done passenger.now && (not passenger.now.launched && (site.launch == i))) }
+{
+    is_undone(passenger) && !passenger.launched && site.launch == i
+}
 
 impl Processor {
     /// The last test in the row of Launch: whether the first cell of the siding is free.
@@ -62,15 +72,6 @@ impl Processor {
         self.entry_bar(&passenger)
     }
 
-    /// Whether the siding launches from this stage, and the instruction is yet to be launched.
-    #[inline(always)]
-    pub(crate) fn is_to_launch(&self, passenger: &Passenger, k: u32, i: u32) -> bool
-        requires { k < length self.now.plan.sidings }
-        ensures { result ≡ (is_not_done passenger.now && (not passenger.now.launched && (launch_stage self.now.plan k == i))) }
-    {
-        is_undone(passenger) && !passenger.launched && self.layout.launch_stage(k) == i
-    }
-
     /// Whether the first cell of the siding is free.
     #[inline(always)]
     #[tactic(auto, using(crate::proofs::Ported::ported))]
@@ -93,18 +94,19 @@ impl Processor {
         is_memory(class) && self.stages.is_full(i)
     }
 
-    /// Whether no test in the row of Launch holds. The class of the instruction has a siding.
+    /// Whether no test in the row of Launch holds. The siding is that of the class of the instruction.
     #[inline(always)]
     #[tactic(auto, using(crate::proofs::Rides::launch_free))]
-    pub(crate) fn launches(&self, passenger: &Passenger, class: Class, k: u32, i: u32) -> bool
+    pub(crate) fn launches(&self, passenger: &Passenger, class: Class, site: Site, i: u32) -> bool
         requires facts { IsProcessor self.now.plan self.now.state }
-        requires stands { StandsBeside self.now.plan self.now.state passenger.now class k i }
+        requires stands { StandsBeside self.now.plan self.now.state passenger.now class site.number i }
+        requires site { IsSite self.now.plan class site }
         ensures { result ≡ row_allows self.now.plan self.now.state (mv.Launch i) }
     {
-        self.is_to_launch(passenger, k, i)
+        is_to_launch(passenger, site, i)
             && !self.has_to_meet(class, i)
             && has_sources(passenger)
-            && self.has_room(passenger, k)
+            && self.has_room(passenger, site.number)
     }
 
     /// The instruction of the stage launches its operation. A load or a store that memory does not permit

@@ -1,21 +1,30 @@
 //! Recover: the instruction of a stage takes its operation out of the siding.
 
-ghost use Rattle.std.specs.Prelude.{◌≡◌, ◌==◌, ◌<◌, ◌&&◌, length, Some, None};
+ghost use Rattle.std.specs.Prelude.{◌≡◌, ◌==◌, ◌&&◌, Some, None};
 ghost use Rattle.cf_bind.specs.declared.moves.Move.TheVariants as mv;
-ghost use Rattle.cf_layout.specs.Layout.{recover_stage, siding_of};
 ghost use Rattle.cf_semantics.specs.moves.Bars.{exit_op_bar as bar_of_return, row_bar};
 ghost use Rattle.cf_semantics.specs.state.Passengers.{kind as kind_of_passenger};
 ghost use Rattle.cf_stages.specs.Changes.{passenger_at};
 ghost use Rattle.cf_core.specs.Marks.{row_allows};
 ghost use Rattle.cf_core.specs.Processors.{IsProcessor, after_move};
 ghost use Rattle.cf_core.specs.Riders.{is_out as is_beside};
+ghost use Rattle.cf_core.specs.Stations.{IsSite};
 
 use crate::processor::Processor;
 use crate::riding::is_out;
 use crate::rows::first_of;
 use crate::siding_ends::is_memory;
+use crate::stations::Site;
 use cf_bind::{Bar, Passenger};
 use cf_passengers::{back_in, kind, recovers};
+
+/// Whether the siding recovers at this stage, and the operation of the instruction is yet to come back.
+#[inline(always)]
+pub(crate) fn is_to_recover(passenger: &Passenger, site: Site, i: u32) -> bool
+    ensures { result ≡ (is_beside passenger.now && (site.recover == i)) }
+{
+    is_out(passenger) && site.recover == i
+}
 
 impl Processor {
     /// The last tests in the row of Recover: whether the operation is at the end of its siding, and answered.
@@ -55,26 +64,16 @@ impl Processor {
         self.return_bar(&passenger)
     }
 
-    /// Whether the siding recovers at this stage, and the operation of the instruction is yet to come back.
-    #[inline(always)]
-    pub(crate) fn is_to_recover(&self, passenger: &Passenger, k: u32, i: u32) -> bool
-        requires { k < length self.now.plan.sidings }
-        ensures { result ≡ (is_beside passenger.now && (recover_stage self.now.plan k == i)) }
-    {
-        is_out(passenger) && self.layout.recover_stage(k) == i
-    }
-
-    /// Whether no test in the row of Recover holds. The class of the instruction has a siding.
+    /// Whether no test in the row of Recover holds. The siding is that of the class of the instruction.
     #[inline(always)]
     #[tactic(auto, using(crate::proofs::Rides::recover_free))]
-    pub(crate) fn recovers(&self, passenger: &Passenger, k: u32, i: u32) -> bool
+    pub(crate) fn recovers(&self, passenger: &Passenger, site: Site, i: u32) -> bool
         requires facts { IsProcessor self.now.plan self.now.state }
         requires here { passenger_at self.now.state.cells i ≡ Some passenger.now }
-        requires siding { siding_of self.now.plan (kind_of_passenger passenger.now) ≡ Some k }
-        requires inside { k < length self.now.plan.sidings }
+        requires site { IsSite self.now.plan (kind_of_passenger passenger.now) site }
         ensures { result ≡ row_allows self.now.plan self.now.state (mv.Recover i) }
     {
-        self.is_to_recover(passenger, k, i) && self.return_bar(passenger).is_none()
+        is_to_recover(passenger, site, i) && self.return_bar(passenger).is_none()
     }
 
     /// The instruction of the stage takes its operation out of the siding. A live one finishes.

@@ -1,5 +1,5 @@
 -- The lane has room for the requests of the instruction, or it has not.
-use Rattle.std.proofs.Common.{◌≡◌, ◌+◌, ◌<◌, ◌≤◌, ◌∙◌, ap, length, arith}
+use Rattle.std.proofs.Common.{◌+◌, ◌<◌, ◌≤◌, ◌∙◌, ap, length, arith}
 use Rattle.cf_bind.specs.declared.passenger.Guess.TheVariants as guess
 use Rattle.cf_semantics.specs.state.Passengers.{requests}
 use Rattle.cf_core.specs.Processors.{Processor}
