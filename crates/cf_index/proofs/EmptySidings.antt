@@ -139,14 +139,18 @@ slides_off q k (siding ∷ sidings) off =
 pub no_slides : (plan : Plan) (s : State) → ((k : ℕ) → list_any is_some (siding_at s k) ≡ false) → filter (is_allowed plan s) (slides_from 0 plan.sidings) ≡ []
 no_slides plan s none = slides_off (is_allowed plan s) 0 plan.sidings (λ k c. slide_off plan s k c (none k))
 
+pub no_leaving : (plan : Plan) (s : State) → ((k : ℕ) → list_any is_some (siding_at s k) ≡ false) →
+    filter (is_allowed plan s) (all_leaving plan) ≡ filter (is_allowed plan s) (Leave ∷ Exit ∷ Serve ∷ [])
+no_leaving plan s none =
+    let q = is_allowed plan s in
+    let ends = Leave ∷ Exit ∷ Serve ∷ [] in
+    let recovers : filter q (at_stages plan Recover ++ ends) ≡ filter q ends = filter-append q (at_stages plan Recover) ends
+    ∙ ap (λ (l : List Move). l ++ filter q ends) (mapped_off q Recover (counted_from 1 plan.stages) (λ i. recover_off plan s i none)) in
+    rw (access_off plan s (none (port plan))) recovers
+
 pub idle_outward : (plan : Plan) (s : State) (r : Rank) → ((k : ℕ) → list_any is_some (siding_at s k) ≡ false) →
     find (is_past r) (from_leave plan s) ≡ find (is_past r) (outward_on plan s)
 unfolding from_leave
 idle_outward plan s r none =
-    let q = is_allowed plan s in
-    let ends = Leave ∷ Exit ∷ Serve ∷ [] in
-    let slides : filter q (slides_from 0 plan.sidings) ≡ [] = slides_off q 0 plan.sidings (λ k c. slide_off plan s k c (none k)) in
-    let recovers : filter q (at_stages plan Recover ++ ends) ≡ filter q ends = filter-append q (at_stages plan Recover) ends
-    ∙ ap (λ (l : List Move). l ++ filter q ends) (mapped_off q Recover (counted_from 1 plan.stages) (λ i. recover_off plan s i none)) in
-    let leaves : filter q (all_leaving plan) ≡ filter q ends = rw (access_off plan s (none (port plan))) recovers in
-    ap (find (is_past r)) (sym leaves) ∙ ap (λ (l : List Move). find (is_past r) (l ++ filter q (all_leaving plan))) (sym slides)
+    ap (find (is_past r)) (sym (no_leaving plan s none))
+    ∙ ap (λ (l : List Move). find (is_past r) (l ++ filter (is_allowed plan s) (all_leaving plan))) (sym (no_slides plan s none))

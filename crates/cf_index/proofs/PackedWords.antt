@@ -4,7 +4,9 @@ use Rattle.std.specs.Prelude.{◌&&◌, filter, slice_get, if◌then◌else◌}
 use mir.Val.{bool_byte}
 use Rattle.std.proofs.Math.Nat.{pow-le-pow_right}
 use Rattle.std.proofs.lemmas.Bool.Decides.{nat_tests}
+use Rattle.std.specs.List.{list_any}
 use Rattle.std.proofs.lemmas.List.{length-map, map-append}
+use Rattle.std.proofs.lemmas.List.Elements.{filter-append}
 use Rattle.std.proofs.lemmas.Option.{slice_get-map}
 use Rattle.run_options.specs.declared.guess_rule.GuessRule.{GuessRule}
 use Rattle.cf_layout.specs.Layout.{Plan}
@@ -12,20 +14,22 @@ use Rattle.cf_layout.specs.Words.{has_bit}
 use Rattle.cf_bind.specs.declared.passenger.Guess.TheVariants.{Next, Taken, Wait}
 use Rattle.cf_bind.specs.declared.moves.Move.{Move}
 use Rattle.cf_bind.specs.declared.moves.Move.TheVariants.{Issue, Emit, Climb, Fall, Meet, Execute, Send, Launch, Access, Recover, Leave, Exit, Serve}
-use Rattle.cf_semantics.specs.moves.Candidates.{counted_from, held_back, other_moves, slides_from}
-use Rattle.cf_semantics.specs.state.State.{State}
+use Rattle.cf_semantics.specs.moves.Candidates.{at_stages, counted_from, held_back, other_moves, slides_from}
+use Rattle.cf_semantics.specs.state.Options.{is_some}
+use Rattle.cf_semantics.specs.state.State.{State, siding_at}
 use Rattle.cf_stages.proofs.Bits.{word-lt}
 use Rattle.cf_core.specs.declared.masks.Masks.{Masks}
 use Rattle.cf_core.specs.Masks.{masks_of}
 use Rattle.cf_index.specs.declared.passing.Passing.{Passing}
-use Rattle.cf_index.specs.declared.leaving.Leaving.{Leaving}
-use Rattle.cf_index.specs.Allowed.{all_leaving, all_passing, allowed_others, is_allowed, kept_issues, may_issue, passing_of, withheld, word_allowed}
+use Rattle.cf_index.specs.Allowed.{HasStages, all_leaving, all_passing, allowed_others, is_allowed, kept_issues, may_issue, passing_of, withheld, word_allowed}
 use Rattle.cf_index.specs.GuessRules.{guided, keeps_move}
-use Rattle.cf_index.specs.Listed.{at_word, flagged, leaving_moves, passing_moves, slides_of}
+use Rattle.cf_index.specs.Listed.{at_word, flagged, passing_moves, slides_of}
 use Rattle.cf_index.specs.Packed.{FitsEight, IsPackable, packed_at, packed_from, packed_moves}
 use Rattle.cf_index.specs.Places.{set_places}
 use Rattle.cf_index.proofs.AllowedWords.{passing-moves}
 use Rattle.cf_index.proofs.Counted.{map_choice}
+use Rattle.cf_index.proofs.EmptySidings.{no_leaving}
+use Rattle.cf_index.proofs.Filled.{stages_chosen}
 use Rattle.cf_index.proofs.Firsts.{guided_others, guided_parts}
 use Rattle.cf_index.proofs.Guided.{three-flagged}
 use Rattle.cf_index.proofs.Parts.{slides_of-zero}
@@ -168,19 +172,6 @@ passing_joined p rest fits =
     behind : (xs : List Move) {ys zs : List Move} → ys ≡ zs → xs ++ ys ≡ xs ++ zs
     behind xs e = ap (λ (l : List Move). xs ++ l) e
 
--- the bits of the moves by which something leaves
-pub leaving_joined : (l : Leaving) → l.recover < 256 →
-    packed_from 52 12 (bool_byte l.access + 2 * (l.recover + 256 * (bool_byte l.leave + 2 * (bool_byte l.exit + 2 * bool_byte l.serve)))) ≡ leaving_moves l
-unfolding leaving_moves
-leaving_joined l small =
-    flag_joined Access 52 11 l.access _ one_at.4 ∙ behind (flagged l.access Access) (
-    eight_joined Recover 53 3 l.recover _ recover_at small ∙ behind (at_word Recover l.recover) (
-    flag_joined Leave 61 2 l.leave _ one_at.5 ∙ behind (flagged l.leave Leave) (
-    flag_joined Exit 62 1 l.exit _ one_at.6 ∙ behind (flagged l.exit Exit) (flag_bit 63 l.serve Serve one_at.7))))
-  where
-    behind : (xs : List Move) {ys zs : List Move} → ys ≡ zs → xs ++ ys ≡ xs ++ zs
-    behind xs e = ap (λ (l : List Move). xs ++ l) e
-
 -- Emit, and the bits behind it
 pub emit_joined : (f : Bool) (rest : ℕ) → packed_from 3 61 (bool_byte f + 2 * rest) ≡ flagged f Emit ++ packed_from 4 60 rest
 emit_joined f rest = flag_joined Emit 3 60 f rest one_at.3
@@ -236,18 +227,47 @@ issues_kept rule plan s n t w next taken wait =
     let e = three-flagged (keeps_move rule plan s) (is_allowed plan s) n t w next taken wait in
     rw append-nil at e
 
-flag_filter : (p : Move → Bool) (b : Bool) (mv : Move) → b ≡ p mv → flagged b mv ≡ filter p (mv ∷ [])
-flag_filter p true mv e = rw (← e) refl
-flag_filter p false mv e = rw (← e) refl
+flag_step : (p : Move → Bool) (b : Bool) (mv : Move) (xs ys : List Move) → b ≡ p mv → xs ≡ filter p ys → flagged b mv ++ xs ≡ filter p (mv ∷ ys)
+flag_step p true mv xs ys e f = rw (← e) (ap (λ (l : List Move). mv ∷ l) f)
+flag_step p false mv xs ys e f = rw (← e) f
 
-pub others_joined : (plan : Plan) (s : State) (emit : Bool) (p : Passing) (l : Leaving) (rest : ℕ) (passes : ℕ) → IsPackable plan s →
-    emit ≡ is_allowed plan s Emit → p ≡ passing_of plan s → leaving_moves l ≡ filter (is_allowed plan s) (all_leaving plan) →
-    packed_from 52 12 rest ≡ leaving_moves l → packed_from 4 60 passes ≡ passing_moves p ++ packed_from 52 12 rest →
-    flagged emit Emit ++ packed_from 4 60 passes ≡ allowed_others plan s
-others_joined plan s emit p l rest passes small emits words leaves bits all =
+flag_alone : (p : Move → Bool) (b : Bool) (mv : Move) → b ≡ p mv → flagged b mv ≡ filter p (mv ∷ [])
+flag_alone p true mv e = rw (← e) refl
+flag_alone p false mv e = rw (← e) refl
+
+-- Leave, Exit and Serve
+pub ends_joined : (plan : Plan) (s : State) (leave exit serve : Bool) → leave ≡ is_allowed plan s Leave → exit ≡ is_allowed plan s Exit →
+    serve ≡ is_allowed plan s Serve → packed_from 61 3 (bool_byte leave + 2 * (bool_byte exit + 2 * bool_byte serve))
+    ≡ filter (is_allowed plan s) (Leave ∷ Exit ∷ Serve ∷ [])
+ends_joined plan s leave exit serve leaves exits serves =
+    flag_joined Leave 61 2 leave _ one_at.5 ∙ flag_step (is_allowed plan s) leave Leave _ (Exit ∷ Serve ∷ []) leaves (
+    flag_joined Exit 62 1 exit _ one_at.6 ∙ flag_step (is_allowed plan s) exit Exit _ (Serve ∷ []) exits (
+    flag_bit 63 serve Serve one_at.7 ∙ flag_alone (is_allowed plan s) serve Serve serves))
+
+-- and Access and Recover before them
+pub leaving_joined : (plan : Plan) (s : State) (access : Bool) (recover ends : ℕ) → plan.stages ≤ 32 → recover < 256 → access ≡ is_allowed plan s Access →
+    HasStages plan s Recover recover → packed_from 61 3 ends ≡ filter (is_allowed plan s) (Leave ∷ Exit ∷ Serve ∷ []) →
+    packed_from 52 12 (bool_byte access + 2 * (recover + 256 * ends)) ≡ filter (is_allowed plan s) (all_leaving plan)
+leaving_joined plan s access recover ends few small accesses recovers e =
+    let q = is_allowed plan s in
+    let last = Leave ∷ Exit ∷ Serve ∷ [] in
+    flag_joined Access 52 11 access _ one_at.4 ∙ flag_step q access Access _ (at_stages plan Recover ++ last) accesses (
+    eight_joined Recover 53 3 recover ends recover_at small ∙ rw (stages_chosen plan s Recover recover few recovers, e)
+    (sym (filter-append q (at_stages plan Recover) last)))
+
+-- where the sidings are empty, neither is there
+pub idle_joined : (plan : Plan) (s : State) (ends : ℕ) → ((k : ℕ) → list_any is_some (siding_at s k) ≡ false) →
+    packed_from 61 3 ends ≡ filter (is_allowed plan s) (Leave ∷ Exit ∷ Serve ∷ []) → packed_from 52 12 (512 * ends) ≡ filter (is_allowed plan s) (all_leaving plan)
+idle_joined plan s ends none e =
+    joined 52 9 3 0 ends (512 * ends) (omega arith) (omega arith) ∙ rw (from_none 52 9) e ∙ sym (no_leaving plan s none)
+
+pub others_joined : (plan : Plan) (s : State) (emit : Bool) (p : Passing) (rest passes : ℕ) → IsPackable plan s →
+    emit ≡ is_allowed plan s Emit → p ≡ passing_of plan s → packed_from 52 12 rest ≡ filter (is_allowed plan s) (all_leaving plan) →
+    packed_from 4 60 passes ≡ passing_moves p ++ packed_from 52 12 rest → flagged emit Emit ++ packed_from 4 60 passes ≡ allowed_others plan s
+others_joined plan s emit p rest passes small emits words leaves all =
     let few : plan.stages ≤ 32 = omega (arith, small.stages) in
     let passed = ap passing_moves words ∙ passing-moves plan s few in
-    rw (all, bits, leaves, passed, flag_filter (is_allowed plan s) emit Emit emits, small.slides) refl
+    rw (all, leaves, passed, flag_alone (is_allowed plan s) emit Emit emits, small.slides) refl
 
 pub no_slide : (w : ℕ) → nat_eq w 0 ≡ true → slides_of w ≡ []
 no_slide w none = let e : w ≡ 0 = grind (arith, nat_tests) in rw e slides_of-zero

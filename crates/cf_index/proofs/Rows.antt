@@ -8,11 +8,11 @@ use Rattle.cf_bind.specs.declared.cell.Cell.{Cell}
 use Rattle.cf_bind.specs.declared.moves.Bar.{Bar}
 use Rattle.cf_bind.specs.declared.moves.Bar.TheVariants.{NoPacket, NoPassenger, NoSuchSite, NotDone, NotMet, Occupied, Owes}
 use Rattle.cf_bind.specs.declared.moves.Move.{Move}
-use Rattle.cf_bind.specs.declared.moves.Move.TheVariants.{Climb, Fall, Meet, Execute, Send, Launch, Recover}
+use Rattle.cf_bind.specs.declared.moves.Move.TheVariants.{Climb, Emit, Execute, Exit, Fall, Launch, Leave, Meet, Recover, Send, Serve}
 use Rattle.cf_bind.specs.declared.passenger.Passenger.{Passenger}
 use Rattle.cf_layout.specs.Layout.{Plan}
 use Rattle.cf_layout.specs.Words.{has_bit}
-use Rattle.cf_semantics.specs.moves.Bars.{bar, climb_bar, fall_bar, first, first_bar_of, is_full, meet_bar, row_bar, send_bar, stops_at}
+use Rattle.cf_semantics.specs.moves.Bars.{bar, climb_bar, emit_bar, exit_bar, fall_bar, first, first_bar_of, is_full, leave_bar, meet_bar, row_bar, send_bar, serve_bar, stops_at}
 use Rattle.cf_semantics.specs.state.Options.{on, is_some}
 use Rattle.cf_semantics.specs.state.State.{State, cell_at}
 use Rattle.cf_stages.specs.Words.{word_of}
@@ -305,3 +305,62 @@ launch-stages plan s m e k = rw e (word-has (λ i. is_allowed plan s (Launch i))
 pub recover-stages : (plan : Plan) (s : State) (m : Masks) → m ≡ masks_of plan s → HasStages plan s Recover m.recover
 unfolding masks_of
 recover-stages plan s m e k = rw e (word-has (λ i. is_allowed plan s (Recover i)) plan.stages k)
+
+-- The ends of the pipes, where the processor goes on --
+
+going_free : (plan : Plan) (s : State) (mv : Move) → goes_on s ≡ true → is_allowed plan s mv ≡ not (is_some (row_bar plan s mv))
+going_free plan s mv on = allowed-as plan s mv (is_some s.ending) s.failed refl refl ∙ ap (λ (b : Bool). b && not (is_some (row_bar plan s mv))) on
+
+exit_row : (o : Option Cell) → not (is_some (on o (Some NoSuchSite) exit_bar)) ≡ (flying o && not (full_in o))
+unfolding flying full_in
+exit_row None = refl
+exit_row (Some c) = grind arith
+
+pub exit_allowed : (plan : Plan) (s : State) (m : Masks) → goes_on s ≡ true → m ≡ masks_of plan s → length s.cells ≡ plan.stages →
+    (has_bit m.packets 0 && not (full_bit m 0)) ≡ is_allowed plan s Exit
+exit_allowed plan s m on e same =
+    let b = bits plan s m 0 e same in
+    rw (full_has plan s m 0 b, b.flying, going_free plan s Exit on) (sym (exit_row (cell_at s.cells 1)))
+
+-- the highest stage is there
+top_there : (plan : Plan) (s : State) → length s.cells ≡ plan.stages → 1 ≤ plan.stages → is_some (cell_at s.cells plan.stages) ≡ true
+top_there plan s same some =
+    let z : plan.stages - 1 + 1 ≡ plan.stages = omega arith in
+    rw z at (some-cell s.cells (plan.stages - 1)) ∙ grind (arith, nat_tests)
+
+emit_row : (lane : List ℕ) (o : Option Cell) → is_some o ≡ true → not (is_some (on o (Some NoSuchSite) (emit_bar lane))) ≡ (nat_lt 0 (length lane) && not (flying o))
+unfolding flying
+emit_row lane None there = absurd (cc)
+emit_row [] (Some c) there = refl
+emit_row (r ∷ lane) (Some c) there = grind arith
+
+pub emit_allowed : (plan : Plan) (s : State) (m : Masks) → goes_on s ≡ true → m ≡ masks_of plan s → length s.cells ≡ plan.stages → 1 ≤ plan.stages →
+    (nat_lt 0 (length s.lane) && not (has_bit m.packets (plan.stages - 1))) ≡ is_allowed plan s Emit
+emit_allowed plan s m on e same some =
+    let b = bits plan s m (plan.stages - 1) e same in
+    let z : plan.stages - 1 + 1 ≡ plan.stages = omega arith in
+    let f : has_bit m.packets (plan.stages - 1) ≡ flying (cell_at s.cells plan.stages) = rw z at b.flying in
+    rw (f, going_free plan s Emit on) (sym (emit_row s.lane (cell_at s.cells plan.stages) (top_there plan s same some)))
+
+-- no instruction is there to leave or to be served
+no_rider : (o : Option Passenger) (test : Passenger → Option Bar) → is_some o ≡ false → not (is_some (on o (Some NoPassenger) test)) ≡ false
+no_rider None test none = refl
+no_rider (Some p) test none = absurd (cc)
+
+leave_row : (o : Option Cell) → riding o ≡ false → not (is_some (on o (Some NoSuchSite) leave_bar)) ≡ false
+unfolding riding
+leave_row None none = refl
+leave_row (Some c) none = no_rider c.passenger _ none
+
+serve_row : (o : Option Cell) → riding o ≡ false → not (is_some (on o (Some NoSuchSite) serve_bar)) ≡ false
+unfolding riding
+serve_row None none = refl
+serve_row (Some c) none = no_rider c.passenger _ none
+
+pub top_free : (plan : Plan) (s : State) (m : Masks) → goes_on s ≡ true → m ≡ masks_of plan s → length s.cells ≡ plan.stages → 1 ≤ plan.stages →
+    has_bit m.passengers (plan.stages - 1) ≡ false → (is_allowed plan s Leave ≡ false) × (is_allowed plan s Serve ≡ false)
+top_free plan s m on e same some none =
+    let b = bits plan s m (plan.stages - 1) e same in
+    let z : plan.stages - 1 + 1 ≡ plan.stages = omega arith in
+    let f : riding (cell_at s.cells plan.stages) ≡ false = sym (rw z at b.riding) ∙ none in
+    (going_free plan s Leave on ∙ leave_row (cell_at s.cells plan.stages) f, going_free plan s Serve on ∙ serve_row (cell_at s.cells plan.stages) f)

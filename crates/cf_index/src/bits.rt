@@ -54,6 +54,10 @@ pub(crate) fn nth(word: u64, i: usize) -> u32
 {
     let mut rest = word;
     for _passed in 0..i {
+        // This is never so. Without the test the loop, which has few turns, would be unrolled.
+        if rest == 0 {
+            return 0;
+        }
         rest &= rest - 1;
     }
     rest.trailing_zeros()

@@ -102,8 +102,7 @@ pub(crate) fn passing(core: &Core, masks: &Masks) -> Passing
 #[inline(always)]
 pub(crate) fn leaving(core: &Core, masks: &Masks) -> Leaving
     requires { masks.now ≡ masks_of core.now.plan core.now.state }
-    ensures recover { result.recover ≡ masks.now.recover }
-    ensures moves { leaving_moves result ≡ filter (is_allowed core.now.plan core.now.state) (all_leaving core.now.plan) }
+    ensures { leaving_moves result ≡ filter (is_allowed core.now.plan core.now.state) (all_leaving core.now.plan) }
 {
     let _stages = stages(core);
     Leaving {

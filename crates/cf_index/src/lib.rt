@@ -16,6 +16,7 @@ mod outward;
 mod packed;
 mod packing;
 mod passing;
+mod pipe_ends;
 mod plainly;
 mod rank;
 mod sharing;

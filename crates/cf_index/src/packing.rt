@@ -1,26 +1,31 @@
 //! The word of the candidates of a small processor is computed from the processor.
 
-ghost use Rattle.std.specs.Prelude.{◌≡◌, ◌+◌, ◌*◌, ◌^◌, ◌<◌, ◌≤◌, ◌++◌, ◌&&◌, [], IfSome, false, true, if◌then◌else◌, nat_lt};
+ghost use Rattle.std.specs.List.{list_any};
+ghost use Rattle.std.specs.Prelude.{◌≡◌, ℕ, ◌+◌, ◌*◌, ◌^◌, ◌<◌, ◌≤◌, ◌++◌, ◌&&◌, [], IfSome, false, filter, true, if◌then◌else◌, nat_lt};
 ghost use Rattle.cf_semantics.specs.moves.Candidates.{slides_from};
-ghost use Rattle.cf_index.specs.Allowed.{allowed_others, kept_issues, withheld};
+ghost use Rattle.cf_semantics.specs.state.Options.{is_some};
+ghost use Rattle.cf_semantics.specs.state.State.{siding_at};
+ghost use Rattle.cf_core.specs.Masks.{masks_of};
+ghost use Rattle.cf_index.specs.Allowed.{all_leaving, allowed_others, is_allowed, kept_issues, withheld};
+ghost use Rattle.cf_index.specs.Words.{goes_on as is_going};
 ghost use Rattle.cf_index.specs.GuessRules.{guided as guided_moves};
-ghost use Rattle.cf_index.specs.Listed.{leaving_moves, passing_moves};
+ghost use Rattle.cf_index.specs.Listed.{passing_moves};
 ghost use Rattle.cf_index.specs.Packed.{FitsEight, IsPackable, packed_from, packed_moves};
 ghost use mir.Val.{bool_byte};
 
-use crate::fill::{leaving, passing_words, slides};
+use crate::fill::{passing_words, slides};
 use crate::guiding::guided;
 use crate::idle::are_empty;
-use crate::leaving::Leaving;
 use crate::packed::PackedCandidates;
 use crate::passing::Passing;
-use crate::stages::stages;
-use cf_core::Core;
+use crate::pipe_ends::{emits, end_bits};
+use crate::stages::{goes_on, stages};
+use cf_core::{Core, Masks};
 use run_options::GuessRule;
 
 /// A flag, and behind it the bits of a word.
 #[inline(always)]
-fn flag_then(flag: bool, rest: u64) -> u64
+pub(crate) fn flag_then(flag: bool, rest: u64) -> u64
     requires { rest < 2 ^ 63 }
     ensures { result ≡ bool_byte flag + 2 * rest }
 {
@@ -51,30 +56,39 @@ fn passing_then(passing: &Passing, rest: u64) -> u64
     eight_then(passing.climb, eight_then(passing.fall, meets))
 }
 
-/// The bits of the moves by which something leaves.
+/// The bits of the moves by which something leaves, given whether it is known that the sidings are empty.
+// Where they are, neither Access nor a Recover is allowed.
 #[inline(always)]
-#[tactic(auto, using(crate::proofs::PackedWords::leaving_joined))]
-fn leaving_bits(leaving: &Leaving) -> u64
-    requires { leaving.now.recover < 256 }
-    ensures moves { packed_from 52 12 result ≡ leaving_moves leaving.now }
+fn leaving_bits(core: &Core, masks: &Masks, idle: bool) -> u64
+    requires few { core.now.plan.stages ≤ 8 }
+    requires on { is_going core.now.state ≡ true }
+    requires masks { masks.now ≡ masks_of core.now.plan core.now.state }
+    requires idle { idle ≡ true → (k : ℕ) → list_any is_some (siding_at core.now.state k) ≡ false }
+    ensures moves { packed_from 52 12 result ≡ filter (is_allowed core.now.plan core.now.state) (all_leaving core.now.plan) }
     ensures bits { result < 2 ^ 12 }
 {
-    let ends = flag_then(leaving.exit, leaving.serve as u64);
-    let leaves = flag_then(leaving.leave, ends);
-    flag_then(leaving.access, eight_then(leaving.recover, leaves))
+    let ends = end_bits(core, masks);
+    if idle {
+        512 * ends
+    } else {
+        let access = core.may_access();
+        flag_then(access, eight_then(masks.recover, ends))
+    }
 }
 
-/// The bits of all candidates but Issue.
+/// The bits of all candidates but Issue, given whether it is known that the sidings are empty.
 #[inline(always)]
-fn others(core: &Core) -> u64
-    requires { IsPackable core.now.plan core.now.state }
+fn others(core: &Core, idle: bool) -> u64
+    requires packable { IsPackable core.now.plan core.now.state }
+    requires on { is_going core.now.state ≡ true }
+    requires idle { idle ≡ true → (k : ℕ) → list_any is_some (siding_at core.now.state k) ≡ false }
     ensures moves { packed_from 3 61 result ≡ allowed_others core.now.plan core.now.state }
     ensures bits { result < 2 ^ 61 }
 {
     let masks = core.masks();
-    let leaves = leaving_bits(&leaving(core, &masks));
+    let leaves = leaving_bits(core, &masks, idle);
     let passes = passing_then(&passing_words(core, &masks), leaves);
-    flag_then(core.may_emit(), passes)
+    flag_then(emits(core, &masks), passes)
 }
 
 /// The bits of each Issue that the guess rule keeps.
@@ -101,33 +115,33 @@ fn unheld_issues(core: &Core, rule: GuessRule, held: bool, others: u64) -> u64
     }
 }
 
-/// Whether the layout has at most eight stages, and no Slide is allowed.
-// Where the sidings are empty, none is.
+/// Whether no Slide is allowed, given whether it is known that the sidings are empty.
 #[inline(always)]
-fn is_packable(core: &Core) -> bool
-    ensures { result ≡ true → IsPackable core.now.plan core.now.state }
+fn slides_none(core: &Core, idle: bool) -> bool
+    requires { idle ≡ true → (k : ℕ) → list_any is_some (siding_at core.now.state k) ≡ false }
+    ensures { result ≡ true → filter (is_allowed core.now.plan core.now.state) (slides_from 0 core.now.plan.sidings) ≡ [] }
 {
-    if 8 < stages(core) {
-        return false;
-    }
-    are_empty(core) || slides(core) == 0
+    idle || slides(core) == 0
 }
 
 impl PackedCandidates {
     /// The moves that are allowed now and that the guess rule keeps, with Issue held back or not. There is no answer where the
-    /// layout has more than eight stages, or a Slide is allowed.
+    /// processor does not go on, its layout has more than eight stages, or a Slide is allowed.
     #[inline(always)]
     pub fn of(core: &Core, rule: GuessRule, held: bool) -> Option<PackedCandidates>
         ensures { IfSome result (λ packed. packed ≡ withheld held (guided_moves rule core.now.plan core.now.state)) }
     {
-        if is_packable(core) {
-            let others = others(core);
-            let issues = unheld_issues(core, rule, held, others);
-            Some(PackedCandidates {
-                word: issues + 8 * others,
-            })
-        } else {
-            None
+        if !goes_on(core) || 8 < stages(core) {
+            return None;
         }
+        let idle = are_empty(core);
+        if !slides_none(core, idle) {
+            return None;
+        }
+        let others = others(core, idle);
+        let issues = unheld_issues(core, rule, held, others);
+        Some(PackedCandidates {
+            word: issues + 8 * others,
+        })
     }
 }

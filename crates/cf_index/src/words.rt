@@ -73,13 +73,20 @@ pub(crate) fn climbing(masks: &Masks, stages: u32) -> u32
     common(clear, lowest(stages - 1))
 }
 
+/// The stages where a result stands, and no instruction that it has not met.
+#[inline(always)]
+pub(crate) fn resting(masks: &Masks) -> u32
+    ensures { (k : ℕ) → has_bit result k ≡ (has_bit masks.now.packets k && not (full_bit masks.now k)) }
+{
+    without(masks.packets, full(masks))
+}
+
 /// The stages where the result can fall.
 #[inline(always)]
 pub(crate) fn falling(masks: &Masks) -> u32
     ensures { (k : ℕ) → has_bit result k ≡ fall_bit masks.now k }
 {
-    let met = without(masks.packets, full(masks));
-    let clear = without(met, below(masks.packets));
+    let clear = without(resting(masks), below(masks.packets));
     without(clear, lowest(1))
 }
 

@@ -3,8 +3,8 @@ use Rattle.cf_index.proofs.Filled.{leaving_chosen}
 use Rattle.cf_index.proofs.Rows.{recover-stages}
 use Rattle.cf_index.proofs.fill.leaving.Goals as goal
 
-pub returns-clause-moves : goal.returns-clause-moves
-returns-clause-moves c =
+pub returns : goal.returns
+returns c =
     let plan = c.args.core.now.plan in
     let s = c.args.core.now.state in
     let few : plan.stages ≤ 32 = omega (arith, c.stages-stages.ensures.few, c.stages-stages.ensures.stages) in

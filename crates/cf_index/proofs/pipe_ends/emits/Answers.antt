@@ -1,0 +1,29 @@
+use Rattle.std.proofs.Common.{◌≡◌, ◌∙◌, ◌-◌, ◌≤◌, Bool, false, true, length, nat_lt, ap, arith}
+use Rattle.std.specs.Prelude.{◌&&◌, nat_eq, not}
+use Rattle.std.proofs.lemmas.Bool.Decides.{nat_tests}
+use Rattle.cf_layout.specs.Words.{has_bit}
+use Rattle.cf_index.proofs.Rows.{emit_allowed}
+use Rattle.cf_index.proofs.pipe_ends.emits.Goals as goal
+
+pub returns-then-lane_len-ne0 : goal.returns-then-lane_len-ne0
+returns-then-lane_len-ne0 c =
+    let plan = c.args.core.now.plan in
+    let s = c.args.core.now.state in
+    let some : 1 ≤ plan.stages = omega (arith, c.stages-stages.ensures.some, c.stages-stages.ensures.stages) in
+    let count = c.lane_len.ensures.count in
+    let other = c.if-lane_len-ne0.true in
+    let asked : nat_lt 0 (length s.lane) ≡ true = grind (arith, nat_tests) in
+    let allowed = emit_allowed plan s c.args.masks.now c.requires.on c.requires.masks (c.stages-stages.ensures.cells ∙ c.stages-stages.ensures.stages) some in
+    ap (λ (b : Bool). not b) c.has_top.ensures ∙ rw asked at allowed
+
+pub returns-else-lane_len-ne0 : goal.returns-else-lane_len-ne0
+returns-else-lane_len-ne0 c =
+    let plan = c.args.core.now.plan in
+    let s = c.args.core.now.state in
+    let some : 1 ≤ plan.stages = omega (arith, c.stages-stages.ensures.some, c.stages-stages.ensures.stages) in
+    let count = c.lane_len.ensures.count in
+    let none = c.if-lane_len-ne0.false in
+    let asked : nat_lt 0 (length s.lane) ≡ false = grind (arith, nat_tests) in
+    let off : not (nat_eq c.lane_len.result 0) ≡ false = grind (arith, nat_tests) in
+    let allowed = emit_allowed plan s c.args.masks.now c.requires.on c.requires.masks (c.stages-stages.ensures.cells ∙ c.stages-stages.ensures.stages) some in
+    off ∙ rw asked at allowed

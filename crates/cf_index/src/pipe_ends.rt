@@ -1,0 +1,64 @@
+//! The moves at the ends of the two pipes, by the words of a processor that goes on.
+
+ghost use Rattle.std.specs.Prelude.{◌≡◌, ◌-◌, ◌<◌, ◌∷◌, [], filter, true};
+ghost use Rattle.cf_layout.specs.Words.{has_bit as is_bit_set};
+ghost use Rattle.cf_bind.specs.declared.moves.Move.TheVariants as mv;
+ghost use Rattle.cf_core.specs.Masks.{masks_of};
+ghost use Rattle.cf_index.specs.Allowed.{is_allowed};
+ghost use Rattle.cf_index.specs.Packed.{packed_from};
+ghost use Rattle.cf_index.specs.Words.{goes_on};
+
+use crate::packing::flag_then;
+use crate::stages::stages;
+use crate::words::resting;
+use cf_core::{Core, Masks};
+use cf_stages::has_bit;
+
+/// Whether the word has the bit of the highest stage.
+#[inline(always)]
+fn has_top(core: &Core, word: u32) -> bool
+    ensures { result ≡ is_bit_set word (core.now.plan.stages - 1) }
+{
+    has_bit(word, stages(core))
+}
+
+/// Whether Emit is allowed.
+#[inline(always)]
+pub(crate) fn emits(core: &Core, masks: &Masks) -> bool
+    requires on { goes_on core.now.state ≡ true }
+    requires masks { masks.now ≡ masks_of core.now.plan core.now.state }
+    ensures { result ≡ is_allowed core.now.plan core.now.state mv.Emit }
+{
+    let _stages = stages(core);
+    core.lane_len() != 0 && !has_top(core, masks.packets)
+}
+
+/// Whether Exit is allowed.
+#[inline(always)]
+fn exits(core: &Core, masks: &Masks) -> bool
+    requires on { goes_on core.now.state ≡ true }
+    requires masks { masks.now ≡ masks_of core.now.plan core.now.state }
+    ensures { result ≡ is_allowed core.now.plan core.now.state mv.Exit }
+{
+    let _stages = stages(core);
+    has_bit(resting(masks), 1)
+}
+
+/// The bits of Leave, Exit and Serve.
+#[inline(always)]
+pub(crate) fn end_bits(core: &Core, masks: &Masks) -> u64
+    requires on { goes_on core.now.state ≡ true }
+    requires masks { masks.now ≡ masks_of core.now.plan core.now.state }
+    ensures moves { packed_from 61 3 result ≡ filter (is_allowed core.now.plan core.now.state) (mv.Leave ∷ mv.Exit ∷ mv.Serve ∷ []) }
+    ensures bits { result < 8 }
+{
+    let _stages = stages(core);
+    let exit = exits(core, masks);
+    if has_top(core, masks.passengers) {
+        let leave = core.may_leave();
+        let serve = core.may_serve();
+        flag_then(leave, flag_then(exit, serve as u64))
+    } else {
+        flag_then(false, exit as u64)
+    }
+}
