@@ -232,6 +232,25 @@ kept-guess r plan s g none = go (is_allowed plan s (Issue Next)) refl g
     go true e Wait = no-issue Wait none
     go true e (To t) = no-issue (To t) (no-other (To t) e (λ same. absurd (cc)))
 
+-- where an Issue by the next word is allowed, the others are by what was fetched
+pub taken-by : (plan : Plan) (s : State) (pc : ℕ) (i : Instr) → is_allowed plan s (Issue Next) ≡ true → s.fetch ≡ Running pc →
+    fetched (isa_of plan) s.mem pc ≡ Got i → (is_control (kind_of i) && not (is_indirect i)) ≡ is_allowed plan s (Issue Taken)
+taken-by plan s pc i next runs got = sym (allowed-issue plan s Taken ∙ rw (next, runs, got) refl)
+
+pub wait-by : (plan : Plan) (s : State) (pc : ℕ) (i : Instr) → is_allowed plan s (Issue Next) ≡ true → s.fetch ≡ Running pc →
+    fetched (isa_of plan) s.mem pc ≡ Got i → is_control (kind_of i) ≡ is_allowed plan s (Issue Wait)
+wait-by plan s pc i next runs got = sym (allowed-issue plan s Wait ∙ rw (next, runs, got) refl)
+
+pub bad-by : (plan : Plan) (s : State) (pc : ℕ) (e : End) → is_allowed plan s (Issue Next) ≡ true → s.fetch ≡ Running pc →
+    fetched (isa_of plan) s.mem pc ≡ Bad e → (false ≡ is_allowed plan s (Issue Taken)) × (false ≡ is_allowed plan s (Issue Wait))
+bad-by plan s pc e next runs got =
+    (sym (allowed-issue plan s Taken ∙ rw (next, runs, got) refl), sym (allowed-issue plan s Wait ∙ rw (next, runs, got) refl))
+
+pub waiting-by : (plan : Plan) (s : State) → is_allowed plan s (Issue Next) ≡ true → s.fetch ≡ Waiting →
+    (true ≡ is_allowed plan s (Issue Taken)) × (true ≡ is_allowed plan s (Issue Wait))
+waiting-by plan s next waits =
+    (sym (allowed-issue plan s Taken ∙ rw (next, waits) refl), sym (allowed-issue plan s Wait ∙ rw (next, waits) refl))
+
 -- the guesses that a rule leaves: all of them where it keeps every guess or none waits, and otherwise its own
 pub any_kept : (r : GuessRule) (plan : Plan) (s : State) (g : Guess) (there any : Bool) → there ≡ is_allowed plan s (Issue g) →
     (any ≡ true → r ≡ rules.Any) → any ≡ true → there ≡ may_issue r plan s g

@@ -1,12 +1,15 @@
 //! The guesses that a guess rule keeps.
 
-ghost use Rattle.std.specs.Prelude.{◌≡◌, false, true};
+ghost use Rattle.std.specs.Prelude.{◌≡◌, ◌&&◌, false, not, true};
 ghost use Rattle.cf_bind.specs.declared.moves.Move.TheVariants as mv;
 ghost use Rattle.cf_bind.specs.declared.passenger.Guess.TheVariants as guess;
+ghost use Rattle.cf_layout.specs.Accepted.{is_control};
+ghost use Rattle.cf_semantics.specs.moves.Instructions.{is_indirect, kind_of};
 ghost use Rattle.cf_index.specs.Allowed.{is_allowed, may_issue};
 ghost use Rattle.cf_index.specs.GuessRules.{guess_at, guess_back, guess_of, is_guess};
 ghost use Rattle.run_options.specs.declared.guess_rule.GuessRule.TheVariants as rules;
 
+use crate::plainly::issues_any;
 use cf_bind::{Fetch, Guess};
 use cf_core::{Core, Issuable};
 use cf_passengers::{fetched, isa_of};
@@ -143,6 +146,74 @@ fn only(core: &Core, rule: GuessRule, issuable: Issuable) -> Issuable
         next: issuable.next && is_guess(guess, Guess::Next),
         taken: issuable.taken && is_guess(guess, Guess::Taken),
         wait: issuable.wait && is_guess(guess, Guess::Wait),
+    }
+}
+
+/// Whether the instruction is a branch or a jump, which can be issued to wait for its outcome.
+#[inline(always)]
+#[tactic(auto, unfolding(cf_semantics::specs::moves::Instructions::kind_of))]
+fn is_turn(i: Instr) -> bool
+    ensures { result ≡ is_control (kind_of i) }
+{
+    matches!(
+        i,
+        Instr::Branch { .. } | Instr::Jal { .. } | Instr::Jalr { .. }
+    )
+}
+
+/// Whether it is one that says where it turns to, which can be issued as taken.
+#[inline(always)]
+#[tactic(auto, unfolding(cf_semantics::specs::moves::Instructions::kind_of, cf_semantics::specs::moves::Instructions::is_indirect))]
+fn is_direct_turn(i: Instr) -> bool
+    ensures { result ≡ (is_control (kind_of i) && not (is_indirect i)) }
+{
+    matches!(i, Instr::Branch { .. } | Instr::Jal { .. })
+}
+
+/// The guesses, other than an address, that an instruction can be issued with now, where the next word is one of them: the
+/// others by what kind of instruction it is.
+#[inline(always)]
+fn issuable_by_kind(core: &Core) -> Issuable
+    requires { is_allowed core.now.plan core.now.state (mv.Issue guess.Next) ≡ true }
+    ensures next { result.next ≡ is_allowed core.now.plan core.now.state (mv.Issue guess.Next) }
+    ensures taken { result.taken ≡ is_allowed core.now.plan core.now.state (mv.Issue guess.Taken) }
+    ensures wait { result.wait ≡ is_allowed core.now.plan core.now.state (mv.Issue guess.Wait) }
+{
+    match core.fetch() {
+        Fetch::Running(pc) => match fetched(isa_of(core.layout()), core.memory(), pc) {
+            Ok(i) => Issuable {
+                next: true,
+                taken: is_direct_turn(i),
+                wait: is_turn(i),
+            },
+            Err(_) => Issuable {
+                next: true,
+                taken: false,
+                wait: false,
+            },
+        },
+        Fetch::Waiting => Issuable {
+            next: true,
+            taken: true,
+            wait: true,
+        },
+    }
+}
+
+/// The guesses, other than an address, that an instruction can be issued with now and that the rule keeps, as `guided` has
+/// them. Where the lane has room for whatever an instruction requests, and the rule keeps every guess, the instruction is
+/// not put together.
+#[inline(always)]
+#[tactic(auto, using(crate::proofs::Guided::any_kept))]
+pub(crate) fn guided_by_kind(core: &Core, rule: GuessRule) -> Issuable
+    ensures next { result.next ≡ may_issue rule core.now.plan core.now.state guess.Next }
+    ensures taken { result.taken ≡ may_issue rule core.now.plan core.now.state guess.Taken }
+    ensures wait { result.wait ≡ may_issue rule core.now.plan core.now.state guess.Wait }
+{
+    if is_any(rule) && issues_any(core) {
+        issuable_by_kind(core)
+    } else {
+        guided(core, rule)
     }
 }
 

@@ -14,11 +14,12 @@ ghost use Rattle.cf_index.specs.Packed.{FitsEight, IsPackable, packed_from, pack
 ghost use mir.Val.{bool_byte};
 
 use crate::fill::{passing_words, slides};
-use crate::guiding::guided;
+use crate::guiding::guided_by_kind;
 use crate::idle::are_empty;
 use crate::packed::PackedCandidates;
 use crate::passing::Passing;
 use crate::pipe_ends::{emits, end_bits};
+use crate::plainly::is_lowest_free;
 use crate::stages::{goes_on, stages};
 use cf_core::{Core, Masks};
 use run_options::GuessRule;
@@ -97,7 +98,10 @@ fn issues(core: &Core, rule: GuessRule) -> u64
     ensures moves { packed_from 0 3 result ≡ kept_issues rule core.now.plan core.now.state }
     ensures bits { result < 8 }
 {
-    let issuable = guided(core, rule);
+    if !is_lowest_free(core) {
+        return 0;
+    }
+    let issuable = guided_by_kind(core, rule);
     let wait = flag_then(issuable.taken, issuable.wait as u64);
     flag_then(issuable.next, wait)
 }

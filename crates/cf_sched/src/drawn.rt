@@ -60,6 +60,18 @@ impl Drawn {
         let place = self.pick(candidates);
         candidates.pick(place)
     }
+
+    /// The same.
+    // The answer of the call has a place in memory here, which is read only where the call is made.
+    #[inline(always)]
+    fn choose_by_call(&mut self, core: &Core, candidates: &mut Candidates, pace: &Pace) -> Move
+        requires { 0 < length (offers pace.now core.now.plan core.now.state) }
+        ensures choice { Some result ≡ slice_get (offers pace.now core.now.plan core.now.state)
+            (drawn_pick self.old (offers pace.now core.now.plan core.now.state)) }
+        ensures onward { self.new ≡ drawn_on self.old }
+    {
+        self.choose_of_all(core, candidates, pace)
+    }
 }
 
 impl Policy for Drawn {
@@ -76,7 +88,7 @@ impl Policy for Drawn {
     fn choose(&mut self, core: &Core, candidates: &mut Candidates, pace: &Pace) -> Move {
         match PackedCandidates::of(core, pace.rule(), pace.held()) {
             Some(packed) => packed.pick(self.draw() as usize % packed.len()),
-            None => self.choose_of_all(core, candidates, pace),
+            None => self.choose_by_call(core, candidates, pace),
         }
     }
 }
