@@ -21,7 +21,8 @@ pub(crate) fn has_value(bound: &Option<Binding>) -> bool
     }
 }
 
-/// Appends the binding, if there is one, to a key of which other bytes say whether there is, and whether its value is known.
+/// Appends the binding, if there is one, to a key of which other bytes say whether there is, and whether its value is
+/// known.
 #[inline(always)]
 #[tactic(auto, unfolding(crate::specs::Compounds::packed_some, crate::specs::Bindings::packed_binding))]
 pub(crate) fn pack_bound(bound: &Option<Binding>, key: &mut Vec<u8>) -> Result<(), AllocError>
@@ -36,7 +37,8 @@ pub(crate) fn pack_bound(bound: &Option<Binding>, key: &mut Vec<u8>) -> Result<(
     }
 }
 
-/// Takes a binding from the front of what is left of a key, if there is said to be one, with its value if this is said to be known.
+/// Takes a binding from the front of what is left of a key, if there is said to be one, with its value if this is said to
+/// be known.
 #[inline(always)]
 #[tactic(auto, unfolding(crate::specs::Compounds::unpacked_some, crate::specs::Bindings::unpacked_binding))]
 pub(crate) fn unpack_bound(there: bool, known: bool, key: &mut Unread<'_>) -> Option<Binding>

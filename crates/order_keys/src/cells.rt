@@ -61,8 +61,8 @@ impl Pack for Cell {
     }
 }
 
-/// Makes a stage the one at the front of what is left of a key, which it takes from there. One that is empty and stays so is not
-/// written.
+/// Makes a stage the one at the front of what is left of a key, which it takes from there. One that is empty and stays so
+/// is not written.
 #[inline(always)]
 #[tactic(auto, unfolding(crate::specs::Cells::unpacked_cell, crate::specs::StageFlags::unpacked_stage_flags, crate::specs::Compounds::unpacked_some))]
 pub(crate) fn unpack_cell(cell: &mut Cell, key: &mut Unread<'_>)

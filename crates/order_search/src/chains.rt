@@ -32,8 +32,8 @@ impl Chains {
         })
     }
 
-    /// Makes room for one number more; or an error where there is no memory for it, or where there are 2^32 - 1 numbers: no machine
-    /// has the memory for so many nodes.
+    /// Makes room for one number more; or an error where there is no memory for it, or where there are 2^32 - 1 numbers: no
+    /// machine has the memory for so many nodes.
     pub(crate) fn reserve(&mut self) -> Result<(), AllocError>
         ensures heads { self.new.heads ≡ self.old.heads }
         ensures links { self.new.links.items ≡ self.old.links.items }

@@ -139,8 +139,8 @@ fn first_open(counts: &[Count], row: &[u32]) -> Option<u32>
     None
 }
 
-/// Takes the node that waits last, and counts the routes from it; where those from a node to which one of its edges leads are not
-/// counted, both wait instead.
+/// Takes the node that waits last, and counts the routes from it; where those from a node to which one of its edges leads
+/// are not counted, both wait instead. After an error some of the nodes that waited no longer do.
 fn settle_last(
     rows: &Rows<u32>,
     counts: &mut [Count],
@@ -165,8 +165,8 @@ fn settle_last(
     Ok(())
 }
 
-/// Counts the routes from the first node, and on the way to the ends those from each node that its paths pass: two steps a node, where
-/// no path comes back to a node. Where one does, not all are counted.
+/// Counts the routes from the first node, and on the way to the ends those from each node that its paths pass: two steps a
+/// node, where no path comes back to a node. Where one does, not all are counted.
 fn settle_along_paths(
     alloc: Global,
     rows: &Rows<u32>,
@@ -209,7 +209,8 @@ fn settle_in_turns(rows: &Rows<u32>, counts: &mut [Count])
     'turns: while settle_all(rows, counts) {}
 }
 
-/// Counts the routes from the nodes until no more can be counted: along the paths first, and then in turns what these leave.
+/// Counts the routes from the nodes until no more can be counted: along the paths first, and then in turns what these
+/// leave.
 fn settle_nodes(alloc: Global, rows: &Rows<u32>, counts: &mut [Count]) -> Result<(), AllocError>
     requires some { 0 < length rows.now }
     requires as_many { length counts.old ≡ length rows.now }
