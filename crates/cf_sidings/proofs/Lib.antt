@@ -1,4 +1,5 @@
 pub mod Last
 pub mod Empty
+pub mod Held
 pub mod Permitted
 pub mod Shape

@@ -1,6 +1,6 @@
 -- The contents of the sidings, each listed from the cell at which operations enter ("Counterflow Pipeline Processor
 -- Architecture", 1994: sidings).
-use Rattle.std.specs.Prelude.{◌≡◌, ℕ, ◌+◌, List, [], Option, Some, None, map, replicate, slice_get, slice_set}
+use Rattle.std.specs.Prelude.{◌≡◌, ℕ, ◌+◌, List, [], ◌∷◌, Option, Some, None, map, replicate, slice_get, slice_set}
 use Rattle.mem_regions.specs.Memory.{Memory}
 use Rattle.mem_regions.specs.Access.{bounds_of}
 use Rattle.rv_inst.specs.declared.classes.Class.TheVariants.{Memory as MemoryClass}
@@ -19,6 +19,17 @@ empty_sidings plan = map (λ siding. replicate siding.cells None) plan.sidings
 -- the cells of the siding of this number
 abbrev pub cells_in : List (List (Option Op)) → ℕ → List (Option Op)
 cells_in sidings k = on (slice_get sidings k) [] (λ cells. cells)
+
+-- how many operations a siding holds
+unfoldable pub held_in : List (Option Op) → ℕ
+held_in [] = 0
+held_in (None ∷ cells) = held_in cells
+held_in (Some op ∷ cells) = held_in cells + 1
+
+-- 1 where the cell has an operation
+abbrev pub number_in : Option Op → ℕ
+number_in None = 0
+number_in (Some op) = 1
 
 -- the operation at the end of a siding
 abbrev pub last_in : List (List (Option Op)) → ℕ → Option Op

@@ -1,11 +1,11 @@
 //! One siding.
 
-ghost use Rattle.std.specs.Prelude.{◌≡◌, ◌+◌, ◌<◌, IfOk, IsSome, None, Some, length, replicate, slice_get, slice_set};
+ghost use Rattle.std.specs.Prelude.{◌≡◌, ◌+◌, ◌<◌, ◌^◌, IfOk, IsSome, None, Some, length, replicate, slice_get, slice_set};
 ghost use Rattle.std.specs.List.{list_any};
 ghost use Rattle.cf_semantics.specs.state.Options.{is_some};
 ghost use Rattle.cf_semantics.specs.moves.Bars.{last_op};
 ghost use Rattle.cf_semantics.specs.moves.Moves.{set_last};
-ghost use Rattle.cf_sidings.specs.Sidings.{CanAccess, moved_on, after_access, mem_after_access};
+ghost use Rattle.cf_sidings.specs.Sidings.{CanAccess, moved_on, number_in, after_access, mem_after_access};
 
 use crate::access::make;
 use cf_bind::Op;
@@ -13,29 +13,56 @@ use mem_regions::Regions;
 use std::alloc::{AllocError, Global};
 use std::marker::Model;
 
-/// A siding. Contracts see it as the list of its cells, from the one at which operations enter.
+/// A siding. Contracts see it as the list of its cells, from the one at which operations enter. How many operations it
+/// holds is counted along, since this is asked at each round.
 #[derive(Drop)]
 pub(crate) struct SidingCells {
     cells: Vec<Option<Op>>,
+    held: u64,
 }
 
 impl Model for SidingCells {
     ghost use Rattle.std.specs.Prelude.{List, Option};
+    ghost use Rattle.std.specs.Prelude.{◌≡◌};
     ghost use Rattle.cf_bind.specs.declared.cell.Op.{Op};
+    ghost use Rattle.cf_sidings.specs.Sidings.{held_in};
 
     ghost Value = { List (Option Op) };
 
     ghost view = { λ s. s.cells.items };
+
+    ghost invariant = { λ s. s.held ≡ held_in s.cells.items };
+}
+
+/// How many cells there are.
+#[inline(always)]
+fn count(cells: &Vec<Option<Op>>) -> usize
+    ensures cells { result ≡ length cells.now.items }
+    ensures small { result < 2 ^ 64 }
+{
+    cells.len()
+}
+
+/// 1 where there is an operation, and else 0.
+#[inline(always)]
+fn number(place: &Option<Op>) -> u64
+    ensures { result ≡ number_in place.now }
+{
+    match place {
+        Some(_) => 1,
+        None => 0,
+    }
 }
 
 impl SidingCells {
     /// A siding of this many empty cells.
+    #[tactic(auto, using(crate::proofs::Held::holding))]
     pub(crate) fn new(alloc: Global, count: u32) -> Result<SidingCells, AllocError>
         ensures { IfOk result (λ siding. siding ≡ replicate count None) }
     {
         let mut cells = Vec::new(alloc);
         cells.resize(count as usize, None)?;
-        Ok(SidingCells { cells })
+        Ok(SidingCells { cells, held: 0 })
     }
 
     /// The cells, from the one at which operations enter.
@@ -48,10 +75,11 @@ impl SidingCells {
 
     /// Whether it holds an operation.
     #[inline(always)]
+    #[tactic(auto, using(crate::proofs::Held::holding))]
     pub(crate) fn holds_some(&self) -> bool
         ensures { result ≡ list_any is_some self.now }
     {
-        self.cells.iter().any(|op| op.is_some())
+        self.held != 0
     }
 
     /// The contents of the cell.
@@ -70,6 +98,8 @@ impl SidingCells {
         ensures cells { self.new ≡ slice_set self.old c op }
         ensures count { length self.new ≡ length self.old }
     {
+        let _count = count(&self.cells);
+        self.held = self.held - number(&self.cells[c]) + number(&op);
         self.cells[c] = op;
     }
 
@@ -80,7 +110,7 @@ impl SidingCells {
         ensures cells { self.new ≡ slice_set self.old 0 (Some op) }
         ensures count { length self.new ≡ length self.old }
     {
-        self.cells[0] = Some(op);
+        self.set(0, Some(op));
     }
 
     /// Moves the contents of the cell to the next one.
@@ -92,8 +122,8 @@ impl SidingCells {
         ensures count { length self.new ≡ length self.old }
     {
         let op = self.cells[c];
-        self.cells[c] = None;
-        self.cells[c + 1] = op;
+        self.set(c, None);
+        self.set(c + 1, op);
     }
 
     /// The operation in the last cell.
@@ -115,7 +145,7 @@ impl SidingCells {
         ensures count { length self.new ≡ length self.old }
     {
         let last = self.cells.len() - 1;
-        self.cells[last] = op;
+        self.set(last, op);
     }
 
     /// Takes the operation out of the last cell.
