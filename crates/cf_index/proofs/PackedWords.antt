@@ -1,5 +1,5 @@
 -- The candidates of a small processor as the bits of one word, part by part.
-use Rattle.std.proofs.Common.{◌≡◌, ◌∙◌, sym, refl, ap, ℕ, zero, suc, ◌+◌, ◌-◌, ◌*◌, ◌/◌, ◌%◌, ◌^◌, ◌<◌, ◌≤◌, List, [], ◌∷◌, ◌++◌, length, map, append_assoc, append-nil, Bool, true, false, Some, Option, nat_eq, nat_lt, arith}
+use Rattle.std.proofs.Common.{◌≡◌, ◌∙◌, sym, refl, ap, ℕ, zero, suc, ◌+◌, ◌*◌, ◌/◌, ◌%◌, ◌^◌, ◌<◌, ◌≤◌, List, [], ◌∷◌, ◌++◌, length, map, append_assoc, append-nil, Bool, true, false, Some, nat_eq, nat_lt, arith}
 use Rattle.std.specs.Prelude.{◌&&◌, filter, slice_get, if◌then◌else◌}
 use mir.Val.{bool_byte}
 use Rattle.std.proofs.Math.Nat.{pow-le-pow_right}
@@ -14,14 +14,14 @@ use Rattle.cf_layout.specs.Words.{has_bit}
 use Rattle.cf_bind.specs.declared.passenger.Guess.TheVariants.{Next, Taken, Wait}
 use Rattle.cf_bind.specs.declared.moves.Move.{Move}
 use Rattle.cf_bind.specs.declared.moves.Move.TheVariants.{Issue, Emit, Climb, Fall, Meet, Execute, Send, Launch, Access, Recover, Leave, Exit, Serve}
-use Rattle.cf_semantics.specs.moves.Candidates.{at_stages, counted_from, held_back, other_moves, slides_from}
+use Rattle.cf_semantics.specs.moves.Candidates.{at_stages, counted_from, held_back}
 use Rattle.cf_semantics.specs.state.Options.{is_some}
 use Rattle.cf_semantics.specs.state.State.{State, siding_at}
 use Rattle.cf_stages.proofs.Bits.{word-lt}
 use Rattle.cf_core.specs.declared.masks.Masks.{Masks}
 use Rattle.cf_core.specs.Masks.{masks_of}
 use Rattle.cf_index.specs.declared.passing.Passing.{Passing}
-use Rattle.cf_index.specs.Allowed.{HasStages, all_leaving, all_passing, allowed_others, is_allowed, kept_issues, may_issue, passing_of, withheld, word_allowed}
+use Rattle.cf_index.specs.Allowed.{HasStages, all_leaving, allowed_others, is_allowed, kept_issues, may_issue, passing_of, withheld, word_allowed}
 use Rattle.cf_index.specs.GuessRules.{guided, keeps_move}
 use Rattle.cf_index.specs.Listed.{at_word, flagged, passing_moves, slides_of}
 use Rattle.cf_index.specs.Packed.{FitsEight, IsPackable, packed_at, packed_from, packed_moves}
@@ -32,7 +32,7 @@ use Rattle.cf_index.proofs.EmptySidings.{no_leaving}
 use Rattle.cf_index.proofs.Filled.{stages_chosen}
 use Rattle.cf_index.proofs.Firsts.{guided_others, guided_parts}
 use Rattle.cf_index.proofs.Guided.{three-flagged}
-use Rattle.cf_index.proofs.Parts.{slides_of-zero}
+use Rattle.cf_index.proofs.Parts.{length-slides_of, slides_of-zero}
 use Rattle.cf_index.proofs.Places.{lowest, places_split, places_zero}
 
 -- moves of the same bits, by two functions that agree on them
@@ -272,6 +272,19 @@ others_joined plan s emit p rest passes small emits words leaves all =
 pub no_slide : (w : ℕ) → nat_eq w 0 ≡ true → slides_of w ≡ []
 no_slide w none = let e : w ≡ 0 = grind (arith, nat_tests) in rw e slides_of-zero
 
+-- and a word other than 0 has one
+has_some : (xs : List ℕ) (k : ℕ) → slice_get xs 0 ≡ Some k → 0 < length xs
+has_some [] k e = absurd (cc)
+has_some (x ∷ xs) k e = omega arith
+
+pub some_slide : (w : ℕ) (moves : List Move) → w < 2 ^ 64 → nat_eq w 0 ≡ false → slides_of w ≡ moves → moves ≡ [] → ⊥
+some_slide w moves small some are none =
+    let more : 0 < w = grind (arith, nat_tests) in
+    let l = lowest w more small in
+    let there = has_some (set_places 64 w) _ l in
+    let e = sym (length-slides_of w) ∙ ap length (are ∙ none) in
+    absurd (omega (arith, e, there))
+
 -- where no other move is a candidate, none is held back
 offered_by : (held any : Bool) (rule : GuessRule) (plan : Plan) (s : State) → any ≡ nat_lt 0 (length (allowed_others plan s)) →
     (if held && any then [] else kept_issues rule plan s) ++ allowed_others plan s ≡ withheld held (guided rule plan s)
@@ -285,12 +298,8 @@ some_move : (issues others : ℕ) → others < 2 ^ 61 → 0 < others → 0 < len
 some_move issues others small some =
     let l = lowest (0 + 8 * others) (omega arith) (omega arith) in
     let e = sym (length_packed (0 + 8 * others)) ∙ ap length (all_joined 0 others (omega arith) ∙ ap (λ (l : List Move). l ++ packed_from 3 61 others) (from_none 0 3)) in
-    let more : 0 < length (set_places 64 (0 + 8 * others)) = there (set_places 64 (0 + 8 * others)) _ l in
+    let more : 0 < length (set_places 64 (0 + 8 * others)) = has_some (set_places 64 (0 + 8 * others)) _ l in
     omega (arith, e, more)
-  where
-    there : (xs : List ℕ) (k : ℕ) → slice_get xs 0 ≡ Some k → 0 < length xs
-    there [] k e = absurd (cc)
-    there (x ∷ xs) k e = omega arith
 
 any_others : (others : ℕ) (xs : List Move) → others < 2 ^ 61 → packed_from 3 61 others ≡ xs → nat_lt 0 others ≡ nat_lt 0 (length xs)
 any_others zero xs small e = let n : length xs ≡ 0 = ap length (sym e ∙ from_none 3 61) in grind (arith, nat_tests)

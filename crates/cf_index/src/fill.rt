@@ -5,7 +5,7 @@ ghost use Rattle.cf_layout.specs.Layout.{cells_of};
 ghost use Rattle.cf_layout.specs.Words.{has_bit};
 ghost use Rattle.cf_semantics.specs.moves.Candidates.{candidates, slides_from};
 ghost use Rattle.cf_core.specs.Masks.{masks_of};
-ghost use Rattle.cf_index.specs.Allowed.{all_entering, all_leaving, all_passing, is_allowed, passing_of};
+ghost use Rattle.cf_index.specs.Allowed.{all_entering, all_leaving, all_passing, is_allowed, passing_of, withheld};
 ghost use Rattle.cf_index.specs.GuessRules.{guided, keeps_move};
 ghost use Rattle.cf_index.specs.Listed.{entering_moves, leaving_moves, passing_moves, slide_at, slides_of};
 
@@ -115,6 +115,37 @@ pub(crate) fn leaving(core: &Core, masks: &Masks) -> Leaving
 }
 
 impl Candidates {
+    /// The moves that are allowed now and that the guess rule keeps, with Issue held back or not.
+    #[inline(always)]
+    pub fn of(core: &Core, rule: GuessRule, held: bool) -> Candidates
+        ensures { result ≡ withheld held (guided rule core.now.plan core.now.state) }
+    {
+        let masks = core.masks();
+        let entering = entering(core, rule);
+        let passing = passing(core, &masks);
+        let slides = slides(core);
+        let leaving = leaving(core, &masks);
+        let candidates = Candidates {
+            entering,
+            passing,
+            slides,
+            leaving,
+        };
+        candidates.held_if(held)
+    }
+
+    /// Them without each Issue, if it is held back and there is another candidate.
+    #[inline(always)]
+    fn held_if(self, held: bool) -> Candidates
+        ensures { result ≡ withheld held self }
+    {
+        let mut candidates = self;
+        if held {
+            candidates.hold();
+        }
+        candidates
+    }
+
     /// Replaces them by the moves that are allowed now.
     #[inline(always)]
     pub fn fill(&mut self, core: &Core)

@@ -1,7 +1,7 @@
 //! The word of the candidates of a small processor is computed from the processor.
 
 ghost use Rattle.std.specs.List.{list_any};
-ghost use Rattle.std.specs.Prelude.{◌≡◌, ℕ, ◌+◌, ◌*◌, ◌^◌, ◌<◌, ◌≤◌, ◌++◌, ◌&&◌, [], IfSome, false, filter, true, if◌then◌else◌, nat_lt};
+ghost use Rattle.std.specs.Prelude.{◌≡◌, ℕ, ◌+◌, ◌*◌, ◌^◌, ◌<◌, ◌≤◌, ◌++◌, ◌&&◌, [], IfSome, None, false, filter, true, if◌then◌else◌, nat_lt};
 ghost use Rattle.cf_semantics.specs.moves.Candidates.{slides_from};
 ghost use Rattle.cf_semantics.specs.state.Options.{is_some};
 ghost use Rattle.cf_semantics.specs.state.State.{siding_at};
@@ -123,7 +123,8 @@ fn unheld_issues(core: &Core, rule: GuessRule, held: bool, others: u64) -> u64
 #[inline(always)]
 fn slides_none(core: &Core, idle: bool) -> bool
     requires { idle ≡ true → (k : ℕ) → list_any is_some (siding_at core.now.state k) ≡ false }
-    ensures { result ≡ true → filter (is_allowed core.now.plan core.now.state) (slides_from 0 core.now.plan.sidings) ≡ [] }
+    ensures none { result ≡ true → filter (is_allowed core.now.plan core.now.state) (slides_from 0 core.now.plan.sidings) ≡ [] }
+    ensures some { result ≡ false → filter (is_allowed core.now.plan core.now.state) (slides_from 0 core.now.plan.sidings) ≡ [] → ⊥ }
 {
     idle || slides(core) == 0
 }
@@ -133,7 +134,8 @@ impl PackedCandidates {
     /// processor does not go on, its layout has more than eight stages, or a Slide is allowed.
     #[inline(always)]
     pub fn of(core: &Core, rule: GuessRule, held: bool) -> Option<PackedCandidates>
-        ensures { IfSome result (λ packed. packed ≡ withheld held (guided_moves rule core.now.plan core.now.state)) }
+        ensures offered { IfSome result (λ packed. packed ≡ withheld held (guided_moves rule core.now.plan core.now.state)) }
+        ensures fits { result ≡ None → is_going core.now.state ≡ true → IsPackable core.now.plan core.now.state → ⊥ }
     {
         if !goes_on(core) || 8 < stages(core) {
             return None;

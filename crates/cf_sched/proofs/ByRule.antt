@@ -9,7 +9,7 @@ use Rattle.cf_semantics.specs.moves.Candidates.{candidates, held_back, other_mov
 use Rattle.cf_semantics.specs.moves.Holding.{is_held, offered}
 use Rattle.cf_semantics.specs.state.State.{State}
 use Rattle.theory_confluence.proofs.Candidates.{Has, kept_passes}
-use Rattle.cf_index.specs.Allowed.{allowed_others, withheld}
+use Rattle.cf_index.specs.Allowed.{withheld}
 use Rattle.cf_index.specs.GuessRules.{guided, keeps_move}
 use Rattle.cf_index.proofs.Firsts.{any_guided, guided_others, others_are}
 use Rattle.cf_index.proofs.OneIssue.{some-left}

@@ -1,5 +1,5 @@
 -- The candidates in one word are what is offered, and the draw is a place among them.
-use Rattle.std.proofs.Common.{◌≡◌, ◌∙◌, sym, ap, ℕ, ◌<◌, ◌%◌, Bool, List, length, arith}
+use Rattle.std.proofs.Common.{◌≡◌, ap, ℕ, ◌<◌, ◌%◌, Bool, List, length, arith}
 use Rattle.std.proofs.lemmas.Nat.{mod_below}
 use Rattle.cf_bind.specs.declared.moves.Move.{Move}
 use Rattle.run_options.specs.declared.guess_rule.GuessRule.{GuessRule}

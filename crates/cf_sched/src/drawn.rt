@@ -50,27 +50,27 @@ impl Drawn {
     /// Picks one of the moves that a processor offers, from the list of all.
     // The list is seldom needed, and is then made in a call, so that the pick from a word is part of a run's loop.
     #[inline(never)]
-    fn choose_of_all(&mut self, core: &Core, candidates: &mut Candidates, pace: &Pace) -> Move
+    fn choose_of_all(&mut self, core: &Core, pace: &Pace) -> Move
         requires { 0 < length (offers pace.now core.now.plan core.now.state) }
         ensures choice { Some result ≡ slice_get (offers pace.now core.now.plan core.now.state)
             (drawn_pick self.old (offers pace.now core.now.plan core.now.state)) }
         ensures onward { self.new ≡ drawn_on self.old }
     {
-        pace.offer(core, candidates);
-        let place = self.pick(candidates);
+        let candidates = Candidates::of(core, pace.rule(), pace.held());
+        let place = self.pick(&candidates);
         candidates.pick(place)
     }
 
     /// The same.
     // The answer of the call has a place in memory here, which is read only where the call is made.
     #[inline(always)]
-    fn choose_by_call(&mut self, core: &Core, candidates: &mut Candidates, pace: &Pace) -> Move
+    fn choose_by_call(&mut self, core: &Core, pace: &Pace) -> Move
         requires { 0 < length (offers pace.now core.now.plan core.now.state) }
         ensures choice { Some result ≡ slice_get (offers pace.now core.now.plan core.now.state)
             (drawn_pick self.old (offers pace.now core.now.plan core.now.state)) }
         ensures onward { self.new ≡ drawn_on self.old }
     {
-        self.choose_of_all(core, candidates, pace)
+        self.choose_of_all(core, pace)
     }
 }
 
@@ -85,10 +85,10 @@ impl Policy for Drawn {
     }
 
     #[inline(always)]
-    fn choose(&mut self, core: &Core, candidates: &mut Candidates, pace: &Pace) -> Move {
+    fn choose(&mut self, core: &Core, _candidates: &mut Candidates, pace: &Pace) -> Move {
         match PackedCandidates::of(core, pace.rule(), pace.held()) {
             Some(packed) => packed.pick(self.draw() as usize % packed.len()),
-            None => self.choose_by_call(core, candidates, pace),
+            None => self.choose_by_call(core, pace),
         }
     }
 }

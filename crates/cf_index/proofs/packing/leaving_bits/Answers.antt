@@ -1,4 +1,4 @@
-use Rattle.std.proofs.Common.{◌≡◌, ◌∙◌, ◌+◌, ◌*◌, ◌≤◌, ◌<◌, Bool, false, true, ℕ, ap, arith}
+use Rattle.std.proofs.Common.{◌∙◌, ◌+◌, ◌*◌, ◌≤◌, Bool, false, true, ℕ, ap, arith}
 use mir.Val.{bool_byte}
 use Rattle.cf_index.specs.Packed.{packed_from}
 use Rattle.cf_index.proofs.PackedWords.{few_recovers, idle_joined, leaving_joined}

@@ -1,4 +1,4 @@
-use Rattle.std.proofs.Common.{◌≡◌, ap, arith, true, nat_lt}
+use Rattle.std.proofs.Common.{◌≡◌, arith, true, nat_lt}
 use Rattle.std.proofs.lemmas.Bool.Decides.{nat_tests}
 use Rattle.cf_index.proofs.PackedWords.{from_none}
 use Rattle.cf_index.proofs.packing.unheld_issues.Goals as goal

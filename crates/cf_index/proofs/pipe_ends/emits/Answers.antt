@@ -1,7 +1,6 @@
-use Rattle.std.proofs.Common.{◌≡◌, ◌∙◌, ◌-◌, ◌≤◌, Bool, false, true, length, nat_lt, ap, arith}
-use Rattle.std.specs.Prelude.{◌&&◌, nat_eq, not}
+use Rattle.std.proofs.Common.{◌≡◌, ◌∙◌, ◌≤◌, Bool, false, true, length, nat_lt, ap, arith}
+use Rattle.std.specs.Prelude.{nat_eq, not}
 use Rattle.std.proofs.lemmas.Bool.Decides.{nat_tests}
-use Rattle.cf_layout.specs.Words.{has_bit}
 use Rattle.cf_index.proofs.Rows.{emit_allowed}
 use Rattle.cf_index.proofs.pipe_ends.emits.Goals as goal
 

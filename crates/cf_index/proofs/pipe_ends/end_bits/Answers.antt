@@ -1,6 +1,5 @@
-use Rattle.std.proofs.Common.{◌≡◌, ◌∙◌, ◌+◌, ◌*◌, ◌-◌, ◌≤◌, ℕ, false, ap, arith, sym}
+use Rattle.std.proofs.Common.{◌≡◌, ◌∙◌, ◌+◌, ◌*◌, ◌≤◌, ℕ, false, ap, arith, sym}
 use mir.Val.{bool_byte}
-use Rattle.cf_layout.specs.Words.{has_bit}
 use Rattle.cf_index.specs.Packed.{packed_from}
 use Rattle.cf_index.proofs.PackedWords.{ends_joined}
 use Rattle.cf_index.proofs.Rows.{top_free}

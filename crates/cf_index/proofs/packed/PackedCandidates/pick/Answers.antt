@@ -1,4 +1,4 @@
-use Rattle.std.proofs.Common.{◌<◌, ◌∙◌, ap, arith, List, length}
+use Rattle.std.proofs.Common.{◌∙◌, ap, arith, List, length}
 use Rattle.std.specs.Prelude.{Some, slice_get}
 use Rattle.cf_bind.specs.declared.moves.Move.{Move}
 use Rattle.cf_index.proofs.PackedWords.{length_packed, picked}
