@@ -257,7 +257,8 @@ leaving_joined plan s access recover ends few small accesses recovers e =
 
 -- where the sidings are empty, neither is there
 pub idle_joined : (plan : Plan) (s : State) (ends : ℕ) → ((k : ℕ) → list_any is_some (siding_at s k) ≡ false) →
-    packed_from 61 3 ends ≡ filter (is_allowed plan s) (Leave ∷ Exit ∷ Serve ∷ []) → packed_from 52 12 (512 * ends) ≡ filter (is_allowed plan s) (all_leaving plan)
+    packed_from 61 3 ends ≡ filter (is_allowed plan s) (Leave ∷ Exit ∷ Serve ∷ []) →
+    packed_from 52 12 (512 * ends) ≡ filter (is_allowed plan s) (all_leaving plan)
 idle_joined plan s ends none e =
     joined 52 9 3 0 ends (512 * ends) (omega arith) (omega arith) ∙ rw (from_none 52 9) e ∙ sym (no_leaving plan s none)
 
@@ -297,7 +298,8 @@ offered_by true false rule plan s some = rw (guided_others rule plan s, ← some
 some_move : (issues others : ℕ) → others < 2 ^ 61 → 0 < others → 0 < length (packed_from 3 61 others)
 some_move issues others small some =
     let l = lowest (0 + 8 * others) (omega arith) (omega arith) in
-    let e = sym (length_packed (0 + 8 * others)) ∙ ap length (all_joined 0 others (omega arith) ∙ ap (λ (l : List Move). l ++ packed_from 3 61 others) (from_none 0 3)) in
+    let all = all_joined 0 others (omega arith) ∙ ap (λ (l : List Move). l ++ packed_from 3 61 others) (from_none 0 3) in
+    let e = sym (length_packed (0 + 8 * others)) ∙ ap length all in
     let more : 0 < length (set_places 64 (0 + 8 * others)) = has_some (set_places 64 (0 + 8 * others)) _ l in
     omega (arith, e, more)
 

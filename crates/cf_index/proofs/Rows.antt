@@ -328,7 +328,8 @@ top_there plan s same some =
     let z : plan.stages - 1 + 1 ≡ plan.stages = omega arith in
     rw z at (some-cell s.cells (plan.stages - 1)) ∙ grind (arith, nat_tests)
 
-emit_row : (lane : List ℕ) (o : Option Cell) → is_some o ≡ true → not (is_some (on o (Some NoSuchSite) (emit_bar lane))) ≡ (nat_lt 0 (length lane) && not (flying o))
+emit_row : (lane : List ℕ) (o : Option Cell) → is_some o ≡ true →
+    not (is_some (on o (Some NoSuchSite) (emit_bar lane))) ≡ (nat_lt 0 (length lane) && not (flying o))
 unfolding flying
 emit_row lane None there = absurd (cc)
 emit_row [] (Some c) there = refl

@@ -170,8 +170,8 @@ fn is_direct_turn(i: Instr) -> bool
     matches!(i, Instr::Branch { .. } | Instr::Jal { .. })
 }
 
-/// The guesses, other than an address, that an instruction can be issued with now, where the next word is one of them: the
-/// others by what kind of instruction it is.
+/// The guesses, other than an address, that an instruction can be issued with now, where the next word is one of them:
+/// the others by what kind of instruction it is.
 #[inline(always)]
 fn issuable_by_kind(core: &Core) -> Issuable
     requires { is_allowed core.now.plan core.now.state (mv.Issue guess.Next) ≡ true }
@@ -200,9 +200,9 @@ fn issuable_by_kind(core: &Core) -> Issuable
     }
 }
 
-/// The guesses, other than an address, that an instruction can be issued with now and that the rule keeps, as `guided` has
-/// them. Where the lane has room for whatever an instruction requests, and the rule keeps every guess, the instruction is
-/// not put together.
+/// The guesses, other than an address, that an instruction can be issued with now and that the rule keeps, as `guided`
+/// has them. Where the lane has room for whatever an instruction requests, and the rule keeps every guess, the
+/// instruction is not put together.
 #[inline(always)]
 #[tactic(auto, using(crate::proofs::Guided::any_kept))]
 pub(crate) fn guided_by_kind(core: &Core, rule: GuessRule) -> Issuable

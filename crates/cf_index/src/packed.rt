@@ -7,9 +7,9 @@ use crate::bits::{count, nth};
 use cf_bind::{Guess, Move};
 use std::marker::Model;
 
-/// A list of moves of a layout with at most eight stages, none of them a Slide, in the order of all moves, as the bits of a
-/// word: Issue by each guess other than an address, and Emit; eight bits each for Climb, Fall, Meet, Execute, Send and
-/// Launch; Access, eight bits for Recover, Leave, Exit and Serve. Contracts see the list.
+/// A list of moves of a layout with at most eight stages, none of them a Slide, in the order of all moves, as the bits
+/// of a word: Issue by each guess other than an address, and Emit; eight bits each for Climb, Fall, Meet, Execute, Send
+/// and Launch; Access, eight bits for Recover, Leave, Exit and Serve. Contracts see the list.
 #[derive(Drop)]
 pub struct PackedCandidates {
     pub(crate) word: u64,

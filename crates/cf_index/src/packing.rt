@@ -130,8 +130,8 @@ fn slides_none(core: &Core, idle: bool) -> bool
 }
 
 impl PackedCandidates {
-    /// The moves that are allowed now and that the guess rule keeps, with Issue held back or not. There is no answer where the
-    /// processor does not go on, its layout has more than eight stages, or a Slide is allowed.
+    /// The moves that are allowed now and that the guess rule keeps, with Issue held back or not. There is no answer
+    /// where the processor does not go on, its layout has more than eight stages, or a Slide is allowed.
     #[inline(always)]
     pub fn of(core: &Core, rule: GuessRule, held: bool) -> Option<PackedCandidates>
         ensures offered { IfSome result (λ packed. packed ≡ withheld held (guided_moves rule core.now.plan core.now.state)) }

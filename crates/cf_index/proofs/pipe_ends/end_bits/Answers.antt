@@ -18,6 +18,7 @@ returns-else-has_top-clause-moves c =
     let some : 1 ≤ plan.stages = omega (arith, c.stages-stages.ensures.some, c.stages-stages.ensures.stages) in
     let off = top_free plan s c.args.masks.now c.requires.on c.requires.masks (c.stages-stages.ensures.cells ∙ c.stages-stages.ensures.stages) some
     (sym c.has_top.ensures ∙ c.if-has_top.false) in
-    let same : bool_byte false + 2 * bool_byte c.exits-exit.result ≡ bool_byte false + 2 * (bool_byte c.exits-exit.result + 2 * bool_byte false) = omega arith in
+    let exit = bool_byte c.exits-exit.result in
+    let same : bool_byte false + 2 * exit ≡ bool_byte false + 2 * (exit + 2 * bool_byte false) = omega arith in
     ap (packed_from 61 3) (c.flag_then-else-has_top.ensures ∙ same)
     ∙ ends_joined plan s false c.exits-exit.result false (sym off.0) c.exits-exit.ensures (sym off.1)
