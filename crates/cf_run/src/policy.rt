@@ -16,6 +16,7 @@ ghost use Rattle.cf_run.specs.Reaching.{no_tally};
 use crate::facts::known;
 use crate::finished::over;
 use crate::making::make_in_order;
+use crate::options::{Course, PolicyOptions};
 use cf_bind::Move;
 use cf_core::Core;
 use cf_index::Candidates;
@@ -23,7 +24,6 @@ use cf_io::{Sink, Source};
 use cf_report::{ReportSink, Tally};
 use cf_sched::{Pace, Policy};
 use run_finishes::Ran;
-use run_options::{GuessRule, Reporting};
 
 /// The move that the policy picks from what it is offered.
 #[inline(always)]
@@ -44,40 +44,47 @@ pub(crate) fn advance<P: Policy, S: Source, K: Sink, R: ReportSink>(
     core: &mut Core,
     candidates: &mut Candidates,
     policy: &mut P,
-    pace: &mut Pace,
-    limit: u64,
-    reporting: Reporting,
+    course: &mut Course,
     input: &mut S,
     output: &mut K,
     report: &mut R,
     tally: &mut Tally,
 ) -> Option<Ran>
-    requires limit { limit + 1 < 2 ^ 64 }
-    requires retired { core.old.state.retired ≤ limit }
-    requires stages { pace.old.stages ≡ core.old.plan.stages }
-    requires some { core.old.state.ending ≡ None → 0 < length (offered_by pace.old.rule core.old.plan pace.old.count core.old.state) }
+    requires limit { course.old.options.limit + 1 < 2 ^ 64 }
+    requires retired { core.old.state.retired ≤ course.old.options.limit }
+    requires stages { course.old.pace.stages ≡ core.old.plan.stages }
+    requires some { core.old.state.ending ≡ None → 0 < length (offered_by course.old.pace.rule core.old.plan course.old.pace.count core.old.state) }
     requires counts { CanCount tally.old }
-    ensures turns { PolicyTurns P.picked P.onward limit reporting
+    ensures turns { PolicyTurns P.picked P.onward course.old.options.limit course.old.options.reporting
         (place_by S.left K.written R.written core.old input.old output.old report.old tally.old)
         (place_by S.left K.written R.written core.new input.new output.new report.new tally.new)
-        (chooser pace.old.rule policy.old pace.old.count) (chooser pace.new.rule policy.new pace.new.count) result }
-    ensures rule { pace.new.rule ≡ pace.old.rule }
-    ensures stages { pace.new.stages ≡ pace.old.stages }
+        (chooser course.old.pace.rule policy.old course.old.pace.count) (chooser course.new.pace.rule policy.new course.new.pace.count) result }
+    ensures options { course.new.options ≡ course.old.options }
+    ensures rule { course.new.pace.rule ≡ course.old.pace.rule }
+    ensures stages { course.new.pace.stages ≡ course.old.pace.stages }
     ensures input { HasCause (S.faults input.old) (S.faults input.new) (input_stopped result) }
     ensures output { HasCause (K.faults output.old) (K.faults output.new) (output_stopped result) }
     ensures report { HasCause (R.faults report.old) (R.faults report.new) (report_stopped result) }
-    ensures input_asked { (ChoiceAsks AsksInput P.picked limit (chooser pace.old.rule policy.old pace.old.count) core.old → ⊥) →
+    ensures input_asked { (ChoiceAsks AsksInput P.picked course.old.options.limit (chooser course.old.pace.rule policy.old course.old.pace.count) core.old → ⊥) →
         input.new ≡ input.old }
-    ensures output_asked { (ChoiceAsks AsksOutput P.picked limit (chooser pace.old.rule policy.old pace.old.count) core.old → ⊥) →
+    ensures output_asked { (ChoiceAsks AsksOutput P.picked course.old.options.limit (chooser course.old.pace.rule policy.old course.old.pace.count) core.old → ⊥) →
         output.new ≡ output.old }
 {
-    if let Some(ran) = over(core, limit) {
+    if let Some(ran) = over(core, course.options.limit) {
         return Some(ran);
     }
-    let mv = choose(core, candidates, policy, pace);
-    match make_in_order(core, mv, reporting, input, output, report, tally) {
+    let mv = choose(core, candidates, policy, &course.pace);
+    match make_in_order(
+        core,
+        mv,
+        course.options.reporting,
+        input,
+        output,
+        report,
+        tally,
+    ) {
         Ok(event) => {
-            pace.saw(mv, &event, core.drained());
+            course.pace.saw(mv, &event, core.drained());
             None
         }
         Err(ran) => Some(ran),
@@ -99,21 +106,19 @@ pub fn run_policy<P: Policy, S: Source, K: Sink, R: ReportSink>(
     core: &mut Core,
     candidates: &mut Candidates,
     policy: &mut P,
-    rule: GuessRule,
-    limit: u64,
-    reporting: Reporting,
+    options: PolicyOptions,
     input: &mut S,
     output: &mut K,
     report: &mut R,
     tally: &mut Tally,
 ) -> Ran
-    requires begins { CanRun limit core.old }
+    requires begins { CanRun options.limit core.old }
     requires tally { tally.old ≡ no_tally }
-    ensures run { RunsRight rule P.picked P.onward limit reporting
+    ensures run { RunsRight options.rule P.picked P.onward options.limit options.reporting
         (place_by S.left K.written R.written core.old input.old output.old report.old tally.old)
         (place_by S.left K.written R.written core.new input.new output.new report.new tally.new)
         policy.old policy.new result }
-    ensures ends { EndsSequentially limit
+    ensures ends { EndsSequentially options.limit
         (place_by S.left K.written R.written core.old input.old output.old report.old tally.old)
         (place_by S.left K.written R.written core.new input.new output.new report.new tally.new)
         (scripted.Ran result) }
@@ -121,16 +126,24 @@ pub fn run_policy<P: Policy, S: Source, K: Sink, R: ReportSink>(
     ensures input { HasCause (S.faults input.old) (S.faults input.new) (input_stopped (Some result)) }
     ensures output { HasCause (K.faults output.old) (K.faults output.new) (output_stopped (Some result)) }
     ensures report { HasCause (R.faults report.old) (R.faults report.new) (report_stopped (Some result)) }
-    ensures asked { PolicyUnasked rule P.picked P.onward limit reporting
+    ensures asked { PolicyUnasked options.rule P.picked P.onward options.limit options.reporting
         (place_by S.left K.written R.written core.old input.old output.old report.old tally.old)
         (place_by S.left K.written R.written core.new input.new output.new report.new tally.new)
         policy.old policy.new result (input.new ≡ input.old) (output.new ≡ output.old) }
 {
     known(core);
-    let mut pace = Pace::new(rule, core.layout().stages());
+    let pace = Pace::new(options.rule, core.layout().stages());
+    let mut course = Course { options, pace };
     loop {
         let end = advance(
-            core, candidates, policy, &mut pace, limit, reporting, input, output, report, tally,
+            core,
+            candidates,
+            policy,
+            &mut course,
+            input,
+            output,
+            report,
+            tally,
         );
         if let Some(ran) = end {
             return ran;

@@ -15,6 +15,7 @@ ghost use Rattle.cf_run.specs.Sweeps.{HasCome, PicksFrom, SweepsTo, rule_at, sil
 
 use crate::facts::known;
 use crate::finished::over;
+use crate::options::{Course, PolicyOptions};
 use crate::policy::advance;
 use crate::turning_over::sweep_rounds;
 use cf_bind::Move;
@@ -24,7 +25,7 @@ use cf_io::{Sink, Source};
 use cf_report::{ReportSink, Tally};
 use cf_sched::{Pace, Round};
 use run_finishes::Ran;
-use run_options::{GuessRule, Reporting, Show};
+use run_options::{Reporting, Show};
 
 /// Whether it is known that the search after the last pick starts over, and that no Issue is offered.
 #[inline(always)]
@@ -89,21 +90,19 @@ pub fn run_rule<S: Source, K: Sink, R: ReportSink>(
     core: &mut Core,
     candidates: &mut Candidates,
     round: &mut Round,
-    rule: GuessRule,
-    limit: u64,
-    reporting: Reporting,
+    options: PolicyOptions,
     input: &mut S,
     output: &mut K,
     report: &mut R,
     tally: &mut Tally,
 ) -> Ran
-    requires begins { CanRun limit core.old }
+    requires begins { CanRun options.limit core.old }
     requires tally { tally.old ≡ no_tally }
-    ensures run { RunsRight rule round_pick round_on limit reporting
+    ensures run { RunsRight options.rule round_pick round_on options.limit options.reporting
         (place_by S.left K.written R.written core.old input.old output.old report.old tally.old)
         (place_by S.left K.written R.written core.new input.new output.new report.new tally.new)
         round.old round.new result }
-    ensures ends { EndsSequentially limit
+    ensures ends { EndsSequentially options.limit
         (place_by S.left K.written R.written core.old input.old output.old report.old tally.old)
         (place_by S.left K.written R.written core.new input.new output.new report.new tally.new)
         (scripted.Ran result) }
@@ -111,17 +110,32 @@ pub fn run_rule<S: Source, K: Sink, R: ReportSink>(
     ensures input { HasCause (S.faults input.old) (S.faults input.new) (input_stopped (Some result)) }
     ensures output { HasCause (K.faults output.old) (K.faults output.new) (output_stopped (Some result)) }
     ensures report { HasCause (R.faults report.old) (R.faults report.new) (report_stopped (Some result)) }
-    ensures asked { PolicyUnasked rule round_pick round_on limit reporting
+    ensures asked { PolicyUnasked options.rule round_pick round_on options.limit options.reporting
         (place_by S.left K.written R.written core.old input.old output.old report.old tally.old)
         (place_by S.left K.written R.written core.new input.new output.new report.new tally.new)
         round.old round.new result (input.new ≡ input.old) (output.new ≡ output.old) }
 {
     known(core);
-    let mut pace = Pace::new(rule, core.layout().stages());
+    let pace = Pace::new(options.rule, core.layout().stages());
+    let mut course = Course { options, pace };
     loop {
-        sweep(core, round, &mut pace, limit, reporting, tally);
+        sweep(
+            core,
+            round,
+            &mut course.pace,
+            options.limit,
+            options.reporting,
+            tally,
+        );
         let end = advance(
-            core, candidates, round, &mut pace, limit, reporting, input, output, report, tally,
+            core,
+            candidates,
+            round,
+            &mut course,
+            input,
+            output,
+            report,
+            tally,
         );
         if let Some(ran) = end {
             return ran;

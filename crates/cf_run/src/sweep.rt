@@ -1,5 +1,6 @@
 //! A sweep of the rule: Emit, then all Climbs, all Falls and so on up to all Launches that it picks one after another. It uses
 //! neither stream, and nothing of it is shown.
+#![tactic(auto, using(crate::proofs::Turning::goes_on_so, crate::proofs::Turning::no_turns, crate::proofs::Turning::sweeps_on))]
 
 ghost use Rattle.std.specs.Prelude.{◌≡◌, ◌≢◌, ℕ, ◌+◌, ◌≤◌, Some};
 ghost use Rattle.cf_layout.specs.Layout.{Plan};

@@ -1,5 +1,5 @@
 //! A round of the rule: a sweep over the stages, then the moves by which something leaves, and then again an Issue or what comes first.
-#![tactic(auto, using(crate::proofs::Turning::no_turns))]
+#![tactic(auto, using(crate::proofs::Turning::no_turns, crate::proofs::Turning::sweeps_on))]
 
 ghost use Rattle.std.specs.Prelude.{◌≡◌, ◌<◌, ◌≤◌, ◌+◌, IfSome, Some};
 ghost use Rattle.cf_index.specs.Order.{kind_place};

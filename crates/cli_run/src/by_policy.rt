@@ -10,7 +10,7 @@ use cf_core::Core;
 use cf_index::Candidates;
 use cf_io::{Failed, Sink, Source};
 use cf_report::ReportSink;
-use cf_run::{Reporting, Scripted, run_policy};
+use cf_run::{PolicyOptions, Reporting, Scripted, run_policy};
 use cf_sched::Policy;
 use cli_processor::no_moves;
 use cli_reports::{Reported, RunStreams};
@@ -41,17 +41,13 @@ pub fn run_by_policy<P: Policy + Drop, S: Source, K: Sink, R: ReportSink>(
         report,
     } = streams;
     let mut tally = no_moves();
-    let ran = run_policy(
-        core,
-        candidates,
-        &mut policy,
+    let options = PolicyOptions {
         rule,
         limit,
         reporting,
-        input,
-        output,
-        report,
-        &mut tally,
+    };
+    let ran = run_policy(
+        core, candidates, &mut policy, options, input, output, report, &mut tally,
     );
     close(core, limit, Scripted::Ran(ran), &tally, report)
 }

@@ -11,7 +11,7 @@ use cf_core::Core;
 use cf_index::Candidates;
 use cf_io::{Failed, Sink, Source};
 use cf_report::ReportSink;
-use cf_run::{Reporting, Scripted, run_rule};
+use cf_run::{PolicyOptions, Reporting, Scripted, run_rule};
 use cf_sched::Round;
 use cli_processor::no_moves;
 use cli_reports::{Reported, RunStreams};
@@ -42,8 +42,13 @@ pub fn run_by_rule<S: Source, K: Sink, R: ReportSink>(
         report,
     } = streams;
     let mut tally = no_moves();
+    let options = PolicyOptions {
+        rule,
+        limit,
+        reporting,
+    };
     let ran = run_rule(
-        core, candidates, &mut round, rule, limit, reporting, input, output, report, &mut tally,
+        core, candidates, &mut round, options, input, output, report, &mut tally,
     );
     close(core, limit, Scripted::Ran(ran), &tally, report)
 }

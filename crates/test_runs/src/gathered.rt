@@ -5,7 +5,7 @@ use cf_index::Candidates;
 use cf_io::{Empty, MemSink, put_all};
 use cf_layout::plain;
 use cf_report::{Gathered, ReportSink, Tally};
-use cf_run::{Ran, Reporting, Show, run_rule};
+use cf_run::{PolicyOptions, Ran, Reporting, Show, run_rule};
 use cf_sched::Round;
 use run_options::GuessRule;
 use std::process::Abort;
@@ -123,17 +123,19 @@ fn run_writes(
         kills: 0,
         dead: 0,
     };
-    let reporting = Reporting {
-        show: Show::Retired,
-        every: None,
+    let options = PolicyOptions {
+        rule: GuessRule::Any,
+        limit: 100,
+        reporting: Reporting {
+            show: Show::Retired,
+            every: None,
+        },
     };
     run_rule(
         &mut core,
         &mut candidates,
         &mut Round::new(),
-        GuessRule::Any,
-        100,
-        reporting,
+        options,
         &mut Empty,
         output,
         report,

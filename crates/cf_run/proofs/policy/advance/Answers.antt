@@ -12,15 +12,15 @@ pub returns-in-Some-clause-turns : goal.returns-in-Some-clause-turns
 returns-in-Some-clause-turns g c = over-stops _ _ _ _ _ _ _ c.in-Some.ensures
 
 pub returns-in-Some-clause-input : goal.returns-in-Some-clause-input
-returns-in-Some-clause-input g c = rw (over-read c.args.limit c.args.core.now.state c.in-Some.ran c.in-Some.ensures)
+returns-in-Some-clause-input g c = rw (over-read c.args.course.now.options.limit c.args.core.now.state c.in-Some.ran c.in-Some.ensures)
     (record { never_falls = omega arith; rose = tt; still = refl })
 
 pub returns-in-Some-clause-output : goal.returns-in-Some-clause-output
-returns-in-Some-clause-output g c = rw (over-written c.args.limit c.args.core.now.state c.in-Some.ran c.in-Some.ensures)
+returns-in-Some-clause-output g c = rw (over-written c.args.course.now.options.limit c.args.core.now.state c.in-Some.ran c.in-Some.ensures)
     (record { never_falls = omega arith; rose = tt; still = refl })
 
 pub returns-in-Some-clause-report : goal.returns-in-Some-clause-report
-returns-in-Some-clause-report g c = rw (over-reported c.args.limit c.args.core.now.state c.in-Some.ran c.in-Some.ensures)
+returns-in-Some-clause-report g c = rw (over-reported c.args.course.now.options.limit c.args.core.now.state c.in-Some.ran c.in-Some.ensures)
     (record { never_falls = omega arith; rose = tt; still = refl })
 
 pub returns-in-Ok-clause-turns : goal.returns-in-Ok-clause-turns

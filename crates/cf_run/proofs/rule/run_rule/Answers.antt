@@ -9,8 +9,9 @@ use Rattle.cf_run.proofs.rule.run_rule.Goals as goal
 
 pub loop-ran-init : goal.loop-ran-init
 loop-ran-init g c = record {
-  comes = comes-first c.args.rule _ _ _ _ _ _ _ _ c.requires.tally (c.stages.ensures.stages ∙ ap (λ (plan : Plan). plan.stages) c.layout.ensures.layout)
+  comes = comes-first c.args.options.rule _ _ _ _ _ _ _ _ c.requires.tally (c.stages.ensures.stages ∙ ap (λ (plan : Plan). plan.stages) c.layout.ensures.layout)
       c.new-pace.ensures.2;
+  options = refl;
   rule = c.new-pace.ensures.0;
   stages = c.new-pace.ensures.1 ∙ c.stages.ensures.stages ∙ ap (λ (plan : Plan). plan.stages) c.layout.ensures.layout;
   input_asked = λ unasked. refl;
@@ -39,68 +40,69 @@ sweep-requires g c = record {
 }
 
 pub advance-end-requires-clause-retired : goal.advance-end-requires-clause-retired
-advance-end-requires-clause-retired g c = c.sweep.ensures.come.within
+advance-end-requires-clause-retired g c = rw c.loop-ran.invariant.options c.sweep.ensures.come.within
 
 pub advance-end-requires-clause-stages : goal.advance-end-requires-clause-stages
 advance-end-requires-clause-stages g c = c.sweep.ensures.come.stages
 
 pub advance-end-requires-clause-some : goal.advance-end-requires-clause-some
 advance-end-requires-clause-some g c =
-    let by = comes-by c.args.rule _ _ _ _ _ _ _ _ c.loop-ran.invariant.comes c.loop-ran.invariant.rule c.sweep.ensures.swept in
-    rw by.rule_is (comes-offered c.args.rule _ _ _ _ _ _ _ _ _ c.known.ensures.accepted c.known.ensures.registers c.requires.begins.is_opened by.comes)
+    let by = comes-by c.args.options.rule _ _ _ _ _ _ _ _ c.loop-ran.invariant.comes c.loop-ran.invariant.rule c.sweep.ensures.swept in
+    rw by.rule_is (comes-offered c.args.options.rule _ _ _ _ _ _ _ _ _ c.known.ensures.accepted c.known.ensures.registers c.requires.begins.is_opened by.comes)
 
 pub advance-end-requires-clause-counts : goal.advance-end-requires-clause-counts
 advance-end-requires-clause-counts g c = come-counts _ _ _ c.sweep.ensures.come
 
 pub returns-in-Some-clause-run : goal.returns-in-Some-clause-run
 returns-in-Some-clause-run g c =
-    let by = comes-by c.args.rule _ _ _ _ _ _ _ _ c.loop-ran.invariant.comes c.loop-ran.invariant.rule c.sweep.ensures.swept in
-    let runs = comes-runs c.args.rule _ _ _ _ _ _ _ _ _ _ _ _ by.comes (rw by.rule_is at c.in-Some.ensures.turns) in
-    record { moves = _; runs = runs; sequential = policy-sequential c.args.rule _ _ _ _ _ _ _ _ _ _ c.known.ensures.accepted c.known.ensures.registers runs }
+    let by = comes-by c.args.options.rule _ _ _ _ _ _ _ _ c.loop-ran.invariant.comes c.loop-ran.invariant.rule c.sweep.ensures.swept in
+    let runs = comes-runs c.args.options.rule _ _ _ _ _ _ _ _ _ _ _ _ by.comes (rw (c.loop-ran.invariant.options, by.rule_is) at c.in-Some.ensures.turns) in
+    record { moves = _; runs = runs; sequential = policy-sequential c.args.options.rule _ _ _ _ _ _ _ _ _ _ c.known.ensures.accepted c.known.ensures.registers runs }
 
 pub returns-in-Some-clause-ends : goal.returns-in-Some-clause-ends
 returns-in-Some-clause-ends g c =
-    let by = comes-by c.args.rule _ _ _ _ _ _ _ _ c.loop-ran.invariant.comes c.loop-ran.invariant.rule c.sweep.ensures.swept in
-    policy-ends-sequentially c.args.rule _ _ _ _ _ _ _ _ _ _ c.known.ensures.accepted c.known.ensures.registers
-    (comes-runs c.args.rule _ _ _ _ _ _ _ _ _ _ _ _ by.comes (rw by.rule_is at c.in-Some.ensures.turns))
+    let by = comes-by c.args.options.rule _ _ _ _ _ _ _ _ c.loop-ran.invariant.comes c.loop-ran.invariant.rule c.sweep.ensures.swept in
+    policy-ends-sequentially c.args.options.rule _ _ _ _ _ _ _ _ _ _ c.known.ensures.accepted c.known.ensures.registers
+    (comes-runs c.args.options.rule _ _ _ _ _ _ _ _ _ _ _ _ by.comes (rw (c.loop-ran.invariant.options, by.rule_is) at c.in-Some.ensures.turns))
 
 pub returns-in-Some-clause-bounded : goal.returns-in-Some-clause-bounded
 returns-in-Some-clause-bounded g c =
-    let by = comes-by c.args.rule _ _ _ _ _ _ _ _ c.loop-ran.invariant.comes c.loop-ran.invariant.rule c.sweep.ensures.swept in
-    policy-bounded c.args.rule _ _ _ _ _ _ _ _ _ _ c.known.ensures.accepted c.known.ensures.registers c.requires.begins.is_opened
-    (comes-runs c.args.rule _ _ _ _ _ _ _ _ _ _ _ _ by.comes (rw by.rule_is at c.in-Some.ensures.turns))
+    let by = comes-by c.args.options.rule _ _ _ _ _ _ _ _ c.loop-ran.invariant.comes c.loop-ran.invariant.rule c.sweep.ensures.swept in
+    policy-bounded c.args.options.rule _ _ _ _ _ _ _ _ _ _ c.known.ensures.accepted c.known.ensures.registers c.requires.begins.is_opened
+    (comes-runs c.args.options.rule _ _ _ _ _ _ _ _ _ _ _ _ by.comes (rw (c.loop-ran.invariant.options, by.rule_is) at c.in-Some.ensures.turns))
 
 pub returns-in-Some-clause-asked : goal.returns-in-Some-clause-asked
 returns-in-Some-clause-asked g c =
-    let by = comes-by c.args.rule _ _ _ _ _ _ _ _ c.loop-ran.invariant.comes c.loop-ran.invariant.rule c.sweep.ensures.swept in
-    comes-unasked c.args.rule _ _ _ _ _ _ _ _ _ _ _ _ _ _ _ _ _ _ by.comes (rw by.rule_is at c.in-Some.ensures.turns)
+    let by = comes-by c.args.options.rule _ _ _ _ _ _ _ _ c.loop-ran.invariant.comes c.loop-ran.invariant.rule c.sweep.ensures.swept in
+    comes-unasked c.args.options.rule _ _ _ _ _ _ _ _ _ _ _ _ _ _ _ _ _ _ by.comes (rw (c.loop-ran.invariant.options, by.rule_is) at c.in-Some.ensures.turns)
     (λ unasked. c.loop-ran.invariant.input_asked (λ some. unasked (by.input some)))
-    (rw by.rule_is at c.in-Some.ensures.input_asked)
+    (rw (c.loop-ran.invariant.options, by.rule_is) at c.in-Some.ensures.input_asked)
     (λ unasked. c.loop-ran.invariant.output_asked (λ some. unasked (by.output some)))
-    (rw by.rule_is at c.in-Some.ensures.output_asked)
+    (rw (c.loop-ran.invariant.options, by.rule_is) at c.in-Some.ensures.output_asked)
 
 pub loop-ran-smaller : goal.loop-ran-smaller
 loop-ran-smaller g c =
-    let by = comes-by c.args.rule _ _ _ _ _ _ _ _ c.loop-ran.invariant.comes c.loop-ran.invariant.rule c.sweep.ensures.swept in
+    let by = comes-by c.args.options.rule _ _ _ _ _ _ _ _ c.loop-ran.invariant.comes c.loop-ran.invariant.rule c.sweep.ensures.swept in
     fewer_left _ _ _ _ (sweeps-onward _ _ _ _ c.sweep.ensures.swept).moves
-    (comes-nearer c.args.rule _ _ _ _ _ _ _ _ _ _ _ c.known.ensures.accepted c.known.ensures.registers c.requires.begins.is_opened by.comes
-    (rw by.rule_is at c.in_default.ensures.turns))
+    (comes-nearer c.args.options.rule _ _ _ _ _ _ _ _ _ _ _ c.known.ensures.accepted c.known.ensures.registers c.requires.begins.is_opened by.comes
+    (rw (c.loop-ran.invariant.options, by.rule_is) at c.in_default.ensures.turns))
 
 pub loop-ran-preserved : goal.loop-ran-preserved
 loop-ran-preserved g c =
-    let by = comes-by c.args.rule _ _ _ _ _ _ _ _ c.loop-ran.invariant.comes c.loop-ran.invariant.rule c.sweep.ensures.swept in
-    let turns = rw by.rule_is at c.in_default.ensures.turns in
+    let by = comes-by c.args.options.rule _ _ _ _ _ _ _ _ c.loop-ran.invariant.comes c.loop-ran.invariant.rule c.sweep.ensures.swept in
+    let turns = rw (c.loop-ran.invariant.options, by.rule_is) at c.in_default.ensures.turns in
     record {
-      comes = comes-more c.args.rule _ _ _ _ _ _ _ _ _ _ _ by.comes turns;
+      comes = comes-more c.args.options.rule _ _ _ _ _ _ _ _ _ _ _ by.comes turns;
+      options = c.in_default.ensures.options ∙ c.loop-ran.invariant.options;
       rule = c.in_default.ensures.rule ∙ by.rule_is;
       stages = c.in_default.ensures.stages ∙ c.sweep.ensures.come.stages
           ∙ ap (λ (plan : Plan). plan.stages) (sym (turned-plan _ _ _ _ _ _ _ _ turns));
-      input_asked = unasked-comes c.args.rule _ _ AsksInput _ _ _ _ _ _ _ _ _ by.comes turns _ _ _
+      input_asked = unasked-comes c.args.options.rule _ _ AsksInput _ _ _ _ _ _ _ _ _ by.comes turns _ _ _
           (λ unasked. c.loop-ran.invariant.input_asked (λ some. unasked (by.input some)))
-          (rw by.rule_is at c.in_default.ensures.input_asked);
-      output_asked = unasked-comes c.args.rule _ _ AsksOutput _ _ _ _ _ _ _ _ _ by.comes turns _ _ _
+          (rw (c.loop-ran.invariant.options, by.rule_is) at c.in_default.ensures.input_asked);
+      output_asked = unasked-comes c.args.options.rule _ _ AsksOutput _ _ _ _ _ _ _ _ _ by.comes turns _ _ _
           (λ unasked. c.loop-ran.invariant.output_asked (λ some. unasked (by.output some)))
-          (rw by.rule_is at c.in_default.ensures.output_asked);
+          (rw (c.loop-ran.invariant.options, by.rule_is) at c.in_default.ensures.output_asked);
       within = turned-within _ _ _ _ _ _ _ _ turns;
       input = c.in_default.ensures.input.still ∙ c.loop-ran.invariant.input;
       output = c.in_default.ensures.output.still ∙ c.loop-ran.invariant.output;

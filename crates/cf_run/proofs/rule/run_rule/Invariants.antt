@@ -18,16 +18,17 @@ invariant-loop-ran g l =
     l.initial.tally in
     let now : RunPlace = run_place_of l.core (streams_of (left l.input) (written l.output)) (reported l.report) l.tally in
     record {
-      comes : HasPicked l.fn.rule round_pick round_on l.limit l.reporting start now l.initial.round l.round l.pace.count;
-      rule : l.pace.rule ≡ l.fn.rule;
-      stages : l.pace.stages ≡ l.core.plan.stages;
+      comes : HasPicked l.fn.options.rule round_pick round_on l.fn.options.limit l.fn.options.reporting start now l.initial.round l.round l.course.pace.count;
+      options : l.course.options ≡ l.fn.options;
+      rule : l.course.pace.rule ≡ l.fn.options.rule;
+      stages : l.course.pace.stages ≡ l.core.plan.stages;
       input_asked : (SomeAsks AsksInput start.core.plan start.core.state comes.reached.trace → ⊥) → l.input ≡ l.initial.input;
       output_asked : (SomeAsks AsksOutput start.core.plan start.core.state comes.reached.trace → ⊥) → l.output ≡ l.initial.output;
-      within : l.core.state.retired ≤ l.limit;
+      within : l.core.state.retired ≤ l.fn.options.limit;
       input : g.S.Source.faults l.input ≡ g.S.Source.faults l.initial.input;
       output : g.K.Sink.faults l.output ≡ g.K.Sink.faults l.initial.output;
       report : g.R.Sink.faults l.report ≡ g.R.Sink.faults l.initial.report;
     }
 
 abbrev pub decreases-loop-ran : goal.decreases-loop-ran
-decreases-loop-ran g l = most_moves l.initial.core.plan l.limit - l.tally.moves
+decreases-loop-ran g l = most_moves l.initial.core.plan l.fn.options.limit - l.tally.moves

@@ -1,15 +1,9 @@
 use Rattle.cf_index.proofs.PickedFrom.{picked_on}
-use Rattle.cf_run.proofs.Turning.{goes_on_so, made-nearer, no_turns, picked_here, picks_same, sweeps_on}
+use Rattle.cf_run.proofs.Turning.{made-nearer, no_turns, picked_here, picks_same, sweeps_on}
 use Rattle.cf_run.proofs.sweep.sweep_kind.Goals as goal
 
 pub loop-stage-init : goal.loop-stage-init
 loop-stage-init g c = record { swept = no_turns _ _ _; ready = c.requires.ready; picked = c.requires.picked }
-
-pub next-requires : goal.next-requires
-next-requires g c = goes_on_so _ _ c.loop-stage.invariant.ready
-
-pub make_at-place-requires-clause-picked : goal.make_at-place-requires-clause-picked
-make_at-place-requires-clause-picked g c = picked_here _ _ _ _ _ _ _ _ c.loop-stage.invariant.picked c.in-Some.ensures.here
 
 pub loop-stage-smaller : goal.loop-stage-smaller
 loop-stage-smaller g c = made-nearer _ _ _ _ (c.make_at-place.ensures.ready (c.requires.keeps _)) c.loop-stage.invariant.swept c.make_at-place.ensures.swept
@@ -24,3 +18,6 @@ loop-stage-preserved g c = record {
 
 pub returns-in-None-clause-picked : goal.returns-in-None-clause-picked
 returns-in-None-clause-picked g c = picked_on _ _ _ _ _ _ _ _ (c.next.ensures.gone c.in-None.is) c.loop-stage.invariant.picked
+
+pub make_at-place-requires-clause-picked : goal.make_at-place-requires-clause-picked
+make_at-place-requires-clause-picked g c = picked_here _ _ _ _ _ _ _ _ c.loop-stage.invariant.picked c.in-Some.ensures.here

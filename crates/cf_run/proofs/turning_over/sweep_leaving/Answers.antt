@@ -1,5 +1,5 @@
 use Rattle.std.proofs.Common.{◌∙◌, sym, arith}
-use Rattle.cf_run.proofs.Turning.{come_on, not-over, picks_last, sweeping-on, sweeps_on}
+use Rattle.cf_run.proofs.Turning.{come_on, not-over, picks_last, sweeping-on}
 use Rattle.cf_run.proofs.turning_over.sweep_leaving.Goals as goal
 
 pub over-requires : goal.over-requires
@@ -8,12 +8,6 @@ over-requires c = (come_on _ _ _ _ c.requires.ready.come c.sweep_once-left.ensur
 pub sweep_once-exited-requires-clause-ready : goal.sweep_once-exited-requires-clause-ready
 sweep_once-exited-requires-clause-ready c =
     sweeping-on _ _ _ c.requires.ready c.sweep_once-left.ensures.swept (not-over _ _ _ c.over.ensures (sym c.is_some.ensures ∙ c.if-is_some.false))
-
-pub returns-then-may_serve-clause-swept : goal.returns-then-may_serve-clause-swept
-returns-then-may_serve-clause-swept c = sweeps_on _ _ _ _ _ c.sweep_once-left.ensures.swept c.sweep_once-exited.ensures.swept
-
-pub returns-else-may_serve-clause-swept : goal.returns-else-may_serve-clause-swept
-returns-else-may_serve-clause-swept c = sweeps_on _ _ _ _ _ c.sweep_once-left.ensures.swept c.sweep_once-exited.ensures.swept
 
 pub returns-else-may_serve-clause-ready : goal.returns-else-may_serve-clause-ready
 returns-else-may_serve-clause-ready c = c.sweep_once-exited.ensures.ready (λ i is. absurd (omega (arith, is)))
