@@ -9,7 +9,8 @@ use Rattle.cf_run.proofs.policy.run_policy.Goals as goal
 
 pub loop-ran-init : goal.loop-ran-init
 loop-ran-init g c = record {
-  comes = comes-first c.args.options.rule _ _ _ _ _ _ _ _ c.requires.tally (c.stages.ensures.stages ∙ ap (λ (plan : Plan). plan.stages) c.layout.ensures.layout)
+  comes = comes-first c.args.options.rule _ _ _ _ _ _ _ _ c.requires.tally
+      (c.stages.ensures.stages ∙ ap (λ (plan : Plan). plan.stages) c.layout.ensures.layout)
       c.new-pace.ensures.2;
   options = refl;
   rule = c.new-pace.ensures.0;
@@ -35,44 +36,57 @@ advance-end-requires-clause-counts g c =
 
 pub returns-in-Some-clause-run : goal.returns-in-Some-clause-run
 returns-in-Some-clause-run g c =
-    let runs = comes-runs c.args.options.rule _ _ _ _ _ _ _ _ _ _ _ _ c.loop-ran.invariant.comes (rw (c.loop-ran.invariant.options, c.loop-ran.invariant.rule) at c.in-Some.ensures.turns) in
-    record { moves = _; runs = runs; sequential = policy-sequential c.args.options.rule _ _ _ _ _ _ _ _ _ _ c.known.ensures.accepted c.known.ensures.registers runs }
-
-pub returns-in-Some-clause-bounded : goal.returns-in-Some-clause-bounded
-returns-in-Some-clause-bounded g c =
-    policy-bounded c.args.options.rule _ _ _ _ _ _ _ _ _ _ c.known.ensures.accepted c.known.ensures.registers c.requires.begins.is_opened
-    (comes-runs c.args.options.rule _ _ _ _ _ _ _ _ _ _ _ _ c.loop-ran.invariant.comes (rw (c.loop-ran.invariant.options, c.loop-ran.invariant.rule) at c.in-Some.ensures.turns))
-
-pub returns-in-Some-clause-asked : goal.returns-in-Some-clause-asked
-returns-in-Some-clause-asked g c =
-    comes-unasked c.args.options.rule _ _ _ _ _ _ _ _ _ _ _ _ _ _ _ _ _ _ c.loop-ran.invariant.comes (rw (c.loop-ran.invariant.options, c.loop-ran.invariant.rule) at c.in-Some.ensures.turns)
-    c.loop-ran.invariant.input_asked (rw (c.loop-ran.invariant.options, c.loop-ran.invariant.rule) at c.in-Some.ensures.input_asked) c.loop-ran.invariant.output_asked
-    (rw (c.loop-ran.invariant.options, c.loop-ran.invariant.rule) at c.in-Some.ensures.output_asked)
-
-pub loop-ran-smaller : goal.loop-ran-smaller
-loop-ran-smaller g c = comes-nearer c.args.options.rule _ _ _ _ _ _ _ _ _ _ _ c.known.ensures.accepted c.known.ensures.registers c.requires.begins.is_opened
-    c.loop-ran.invariant.comes (rw (c.loop-ran.invariant.options, c.loop-ran.invariant.rule) at c.in_default.ensures.turns)
-
-pub loop-ran-preserved : goal.loop-ran-preserved
-loop-ran-preserved g c = record {
-  comes = comes-more c.args.options.rule _ _ _ _ _ _ _ _ _ _ _ c.loop-ran.invariant.comes (rw (c.loop-ran.invariant.options, c.loop-ran.invariant.rule) at c.in_default.ensures.turns);
-  options = c.in_default.ensures.options ∙ c.loop-ran.invariant.options;
-  rule = c.in_default.ensures.rule ∙ c.loop-ran.invariant.rule;
-  stages = c.in_default.ensures.stages ∙ c.loop-ran.invariant.stages ∙ ap (λ (plan : Plan). plan.stages)
-      (sym (turned-plan _ _ _ _ _ _ _ _ (rw (c.loop-ran.invariant.options, c.loop-ran.invariant.rule) at c.in_default.ensures.turns)));
-  input_asked = unasked-comes c.args.options.rule _ _ AsksInput _ _ _ _ _ _ _ _ _ c.loop-ran.invariant.comes (rw (c.loop-ran.invariant.options, c.loop-ran.invariant.rule) at
-      c.in_default.ensures.turns) _ _ _ c.loop-ran.invariant.input_asked
-      (rw (c.loop-ran.invariant.options, c.loop-ran.invariant.rule) at c.in_default.ensures.input_asked);
-  output_asked = unasked-comes c.args.options.rule _ _ AsksOutput _ _ _ _ _ _ _ _ _ c.loop-ran.invariant.comes
-      (rw (c.loop-ran.invariant.options, c.loop-ran.invariant.rule) at c.in_default.ensures.turns) _ _ _ c.loop-ran.invariant.output_asked
-      (rw (c.loop-ran.invariant.options, c.loop-ran.invariant.rule) at c.in_default.ensures.output_asked);
-  within = turned-within _ _ _ _ _ _ _ _ (rw (c.loop-ran.invariant.options, c.loop-ran.invariant.rule) at c.in_default.ensures.turns);
-  input = c.in_default.ensures.input.still ∙ c.loop-ran.invariant.input;
-  output = c.in_default.ensures.output.still ∙ c.loop-ran.invariant.output;
-  report = c.in_default.ensures.report.still ∙ c.loop-ran.invariant.report;
-}
+    let turns = rw (c.loop-ran.invariant.options, c.loop-ran.invariant.rule) at c.in-Some.ensures.turns in
+    let runs = comes-runs c.args.options.rule _ _ _ _ _ _ _ _ _ _ _ _ c.loop-ran.invariant.comes turns in
+    record {
+      moves = _;
+      runs = runs;
+      sequential = policy-sequential c.args.options.rule _ _ _ _ _ _ _ _ _ _ c.known.ensures.accepted c.known.ensures.registers runs;
+    }
 
 pub returns-in-Some-clause-ends : goal.returns-in-Some-clause-ends
 returns-in-Some-clause-ends g c =
+    let turns = rw (c.loop-ran.invariant.options, c.loop-ran.invariant.rule) at c.in-Some.ensures.turns in
     policy-ends-sequentially c.args.options.rule _ _ _ _ _ _ _ _ _ _ c.known.ensures.accepted c.known.ensures.registers
-    (comes-runs c.args.options.rule _ _ _ _ _ _ _ _ _ _ _ _ c.loop-ran.invariant.comes (rw (c.loop-ran.invariant.options, c.loop-ran.invariant.rule) at c.in-Some.ensures.turns))
+    (comes-runs c.args.options.rule _ _ _ _ _ _ _ _ _ _ _ _ c.loop-ran.invariant.comes turns)
+
+pub returns-in-Some-clause-bounded : goal.returns-in-Some-clause-bounded
+returns-in-Some-clause-bounded g c =
+    let turns = rw (c.loop-ran.invariant.options, c.loop-ran.invariant.rule) at c.in-Some.ensures.turns in
+    policy-bounded c.args.options.rule _ _ _ _ _ _ _ _ _ _ c.known.ensures.accepted c.known.ensures.registers c.requires.begins.is_opened
+    (comes-runs c.args.options.rule _ _ _ _ _ _ _ _ _ _ _ _ c.loop-ran.invariant.comes turns)
+
+pub returns-in-Some-clause-asked : goal.returns-in-Some-clause-asked
+returns-in-Some-clause-asked g c =
+    let turns = rw (c.loop-ran.invariant.options, c.loop-ran.invariant.rule) at c.in-Some.ensures.turns in
+    comes-unasked c.args.options.rule _ _ _ _ _ _ _ _ _ _ _ _ _ _ _ _ _ _ c.loop-ran.invariant.comes turns
+    c.loop-ran.invariant.input_asked
+    (rw (c.loop-ran.invariant.options, c.loop-ran.invariant.rule) at c.in-Some.ensures.input_asked)
+    c.loop-ran.invariant.output_asked
+    (rw (c.loop-ran.invariant.options, c.loop-ran.invariant.rule) at c.in-Some.ensures.output_asked)
+
+pub loop-ran-smaller : goal.loop-ran-smaller
+loop-ran-smaller g c =
+    comes-nearer c.args.options.rule _ _ _ _ _ _ _ _ _ _ _ c.known.ensures.accepted c.known.ensures.registers c.requires.begins.is_opened
+    c.loop-ran.invariant.comes (rw (c.loop-ran.invariant.options, c.loop-ran.invariant.rule) at c.in_default.ensures.turns)
+
+pub loop-ran-preserved : goal.loop-ran-preserved
+loop-ran-preserved g c =
+    let turns = rw (c.loop-ran.invariant.options, c.loop-ran.invariant.rule) at c.in_default.ensures.turns in
+    record {
+      comes = comes-more c.args.options.rule _ _ _ _ _ _ _ _ _ _ _ c.loop-ran.invariant.comes turns;
+      options = c.in_default.ensures.options ∙ c.loop-ran.invariant.options;
+      rule = c.in_default.ensures.rule ∙ c.loop-ran.invariant.rule;
+      stages = c.in_default.ensures.stages ∙ c.loop-ran.invariant.stages
+          ∙ ap (λ (plan : Plan). plan.stages) (sym (turned-plan _ _ _ _ _ _ _ _ turns));
+      input_asked = unasked-comes c.args.options.rule _ _ AsksInput _ _ _ _ _ _ _ _ _ c.loop-ran.invariant.comes turns _ _ _
+          c.loop-ran.invariant.input_asked
+          (rw (c.loop-ran.invariant.options, c.loop-ran.invariant.rule) at c.in_default.ensures.input_asked);
+      output_asked = unasked-comes c.args.options.rule _ _ AsksOutput _ _ _ _ _ _ _ _ _ c.loop-ran.invariant.comes turns _ _ _
+          c.loop-ran.invariant.output_asked
+          (rw (c.loop-ran.invariant.options, c.loop-ran.invariant.rule) at c.in_default.ensures.output_asked);
+      within = turned-within _ _ _ _ _ _ _ _ turns;
+      input = c.in_default.ensures.input.still ∙ c.loop-ran.invariant.input;
+      output = c.in_default.ensures.output.still ∙ c.loop-ran.invariant.output;
+      report = c.in_default.ensures.report.still ∙ c.loop-ran.invariant.report;
+    }

@@ -9,7 +9,8 @@ use Rattle.cf_run.proofs.rule.run_rule.Goals as goal
 
 pub loop-ran-init : goal.loop-ran-init
 loop-ran-init g c = record {
-  comes = comes-first c.args.options.rule _ _ _ _ _ _ _ _ c.requires.tally (c.stages.ensures.stages ∙ ap (λ (plan : Plan). plan.stages) c.layout.ensures.layout)
+  comes = comes-first c.args.options.rule _ _ _ _ _ _ _ _ c.requires.tally
+      (c.stages.ensures.stages ∙ ap (λ (plan : Plan). plan.stages) c.layout.ensures.layout)
       c.new-pace.ensures.2;
   options = refl;
   rule = c.new-pace.ensures.0;
@@ -57,7 +58,11 @@ pub returns-in-Some-clause-run : goal.returns-in-Some-clause-run
 returns-in-Some-clause-run g c =
     let by = comes-by c.args.options.rule _ _ _ _ _ _ _ _ c.loop-ran.invariant.comes c.loop-ran.invariant.rule c.sweep.ensures.swept in
     let runs = comes-runs c.args.options.rule _ _ _ _ _ _ _ _ _ _ _ _ by.comes (rw (c.loop-ran.invariant.options, by.rule_is) at c.in-Some.ensures.turns) in
-    record { moves = _; runs = runs; sequential = policy-sequential c.args.options.rule _ _ _ _ _ _ _ _ _ _ c.known.ensures.accepted c.known.ensures.registers runs }
+    record {
+      moves = _;
+      runs = runs;
+      sequential = policy-sequential c.args.options.rule _ _ _ _ _ _ _ _ _ _ c.known.ensures.accepted c.known.ensures.registers runs;
+    }
 
 pub returns-in-Some-clause-ends : goal.returns-in-Some-clause-ends
 returns-in-Some-clause-ends g c =
