@@ -12,7 +12,7 @@ ghost use Rattle.cf_index.specs.Words.{goes_on as runs_on};
 
 use crate::bits::lowest;
 use crate::rank::{CLIMB, EXECUTE, FALL, LAUNCH, MEET, Rank, SEND};
-use crate::stages::{climbs, executes, falls, goes_on, launches, meets, sends, stages};
+use crate::stages::{climbs, executes, falls, goes_on, know_stages, launches, meets, sends};
 use cf_bind::Move;
 use cf_core::{Core, Masks};
 
@@ -125,6 +125,6 @@ pub(crate) fn next_passing(core: &Core, masks: &Masks, last: Rank) -> Option<Mov
     requires { masks.now ≡ masks_of core.now.plan core.now.state }
     ensures { result ≡ find (is_past last) (filter (is_allowed core.now.plan core.now.state) (all_passing core.now.plan)) }
 {
-    let _stages = stages(core);
+    know_stages(core);
     next_climb(core, masks, last)
 }

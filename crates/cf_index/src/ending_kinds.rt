@@ -13,7 +13,7 @@ use crate::candidates::Candidates;
 use crate::fill::slides;
 use crate::outward::next_slide;
 use crate::rank::{ACCESS, EXIT, LEAVE, RECOVER, Rank};
-use crate::stages::stages;
+use crate::stages::know_stages;
 use crate::sweeping::SweptKind;
 use cf_bind::Move;
 use cf_core::Core;
@@ -73,7 +73,7 @@ impl SweptKind for RecoverKind {
 
     #[inline(always)]
     fn next(core: &Core, last: Rank) -> Option<u32> {
-        let _stages = stages(core);
+        know_stages(core);
         let masks = core.masks();
         match lowest(last.after(RECOVER, masks.recover)) {
             Some(k) => Some(k + 1),

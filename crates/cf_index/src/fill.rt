@@ -15,7 +15,7 @@ use crate::entering::Entering;
 use crate::guiding::guided;
 use crate::leaving::Leaving;
 use crate::passing::Passing;
-use crate::stages::{climbs, executes, falls, goes_on, launches, meets, sends, stages};
+use crate::stages::{climbs, executes, falls, goes_on, know_stages, launches, meets, sends};
 use cf_core::{Core, Masks};
 use run_options::GuessRule;
 
@@ -94,7 +94,7 @@ pub(crate) fn passing(core: &Core, masks: &Masks) -> Passing
     requires { masks.now ≡ masks_of core.now.plan core.now.state }
     ensures { passing_moves result ≡ filter (is_allowed core.now.plan core.now.state) (all_passing core.now.plan) }
 {
-    let _stages = stages(core);
+    know_stages(core);
     passing_words(core, masks)
 }
 
@@ -104,7 +104,7 @@ pub(crate) fn leaving(core: &Core, masks: &Masks) -> Leaving
     requires { masks.now ≡ masks_of core.now.plan core.now.state }
     ensures { leaving_moves result ≡ filter (is_allowed core.now.plan core.now.state) (all_leaving core.now.plan) }
 {
-    let _stages = stages(core);
+    know_stages(core);
     Leaving {
         access: core.may_access(),
         recover: masks.recover,

@@ -13,7 +13,7 @@ ghost use Rattle.cf_index.specs.Ranks.{is_past};
 use crate::bits::lowest;
 use crate::fill::slides;
 use crate::rank::{ACCESS, EXIT, LEAVE, RECOVER, Rank, SERVE, SLIDE};
-use crate::stages::stages;
+use crate::stages::know_stages;
 use cf_bind::Move;
 use cf_core::{Core, Masks};
 
@@ -59,7 +59,7 @@ fn next_recover(core: &Core, masks: &Masks, last: Rank) -> Option<Move>
     requires { masks.now ≡ masks_of core.now.plan core.now.state }
     ensures { result ≡ find (is_past last) (filter (is_allowed core.now.plan core.now.state) (at_stages core.now.plan mv.Recover ++ mv.Leave ∷ mv.Exit ∷ mv.Serve ∷ [])) }
 {
-    let _stages = stages(core);
+    know_stages(core);
     match lowest(last.after(RECOVER, masks.recover)) {
         Some(k) => Some(Move::Recover(k + 1)),
         None => next_leave(core, last),

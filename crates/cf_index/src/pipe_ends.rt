@@ -9,7 +9,7 @@ ghost use Rattle.cf_index.specs.Packed.{packed_from};
 ghost use Rattle.cf_index.specs.Words.{goes_on};
 
 use crate::packing::flag_then;
-use crate::stages::stages;
+use crate::stages::{know_stages, stages};
 use crate::words::resting;
 use cf_core::{Core, Masks};
 use cf_stages::has_bit;
@@ -29,7 +29,7 @@ pub(crate) fn emits(core: &Core, masks: &Masks) -> bool
     requires masks { masks.now ≡ masks_of core.now.plan core.now.state }
     ensures { result ≡ is_allowed core.now.plan core.now.state mv.Emit }
 {
-    let _stages = stages(core);
+    know_stages(core);
     core.lane_len() != 0 && !has_top(core, masks.packets)
 }
 
@@ -40,7 +40,7 @@ fn exits(core: &Core, masks: &Masks) -> bool
     requires masks { masks.now ≡ masks_of core.now.plan core.now.state }
     ensures { result ≡ is_allowed core.now.plan core.now.state mv.Exit }
 {
-    let _stages = stages(core);
+    know_stages(core);
     has_bit(resting(masks), 1)
 }
 
@@ -52,7 +52,7 @@ pub(crate) fn end_bits(core: &Core, masks: &Masks) -> u64
     ensures moves { packed_from 61 3 result ≡ filter (is_allowed core.now.plan core.now.state) (mv.Leave ∷ mv.Exit ∷ mv.Serve ∷ []) }
     ensures bits { result < 8 }
 {
-    let _stages = stages(core);
+    know_stages(core);
     let exit = exits(core, masks);
     if has_top(core, masks.passengers) {
         let leave = core.may_leave();

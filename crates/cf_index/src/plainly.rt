@@ -7,7 +7,7 @@ ghost use Rattle.cf_semantics.specs.state.Options.{is_some};
 ghost use Rattle.cf_stages.specs.Changes.{passenger_at};
 ghost use Rattle.cf_index.specs.Allowed.{is_allowed, issues_any, is_running as runs};
 
-use crate::stages::{goes_on, stages};
+use crate::stages::{goes_on, know_stages};
 use cf_bind::Fetch;
 use cf_core::Core;
 
@@ -25,7 +25,7 @@ pub(crate) fn is_running(fetch: Fetch) -> bool
 pub(crate) fn is_lowest_free(core: &Core) -> bool
     ensures { result ≡ not (is_some (passenger_at core.now.state.cells 1)) }
 {
-    let _stages = stages(core);
+    know_stages(core);
     let lowest = core.stage(1);
     lowest.passenger.is_none()
 }
@@ -38,7 +38,7 @@ pub(crate) fn issues_any(core: &Core) -> bool
     ensures value { result ≡ issues_any core.now.plan core.now.state }
     ensures allowed { result ≡ true → is_allowed core.now.plan core.now.state (mv.Issue guess.Next) ≡ true }
 {
-    let _stages = stages(core);
+    know_stages(core);
     let has_room = core.lane_len() + 1 < core.layout().lane();
     let is_running = is_running(core.fetch());
     let is_free = is_lowest_free(core);

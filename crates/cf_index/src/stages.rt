@@ -38,6 +38,17 @@ pub(crate) fn stages(core: &Core) -> u32
     core.layout().stages()
 }
 
+/// Does nothing: it is called for its contract. A proof knows how many stages there can be, and that each is in the state, only
+/// where the function asks the layout, and one that reads the masks alone does not.
+#[inline(always)]
+pub(crate) fn know_stages(core: &Core)
+    ensures some { 1 ≤ core.now.plan.stages }
+    ensures few { core.now.plan.stages ≤ 32 }
+    ensures cells { length core.now.state.cells ≡ core.now.plan.stages }
+{
+    let _stages = stages(core);
+}
+
 /// Where Climb is allowed, given whether the processor goes on.
 #[inline(always)]
 pub(crate) fn climbs(core: &Core, masks: &Masks, on: bool) -> u32
@@ -55,7 +66,7 @@ pub(crate) fn falls(core: &Core, masks: &Masks, on: bool) -> u32
     requires masks { masks.now ≡ masks_of core.now.plan core.now.state }
     ensures { result ≡ (passing_of core.now.plan core.now.state).fall }
 {
-    let _stages = stages(core);
+    know_stages(core);
     where_on(core, on, falling(masks))
 }
 
@@ -66,7 +77,7 @@ pub(crate) fn meets(core: &Core, masks: &Masks, on: bool) -> u32
     requires masks { masks.now ≡ masks_of core.now.plan core.now.state }
     ensures { result ≡ (passing_of core.now.plan core.now.state).meet }
 {
-    let _stages = stages(core);
+    know_stages(core);
     where_on(core, on, full(masks))
 }
 
@@ -88,7 +99,7 @@ pub(crate) fn sends(core: &Core, masks: &Masks, on: bool) -> u32
     requires masks { masks.now ≡ masks_of core.now.plan core.now.state }
     ensures { result ≡ (passing_of core.now.plan core.now.state).send }
 {
-    let _stages = stages(core);
+    know_stages(core);
     where_on(core, on, sending(masks))
 }
 

@@ -12,7 +12,7 @@ use crate::candidates::Candidates;
 use crate::plainly::{is_lowest_free, is_running};
 use crate::rank::{ISSUE, LEAVE, Rank};
 use crate::soon::next;
-use crate::stages::stages;
+use crate::stages::know_stages;
 use cf_bind::Move;
 use cf_core::Core;
 use run_options::GuessRule;
@@ -55,7 +55,7 @@ impl Candidates {
         ensures { (rule : Rule) (mv : Step) → last ≡ rank_of mv → result ≡ true →
             IsPickedFrom rule held core.now.plan core.now.state (Some mv) first_rank (from_emit core.now.plan core.now.state) }
     {
-        let _stages = stages(core);
+        know_stages(core);
         issues_none(core, held) && is_at_end(core, last)
     }
 
@@ -69,7 +69,7 @@ impl Candidates {
         ensures none { result ≡ None → (last : Step) → 1 ≤ kind_place last → IsLast core.now.plan core.now.state (Some last) →
             IsPickedFrom rule held core.now.plan core.now.state (Some last) first_rank (from_emit core.now.plan core.now.state) }
     {
-        let _stages = stages(core);
+        know_stages(core);
         if held {
             None
         } else {

@@ -7,5 +7,5 @@ use Rattle.cf_index.proofs.ahead.next_passing.Goals as goal
 pub returns : goal.returns
 returns c =
     let plan = c.args.core.now.plan in
-    let few : plan.stages ≤ 32 = omega (arith, c.stages-stages.ensures.few, c.stages-stages.ensures.stages) in
+    let few : plan.stages ≤ 32 = c.know_stages.ensures.few in
     c.next_climb.ensures ∙ ap (find (is_past c.args.last)) (climb-on plan c.args.core.now.state few)

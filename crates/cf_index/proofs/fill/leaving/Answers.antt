@@ -7,6 +7,6 @@ pub returns : goal.returns
 returns c =
     let plan = c.args.core.now.plan in
     let s = c.args.core.now.state in
-    let few : plan.stages ≤ 32 = omega (arith, c.stages-stages.ensures.few, c.stages-stages.ensures.stages) in
+    let few : plan.stages ≤ 32 = c.know_stages.ensures.few in
     leaving_chosen plan s _ few c.may_access.ensures (recover-stages plan s c.args.masks.now c.requires) c.may_leave.ensures c.may_exit.ensures
     c.may_serve.ensures

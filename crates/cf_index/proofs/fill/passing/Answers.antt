@@ -8,5 +8,5 @@ pub returns : goal.returns
 returns c =
     let plan = c.args.core.now.plan in
     let s = c.args.core.now.state in
-    let few : plan.stages ≤ 32 = omega (arith, c.stages-stages.ensures.few, c.stages-stages.ensures.stages) in
+    let few : plan.stages ≤ 32 = c.know_stages.ensures.few in
     ap passing_moves c.passing_words.ensures ∙ passing-moves plan s few

@@ -17,7 +17,7 @@ returns-in-Some c =
     let s = c.args.core.now.state in
     let q = is_allowed plan s in
     let ends = Leave ∷ Exit ∷ Serve ∷ [] in
-    let few : plan.stages ≤ 32 = omega (arith, c.stages-stages.ensures.few, c.stages-stages.ensures.stages) in
+    let few : plan.stages ≤ 32 = c.know_stages.ensures.few in
     let chosen = stages_chosen plan s Recover c.args.masks.now.recover few (recover-stages plan s c.args.masks.now c.requires) in
     word_here c.args.last Recover c.args.masks.now.recover c.after.result c.in-Some.k (filter q ends) c.after.ensures (sym c.in-Some.is
     ∙ c.lowest.ensures.number)
@@ -30,7 +30,7 @@ returns-in-None c =
     let s = c.args.core.now.state in
     let q = is_allowed plan s in
     let ends = Leave ∷ Exit ∷ Serve ∷ [] in
-    let few : plan.stages ≤ 32 = omega (arith, c.stages-stages.ensures.few, c.stages-stages.ensures.stages) in
+    let few : plan.stages ≤ 32 = c.know_stages.ensures.few in
     let chosen = stages_chosen plan s Recover c.args.masks.now.recover few (recover-stages plan s c.args.masks.now c.requires) in
     c.next_leave.ensures ∙ word_gone c.args.last Recover c.args.masks.now.recover c.after.result (filter q ends) c.after.ensures (sym c.in-None.is
     ∙ c.lowest.ensures.number)

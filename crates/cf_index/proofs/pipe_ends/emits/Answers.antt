@@ -12,7 +12,7 @@ returns-then-lane_len-ne0 c =
     let count = c.lane_len.ensures.count in
     let other = c.if-lane_len-ne0.true in
     let asked : nat_lt 0 (length s.lane) ≡ true = grind (arith, nat_tests) in
-    let allowed = emit_allowed plan s c.args.masks.now c.requires.on c.requires.masks (c.stages-stages.ensures.cells ∙ c.stages-stages.ensures.stages) some in
+    let allowed = emit_allowed plan s c.args.masks.now c.requires.on c.requires.masks (c.know_stages.ensures.cells) some in
     ap (λ (b : Bool). not b) c.has_top.ensures ∙ rw asked at allowed
 
 pub returns-else-lane_len-ne0 : goal.returns-else-lane_len-ne0
@@ -24,5 +24,5 @@ returns-else-lane_len-ne0 c =
     let none = c.if-lane_len-ne0.false in
     let asked : nat_lt 0 (length s.lane) ≡ false = grind (arith, nat_tests) in
     let off : not (nat_eq c.lane_len.result 0) ≡ false = grind (arith, nat_tests) in
-    let allowed = emit_allowed plan s c.args.masks.now c.requires.on c.requires.masks (c.stages-stages.ensures.cells ∙ c.stages-stages.ensures.stages) some in
+    let allowed = emit_allowed plan s c.args.masks.now c.requires.on c.requires.masks (c.know_stages.ensures.cells) some in
     off ∙ rw asked at allowed

@@ -16,7 +16,7 @@ returns-else-has_top-clause-moves c =
     let plan = c.args.core.now.plan in
     let s = c.args.core.now.state in
     let some : 1 ≤ plan.stages = omega (arith, c.stages-stages.ensures.some, c.stages-stages.ensures.stages) in
-    let off = top_free plan s c.args.masks.now c.requires.on c.requires.masks (c.stages-stages.ensures.cells ∙ c.stages-stages.ensures.stages) some
+    let off = top_free plan s c.args.masks.now c.requires.on c.requires.masks (c.know_stages.ensures.cells) some
     (sym c.has_top.ensures ∙ c.if-has_top.false) in
     let exit = bool_byte c.exits-exit.result in
     let same : bool_byte false + 2 * exit ≡ bool_byte false + 2 * (exit + 2 * bool_byte false) = omega arith in

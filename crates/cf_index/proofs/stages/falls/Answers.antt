@@ -10,5 +10,5 @@ returns c =
     let plan = c.args.core.now.plan in
     let s = c.args.core.now.state in
     let m = c.args.masks.now in
-    let same : length s.cells ≡ plan.stages = c.stages-stages.ensures.cells ∙ c.stages-stages.ensures.stages in
+    let same : length s.cells ≡ plan.stages = c.know_stages.ensures.cells in
     word-is plan s Fall c.where_on.result (fall-stages plan s m c.falling.result c.where_on.result c.requires.masks same c.falling.ensures c.where_on.ensures)

@@ -13,7 +13,7 @@ each (Some mv) P all = all mv refl
 pub returns-then-held-clause-none : goal.returns-then-held-clause-none
 returns-then-held-clause-none c = λ none last some over.
     let plan = c.args.core.now.plan in
-    let few : plan.stages ≤ 32 = omega (arith, c.stages-stages.ensures.few, c.stages-stages.ensures.stages) in
+    let few : plan.stages ≤ 32 = c.know_stages.ensures.few in
     issue_held c.args.rule c.args.held plan c.args.core.now.state last few c.if-held.true some over
 
 pub returns-else-held-clause-issue : goal.returns-else-held-clause-issue
@@ -31,5 +31,5 @@ returns-else-held-clause-picked c = λ last some over.
 pub returns-else-held-clause-none : goal.returns-else-held-clause-none
 returns-else-held-clause-none c = λ none last some over.
     let plan = c.args.core.now.plan in
-    let few : plan.stages ≤ 32 = omega (arith, c.stages-stages.ensures.few, c.stages-stages.ensures.stages) in
+    let few : plan.stages ≤ 32 = c.know_stages.ensures.few in
     issue_none c.args.rule c.args.held plan c.args.core.now.state last c.first_issue.result few c.if-held.false c.first_issue.ensures none some over

@@ -11,7 +11,7 @@ pub returns-in-Some-clause-here : goal.returns-in-Some-clause-here
 returns-in-Some-clause-here c =
     let plan = c.args.core.now.plan in
     let s = c.args.core.now.state in
-    let few : plan.stages ≤ 32 = omega (arith, c.stages-stages.ensures.few, c.stages-stages.ensures.stages) in
+    let few : plan.stages ≤ 32 = c.know_stages.ensures.few in
     ap (find (is_past c.args.last)) (after_recovers plan s c.masks-masks.result few c.masks-masks.ensures)
     ∙ sym (word_here c.args.last Recover c.masks-masks.result.recover c.after.result c.in-Some.k (from_leave plan s) c.after.ensures
     (sym c.in-Some.is ∙ c.lowest.ensures.number))
@@ -20,6 +20,6 @@ pub returns-in-None-clause-gone : goal.returns-in-None-clause-gone
 returns-in-None-clause-gone c = λ none.
     let plan = c.args.core.now.plan in
     let s = c.args.core.now.state in
-    let few : plan.stages ≤ 32 = omega (arith, c.stages-stages.ensures.few, c.stages-stages.ensures.stages) in
+    let few : plan.stages ≤ 32 = c.know_stages.ensures.few in
     word_gone c.args.last Recover c.masks-masks.result.recover c.after.result (from_leave plan s) c.after.ensures (sym c.in-None.is ∙ c.lowest.ensures.number)
     ∙ ap (find (is_past c.args.last)) (sym (after_recovers plan s c.masks-masks.result few c.masks-masks.ensures))
