@@ -1,4 +1,4 @@
-//! The simulator's program: it hands its words, the real files and the standard streams to the top call.
+//! The simulator's program: it hands its arguments, the real files and the standard streams to the top call.
 #![tactic(auto)]
 
 use cf_io::{DirFiles, StdSink, StdSource};
@@ -8,22 +8,22 @@ use std::io::{self, ErrorKind};
 use std::process::ExitCode;
 use std::{env, rt};
 
-/// The status where memory for the words was refused.
+/// The status where memory for the arguments was refused.
 const NO_MEMORY: u8 = 130;
 
-/// The status where the words cannot be had for another reason, as where one is not UTF-8.
+/// The status where the arguments cannot be had for another reason, as where one is not UTF-8.
 const NO_WORDS: u8 = 133;
 
-/// The words of the command line, without the program's own name.
-fn words_of<R: rt::Env + AllocGlobal>(rt: &R) -> io::Result<Vec<String>> {
+/// The arguments of the command line, without the program's own name.
+fn arguments_of<R: rt::Env + AllocGlobal>(rt: &R) -> io::Result<Vec<String>> {
     let mut args = env::args(rt)?;
     let _name = args.next();
     Ok(args.collect(rt.alloc())?)
 }
 
 fn main(rt: HostRuntime) -> ExitCode {
-    let words = match words_of(&rt) {
-        Ok(words) => words,
+    let arguments = match arguments_of(&rt) {
+        Ok(arguments) => arguments,
         Err(error) if error.kind() == ErrorKind::OutOfMemory => return ExitCode::from(NO_MEMORY),
         Err(_) => return ExitCode::from(NO_WORDS),
     };
@@ -33,7 +33,7 @@ fn main(rt: HostRuntime) -> ExitCode {
     let mut report = Gathered::new(StdSink::new(rt.stderr()));
     let status = cfpp(
         rt.alloc(),
-        words.as_slice(),
+        arguments.as_slice(),
         &mut files,
         &mut input,
         &mut output,

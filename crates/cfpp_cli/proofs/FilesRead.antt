@@ -1,6 +1,6 @@
 -- The answer of a command says which files it read.
 use Rattle.std.proofs.Common.{ℕ, List, [], ◌++◌, true, false, Option, Result, Ok, Err}
-use Rattle.cli_arguments.specs.Words.{Asked, machine, run, moves, rounds, orders, conform, debug, time, audit, check, asm, listing, gen, help, version, help_on}
+use Rattle.cli_arguments.specs.Arguments.{Asked, machine, run, moves, rounds, orders, conform, debug, time, audit, check, asm, listing, gen, help, version, help_on}
 use Rattle.cli_audit.specs.Audit.{audit_asked}
 use Rattle.cli_audit.specs.Effects.{input_side_of}
 use Rattle.cli_audit.proofs.Reading.{audited-read}

@@ -6,7 +6,7 @@ use Rattle.cli_arguments.specs.declared.names.CommandName.TheVariants as names
 use Rattle.cli_arguments.specs.declared.options.Key.{Key}
 use Rattle.cli_arguments.specs.declared.options.Key.TheVariants as keys
 use Rattle.cli_arguments.specs.Commands.{has_help}
-use Rattle.cli_arguments.specs.Options.{key_word}
+use Rattle.cli_arguments.specs.Options.{option_name}
 use Rattle.cli_files.specs.declared.status.Status.{Status}
 use Rattle.cli_files.specs.declared.status.Status.TheVariants as status
 use Rattle.cfpp_cli.specs.Overview.{IsOverview, begins_line, before_brackets, call_of, stands_in, status_told}
@@ -33,7 +33,7 @@ commands names.HelpLetter h = absurd (cc)
 commands names.Version h = absurd (cc)
 commands names.VersionLetter h = absurd (cc)
 
-options : (key : Key) → begins_line (key_word key) HELP.now ≡ true
+options : (key : Key) → begins_line (option_name key) HELP.now ≡ true
 unfolding stands_in
 options keys.Limit = refl
 options keys.Every = refl

@@ -5,7 +5,7 @@ use Rattle.cf_io.specs.Puts.{Writes, WritesNothing}
 use Rattle.cf_report.specs.Putting.{WritesPart}
 use Rattle.cf_report.proofs.Parts.{part-front, part-whole, text-before}
 use Rattle.cf_io.specs.declared.failed.Failed.{Failed}
-use Rattle.cli_arguments.specs.Words.{Asked}
+use Rattle.cli_arguments.specs.Arguments.{Asked}
 use Rattle.cli_files.specs.Causes.{files_answered, input_answered, output_answered, reading_answered}
 use Rattle.cfpp_cli.specs.Deciding.{Decided, InputTold, files_told}
 use Rattle.cli_files.specs.Outside.{Outside, Report}
@@ -45,12 +45,12 @@ files-stay true before now failed h = h.still
 files-stay false before now failed h = h.still
 
 -- the command was carried out, and its report ends in this way; it began with what the report had before the command was read
-carried-out : (words : List (List ℕ)) (s : OutsideChange) (reported : Reported) (said : Status) (blank full : Report) → s.blank ≡ blank →
-    (d : Decided words s (Ok reported)) →
-    Ends reported.status said (record s.blank { written = d.comes.3.told }) full d.comes.1 → IsTop words (change_of s.before s.after blank full) said
-carried-out words s reported said blank full same d ends =
+carried-out : (arguments : List (List ℕ)) (s : OutsideChange) (reported : Reported) (said : Status) (blank full : Report) → s.blank ≡ blank →
+    (d : Decided arguments s (Ok reported)) →
+    Ends reported.status said (record s.blank { written = d.comes.3.told }) full d.comes.1 → IsTop arguments (change_of s.before s.after blank full) said
+carried-out arguments s reported said blank full same d ends =
     let carried = d.comes in
-    subst (λ (r : Report). IsTop words (change_of s.before s.after r full) said) same
+    subst (λ (r : Report). IsTop arguments (change_of s.before s.after r full) said) same
     (record {
       reading = d.reading;
       reads = d.reads;
@@ -68,21 +68,21 @@ carried-out words s reported said blank full same d ends =
     })
 
 -- its report was put, and all of it was passed on
-pub top-put : (words : List (List ℕ)) (s : OutsideChange) (reported : Reported) (blank full : Report) → s.blank ≡ blank → Decided words s (Ok reported) →
+pub top-put : (arguments : List (List ℕ)) (s : OutsideChange) (reported : Reported) (blank full : Report) → s.blank ≡ blank → Decided arguments s (Ok reported) →
     reported.put ≡ Ok tt →
-    WritesNothing s.full.written full.written → full.faults ≡ s.full.faults → IsTop words (change_of s.before s.after blank full) reported.status
-top-put words s reported blank full same d put passed still =
+    WritesNothing s.full.written full.written → full.faults ≡ s.full.faults → IsTop arguments (change_of s.before s.after blank full) reported.status
+top-put arguments s reported blank full same d put passed still =
     let closes : PutsReport (record s.blank { written = d.comes.3.told }) s.full d.comes.1 (Ok tt) = rw put at d.comes.3.closes in
-    carried-out words s reported reported.status blank full same d
+    carried-out arguments s reported reported.status blank full same d
     (inl (refl, text-before d.comes.3.told s.full.written full.written d.comes.1 closes.all passed, still ∙ closes.cause.still))
 
 -- it was put, and the report failed as it passed it on
-pub top-unpassed : (words : List (List ℕ)) (s : OutsideChange) (reported : Reported) (blank full : Report) → s.blank ≡ blank → Decided words s (Ok reported) →
+pub top-unpassed : (arguments : List (List ℕ)) (s : OutsideChange) (reported : Reported) (blank full : Report) → s.blank ≡ blank → Decided arguments s (Ok reported) →
     reported.put ≡ Ok tt →
-    WritesNothing s.full.written full.written → Rose s.full.faults full.faults → IsTop words (change_of s.before s.after blank full) status.WriteFault
-top-unpassed words s reported blank full same d put passed rose =
+    WritesNothing s.full.written full.written → Rose s.full.faults full.faults → IsTop arguments (change_of s.before s.after blank full) status.WriteFault
+top-unpassed arguments s reported blank full same d put passed rose =
     let closes : PutsReport (record s.blank { written = d.comes.3.told }) s.full d.comes.1 (Ok tt) = rw put at d.comes.3.closes in
-    carried-out words s reported status.WriteFault blank full same d
+    carried-out arguments s reported status.WriteFault blank full same d
     (inr (
       refl,
       part-whole d.comes.3.told full.written d.comes.1 (text-before d.comes.3.told s.full.written full.written d.comes.1 closes.all passed),
@@ -90,18 +90,18 @@ top-unpassed words s reported blank full same d put passed rose =
     ))
 
 -- the report failed at the lines that close it
-pub top-failed : {failed : Failed} (words : List (List ℕ)) (s : OutsideChange) (reported : Reported) (blank : Report) → s.blank ≡ blank →
-    Decided words s (Ok reported) → reported.put ≡ Err failed →
-    IsTop words (change_of s.before s.after blank s.full) status.WriteFault
-top-failed {failed = failed} words s reported blank same d put =
+pub top-failed : {failed : Failed} (arguments : List (List ℕ)) (s : OutsideChange) (reported : Reported) (blank : Report) → s.blank ≡ blank →
+    Decided arguments s (Ok reported) → reported.put ≡ Err failed →
+    IsTop arguments (change_of s.before s.after blank s.full) status.WriteFault
+top-failed {failed = failed} arguments s reported blank same d put =
     let closes : PutsReport (record s.blank { written = d.comes.3.told }) s.full d.comes.1 (Err failed) = rw put at d.comes.3.closes in
-    carried-out words s reported status.WriteFault blank s.full same d
+    carried-out arguments s reported status.WriteFault blank s.full same d
     (inr (refl, part-front d.comes.3.told s.full.written d.comes.1 closes.front, closes.cause.rose))
 
 -- the report failed before these lines
-pub top-cut : {failed : Failed} (words : List (List ℕ)) (s : OutsideChange) (blank : Report) → s.blank ≡ blank → Decided words s (Err failed) →
-    IsTop words (change_of s.before s.after blank s.full) status.WriteFault
-top-cut {failed = failed} words s blank same d = subst (λ (r : Report). IsTop words (change_of s.before s.after r s.full) status.WriteFault) same
+pub top-cut : {failed : Failed} (arguments : List (List ℕ)) (s : OutsideChange) (blank : Report) → s.blank ≡ blank → Decided arguments s (Err failed) →
+    IsTop arguments (change_of s.before s.after blank s.full) status.WriteFault
+top-cut {failed = failed} arguments s blank same d = subst (λ (r : Report). IsTop arguments (change_of s.before s.after r s.full) status.WriteFault) same
     (record {
       reading = d.reading;
       reads = d.reads;
@@ -190,9 +190,9 @@ ended-rose is_file before after blank full result answer shown closing causes re
   | inr (is, front, rose) ↦ absurd (write-says result is h)
 ]
 
-pub none-rose : (words : List (List ℕ)) (s : OutsideChange) (result : Status) → IsTop words s result → says_fault result ≡ false →
+pub none-rose : (arguments : List (List ℕ)) (s : OutsideChange) (result : Status) → IsTop arguments s result → says_fault result ≡ false →
     NoneRose s
-none-rose words s result top h = elim top.ends [
+none-rose arguments s result top h = elim top.ends [
   | inl c ↦ ended-rose (input_is_file top.reading) s.before s.after s.blank s.full result c.answer c.shown c.closing
       (causes-of top.reading s.before s.after s.blank s.full result c) c.reports h
   | inr cut ↦ absurd (write-says result cut.status_is h)

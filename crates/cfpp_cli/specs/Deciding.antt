@@ -2,7 +2,7 @@
 use Rattle.std.specs.Prelude.{◌≡◌, ℕ, List, Bool, true, false, if◌then◌else◌, Result}
 use Rattle.cf_io.specs.Causes.{HasCause}
 use Rattle.cf_io.specs.declared.failed.Failed.{Failed}
-use Rattle.cli_arguments.specs.Words.{Asked}
+use Rattle.cli_arguments.specs.Arguments.{Asked}
 use Rattle.cli_files.specs.Causes.{input_answered, output_answered}
 use Rattle.cli_reports.specs.Reporting.{CarriesOut, FaultsReported, files_reported}
 use Rattle.cfpp_cli.specs.Top.{ReadsArguments, Answers, Breaks, input_is_file}
@@ -20,9 +20,9 @@ InputTold true before now result = now ≡ before
 InputTold false before now result = FaultsReported input_answered before now result
 
 -- what the arguments ask for was carried out, or the report failed while it was
-pub record Decided (words : List (List ℕ)) (s : OutsideChange) (result : Result Reported Failed) : Type 0 where
+pub record Decided (arguments : List (List ℕ)) (s : OutsideChange) (result : Result Reported Failed) : Type 0 where
   pub reading : Result Asked ℕ
-  pub reads : ReadsArguments words reading
+  pub reads : ReadsArguments arguments reading
   pub comes : CarriesOut (Answers reading) (Breaks reading) s result
   pub files : HasCause s.before.file_faults s.after.file_faults (files_told (input_is_file reading) result)
   pub input : InputTold (input_is_file reading) s.before.input_faults s.after.input_faults result

@@ -1,6 +1,6 @@
 -- Which files the arguments name, in the order in which they are read.
 use Rattle.std.specs.Prelude.{ℕ, List, [], ◌∷◌, ◌++◌, Result, Ok, Err}
-use Rattle.cli_arguments.specs.Words.{Asked, machine, run, moves, rounds, orders, conform, debug, time, audit, check, asm, listing, gen, help, version, help_on}
+use Rattle.cli_arguments.specs.Arguments.{Asked, machine, run, moves, rounds, orders, conform, debug, time, audit, check, asm, listing, gen, help, version, help_on}
 use Rattle.cli_files.specs.Reads.{layout_files, files_of_layouts, input_files, script_files}
 
 -- the layout, unless it is built in, the program, and the script or the trace where there is one; the delays, the

@@ -5,8 +5,8 @@ use Rattle.std.specs.List.{starts_with}
 use Rattle.run_options.specs.Limits.{most_limit, most_timed_limit}
 use Rattle.cli_arguments.specs.declared.names.CommandName.{CommandName}
 use Rattle.cli_arguments.specs.declared.options.Key.{Key}
-use Rattle.cli_arguments.specs.Commands.{command_word, has_help}
-use Rattle.cli_arguments.specs.Options.{key_word, default_limit, most_seed}
+use Rattle.cli_arguments.specs.Commands.{command_name, has_help}
+use Rattle.cli_arguments.specs.Options.{option_name, default_limit, most_seed}
 use Rattle.cli_files.specs.Codes.{exit_code}
 use Rattle.cli_files.specs.declared.status.Status.{Status}
 use Rattle.cli_files.specs.declared.status.Status.TheVariants as status
@@ -21,15 +21,15 @@ stands_in part (byte ∷ rest) = starts_with nat_eq (byte ∷ rest) part || stan
 abbrev pub begins_line : List ℕ → List ℕ → Bool
 begins_line part text = stands_in (10 ∷ codes "  " ++ part) text
 
--- a command's words up to the first one in brackets, which may be left out
+-- a command's arguments up to the first one in brackets, which may be left out
 unfoldable pub before_brackets : List ℕ → List ℕ
 before_brackets [] = []
 before_brackets (byte ∷ rest) =
     if starts_with nat_eq (byte ∷ rest) (codes " [") then [] else byte ∷ before_brackets rest
 
--- how a command is called with the words that it needs
+-- how a command is called with the arguments that it needs
 abbrev pub call_of : CommandName → List ℕ
-call_of name = codes "cfpp " ++ before_brackets (command_word name ++ codes " " ++ operands name)
+call_of name = codes "cfpp " ++ before_brackets (command_name name ++ codes " " ++ operands name)
 
 -- what each status says
 abbrev pub meaning : Status → List ℕ
@@ -64,7 +64,7 @@ status_told said = codes "  " ++ take 5 (decimal (exit_code said) ++ codes "    
 -- greatest limit, also without a letter, of the limit where none is given, and of the greatest seed
 pub record IsOverview (text : List ℕ) : Type 0 where
   pub commands : (name : CommandName) → has_help name ≡ true → begins_line (call_of name) text ≡ true
-  pub options : (key : Key) → begins_line (key_word key) text ≡ true
+  pub options : (key : Key) → begins_line (option_name key) text ≡ true
   pub statuses : (said : Status) → stands_in (status_told said) text ≡ true
   pub greatest : stands_in (codes "at most " ++ decimal (most_limit / 1000000000) ++ codes "G") text ≡ true
   pub plain : stands_in (codes "at most " ++ decimal most_timed_limit ++ codes ", or with") text ≡ true

@@ -7,7 +7,7 @@ use Rattle.cf_io.specs.Puts.{Writes}
 use Rattle.cf_report.specs.Putting.{WritesPart}
 use Rattle.cf_gen.specs.Program.{program_text}
 use Rattle.texts.specs.Lines.{counted_line}
-use Rattle.cli_arguments.specs.Words.{Asks, IsBadAt, Asked, machine, run, moves, rounds, orders, conform, debug, time, audit, check, asm, listing, gen, help, version, help_on}
+use Rattle.cli_arguments.specs.Arguments.{Asks, IsBadAt, Asked, machine, run, moves, rounds, orders, conform, debug, time, audit, check, asm, listing, gen, help, version, help_on}
 use Rattle.cli_machine.specs.Options.{chosen_of}
 use Rattle.cli_audit.specs.Audit.{AnswersAudit, audit_asked}
 use Rattle.cli_conform.specs.Conform.{AnswersConform, conform_asked}
@@ -39,11 +39,11 @@ use Rattle.cli_files.specs.declared.status.Status.TheVariants as status
 
 -- the arguments ask this of a command, or this is the index of the first argument that has no place
 abbrev pub ReadsArguments : List (List ℕ) → Result Asked ℕ → Type 0
-ReadsArguments words (Ok asked) = Asks words asked
-ReadsArguments words (Err index) = IsBadAt words index
+ReadsArguments arguments (Ok asked) = Asks arguments asked
+ReadsArguments arguments (Err index) = IsBadAt arguments index
 
 -- the arguments are those of no command, and no file was read
-pub record RefusesWords (index : ℕ) (before after : Outside) (answer : Status)
+pub record RefusesArguments (index : ℕ) (before after : Outside) (answer : Status)
     (report : List ℕ) : Type 0 where
   pub status_is : answer ≡ status.BadWords index
   pub files : after.files ≡ before.files
@@ -98,7 +98,7 @@ Answers (Ok (gen number false)) before after blank answer shown closing =
 Answers (Ok help) before after blank answer shown closing = PutsAlone HELP.now before after answer (shown ++ closing)
 Answers (Ok (help_on name)) before after blank answer shown closing = PutsAlone (help_text name) before after answer (shown ++ closing)
 Answers (Ok version) before after blank answer shown closing = PutsAlone version_line before after answer (shown ++ closing)
-Answers (Err index) before after blank answer shown closing = RefusesWords index before after answer (shown ++ closing)
+Answers (Err index) before after blank answer shown closing = RefusesArguments index before after answer (shown ++ closing)
 
 -- the report failed while the command was carried out
 abbrev pub Breaks : Result Asked ℕ → Outside → Outside → Option (List ℕ) → Option (List ℕ) → Type 0
@@ -164,9 +164,9 @@ pub record ReportFailsFirst (reading : Result Asked ℕ) (before after : Outside
 
 -- the top call: its arguments, the outside and the report before and after it, and its status; of the files that the arguments
 -- name it read the first ones, in their order and each once
-pub record IsTop (words : List (List ℕ)) (s : OutsideChange) (result : Status) : Type 0 where
+pub record IsTop (arguments : List (List ℕ)) (s : OutsideChange) (result : Status) : Type 0 where
   pub reading : Result Asked ℕ
-  pub reads : ReadsArguments words reading
+  pub reads : ReadsArguments arguments reading
   pub read : WereRead (files_named reading) s.before.files s.after.files
   pub ends : Completes reading s.before s.after s.blank s.full result
       ⊎ ReportFailsFirst reading s.before s.after s.blank s.full result

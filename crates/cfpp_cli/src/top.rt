@@ -10,7 +10,7 @@ ghost use Rattle.cli_reports.specs.OutsideChanges.{call_change, outside_change};
 use crate::help::{overview, version};
 use cf_io::{Failed, Files, Sink, Source};
 use cf_report::ReportSink;
-use cli_arguments::{Command, Reporting, RunOptions, Show, TimeShow, read_words};
+use cli_arguments::{Command, Reporting, RunOptions, Show, TimeShow, read_arguments};
 use cli_asm::assemble_program;
 use cli_audit::audit_trace;
 use cli_check::check_layout;
@@ -31,14 +31,14 @@ use std::alloc::Global;
 /// Carries out what the arguments ask for, and puts its report. It fails where the report fails before the lines that close it.
 fn decide<F: Files, S: Source, K: Sink, R: ReportSink>(
     alloc: Global,
-    words: &[String],
+    arguments: &[String],
     files: &mut F,
     streams: RunStreams<'_, S, K, R>,
 ) -> Result<Reported, Failed>
-    ensures { Decided (map string_bytes words.now)
+    ensures { Decided (map string_bytes arguments.now)
         (outside_change F.Files S.Source K.Sink R.Sink files.old files.new streams.entry streams.exit) result }
 {
-    match read_words(words) {
+    match read_arguments(arguments) {
         Ok(Command::Machine { program, options }) => {
             run_program(alloc, program, options, files, streams)
         }
@@ -172,10 +172,10 @@ fn decide<F: Files, S: Source, K: Sink, R: ReportSink>(
 
 /// Lets the report gather, where each instruction or each move of a run has its lines. Lines that come now and then, such
 /// as those of `--every`, are to be seen as they come.
-fn let_gather<R: ReportSink>(words: &[String], report: &mut R)
+fn let_gather<R: ReportSink>(arguments: &[String], report: &mut R)
     ensures { report_in R.Sink report.new ≡ report_in R.Sink report.old }
 {
-    let has_many_lines = match read_words(words) {
+    let has_many_lines = match read_arguments(arguments) {
         Ok(Command::Machine { options, .. }) => options.show_retired,
         Ok(Command::Run { options, .. }) => !matches!(options.reporting.show, Show::Report),
         Ok(Command::Time { options, .. }) => matches!(options.show, TimeShow::Moves),
@@ -221,25 +221,25 @@ fn let_gather<R: ReportSink>(words: &[String], report: &mut R)
 /// unless the status is `WriteFault`, nothing is kept.
 pub fn cfpp<F: Files, S: Source, K: Sink, R: ReportSink>(
     alloc: Global,
-    words: &[String],
+    arguments: &[String],
     files: &mut F,
     input: &mut S,
     output: &mut K,
     report: &mut R,
 ) -> Status
-    ensures top { IsTop (map string_bytes words.now) (call_change F.Files S.Source K.Sink R.Sink
+    ensures top { IsTop (map string_bytes arguments.now) (call_change F.Files S.Source K.Sink R.Sink
         (files.old, (input.old, (output.old, report.old))) (files.new, (input.new, (output.new, report.new)))) result }
     ensures still { says_fault result ≡ false → NoneRose (call_change F.Files S.Source K.Sink R.Sink
         (files.old, (input.old, (output.old, report.old))) (files.new, (input.new, (output.new, report.new)))) }
     ensures passed { result ≢ statuses.WriteFault → R.kept report.new ≡ [] }
 {
-    let_gather(words, report);
+    let_gather(arguments, report);
     let streams = RunStreams {
         input,
         output,
         report: &mut *report,
     };
-    match decide(alloc, words, files, streams) {
+    match decide(alloc, arguments, files, streams) {
         Ok(reported) => match reported.put {
             Ok(()) => match report.pass_on() {
                 Ok(()) => reported.status,

@@ -14,7 +14,7 @@ use Rattle.cli_arguments.specs.Commands.{most, topic_in}
 use Rattle.cli_arguments.specs.Options.{takes_setting, takes_key, is_value, setting_key, most_limit_of, default_issues, default_limit}
 use Rattle.cli_arguments.specs.Options.{default_states, Setting, limit_to, say_every, show_of, script_from, seed_from, guess_by, input_from}
 use Rattle.cli_arguments.specs.Options.{issue_at_most, reach_at_most, do_without, with_mul, with_run, Given, given_in, by_script}
-use Rattle.cli_arguments.specs.Words.{Asked, gen, help_on, moves, layout_in, limit_of, asked_by, IsBounded, IsStep, Asks}
+use Rattle.cli_arguments.specs.Arguments.{Asked, gen, help_on, moves, layout_in, limit_of, asked_by, IsBounded, IsStep, Asks}
 use Rattle.cli_arguments.proofs.Settings.{both}
 
 -- a number that is not 0 and at most this
@@ -69,31 +69,31 @@ up-to-within : (most least : ℕ) (given : Option ℕ) → IfSome given (IsUpTo 
 up-to-within most least None h few = few
 up-to-within most least (Some n) h few = h
 
--- a number of statements that a word writes is within its bounds
-count-tested : (b : Bool) (word : List ℕ) (number : ℕ) → is_positive most_statements word ≡ b →
-    (if b then Some (digits_value 10 word) else None) ≡ Some number →
+-- a number of statements that an argument writes is within its bounds
+count-tested : (b : Bool) (argument : List ℕ) (number : ℕ) → is_positive most_statements argument ≡ b →
+    (if b then Some (digits_value 10 argument) else None) ≡ Some number →
     (1 ≤ number) × (number ≤ most_statements)
-count-tested true word number e h =
-    let same : digits_value 10 word ≡ number = cc in
-    let one : 1 ≤ digits_value 10 word = grind (arith, nat_tests) in
-    let few : digits_value 10 word ≤ most_statements = grind (arith, nat_tests) in
+count-tested true argument number e h =
+    let same : digits_value 10 argument ≡ number = cc in
+    let one : 1 ≤ digits_value 10 argument = grind (arith, nat_tests) in
+    let few : digits_value 10 argument ≤ most_statements = grind (arith, nat_tests) in
     (omega arith, omega arith)
-count-tested false word number e h = absurd (cc)
+count-tested false argument number e h = absurd (cc)
 
-count-bounded : (word : List ℕ) (number : ℕ) → count_in word ≡ Some number →
+count-bounded : (argument : List ℕ) (number : ℕ) → count_in argument ≡ Some number →
     (1 ≤ number) × (number ≤ most_statements)
 unfolding positive_in
-count-bounded word number h = count-tested (is_positive most_statements word) word number refl h
+count-bounded argument number h = count-tested (is_positive most_statements argument) argument number refl h
 
 -- what is asked of a command
 record Fits (name : CommandName) (asked : Asked) : Type 0 where
   bounded : IsBounded asked
 
-drawn-fits : (count : Option ℕ) (run : Bool) (word : List ℕ) (asked : Asked) → count_in word ≡ count →
+drawn-fits : (count : Option ℕ) (run : Bool) (argument : List ℕ) (asked : Asked) → count_in argument ≡ count →
     option_map (λ number. gen number run) count ≡ Some asked → Fits names.Gen asked
-drawn-fits None run word asked e h = absurd (cc)
-drawn-fits (Some number) run word asked e h =
-    let b = count-bounded word number e in
+drawn-fits None run argument asked e h = absurd (cc)
+drawn-fits (Some number) run argument asked e h =
+    let b = count-bounded argument number e in
     let same : gen number run ≡ asked = cc in
     subst (λ (a : Asked). Fits names.Gen a) same (record { bounded = b })
 
@@ -116,8 +116,8 @@ topic-fits (Some name) asked h =
 same-fits : (name : CommandName) (one asked : Asked) → Some one ≡ Some asked → Fits name one → Fits name asked
 same-fits name one asked h fits = let same : one ≡ asked = cc in subst (λ (a : Asked). Fits name a) same fits
 
-asked-fits : (name : CommandName) (words : List (List ℕ)) (given : Given) (asked : Asked) →
-    IsGivenWithin name given → length words ≤ most name → asked_by name words given ≡ Some asked →
+asked-fits : (name : CommandName) (arguments : List (List ℕ)) (given : Given) (asked : Asked) →
+    IsGivenWithin name given → length arguments ≤ most name → asked_by name arguments given ≡ Some asked →
     Fits name asked
 asked-fits names.Machine [] given asked bounds few h = absurd (cc)
 asked-fits names.Machine (w ∷ []) given asked bounds few h =
@@ -201,10 +201,10 @@ asked-fits names.VersionLetter [] given asked bounds few h =
     same-fits _ _ asked h (record { bounded = tt })
 asked-fits names.VersionLetter (w ∷ ws) given asked bounds few h = absurd (cc)
 
-fits : (words : List (List ℕ)) (asked : Asked) (asks : Asks words asked) → Fits asks.name asked
-fits words asked asks =
+fits : (arguments : List (List ℕ)) (asked : Asked) (asks : Asks arguments asked) → Fits asks.name asked
+fits arguments asked asks =
     asked-fits asks.name asks.positional (given_in asks.settings) asked
     (all-within asks.name asks.settings asks.command.taken) asks.command.few asks.means
 
-pub asks-bounded : (words : List (List ℕ)) (asked : Asked) → Asks words asked → IsBounded asked
-asks-bounded words asked asks = (fits words asked asks).bounded
+pub asks-bounded : (arguments : List (List ℕ)) (asked : Asked) → Asks arguments asked → IsBounded asked
+asks-bounded arguments asked asks = (fits arguments asked asks).bounded

@@ -19,59 +19,59 @@ use Rattle.cli_arguments.specs.declared.reading.Subject.{Subject}
 use Rattle.cli_arguments.specs.declared.shown.Shown.{Shown}
 use Rattle.cli_arguments.specs.declared.shown.Shown.TheVariants as shows
 use Rattle.cli_arguments.specs.Values.{amount_of, count_in, digits_in, is_amount, is_amount_within, positive_in, unit_of}
-use Rattle.cli_arguments.specs.Commands.{command_word, fewest, most, is_of, is_positional, name_in, place_kind, topic_in}
-use Rattle.cli_arguments.specs.Options.{key_word, setting_key, takes_key, can_show, is_value, most_limit_of, Setting, limit_to, say_every}
+use Rattle.cli_arguments.specs.Commands.{command_name, fewest, most, is_of, is_positional, name_in, place_kind, topic_in}
+use Rattle.cli_arguments.specs.Options.{option_name, setting_key, takes_key, can_show, is_value, most_limit_of, Setting, limit_to, say_every}
 use Rattle.cli_arguments.specs.Options.{show_of, script_from, seed_from, guess_by, input_from, issue_at_most, reach_at_most, do_without}
 use Rattle.cli_arguments.specs.Options.{Given, by_script}
-use Rattle.cli_arguments.specs.Words.{Asked, gen, help_on, moves, layout_in, limit_of, asked_by}
+use Rattle.cli_arguments.specs.Arguments.{Asked, gen, help_on, moves, layout_in, limit_of, asked_by}
 use Rattle.cli_arguments.specs.Reading.{ReadingState, start, placed, options, valued, unplaced, one_place_more, follow, has_key}
 use Rattle.cli_arguments.specs.Reading.{nothing_given, positional_in, completed}
 use Rattle.cli_arguments.proofs.InTurn.{after, reads, reads-step, reads-append}
 use Rattle.cli_arguments.proofs.Grammar.{positional-read}
-use Rattle.cli_arguments.proofs.Reached.{Reached, HasPlaces, IsGuessed, Stands, reached-last, words-read, stands}
+use Rattle.cli_arguments.proofs.Reached.{Reached, HasPlaces, IsGuessed, Stands, reached-last, arguments-read, stands}
 use Rattle.cli_arguments.proofs.Steps.{put, has_value, value_of, start-follows, tests-place, placed-follows, first-option, option-follows, value-follows}
 
--- words that were read can be completed
-pub record Completion (words : List (List ℕ)) : Type 0 where
+-- arguments that were read can be completed
+pub record Completion (arguments : List (List ℕ)) : Type 0 where
   pub more : List (List ℕ)
   pub last : ReadingState
   pub asked : Asked
-  pub read : reads start (words ++ more) ≡ Some last
-  pub done : completed (words ++ more) last ≡ Some asked
+  pub read : reads start (arguments ++ more) ≡ Some last
+  pub done : completed (arguments ++ more) last ≡ Some asked
 
--- one more word
-reads-more : (words more : List (List ℕ)) (state : ReadingState) → reads start words ≡ Some state →
-    reads start (words ++ more) ≡ reads state more
-reads-more words more state h =
-    reads-append start words more ∙ ap (λ (o : Option ReadingState). after o (λ s. reads s more)) h
+-- one more argument
+reads-more : (arguments more : List (List ℕ)) (state : ReadingState) → reads start arguments ≡ Some state →
+    reads start (arguments ++ more) ≡ reads state more
+reads-more arguments more state h =
+    reads-append start arguments more ∙ ap (λ (o : Option ReadingState). after o (λ s. reads s more)) h
 
-reads-word : (words : List (List ℕ)) (word : List ℕ) (state later : ReadingState) → reads start words ≡ Some state →
-    follow state word ≡ Some later → reads start (words ++ word ∷ []) ≡ Some later
-reads-word words word state later h followed =
-    reads-more words (word ∷ []) state h ∙ reads-step state word [] later followed
+reads-argument : (arguments : List (List ℕ)) (argument : List ℕ) (state later : ReadingState) → reads start arguments ≡ Some state →
+    follow state argument ≡ Some later → reads start (arguments ++ argument ∷ []) ≡ Some later
+reads-argument arguments argument state later h followed =
+    reads-more arguments (argument ∷ []) state h ∙ reads-step state argument [] later followed
 
-complete-word : (words : List (List ℕ)) (word : List ℕ) → Completion (words ++ word ∷ []) → Completion words
-complete-word words word c =
-    let same : (words ++ word ∷ []) ++ c.more ≡ words ++ (word ∷ c.more) =
-    append_assoc words (word ∷ []) c.more in
+complete-argument : (arguments : List (List ℕ)) (argument : List ℕ) → Completion (arguments ++ argument ∷ []) → Completion arguments
+complete-argument arguments argument c =
+    let same : (arguments ++ argument ∷ []) ++ c.more ≡ arguments ++ (argument ∷ c.more) =
+    append_assoc arguments (argument ∷ []) c.more in
     record {
-      more = word ∷ c.more;
+      more = argument ∷ c.more;
       last = c.last;
       asked = c.asked;
       read = ap (λ (ws : List (List ℕ)). reads start ws) (sym same) ∙ c.read;
       done = ap (λ (ws : List (List ℕ)). completed ws c.last) (sym same) ∙ c.done;
     }
 
--- enough positional words ask something, or, for `moves`, only the script is missing
-record LacksScript (name : CommandName) (words : List (List ℕ)) (given : Given) : Type 0 where
+-- enough positional arguments ask something, or, for `moves`, only the script is missing
+record LacksScript (name : CommandName) (arguments : List (List ℕ)) (given : Given) : Type 0 where
   takes : takes_key name keys.Script ≡ true
   fresh : has_key given keys.Script ≡ false
   asked : Asked
-  asks : asked_by name words (put given (script_from (codes "s"))) ≡ Some asked
+  asks : asked_by name arguments (put given (script_from (codes "s"))) ≡ Some asked
 
 abbrev AsksOrLacks : CommandName → List (List ℕ) → Given → Type 0
-AsksOrLacks name words given =
-    ((asked : Asked) × (asked_by name words given ≡ Some asked)) ⊎ LacksScript name words given
+AsksOrLacks name arguments given =
+    ((asked : Asked) × (asked_by name arguments given ≡ Some asked)) ⊎ LacksScript name arguments given
 
 moves-lacks : (script : Option (List ℕ)) (layout program : List ℕ) (given : Given) → given.script ≡ script → IsGuessed names.Moves given →
     AsksOrLacks names.Moves (layout ∷ program ∷ []) given
@@ -79,32 +79,32 @@ moves-lacks None layout program given e guessed = inr (record { takes = refl; fr
 moves-lacks (Some file) layout program given e guessed =
     inl (moves (layout_in layout) program (by_script file) (limit_of given) given.every, rw e refl)
 
-drawn-asks : (count : Option ℕ) (word : List ℕ) (given : Given) → count_in word ≡ count → is_some count ≡ true →
-    AsksOrLacks names.Gen (word ∷ []) given
-drawn-asks None word given e h = absurd (cc)
-drawn-asks (Some number) word given e h = inl (gen number given.run, rw e refl)
+drawn-asks : (count : Option ℕ) (argument : List ℕ) (given : Given) → count_in argument ≡ count → is_some count ≡ true →
+    AsksOrLacks names.Gen (argument ∷ []) given
+drawn-asks None argument given e h = absurd (cc)
+drawn-asks (Some number) argument given e h = inl (gen number given.run, rw e refl)
 
 one-true : (b : Bool) → (b && true) ≡ true → b ≡ true
 one-true true h = refl
 one-true false h = absurd (cc)
 
-first-counted : (word : List ℕ) → list_all (is_positional names.Gen) (word ∷ []) ≡ true →
-    is_some (count_in word) ≡ true
+first-counted : (argument : List ℕ) → list_all (is_positional names.Gen) (argument ∷ []) ≡ true →
+    is_some (count_in argument) ≡ true
 unfolding is_positional
-first-counted word h = one-true (is_some (count_in word)) h
+first-counted argument h = one-true (is_some (count_in argument)) h
 
-topic-asks : (topic : Option CommandName) (word : List ℕ) (given : Given) → topic_in word ≡ topic → is_some topic ≡ true →
-    AsksOrLacks names.Help (word ∷ []) given
-topic-asks None word given e h = absurd (cc)
-topic-asks (Some name) word given e h = inl (help_on name, rw e refl)
+topic-asks : (topic : Option CommandName) (argument : List ℕ) (given : Given) → topic_in argument ≡ topic → is_some topic ≡ true →
+    AsksOrLacks names.Help (argument ∷ []) given
+topic-asks None argument given e h = absurd (cc)
+topic-asks (Some name) argument given e h = inl (help_on name, rw e refl)
 
-first-topic : (word : List ℕ) → list_all (is_positional names.Help) (word ∷ []) ≡ true → is_some (topic_in word) ≡ true
+first-topic : (argument : List ℕ) → list_all (is_positional names.Help) (argument ∷ []) ≡ true → is_some (topic_in argument) ≡ true
 unfolding is_positional
-first-topic word h = one-true (is_some (topic_in word)) h
+first-topic argument h = one-true (is_some (topic_in argument)) h
 
-enough-ask : (name : CommandName) (words : List (List ℕ)) (given : Given) → fewest name ≤ length words →
-    length words ≤ most name → list_all (is_positional name) words ≡ true →
-    IsGuessed name given → AsksOrLacks name words given
+enough-ask : (name : CommandName) (arguments : List (List ℕ)) (given : Given) → fewest name ≤ length arguments →
+    length arguments ≤ most name → list_all (is_positional name) arguments ≡ true →
+    IsGuessed name given → AsksOrLacks name arguments given
 enough-ask names.Machine [] given enough few each guessed = absurd (omega (arith, enough, few))
 enough-ask names.Machine (w ∷ []) given enough few each guessed = inl (_, refl)
 enough-ask names.Machine (w ∷ v ∷ ws) given enough few each guessed = absurd (omega (arith, enough, few))
@@ -167,72 +167,72 @@ enough-ask names.Version (w ∷ ws) given enough few each guessed = absurd (omeg
 enough-ask names.VersionLetter [] given enough few each guessed = inl (_, refl)
 enough-ask names.VersionLetter (w ∷ ws) given enough few each guessed = absurd (omega (arith, enough, few))
 
--- more words leave the positional ones as they are
-positional-more : (count : ℕ) (words more : List (List ℕ)) → 1 + count ≤ length words →
-    positional_in count (words ++ more) ≡ positional_in count words
+-- more arguments leave the positional ones as they are
+positional-more : (count : ℕ) (arguments more : List (List ℕ)) → 1 + count ≤ length arguments →
+    positional_in count (arguments ++ more) ≡ positional_in count arguments
 positional-more count [] more h = absurd (omega (arith, h))
-positional-more count (word ∷ words) more h = take-append-le count words more (omega (arith, h))
+positional-more count (argument ∷ arguments) more h = take-append-le count arguments more (omega (arith, h))
 
 -- a script after the options
-scripted : (words : List (List ℕ)) (subject : Subject) (given : Given) (state : ReadingState) →
-    1 + subject.count ≤ length words → reads start words ≡ Some state →
-    follow state (key_word keys.Script) ≡ follow (options subject given) (key_word keys.Script) →
-    LacksScript subject.name (positional_in subject.count words) given → Completion words
+scripted : (arguments : List (List ℕ)) (subject : Subject) (given : Given) (state : ReadingState) →
+    1 + subject.count ≤ length arguments → reads start arguments ≡ Some state →
+    follow state (option_name keys.Script) ≡ follow (options subject given) (option_name keys.Script) →
+    LacksScript subject.name (positional_in subject.count arguments) given → Completion arguments
 unfolding completed
-scripted words subject given state stands h same lacks =
+scripted arguments subject given state stands h same lacks =
     let last : ReadingState = options subject (put given (script_from (codes "s"))) in
     record {
-      more = key_word keys.Script ∷ codes "s" ∷ [];
+      more = option_name keys.Script ∷ codes "s" ∷ [];
       last = last;
       asked = lacks.asked;
-      read = reads-more words (key_word keys.Script ∷ codes "s" ∷ []) state h
-          ∙ (reads-step state (key_word keys.Script) (codes "s" ∷ []) (valued subject given keys.Script)
+      read = reads-more arguments (option_name keys.Script ∷ codes "s" ∷ []) state h
+          ∙ (reads-step state (option_name keys.Script) (codes "s" ∷ []) (valued subject given keys.Script)
           (same ∙ option-follows subject given keys.Script lacks.takes lacks.fresh)
           ∙ reads-step (valued subject given keys.Script) (codes "s") [] last
           (value-follows (script_from (codes "s")) subject given refl refl));
       done = ap (λ (ws : List (List ℕ)). asked_by subject.name ws (put given (script_from (codes "s"))))
-          (positional-more subject.count words (key_word keys.Script ∷ codes "s" ∷ []) stands)
+          (positional-more subject.count arguments (option_name keys.Script ∷ codes "s" ∷ []) stands)
           ∙ lacks.asks;
     }
 
-words-nil : (words : List (List ℕ)) → words ++ [] ≡ words
-words-nil words = append-nil words
+arguments-nil : (arguments : List (List ℕ)) → arguments ++ [] ≡ arguments
+arguments-nil arguments = append-nil arguments
 
 -- nothing after what asks something
-asked-now : (words : List (List ℕ)) (state : ReadingState) (asked : Asked) → reads start words ≡ Some state →
-    completed words state ≡ Some asked → Completion words
-asked-now words state asked h done = record {
+asked-now : (arguments : List (List ℕ)) (state : ReadingState) (asked : Asked) → reads start arguments ≡ Some state →
+    completed arguments state ≡ Some asked → Completion arguments
+asked-now arguments state asked h done = record {
   more = [];
   last = state;
   asked = asked;
-  read = ap (λ (ws : List (List ℕ)). reads start ws) (words-nil words) ∙ h;
-  done = ap (λ (ws : List (List ℕ)). completed ws state) (words-nil words) ∙ done;
+  read = ap (λ (ws : List (List ℕ)). reads start ws) (arguments-nil arguments) ∙ h;
+  done = ap (λ (ws : List (List ℕ)). completed ws state) (arguments-nil arguments) ∙ done;
 }
 
-complete-options : (words : List (List ℕ)) (subject : Subject) (given : Given) → HasPlaces subject → IsGuessed subject.name given →
-    1 + subject.count ≤ length words → reads start words ≡ Some (options subject given) → Completion words
+complete-options : (arguments : List (List ℕ)) (subject : Subject) (given : Given) → HasPlaces subject → IsGuessed subject.name given →
+    1 + subject.count ≤ length arguments → reads start arguments ≡ Some (options subject given) → Completion arguments
 unfolding completed
-complete-options words subject given places guessed stands h =
-    let p = positional-read words (options subject given) subject h tt refl in
-    elim (enough-ask subject.name (positional_in subject.count words) given
+complete-options arguments subject given places guessed stands h =
+    let p = positional-read arguments (options subject given) subject h tt refl in
+    elim (enough-ask subject.name (positional_in subject.count arguments) given
     (omega (arith, p.count, places.enough)) (omega (arith, p.count, places.few)) p.each guessed) [
-      | inl (asked, asks) ↦ asked-now words (options subject given) asked h asks
-      | inr lacks ↦ scripted words subject given (options subject given) stands h refl lacks
+      | inl (asked, asks) ↦ asked-now arguments (options subject given) asked h asks
+      | inr lacks ↦ scripted arguments subject given (options subject given) stands h refl lacks
     ]
 
-complete-placed : (words : List (List ℕ)) (subject : Subject) → HasPlaces subject →
-    1 + subject.count ≤ length words → reads start words ≡ Some (placed subject) → Completion words
+complete-placed : (arguments : List (List ℕ)) (subject : Subject) → HasPlaces subject →
+    1 + subject.count ≤ length arguments → reads start arguments ≡ Some (placed subject) → Completion arguments
 unfolding completed
-complete-placed words subject places stands h =
-    let p = positional-read words (placed subject) subject h tt refl in
-    elim (enough-ask subject.name (positional_in subject.count words) nothing_given
+complete-placed arguments subject places stands h =
+    let p = positional-read arguments (placed subject) subject h tt refl in
+    elim (enough-ask subject.name (positional_in subject.count arguments) nothing_given
     (omega (arith, p.count, places.enough)) (omega (arith, p.count, places.few)) p.each (λ untaken. refl, λ untaken. refl)) [
-      | inl (asked, asks) ↦ asked-now words (placed subject) asked h asks
-      | inr lacks ↦ scripted words subject nothing_given (placed subject) stands h
+      | inl (asked, asks) ↦ asked-now arguments (placed subject) asked h asks
+      | inr lacks ↦ scripted arguments subject nothing_given (placed subject) stands h
           (first-option subject keys.Script places.enough) lacks
     ]
 
--- a positional word of any command
+-- a positional argument of any command
 abbrev filler-of : PlaceKind → List ℕ
 filler-of Files = codes "p"
 filler-of Numbers = codes "1"
@@ -269,23 +269,23 @@ fewest-most names.Version = omega arith
 fewest-most names.VersionLetter = omega arith
 
 -- that many more
-complete-places : (missing : ℕ) (words : List (List ℕ)) (subject : Subject) →
+complete-places : (missing : ℕ) (arguments : List (List ℕ)) (subject : Subject) →
     subject.count ≤ most subject.name → fewest subject.name ≤ subject.count + missing →
-    1 + subject.count ≤ length words → reads start words ≡ Some (placed subject) → Completion words
-complete-places zero words subject few enough stands h =
-    complete-placed words subject (record { enough = omega (arith, enough); few = few }) stands h
-complete-places (suc missing) words subject few enough stands h =
+    1 + subject.count ≤ length arguments → reads start arguments ≡ Some (placed subject) → Completion arguments
+complete-places zero arguments subject few enough stands h =
+    complete-placed arguments subject (record { enough = omega (arith, enough); few = few }) stands h
+complete-places (suc missing) arguments subject few enough stands h =
     elim (cases_lt subject.count (fewest subject.name)) [
-      | inr here ↦ complete-placed words subject (record { enough = here; few = few }) stands h
+      | inr here ↦ complete-placed arguments subject (record { enough = here; few = few }) stands h
       | inl below ↦
-          let word = filler-of (place_kind subject.name) in
+          let argument = filler-of (place_kind subject.name) in
           let room : subject.count < most subject.name =
           omega (arith, below, fewest-most subject.name) in
-          complete-word words word
-          (complete-places missing (words ++ word ∷ []) (one_place_more subject) (omega (arith, room))
-          (omega (arith, enough)) (omega (arith, stands, length-append words (word ∷ [])))
-          (reads-word words word (placed subject) (placed (one_place_more subject)) h
-          (placed-follows subject word (tests-place subject word room (filler-fits subject.name)))))
+          complete-argument arguments argument
+          (complete-places missing (arguments ++ argument ∷ []) (one_place_more subject) (omega (arith, room))
+          (omega (arith, enough)) (omega (arith, stands, length-append arguments (argument ∷ [])))
+          (reads-argument arguments argument (placed subject) (placed (one_place_more subject)) h
+          (placed-follows subject argument (tests-place subject argument room (filler-fits subject.name)))))
     ]
 
 -- what a command that has the option for it can show
@@ -346,50 +346,50 @@ some-follows key subject given v h =
     subst (λ k. follow (valued subject given k) (value_of v.setting) ≡ Some (options subject (put given v.setting))) v.key_is
     (value-follows v.setting subject given has v.allowed)
 
-complete-value : (words : List (List ℕ)) (subject : Subject) (given : Given) (key : Key) →
-    Reached (valued subject given key) → 1 + subject.count ≤ length words →
-    reads start words ≡ Some (valued subject given key) → Completion words
-complete-value words subject given key reached stands h =
+complete-value : (arguments : List (List ℕ)) (subject : Subject) (given : Given) (key : Key) →
+    Reached (valued subject given key) → 1 + subject.count ≤ length arguments →
+    reads start arguments ≡ Some (valued subject given key) → Completion arguments
+complete-value arguments subject given key reached stands h =
     let v = some-value key subject.name reached.1 reached.2 in
-    let word : List ℕ = value_of v.setting in
+    let argument : List ℕ = value_of v.setting in
     let more : Given = put given v.setting in
-    let followed : follow (valued subject given key) word ≡ Some (options subject more) =
+    let followed : follow (valued subject given key) argument ≡ Some (options subject more) =
     some-follows key subject given v reached.2 in
-    let now : Reached (options subject more) = reached-last (word ∷ []) (valued subject given key) (options subject more) reached
-    (reads-step (valued subject given key) word [] (options subject more) followed) in
-    complete-word words word
-    (complete-options (words ++ word ∷ []) subject more now.0 now.1
-    (omega (arith, stands, length-append words (word ∷ [])))
-    (reads-word words word (valued subject given key) (options subject more) h followed))
+    let now : Reached (options subject more) = reached-last (argument ∷ []) (valued subject given key) (options subject more) reached
+    (reads-step (valued subject given key) argument [] (options subject more) followed) in
+    complete-argument arguments argument
+    (complete-options (arguments ++ argument ∷ []) subject more now.0 now.1
+    (omega (arith, stands, length-append arguments (argument ∷ [])))
+    (reads-argument arguments argument (valued subject given key) (options subject more) h followed))
 
-complete-start : (words : List (List ℕ)) → reads start words ≡ Some start → Completion words
-complete-start words h =
-    let word : List ℕ = command_word names.Machine in
-    complete-word words word
-    (complete-places 1 (words ++ word ∷ []) (unplaced names.Machine) (omega arith) (omega arith)
-    (omega (arith, length-append words (word ∷ [])))
-    (reads-word words word start (placed (unplaced names.Machine)) h (start-follows names.Machine)))
+complete-start : (arguments : List (List ℕ)) → reads start arguments ≡ Some start → Completion arguments
+complete-start arguments h =
+    let argument : List ℕ = command_name names.Machine in
+    complete-argument arguments argument
+    (complete-places 1 (arguments ++ argument ∷ []) (unplaced names.Machine) (omega arith) (omega arith)
+    (omega (arith, length-append arguments (argument ∷ [])))
+    (reads-argument arguments argument start (placed (unplaced names.Machine)) h (start-follows names.Machine)))
 
-complete-state : (words : List (List ℕ)) (state : ReadingState) → Reached state → Stands (length words) state →
-    reads start words ≡ Some state → Completion words
-complete-state words start reached stands h = complete-start words h
-complete-state words (placed subject) reached stands h =
-    complete-places (fewest subject.name) words subject reached (omega arith) stands h
-complete-state words (options subject given) reached stands h =
-    complete-options words subject given reached.0 reached.1 stands h
-complete-state words (valued subject given key) reached stands h =
-    complete-value words subject given key reached stands h
+complete-state : (arguments : List (List ℕ)) (state : ReadingState) → Reached state → Stands (length arguments) state →
+    reads start arguments ≡ Some state → Completion arguments
+complete-state arguments start reached stands h = complete-start arguments h
+complete-state arguments (placed subject) reached stands h =
+    complete-places (fewest subject.name) arguments subject reached (omega arith) stands h
+complete-state arguments (options subject given) reached stands h =
+    complete-options arguments subject given reached.0 reached.1 stands h
+complete-state arguments (valued subject given key) reached stands h =
+    complete-value arguments subject given key reached stands h
 
-pub complete-reached : (words : List (List ℕ)) (state : ReadingState) → reads start words ≡ Some state →
-    Completion words
-complete-reached words state h =
-    complete-state words state (reached-last words start state tt h)
-    (stands state (length words) (words-read words state h)) h
+pub complete-reached : (arguments : List (List ℕ)) (state : ReadingState) → reads start arguments ≡ Some state →
+    Completion arguments
+complete-reached arguments state h =
+    complete-state arguments state (reached-last arguments start state tt h)
+    (stands state (length arguments) (arguments-read arguments state h)) h
 
--- the positional words are seen as their bytes
-pub mapped-positional : {A B : Type 0} → (f : A → B) (count : ℕ) (words : List A) →
-    map f (take count (drop 1 words)) ≡ take count (drop 1 (map f words))
-mapped-positional f count words =
-    sym (take-map f count (drop 1 words)) ∙ ap (take count) (sym (drop-map f 1 words))
+-- the positional arguments are seen as their bytes
+pub mapped-positional : {A B : Type 0} → (f : A → B) (count : ℕ) (arguments : List A) →
+    map f (take count (drop 1 arguments)) ≡ take count (drop 1 (map f arguments))
+mapped-positional f count arguments =
+    sym (take-map f count (drop 1 arguments)) ∙ ap (take count) (sym (drop-map f 1 arguments))
 
 pub ruleset mapped = (mapped-positional)

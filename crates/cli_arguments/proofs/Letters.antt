@@ -1,4 +1,4 @@
--- Words that end with a letter.
+-- Arguments that end with a letter.
 use Rattle.std.proofs.Common.{◌≡◌, ◌≢◌, ◌<◌, ◌-◌, ◌+◌, ℕ, List, [], ◌∷◌, ◌++◌, length, take, drop, Bool, true, false, refl, arith, sym, ap}
 use Rattle.std.proofs.Common.{◌∙◌, Option, Some, None, option_map, MatchOption}
 use Rattle.std.specs.Prelude.{nat_eq}
@@ -29,32 +29,32 @@ before-so front letter =
     ap (λ (n : ℕ). take n (front ++ letter ∷ [])) (last-length front letter)
     ∙ (take-append-le (length front) front (letter ∷ []) (omega arith) ∙ take-length front)
 
--- no word ends with it but those with other bytes before it
-ends-not : (word : List ℕ) (letter : ℕ) → ((front : List ℕ) → word ≢ front ++ letter ∷ []) →
-    ends_with nat_eq word (letter ∷ []) ≡ false
-ends-not word letter other = by (ends_with nat_eq word (letter ∷ [])) refl
+-- no argument ends with it but those with other bytes before it
+ends-not : (argument : List ℕ) (letter : ℕ) → ((front : List ℕ) → argument ≢ front ++ letter ∷ []) →
+    ends_with nat_eq argument (letter ∷ []) ≡ false
+ends-not argument letter other = by (ends_with nat_eq argument (letter ∷ [])) refl
   where
-    by : (b : Bool) → ends_with nat_eq word (letter ∷ []) ≡ b → b ≡ false
+    by : (b : Bool) → ends_with nat_eq argument (letter ∷ []) ≡ b → b ≡ false
     by false is = refl
     by true is =
-        let dropped : letter ∷ [] ≡ drop (length word - 1) word =
-        (bytes_decides (letter ∷ []) (drop (length word - 1) word)).0 is in
-        absurd (other (take (length word - 1) word)
-        (sym (take-append-drop (length word - 1) word)
-        ∙ ap (λ (xs : List ℕ). take (length word - 1) word ++ xs) (sym dropped)))
+        let dropped : letter ∷ [] ≡ drop (length argument - 1) argument =
+        (bytes_decides (letter ∷ []) (drop (length argument - 1) argument)).0 is in
+        absurd (other (take (length argument - 1) argument)
+        (sym (take-append-drop (length argument - 1) argument)
+        ∙ ap (λ (xs : List ℕ). take (length argument - 1) argument ++ xs) (sym dropped)))
 
--- what is left of a word without its last letter
-stripped-by : (letter : ℕ) (word : List ℕ) (r : Option (Bor (List ℕ))) →
-    MatchOption r ((front : List ℕ) → word ≢ front ++ letter ∷ []) (λ x. word ≡ x.now ++ letter ∷ []) →
-    option_map (λ x. x.now) r ≡ before_letter letter word
+-- what is left of an argument without its last letter
+stripped-by : (letter : ℕ) (argument : List ℕ) (r : Option (Bor (List ℕ))) →
+    MatchOption r ((front : List ℕ) → argument ≢ front ++ letter ∷ []) (λ x. argument ≡ x.now ++ letter ∷ []) →
+    option_map (λ x. x.now) r ≡ before_letter letter argument
 unfolding before_letter
-stripped-by letter word None h = rw (ends-not word letter h) refl
-stripped-by letter word (Some x) h = rw (h, ends-so x.now letter, before-so x.now letter) refl
+stripped-by letter argument None h = rw (ends-not argument letter h) refl
+stripped-by letter argument (Some x) h = rw (h, ends-so x.now letter, before-so x.now letter) refl
 
-pub stripped : (letter : ℕ) (word : List ℕ) (r : Option (Bor (List ℕ))) → letter < 128 →
-    MatchOption r (FindsCharSuffix letter word None) (λ x. (n : ℕ) × FindsCharSuffix letter word (Some n)
-    × (x.now ≡ take (length word - n) word) × (length x.now + n ≡ length word)) →
-    option_map (λ x. x.now) r ≡ before_letter letter word
-stripped letter word r low h = stripped-by letter word r (strip_suffix_char letter word r h low)
+pub stripped : (letter : ℕ) (argument : List ℕ) (r : Option (Bor (List ℕ))) → letter < 128 →
+    MatchOption r (FindsCharSuffix letter argument None) (λ x. (n : ℕ) × FindsCharSuffix letter argument (Some n)
+    × (x.now ≡ take (length argument - n) argument) × (length x.now + n ≡ length argument)) →
+    option_map (λ x. x.now) r ≡ before_letter letter argument
+stripped letter argument r low h = stripped-by letter argument r (strip_suffix_char letter argument r h low)
 
 pub ruleset letters = (stripped)

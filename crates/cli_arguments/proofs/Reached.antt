@@ -1,4 +1,4 @@
--- Which states are reached, and how many words lead there: thirty-four at most.
+-- Which states are reached, and how many arguments lead there: thirty-four at most.
 use Rattle.std.proofs.Common.{◌≡◌, ◌≤◌, ◌+◌, ℕ, List, [], ◌∷◌, length, Bool, true, false, refl, arith, Option, Some, None, inl, inr, ◌||◌, sym, ◌∙◌, subst, ap}
 use Rattle.std.proofs.lemmas.Bool.Decides.{nat_tests}
 use Rattle.cli_arguments.specs.declared.names.CommandName.{CommandName}
@@ -13,7 +13,7 @@ use Rattle.cli_arguments.specs.Reading.{ReadingState, start, placed, options, va
 use Rattle.cli_arguments.proofs.Steps.{put, has_value, start-read, place-tests, placed-read, option-read, value-read}
 use Rattle.cli_arguments.proofs.InTurn.{reads, reads-split, none-left}
 
--- as many positional words as the command may have
+-- as many positional arguments as the command may have
 pub record HasPlaces (subject : Subject) : Type 0 where
   pub enough : fewest subject.name ≤ subject.count
   pub few : subject.count ≤ most subject.name
@@ -23,7 +23,7 @@ abbrev pub IsGuessed : CommandName → Given → Type 0
 IsGuessed name given = (takes_key name keys.Seed ≡ false → is_there given.seed ≡ false)
     × (takes_key name keys.Guess ≡ false → is_there given.guess ≡ false)
 
--- which states are reached: not too many positional words, enough before the options, and an option of the command
+-- which states are reached: not too many positional arguments, enough before the options, and an option of the command
 -- that has a value and has not occurred before
 abbrev pub Reached : ReadingState → Type 0
 Reached start = Unit {0}
@@ -49,10 +49,10 @@ reached-key keys.Without subject given places taken fresh guessed = (places, tak
 reached-key keys.Mul subject given places taken fresh guessed = (places, guessed)
 reached-key keys.Run subject given places taken fresh guessed = (places, guessed)
 
-reached-option : (subject : Subject) (given : Given) (word : List ℕ) (later : ReadingState) → HasPlaces subject → IsGuessed subject.name given →
-    follow (options subject given) word ≡ Some later → Reached later
-reached-option subject given word later places guessed h =
-    let r = option-read subject given word later h in
+reached-option : (subject : Subject) (given : Given) (argument : List ℕ) (later : ReadingState) → HasPlaces subject → IsGuessed subject.name given →
+    follow (options subject given) argument ≡ Some later → Reached later
+reached-option subject given argument later places guessed h =
+    let r = option-read subject given argument later h in
     subst Reached (sym r.after_is) (reached-key r.key subject given places r.taken r.fresh guessed)
 
 put-guessed : (setting : Setting) (subject : Subject) (given : Given) → takes_key subject.name (setting_key setting) ≡ true →
@@ -70,32 +70,32 @@ put-guessed (do_without rule) subject given taken guessed = guessed
 put-guessed with_mul subject given taken guessed = guessed
 put-guessed with_run subject given taken guessed = guessed
 
-reached-next : (state : ReadingState) (word : List ℕ) (later : ReadingState) → Reached state →
-    follow state word ≡ Some later → Reached later
-reached-next start word later reached h =
-    let r = start-read word later h in subst Reached (sym r.after_is) (omega arith)
-reached-next (placed subject) word later reached h = elim (placed-read subject word later h) [
+reached-next : (state : ReadingState) (argument : List ℕ) (later : ReadingState) → Reached state →
+    follow state argument ≡ Some later → Reached later
+reached-next start argument later reached h =
+    let r = start-read argument later h in subst Reached (sym r.after_is) (omega arith)
+reached-next (placed subject) argument later reached h = elim (placed-read subject argument later h) [
   | inl (place, is) ↦
-      let t = place-tests subject word place in subst Reached (sym is) (omega (arith, t.0))
+      let t = place-tests subject argument place in subst Reached (sym is) (omega (arith, t.0))
   | inr (enough, followed) ↦
       let n : fewest subject.name ≤ subject.count = grind (arith, nat_tests, enough) in
-      reached-option subject nothing_given word later (record { enough = n; few = reached }) (λ untaken. refl, λ untaken. refl) followed
+      reached-option subject nothing_given argument later (record { enough = n; few = reached }) (λ untaken. refl, λ untaken. refl) followed
 ]
-reached-next (options subject given) word later reached h =
-    reached-option subject given word later reached.0 reached.1 h
-reached-next (valued subject given key) word later reached h =
-    let r = value-read key subject given word later h in
+reached-next (options subject given) argument later reached h =
+    reached-option subject given argument later reached.0 reached.1 h
+reached-next (valued subject given key) argument later reached h =
+    let r = value-read key subject given argument later h in
     let taken : takes_key subject.name (setting_key r.setting) ≡ true = subst (λ k. takes_key subject.name k ≡ true) (sym r.key_is) reached.1 in
     subst Reached (sym r.after_is) (reached.0, put-guessed r.setting subject given taken reached.4)
 
-pub reached-last : (words : List (List ℕ)) (state last : ReadingState) → Reached state →
-    reads state words ≡ Some last → Reached last
+pub reached-last : (arguments : List (List ℕ)) (state last : ReadingState) → Reached state →
+    reads state arguments ≡ Some last → Reached last
 reached-last [] state last reached h = subst Reached (none-left state last h) reached
-reached-last (word ∷ words) state last reached h =
-    let s = reads-split state word words last h in
-    reached-last words s.later last (reached-next state word s.later reached s.followed) s.rest
+reached-last (argument ∷ arguments) state last reached h =
+    let s = reads-split state argument arguments last h in
+    reached-last arguments s.later last (reached-next state argument s.later reached s.followed) s.rest
 
--- how many words were read
+-- how many arguments were read
 abbrev size_of : {A : Type 0} → Option A → ℕ
 size_of None = 0
 size_of (Some x) = 2
@@ -171,45 +171,45 @@ size-value (do_without rule) subject given value fresh = omega (arith, not-there
 size-value with_mul subject given value fresh = absurd (cc)
 size-value with_run subject given value fresh = absurd (cc)
 
-size-option : (subject : Subject) (given : Given) (word : List ℕ) (later : ReadingState) →
-    follow (options subject given) word ≡ Some later →
+size-option : (subject : Subject) (given : Given) (argument : List ℕ) (later : ReadingState) →
+    follow (options subject given) argument ≡ Some later →
     size later ≡ size (options subject given) + 1
-size-option subject given word later h =
-    let r = option-read subject given word later h in
+size-option subject given argument later h =
+    let r = option-read subject given argument later h in
     ap size r.after_is ∙ size-key r.key subject given r.fresh
 
-size-next : (state : ReadingState) (word : List ℕ) (later : ReadingState) → Reached state →
-    follow state word ≡ Some later → size later ≡ size state + 1
-size-next start word later reached h = let r = start-read word later h in ap size r.after_is
-size-next (placed subject) word later reached h = elim (placed-read subject word later h) [
+size-next : (state : ReadingState) (argument : List ℕ) (later : ReadingState) → Reached state →
+    follow state argument ≡ Some later → size later ≡ size state + 1
+size-next start argument later reached h = let r = start-read argument later h in ap size r.after_is
+size-next (placed subject) argument later reached h = elim (placed-read subject argument later h) [
   | inl (place, is) ↦ let e = ap size is in omega (arith, e)
-  | inr (enough, followed) ↦ let e = size-option subject nothing_given word later followed in omega (arith, e)
+  | inr (enough, followed) ↦ let e = size-option subject nothing_given argument later followed in omega (arith, e)
 ]
-size-next (options subject given) word later reached h = size-option subject given word later h
-size-next (valued subject given key) word later reached h =
-    let r = value-read key subject given word later h in
+size-next (options subject given) argument later reached h = size-option subject given argument later h
+size-next (valued subject given key) argument later reached h =
+    let r = value-read key subject given argument later h in
     let v : has_value (setting_key r.setting) ≡ true = subst (λ k. has_value k ≡ true) (sym r.key_is)
     reached.2 in
     let f : has_key given (setting_key r.setting) ≡ false = subst (λ k. has_key given k ≡ false)
     (sym r.key_is) reached.3 in
     ap size r.after_is ∙ size-value r.setting subject given v f
 
-size-last : (words : List (List ℕ)) (state last : ReadingState) → Reached state → reads state words ≡ Some last →
-    size last ≡ size state + length words
+size-last : (arguments : List (List ℕ)) (state last : ReadingState) → Reached state → reads state arguments ≡ Some last →
+    size last ≡ size state + length arguments
 size-last [] state last reached h = let s = ap size (none-left state last h) in omega (arith, s)
-size-last (word ∷ words) state last reached h =
-    let s = reads-split state word words last h in
-    let a : size s.later ≡ size state + 1 = size-next state word s.later reached s.followed in
-    let b : size last ≡ size s.later + length words =
-    size-last words s.later last (reached-next state word s.later reached s.followed) s.rest in
+size-last (argument ∷ arguments) state last reached h =
+    let s = reads-split state argument arguments last h in
+    let a : size s.later ≡ size state + 1 = size-next state argument s.later reached s.followed in
+    let b : size last ≡ size s.later + length arguments =
+    size-last arguments s.later last (reached-next state argument s.later reached s.followed) s.rest in
     omega arith
 
--- the words that were read are as many as its state says
-pub words-read : (words : List (List ℕ)) (last : ReadingState) → reads start words ≡ Some last →
-    size last ≡ length words
-words-read words last h = let s = size-last words start last tt h in omega (arith, s)
+-- the arguments that were read are as many as its state says
+pub arguments-read : (arguments : List (List ℕ)) (last : ReadingState) → reads start arguments ≡ Some last →
+    size last ≡ length arguments
+arguments-read arguments last h = let s = size-last arguments start last tt h in omega (arith, s)
 
--- so there are at least as many words as a command and its positional words have
+-- so there are at least as many arguments as a command and its positional arguments have
 abbrev pub Stands : ℕ → ReadingState → Type 0
 Stands length start = Unit {0}
 Stands length (placed subject) = 1 + subject.count ≤ length
@@ -275,8 +275,8 @@ size-few (options subject given) reached =
 size-few (valued subject given key) reached =
     omega (arith, reached.0.few, most-few subject.name, given-few given)
 
--- no more words can be read
-pub few-read : (words : List (List ℕ)) (last : ReadingState) → reads start words ≡ Some last → length words ≤ 34
-few-read words last h =
-    let s = words-read words last h in
-    omega (arith, s, size-few last (reached-last words start last tt h))
+-- no more arguments can be read
+pub few-read : (arguments : List (List ℕ)) (last : ReadingState) → reads start arguments ≡ Some last → length arguments ≤ 34
+few-read arguments last h =
+    let s = arguments-read arguments last h in
+    omega (arith, s, size-few last (reached-last arguments start last tt h))

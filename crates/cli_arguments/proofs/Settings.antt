@@ -1,11 +1,11 @@
--- The options after the positional words: read in turn they are a list in which none occurs twice, and give what is in it.
+-- The options after the positional arguments: read in turn they are a list in which none occurs twice, and give what is in it.
 use Rattle.std.proofs.Common.{◌≡◌, ℕ, List, [], ◌∷◌, ◌++◌, Bool, true, false, refl, Option, Some, None, ◌&&◌, ◌||◌, sym, ◌∙◌, subst, ap}
 use Rattle.std.specs.Option.{option_or}
 use Rattle.std.specs.List.{list_all}
 use Rattle.cli_arguments.specs.declared.options.Key.{Key}
 use Rattle.cli_arguments.specs.declared.options.Key.TheVariants as keys
 use Rattle.cli_arguments.specs.declared.reading.Subject.{Subject}
-use Rattle.cli_arguments.specs.Options.{key_word, setting_key, value_words, setting_words, takes_key, is_value, takes_setting, excludes}
+use Rattle.cli_arguments.specs.Options.{option_name, setting_key, value_arguments, setting_arguments, takes_key, is_value, takes_setting, excludes}
 use Rattle.cli_arguments.specs.Options.{Without, NoneTwice, Setting, limit_to, say_every, show_of, script_from, seed_from, guess_by}
 use Rattle.cli_arguments.specs.Options.{input_from, issue_at_most, reach_at_most, do_without, with_mul, with_run, Given, given_in}
 use Rattle.cli_arguments.specs.Reading.{ReadingState, start, placed, options, valued, after_key, has_key, is_there, nothing_given}
@@ -214,10 +214,10 @@ IsWhole (placed subject) = Unit {0}
 IsWhole (options subject given) = Unit {0}
 IsWhole (valued subject given key) = ⊥
 
--- the words after the positional ones, as a list of options
-pub record Tail (subject : Subject) (given : Given) (words : List (List ℕ)) (last : ReadingState) : Type 0 where
+-- the arguments after the positional ones, as a list of options
+pub record Tail (subject : Subject) (given : Given) (arguments : List (List ℕ)) (last : ReadingState) : Type 0 where
   pub settings : List Setting
-  pub words_are : words ≡ setting_words settings
+  pub arguments_are : arguments ≡ setting_arguments settings
   pub taken : list_all (takes_setting subject.name) settings ≡ true
   pub fresh : Fresh given settings
   pub last_is : last ≡ options subject (put_all given settings)
@@ -225,158 +225,158 @@ pub record Tail (subject : Subject) (given : Given) (words : List (List ℕ)) (l
 tail-none : (subject : Subject) (given : Given) (last : ReadingState) →
     reads (options subject given) [] ≡ Some last → Tail subject given [] last
 tail-none subject given last h =
-    record { settings = []; words_are = refl; taken = refl; fresh = tt; last_is = cc }
+    record { settings = []; arguments_are = refl; taken = refl; fresh = tt; last_is = cc }
 
 -- one more option before the others
-tail-more : (subject : Subject) (given : Given) (setting : Setting) (words : List (List ℕ)) (last : ReadingState) →
+tail-more : (subject : Subject) (given : Given) (setting : Setting) (arguments : List (List ℕ)) (last : ReadingState) →
     takes_key subject.name (setting_key setting) ≡ true → is_value subject.name setting ≡ true →
-    has_key given (setting_key setting) ≡ false → Tail subject (put given setting) words last →
-    Tail subject given (key_word (setting_key setting) ∷ (value_words setting ++ words)) last
-tail-more subject given setting words last taken allowed fresh tail = record {
+    has_key given (setting_key setting) ≡ false → Tail subject (put given setting) arguments last →
+    Tail subject given (option_name (setting_key setting) ∷ (value_arguments setting ++ arguments)) last
+tail-more subject given setting arguments last taken allowed fresh tail = record {
   settings = setting ∷ tail.settings;
-  words_are = ap (λ (ws : List (List ℕ)). key_word (setting_key setting) ∷ (value_words setting ++ ws))
-      tail.words_are;
+  arguments_are = ap (λ (ws : List (List ℕ)). option_name (setting_key setting) ∷ (value_arguments setting ++ ws))
+      tail.arguments_are;
   taken = rw (taken, allowed) tail.taken;
   fresh = (fresh, tail.fresh);
   last_is = tail.last_is;
 }
 
--- an option with a value: what the words after its own word are
-tail-valued : (key : Key) (subject : Subject) (given : Given) (words : List (List ℕ)) (last : ReadingState) →
+-- an option with a value: what the arguments after its name are
+tail-valued : (key : Key) (subject : Subject) (given : Given) (arguments : List (List ℕ)) (last : ReadingState) →
     takes_key subject.name key ≡ true → has_key given key ≡ false →
-    reads (valued subject given key) words ≡ Some last → IsWhole last →
-    ((value : List ℕ) (later : List (List ℕ)) → words ≡ value ∷ later → (more : Given) →
+    reads (valued subject given key) arguments ≡ Some last → IsWhole last →
+    ((value : List ℕ) (later : List (List ℕ)) → arguments ≡ value ∷ later → (more : Given) →
     reads (options subject more) later ≡ Some last → Tail subject more later last) →
-    Tail subject given (key_word key ∷ words) last
+    Tail subject given (option_name key ∷ arguments) last
 tail-valued key subject given [] last taken fresh h whole later =
     absurd (subst IsWhole (sym (none-left (valued subject given key) last h)) whole)
-tail-valued key subject given (value ∷ words) last taken fresh h whole later =
-    let s = reads-split (valued subject given key) value words last h in
+tail-valued key subject given (value ∷ arguments) last taken fresh h whole later =
+    let s = reads-split (valued subject given key) value arguments last h in
     let v = value-read key subject given value s.later s.followed in
-    let r : reads (options subject (put given v.setting)) words ≡ Some last =
-    subst (λ b. reads b words ≡ Some last) v.after_is s.rest in
-    let t : Tail subject (put given v.setting) words last = later value words refl
+    let r : reads (options subject (put given v.setting)) arguments ≡ Some last =
+    subst (λ b. reads b arguments ≡ Some last) v.after_is s.rest in
+    let t : Tail subject (put given v.setting) arguments last = later value arguments refl
     (put given v.setting) r in
     let a : takes_key subject.name (setting_key v.setting) ≡ true =
     subst (λ k. takes_key subject.name k ≡ true) (sym v.key_is) taken in
     let f : has_key given (setting_key v.setting) ≡ false =
     subst (λ k. has_key given k ≡ false) (sym v.key_is) fresh in
-    let m : Tail subject given (key_word (setting_key v.setting) ∷ (value_words v.setting ++ words)) last =
-    tail-more subject given v.setting words last a v.allowed f t in
-    let m1 : Tail subject given (key_word key ∷ (value_words v.setting ++ words)) last =
-    subst (λ k. Tail subject given (key_word k ∷ (value_words v.setting ++ words)) last) v.key_is m in
-    subst (λ (ws : List (List ℕ)). Tail subject given (key_word key ∷ (ws ++ words)) last) v.word_is m1
+    let m : Tail subject given (option_name (setting_key v.setting) ∷ (value_arguments v.setting ++ arguments)) last =
+    tail-more subject given v.setting arguments last a v.allowed f t in
+    let m1 : Tail subject given (option_name key ∷ (value_arguments v.setting ++ arguments)) last =
+    subst (λ k. Tail subject given (option_name k ∷ (value_arguments v.setting ++ arguments)) last) v.key_is m in
+    subst (λ (ws : List (List ℕ)). Tail subject given (option_name key ∷ (ws ++ arguments)) last) v.argument_is m1
 
-tail-keyed : (key : Key) (subject : Subject) (given : Given) (words : List (List ℕ)) (last : ReadingState) →
+tail-keyed : (key : Key) (subject : Subject) (given : Given) (arguments : List (List ℕ)) (last : ReadingState) →
     takes_key subject.name key ≡ true → has_key given key ≡ false →
-    reads (after_key subject given key) words ≡ Some last → IsWhole last →
-    ((more : Given) → reads (options subject more) words ≡ Some last → Tail subject more words last) →
-    ((value : List ℕ) (later : List (List ℕ)) → words ≡ value ∷ later → (more : Given) →
+    reads (after_key subject given key) arguments ≡ Some last → IsWhole last →
+    ((more : Given) → reads (options subject more) arguments ≡ Some last → Tail subject more arguments last) →
+    ((value : List ℕ) (later : List (List ℕ)) → arguments ≡ value ∷ later → (more : Given) →
     reads (options subject more) later ≡ Some last → Tail subject more later last) →
-    Tail subject given (key_word key ∷ words) last
-tail-keyed keys.Limit subject given words last taken fresh h whole next later =
-    tail-valued keys.Limit subject given words last taken fresh h whole later
-tail-keyed keys.Every subject given words last taken fresh h whole next later =
-    tail-valued keys.Every subject given words last taken fresh h whole later
-tail-keyed keys.Show subject given words last taken fresh h whole next later =
-    tail-valued keys.Show subject given words last taken fresh h whole later
-tail-keyed keys.Script subject given words last taken fresh h whole next later =
-    tail-valued keys.Script subject given words last taken fresh h whole later
-tail-keyed keys.Seed subject given words last taken fresh h whole next later =
-    tail-valued keys.Seed subject given words last taken fresh h whole later
-tail-keyed keys.Guess subject given words last taken fresh h whole next later =
-    tail-valued keys.Guess subject given words last taken fresh h whole later
-tail-keyed keys.Input subject given words last taken fresh h whole next later =
-    tail-valued keys.Input subject given words last taken fresh h whole later
-tail-keyed keys.Issues subject given words last taken fresh h whole next later =
-    tail-valued keys.Issues subject given words last taken fresh h whole later
-tail-keyed keys.States subject given words last taken fresh h whole next later =
-    tail-valued keys.States subject given words last taken fresh h whole later
-tail-keyed keys.Without subject given words last taken fresh h whole next later =
-    tail-valued keys.Without subject given words last taken fresh h whole later
-tail-keyed keys.Mul subject given words last taken fresh h whole next later =
-    tail-more subject given with_mul words last taken refl fresh (next (put given with_mul) h)
-tail-keyed keys.Run subject given words last taken fresh h whole next later =
-    tail-more subject given with_run words last taken refl fresh (next (put given with_run) h)
+    Tail subject given (option_name key ∷ arguments) last
+tail-keyed keys.Limit subject given arguments last taken fresh h whole next later =
+    tail-valued keys.Limit subject given arguments last taken fresh h whole later
+tail-keyed keys.Every subject given arguments last taken fresh h whole next later =
+    tail-valued keys.Every subject given arguments last taken fresh h whole later
+tail-keyed keys.Show subject given arguments last taken fresh h whole next later =
+    tail-valued keys.Show subject given arguments last taken fresh h whole later
+tail-keyed keys.Script subject given arguments last taken fresh h whole next later =
+    tail-valued keys.Script subject given arguments last taken fresh h whole later
+tail-keyed keys.Seed subject given arguments last taken fresh h whole next later =
+    tail-valued keys.Seed subject given arguments last taken fresh h whole later
+tail-keyed keys.Guess subject given arguments last taken fresh h whole next later =
+    tail-valued keys.Guess subject given arguments last taken fresh h whole later
+tail-keyed keys.Input subject given arguments last taken fresh h whole next later =
+    tail-valued keys.Input subject given arguments last taken fresh h whole later
+tail-keyed keys.Issues subject given arguments last taken fresh h whole next later =
+    tail-valued keys.Issues subject given arguments last taken fresh h whole later
+tail-keyed keys.States subject given arguments last taken fresh h whole next later =
+    tail-valued keys.States subject given arguments last taken fresh h whole later
+tail-keyed keys.Without subject given arguments last taken fresh h whole next later =
+    tail-valued keys.Without subject given arguments last taken fresh h whole later
+tail-keyed keys.Mul subject given arguments last taken fresh h whole next later =
+    tail-more subject given with_mul arguments last taken refl fresh (next (put given with_mul) h)
+tail-keyed keys.Run subject given arguments last taken fresh h whole next later =
+    tail-more subject given with_run arguments last taken refl fresh (next (put given with_run) h)
 
-tail-word : (subject : Subject) (given : Given) (word : List ℕ) (words : List (List ℕ)) (last : ReadingState) →
-    reads (options subject given) (word ∷ words) ≡ Some last → IsWhole last →
-    ((more : Given) → reads (options subject more) words ≡ Some last → Tail subject more words last) →
-    ((value : List ℕ) (later : List (List ℕ)) → words ≡ value ∷ later → (more : Given) →
+tail-argument : (subject : Subject) (given : Given) (argument : List ℕ) (arguments : List (List ℕ)) (last : ReadingState) →
+    reads (options subject given) (argument ∷ arguments) ≡ Some last → IsWhole last →
+    ((more : Given) → reads (options subject more) arguments ≡ Some last → Tail subject more arguments last) →
+    ((value : List ℕ) (later : List (List ℕ)) → arguments ≡ value ∷ later → (more : Given) →
     reads (options subject more) later ≡ Some last → Tail subject more later last) →
-    Tail subject given (word ∷ words) last
-tail-word subject given word words last h whole next later =
-    let s = reads-split (options subject given) word words last h in
-    let k = option-read subject given word s.later s.followed in
-    let r : reads (after_key subject given k.key) words ≡ Some last =
-    subst (λ b. reads b words ≡ Some last) k.after_is s.rest in
-    let t : Tail subject given (key_word k.key ∷ words) last =
-    tail-keyed k.key subject given words last k.taken k.fresh r whole next later in
-    subst (λ (w : List ℕ). Tail subject given (w ∷ words) last) (sym k.word_is) t
+    Tail subject given (argument ∷ arguments) last
+tail-argument subject given argument arguments last h whole next later =
+    let s = reads-split (options subject given) argument arguments last h in
+    let k = option-read subject given argument s.later s.followed in
+    let r : reads (after_key subject given k.key) arguments ≡ Some last =
+    subst (λ b. reads b arguments ≡ Some last) k.after_is s.rest in
+    let t : Tail subject given (option_name k.key ∷ arguments) last =
+    tail-keyed k.key subject given arguments last k.taken k.fresh r whole next later in
+    subst (λ (w : List ℕ). Tail subject given (w ∷ arguments) last) (sym k.argument_is) t
 
-pub tail-read : (words : List (List ℕ)) (subject : Subject) (given : Given) (last : ReadingState) →
-    reads (options subject given) words ≡ Some last → IsWhole last → Tail subject given words last
+pub tail-read : (arguments : List (List ℕ)) (subject : Subject) (given : Given) (last : ReadingState) →
+    reads (options subject given) arguments ≡ Some last → IsWhole last → Tail subject given arguments last
 tail-read [] subject given last h whole = tail-none subject given last h
-tail-read (word ∷ []) subject given last h whole =
-    tail-word subject given word [] last h whole
+tail-read (argument ∷ []) subject given last h whole =
+    tail-argument subject given argument [] last h whole
     (λ more r. tail-none subject more last r)
     (λ value later e more r. absurd (cc))
-tail-read (word ∷ value ∷ words) subject given last h whole =
-    tail-word subject given word (value ∷ words) last h whole
-    (λ more r. tail-read (value ∷ words) subject more last r whole)
+tail-read (argument ∷ value ∷ arguments) subject given last h whole =
+    tail-argument subject given argument (value ∷ arguments) last h whole
+    (λ more r. tail-read (value ∷ arguments) subject more last r whole)
     (λ same later e more r.
-    let l : words ≡ later = cc in
-    let r1 : reads (options subject more) words ≡ Some last =
+    let l : arguments ≡ later = cc in
+    let r1 : reads (options subject more) arguments ≡ Some last =
     subst (λ (ws : List (List ℕ)). reads (options subject more) ws ≡ Some last) (sym l) r in
     subst (λ (ws : List (List ℕ)). Tail subject more ws last) l
-    (tail-read words subject more last r1 whole))
+    (tail-read arguments subject more last r1 whole))
 
 -- an option with a value is read as it is written
-valued-setting : (setting : Setting) (subject : Subject) (given : Given) (words : List (List ℕ)) →
-    value_words setting ≡ value_of setting ∷ [] → after_key subject given (setting_key setting) ≡ valued subject given (setting_key setting) →
+valued-setting : (setting : Setting) (subject : Subject) (given : Given) (arguments : List (List ℕ)) →
+    value_arguments setting ≡ value_of setting ∷ [] → after_key subject given (setting_key setting) ≡ valued subject given (setting_key setting) →
     has_value (setting_key setting) ≡ true → takes_key subject.name (setting_key setting) ≡ true → is_value subject.name setting ≡ true →
     has_key given (setting_key setting) ≡ false →
-    reads (options subject given) (key_word (setting_key setting) ∷ (value_words setting ++ words))
-    ≡ reads (options subject (put given setting)) words
-valued-setting setting subject given words one after value taken allowed fresh =
-    ap (λ (vs : List (List ℕ)). reads (options subject given) (key_word (setting_key setting) ∷ (vs ++ words))) one
-    ∙ (reads-step (options subject given) (key_word (setting_key setting)) (value_of setting ∷ words)
+    reads (options subject given) (option_name (setting_key setting) ∷ (value_arguments setting ++ arguments))
+    ≡ reads (options subject (put given setting)) arguments
+valued-setting setting subject given arguments one after value taken allowed fresh =
+    ap (λ (vs : List (List ℕ)). reads (options subject given) (option_name (setting_key setting) ∷ (vs ++ arguments))) one
+    ∙ (reads-step (options subject given) (option_name (setting_key setting)) (value_of setting ∷ arguments)
     (valued subject given (setting_key setting))
     (option-follows subject given (setting_key setting) taken fresh ∙ ap (λ (s : ReadingState). Some s) after)
-    ∙ reads-step (valued subject given (setting_key setting)) (value_of setting) words (options subject (put given setting))
+    ∙ reads-step (valued subject given (setting_key setting)) (value_of setting) arguments (options subject (put given setting))
     (value-follows setting subject given value allowed))
 
 -- one option is read as it is written
-setting-read : (setting : Setting) (subject : Subject) (given : Given) (words : List (List ℕ)) →
+setting-read : (setting : Setting) (subject : Subject) (given : Given) (arguments : List (List ℕ)) →
     takes_key subject.name (setting_key setting) ≡ true → is_value subject.name setting ≡ true →
     has_key given (setting_key setting) ≡ false →
-    reads (options subject given) (key_word (setting_key setting) ∷ (value_words setting ++ words))
-    ≡ reads (options subject (put given setting)) words
-setting-read (limit_to amount) subject given words taken allowed fresh =
-    valued-setting (limit_to amount) subject given words refl refl refl taken allowed fresh
-setting-read (say_every amount) subject given words taken allowed fresh =
-    valued-setting (say_every amount) subject given words refl refl refl taken allowed fresh
-setting-read (show_of shown) subject given words taken allowed fresh =
-    valued-setting (show_of shown) subject given words refl refl refl taken allowed fresh
-setting-read (script_from file) subject given words taken allowed fresh =
-    valued-setting (script_from file) subject given words refl refl refl taken allowed fresh
-setting-read (seed_from digits) subject given words taken allowed fresh =
-    valued-setting (seed_from digits) subject given words refl refl refl taken allowed fresh
-setting-read (guess_by rule) subject given words taken allowed fresh =
-    valued-setting (guess_by rule) subject given words refl refl refl taken allowed fresh
-setting-read (input_from file) subject given words taken allowed fresh =
-    valued-setting (input_from file) subject given words refl refl refl taken allowed fresh
-setting-read (issue_at_most digits) subject given words taken allowed fresh =
-    valued-setting (issue_at_most digits) subject given words refl refl refl taken allowed fresh
-setting-read (reach_at_most digits) subject given words taken allowed fresh =
-    valued-setting (reach_at_most digits) subject given words refl refl refl taken allowed fresh
-setting-read (do_without rule) subject given words taken allowed fresh =
-    valued-setting (do_without rule) subject given words refl refl refl taken allowed fresh
-setting-read with_mul subject given words taken allowed fresh =
-    reads-step (options subject given) (key_word keys.Mul) words (options subject (put given with_mul))
+    reads (options subject given) (option_name (setting_key setting) ∷ (value_arguments setting ++ arguments))
+    ≡ reads (options subject (put given setting)) arguments
+setting-read (limit_to amount) subject given arguments taken allowed fresh =
+    valued-setting (limit_to amount) subject given arguments refl refl refl taken allowed fresh
+setting-read (say_every amount) subject given arguments taken allowed fresh =
+    valued-setting (say_every amount) subject given arguments refl refl refl taken allowed fresh
+setting-read (show_of shown) subject given arguments taken allowed fresh =
+    valued-setting (show_of shown) subject given arguments refl refl refl taken allowed fresh
+setting-read (script_from file) subject given arguments taken allowed fresh =
+    valued-setting (script_from file) subject given arguments refl refl refl taken allowed fresh
+setting-read (seed_from digits) subject given arguments taken allowed fresh =
+    valued-setting (seed_from digits) subject given arguments refl refl refl taken allowed fresh
+setting-read (guess_by rule) subject given arguments taken allowed fresh =
+    valued-setting (guess_by rule) subject given arguments refl refl refl taken allowed fresh
+setting-read (input_from file) subject given arguments taken allowed fresh =
+    valued-setting (input_from file) subject given arguments refl refl refl taken allowed fresh
+setting-read (issue_at_most digits) subject given arguments taken allowed fresh =
+    valued-setting (issue_at_most digits) subject given arguments refl refl refl taken allowed fresh
+setting-read (reach_at_most digits) subject given arguments taken allowed fresh =
+    valued-setting (reach_at_most digits) subject given arguments refl refl refl taken allowed fresh
+setting-read (do_without rule) subject given arguments taken allowed fresh =
+    valued-setting (do_without rule) subject given arguments refl refl refl taken allowed fresh
+setting-read with_mul subject given arguments taken allowed fresh =
+    reads-step (options subject given) (option_name keys.Mul) arguments (options subject (put given with_mul))
     (option-follows subject given keys.Mul taken fresh)
-setting-read with_run subject given words taken allowed fresh =
-    reads-step (options subject given) (key_word keys.Run) words (options subject (put given with_run))
+setting-read with_run subject given arguments taken allowed fresh =
+    reads-step (options subject given) (option_name keys.Run) arguments (options subject (put given with_run))
     (option-follows subject given keys.Run taken fresh)
 
 pub both : (a b : Bool) → (a && b) ≡ true → (a ≡ true) × (b ≡ true)
@@ -386,11 +386,11 @@ both false b h = absurd (cc)
 
 pub settings-read : (settings : List Setting) (subject : Subject) (given : Given) →
     list_all (takes_setting subject.name) settings ≡ true → Fresh given settings →
-    reads (options subject given) (setting_words settings) ≡ Some (options subject (put_all given settings))
+    reads (options subject given) (setting_arguments settings) ≡ Some (options subject (put_all given settings))
 settings-read [] subject given taken fresh = refl
 settings-read (setting ∷ settings) subject given taken fresh =
     let a = both (takes_setting subject.name setting) (list_all (takes_setting subject.name) settings) taken in
     let t = both (takes_key subject.name (setting_key setting)) (is_value subject.name setting)
     a.0 in
-    setting-read setting subject given (setting_words settings) t.0 t.1 fresh.0
+    setting-read setting subject given (setting_arguments settings) t.0 t.1 fresh.0
     ∙ settings-read settings subject (put given setting) a.1 fresh.1

@@ -1,4 +1,4 @@
--- What one more word says: which words may follow in each state, and what is known after them.
+-- What one more argument says: which arguments may follow in each state, and what is known after them.
 use Rattle.std.proofs.Common.{◌≡◌, ◌≤◌, ◌<◌, ◌⊎◌, ℕ, List, [], ◌∷◌, Bool, true, false, refl, arith, if◌then◌else◌, Option, Some, None}
 use Rattle.std.proofs.Common.{option_map, inl, inr, not, ◌&&◌, sym, ap}
 use Rattle.std.specs.Prelude.{is_some, nat_le, nat_lt}
@@ -14,11 +14,11 @@ use Rattle.cli_arguments.specs.declared.options.Key.{Key}
 use Rattle.cli_arguments.specs.declared.options.Key.TheVariants as keys
 use Rattle.cli_arguments.specs.declared.reading.Subject.{Subject}
 use Rattle.cli_arguments.specs.declared.shown.Shown.{Shown}
-use Rattle.cli_arguments.specs.Values.{amount_in, amount_of, is_file_name, is_number_word, is_positive, is_amount_within, count_in, number_up_to, positive_in}
-use Rattle.cli_arguments.specs.Commands.{command_word, fewest, most, is_of, is_positional, name_in, place_kind, topic_in}
-use Rattle.cli_arguments.specs.Options.{key_word, show_word, setting_key, value_words, takes_key, can_show, is_value, most_limit_of}
+use Rattle.cli_arguments.specs.Values.{amount_in, amount_of, is_file_name, is_number_argument, is_positive, is_amount_within, count_in, number_up_to, positive_in}
+use Rattle.cli_arguments.specs.Commands.{command_name, fewest, most, is_of, is_positional, name_in, place_kind, topic_in}
+use Rattle.cli_arguments.specs.Options.{option_name, shown_name, setting_key, value_arguments, takes_key, can_show, is_value, most_limit_of}
 use Rattle.cli_arguments.specs.Options.{most_seed, Setting, limit_to, say_every, show_of, script_from, seed_from, guess_by, input_from}
-use Rattle.cli_arguments.specs.Options.{issue_at_most, reach_at_most, do_without, with_mul, with_run, Given, rule_word}
+use Rattle.cli_arguments.specs.Options.{issue_at_most, reach_at_most, do_without, with_mul, with_run, Given, guess_name}
 use Rattle.cli_arguments.specs.Reading.{ReadingState, start, placed, options, valued, unplaced, one_place_more, follow, when, after_name}
 use Rattle.cli_arguments.specs.Reading.{after_key, after_option, after_value, has_place, has_key, given_with_value, key_in, shown_in}
 use Rattle.cli_arguments.specs.Reading.{showable, nothing_given, rule_in}
@@ -57,72 +57,72 @@ true-both true true g h = absurd (cc)
 true-both true false g h = refl
 true-both false b g h = absurd (cc)
 
--- the command's word
-pub record NameRead (word : List ℕ) (later : ReadingState) : Type 0 where
+-- the command's name
+pub record NameRead (argument : List ℕ) (later : ReadingState) : Type 0 where
   pub name : CommandName
-  pub word_is : word ≡ command_word name
+  pub argument_is : argument ≡ command_name name
   pub after_is : later ≡ placed (unplaced name)
 
-name-found : (found : Option CommandName) (word : List ℕ) (later : ReadingState) → name_in word ≡ found →
-    after_name found ≡ Some later → NameRead word later
-name-found None word later e h = absurd (cc)
-name-found (Some name) word later e h =
-    record { name = name; word_is = name-read word name e; after_is = cc }
+name-found : (found : Option CommandName) (argument : List ℕ) (later : ReadingState) → name_in argument ≡ found →
+    after_name found ≡ Some later → NameRead argument later
+name-found None argument later e h = absurd (cc)
+name-found (Some name) argument later e h =
+    record { name = name; argument_is = name-read argument name e; after_is = cc }
 
-pub start-read : (word : List ℕ) (later : ReadingState) → follow start word ≡ Some later → NameRead word later
+pub start-read : (argument : List ℕ) (later : ReadingState) → follow start argument ≡ Some later → NameRead argument later
 unfolding follow
-start-read word later h = name-found (name_in word) word later refl h
+start-read argument later h = name-found (name_in argument) argument later refl h
 
-pub start-follows : (name : CommandName) → follow start (command_word name) ≡ Some (placed (unplaced name))
+pub start-follows : (name : CommandName) → follow start (command_name name) ≡ Some (placed (unplaced name))
 unfolding follow
 start-follows name = rw (name-written name) refl
 
--- one more positional word, or the first option
+-- one more positional argument, or the first option
 both-tests : (a b : Bool) → (a && b) ≡ true → (a ≡ true) × (b ≡ true)
 both-tests true true h = (refl, refl)
 both-tests true false h = absurd (cc)
 both-tests false b h = absurd (cc)
 
--- a word that has a place there
-pub place-tests : (subject : Subject) (word : List ℕ) → has_place subject word ≡ true →
-    (subject.count < most subject.name) × (is_positional subject.name word ≡ true)
-place-tests subject word h =
-    let b = both-tests (nat_lt subject.count (most subject.name)) (is_positional subject.name word) h in
+-- an argument that has a place there
+pub place-tests : (subject : Subject) (argument : List ℕ) → has_place subject argument ≡ true →
+    (subject.count < most subject.name) × (is_positional subject.name argument ≡ true)
+place-tests subject argument h =
+    let b = both-tests (nat_lt subject.count (most subject.name)) (is_positional subject.name argument) h in
     (grind (arith, nat_tests, b.0), b.1)
 
-pub tests-place : (subject : Subject) (word : List ℕ) → subject.count < most subject.name →
-    is_positional subject.name word ≡ true → has_place subject word ≡ true
-tests-place subject word room h =
+pub tests-place : (subject : Subject) (argument : List ℕ) → subject.count < most subject.name →
+    is_positional subject.name argument ≡ true → has_place subject argument ≡ true
+tests-place subject argument room h =
     let b : nat_lt subject.count (most subject.name) ≡ true = grind (arith, nat_tests) in rw (b, h) refl
 
-place-tried : (has enough : Bool) (subject : Subject) (word : List ℕ) (later : ReadingState) →
-    has_place subject word ≡ has → nat_le (fewest subject.name) subject.count ≡ enough →
+place-tried : (has enough : Bool) (subject : Subject) (argument : List ℕ) (later : ReadingState) →
+    has_place subject argument ≡ has → nat_le (fewest subject.name) subject.count ≡ enough →
     (if has then Some (placed (one_place_more subject))
-    else if enough then after_option subject nothing_given (key_in word) else None) ≡ Some later →
-    ((has_place subject word ≡ true) × (later ≡ placed (one_place_more subject)))
+    else if enough then after_option subject nothing_given (key_in argument) else None) ≡ Some later →
+    ((has_place subject argument ≡ true) × (later ≡ placed (one_place_more subject)))
     ⊎ ((nat_le (fewest subject.name) subject.count ≡ true)
-    × (after_option subject nothing_given (key_in word) ≡ Some later))
-place-tried true enough subject word later e f h = inl (e, cc)
-place-tried false true subject word later e f h = inr (f, h)
-place-tried false false subject word later e f h = absurd (cc)
+    × (after_option subject nothing_given (key_in argument) ≡ Some later))
+place-tried true enough subject argument later e f h = inl (e, cc)
+place-tried false true subject argument later e f h = inr (f, h)
+place-tried false false subject argument later e f h = absurd (cc)
 
-pub placed-read : (subject : Subject) (word : List ℕ) (later : ReadingState) →
-    follow (placed subject) word ≡ Some later →
-    ((has_place subject word ≡ true) × (later ≡ placed (one_place_more subject)))
+pub placed-read : (subject : Subject) (argument : List ℕ) (later : ReadingState) →
+    follow (placed subject) argument ≡ Some later →
+    ((has_place subject argument ≡ true) × (later ≡ placed (one_place_more subject)))
     ⊎ ((nat_le (fewest subject.name) subject.count ≡ true)
-    × (follow (options subject nothing_given) word ≡ Some later))
+    × (follow (options subject nothing_given) argument ≡ Some later))
 unfolding follow
-placed-read subject word later h =
-    place-tried (has_place subject word) (nat_le (fewest subject.name) subject.count) subject word later
+placed-read subject argument later h =
+    place-tried (has_place subject argument) (nat_le (fewest subject.name) subject.count) subject argument later
     refl refl h
 
-pub placed-follows : (subject : Subject) (word : List ℕ) → has_place subject word ≡ true →
-    follow (placed subject) word ≡ Some (placed (one_place_more subject))
+pub placed-follows : (subject : Subject) (argument : List ℕ) → has_place subject argument ≡ true →
+    follow (placed subject) argument ≡ Some (placed (one_place_more subject))
 unfolding follow
-placed-follows subject word h = rw h refl
+placed-follows subject argument h = rw h refl
 
--- the word of an option has no place among positional words
-key-no-file : (key : Key) → is_file_name (key_word key) ≡ false
+-- the argument of an option has no place among positional arguments
+key-no-file : (key : Key) → is_file_name (option_name key) ≡ false
 key-no-file keys.Limit = refl
 key-no-file keys.Every = refl
 key-no-file keys.Show = refl
@@ -136,7 +136,7 @@ key-no-file keys.Without = refl
 key-no-file keys.Mul = refl
 key-no-file keys.Run = refl
 
-key-no-count : (key : Key) → is_some (count_in (key_word key)) ≡ false
+key-no-count : (key : Key) → is_some (count_in (option_name key)) ≡ false
 unfolding positive_in
 key-no-count keys.Limit = refl
 key-no-count keys.Every = refl
@@ -151,7 +151,7 @@ key-no-count keys.Without = refl
 key-no-count keys.Mul = refl
 key-no-count keys.Run = refl
 
-key-no-topic : (key : Key) → is_some (topic_in (key_word key)) ≡ false
+key-no-topic : (key : Key) → is_some (topic_in (option_name key)) ≡ false
 unfolding topic_in name_in
 key-no-topic keys.Limit = refl
 key-no-topic keys.Every = refl
@@ -166,12 +166,12 @@ key-no-topic keys.Without = refl
 key-no-topic keys.Mul = refl
 key-no-topic keys.Run = refl
 
-key-tried : (kind : PlaceKind) (key : Key) → is_of kind (key_word key) ≡ false
+key-tried : (kind : PlaceKind) (key : Key) → is_of kind (option_name key) ≡ false
 key-tried Files key = key-no-file key
 key-tried Numbers key = key-no-count key
 key-tried Topics key = key-no-topic key
 
-key-no-positional : (name : CommandName) (key : Key) → is_positional name (key_word key) ≡ false
+key-no-positional : (name : CommandName) (key : Key) → is_positional name (option_name key) ≡ false
 unfolding is_positional
 key-no-positional name key = key-tried (place_kind name) key
 
@@ -179,44 +179,44 @@ and-false : (a : Bool) → (a && false) ≡ false
 and-false true = refl
 and-false false = refl
 
-key-no-place : (subject : Subject) (key : Key) → has_place subject (key_word key) ≡ false
+key-no-place : (subject : Subject) (key : Key) → has_place subject (option_name key) ≡ false
 key-no-place subject key =
     rw (key-no-positional subject.name key) (and-false (nat_lt subject.count (most subject.name)))
 
--- so after enough positional words it is read as that of the first option
+-- so after enough positional arguments it is read as that of the first option
 pub first-option : (subject : Subject) (key : Key) → fewest subject.name ≤ subject.count →
-    follow (placed subject) (key_word key) ≡ follow (options subject nothing_given) (key_word key)
+    follow (placed subject) (option_name key) ≡ follow (options subject nothing_given) (option_name key)
 unfolding follow
 first-option subject key enough =
     let b : nat_le (fewest subject.name) subject.count ≡ true = grind (arith, nat_tests) in
     rw (key-no-place subject key, b) refl
 
--- an option's own word
-pub record KeyRead (subject : Subject) (given : Given) (word : List ℕ) (later : ReadingState) : Type 0 where
+-- an option's own name
+pub record KeyRead (subject : Subject) (given : Given) (argument : List ℕ) (later : ReadingState) : Type 0 where
   pub key : Key
-  pub word_is : word ≡ key_word key
+  pub argument_is : argument ≡ option_name key
   pub taken : takes_key subject.name key ≡ true
   pub fresh : has_key given key ≡ false
   pub after_is : later ≡ after_key subject given key
 
-key-found : (found : Option Key) (subject : Subject) (given : Given) (word : List ℕ) (later : ReadingState) →
-    key_in word ≡ found → after_option subject given found ≡ Some later →
-    KeyRead subject given word later
-key-found None subject given word later e h = absurd (cc)
-key-found (Some key) subject given word later e h =
+key-found : (found : Option Key) (subject : Subject) (given : Given) (argument : List ℕ) (later : ReadingState) →
+    key_in argument ≡ found → after_option subject given found ≡ Some later →
+    KeyRead subject given argument later
+key-found None subject given argument later e h = absurd (cc)
+key-found (Some key) subject given argument later e h =
     let w = when-some (takes_key subject.name key && not (has_key given key))
     (after_key subject given key) later h in
     let b = both-true (takes_key subject.name key) (has_key given key) w.0 in
-    record { key = key; word_is = key-read word key e; taken = b.0; fresh = b.1; after_is = w.1 }
+    record { key = key; argument_is = key-read argument key e; taken = b.0; fresh = b.1; after_is = w.1 }
 
-pub option-read : (subject : Subject) (given : Given) (word : List ℕ) (later : ReadingState) →
-    follow (options subject given) word ≡ Some later → KeyRead subject given word later
+pub option-read : (subject : Subject) (given : Given) (argument : List ℕ) (later : ReadingState) →
+    follow (options subject given) argument ≡ Some later → KeyRead subject given argument later
 unfolding follow
-option-read subject given word later h = key-found (key_in word) subject given word later refl h
+option-read subject given argument later h = key-found (key_in argument) subject given argument later refl h
 
 pub option-follows : (subject : Subject) (given : Given) (key : Key) →
     takes_key subject.name key ≡ true → has_key given key ≡ false →
-    follow (options subject given) (key_word key) ≡ Some (after_key subject given key)
+    follow (options subject given) (option_name key) ≡ Some (after_key subject given key)
 unfolding follow
 option-follows subject given key taken fresh =
     rw (key-written key)
@@ -224,11 +224,11 @@ option-follows subject given key taken fresh =
     (true-both (takes_key subject.name key) (has_key given key) taken fresh))
 
 -- an option's value
-pub record ValueRead (subject : Subject) (given : Given) (key : Key) (word : List ℕ) (later : ReadingState) :
+pub record ValueRead (subject : Subject) (given : Given) (key : Key) (argument : List ℕ) (later : ReadingState) :
     Type 0 where
   pub setting : Setting
   pub key_is : setting_key setting ≡ key
-  pub word_is : value_words setting ≡ word ∷ []
+  pub argument_is : value_arguments setting ≡ argument ∷ []
   pub allowed : is_value subject.name setting ≡ true
   pub after_is : later ≡ options subject (put given setting)
 
@@ -237,20 +237,20 @@ if-some : {A : Type 0} → (b : Bool) (x y : A) → (if b then Some x else None)
 if-some true x y h = (refl, cc)
 if-some false x y h = absurd (cc)
 
-number-test : (most : ℕ) (word : List ℕ) (number : ℕ) → number_up_to most word ≡ Some number →
-    (is_number_word most word ≡ true) × (number ≡ digits_value 10 word)
+number-test : (most : ℕ) (argument : List ℕ) (number : ℕ) → number_up_to most argument ≡ Some number →
+    (is_number_argument most argument ≡ true) × (number ≡ digits_value 10 argument)
 unfolding number_up_to
-number-test most word number h = if-some (is_number_word most word) (digits_value 10 word) number h
+number-test most argument number h = if-some (is_number_argument most argument) (digits_value 10 argument) number h
 
-positive-test : (most : ℕ) (word : List ℕ) (number : ℕ) → positive_in most word ≡ Some number →
-    (is_positive most word ≡ true) × (number ≡ digits_value 10 word)
+positive-test : (most : ℕ) (argument : List ℕ) (number : ℕ) → positive_in most argument ≡ Some number →
+    (is_positive most argument ≡ true) × (number ≡ digits_value 10 argument)
 unfolding positive_in
-positive-test most word number h = if-some (is_positive most word) (digits_value 10 word) number h
+positive-test most argument number h = if-some (is_positive most argument) (digits_value 10 argument) number h
 
-amount-test : (least most : ℕ) (word : List ℕ) (amount : ℕ) → amount_in least most word ≡ Some amount →
-    (is_amount_within least most word ≡ true) × (amount ≡ amount_of word)
+amount-test : (least most : ℕ) (argument : List ℕ) (amount : ℕ) → amount_in least most argument ≡ Some amount →
+    (is_amount_within least most argument ≡ true) × (amount ≡ amount_of argument)
 unfolding amount_in
-amount-test least most word amount h = if-some (is_amount_within least most word) (amount_of word) amount h
+amount-test least most argument amount h = if-some (is_amount_within least most argument) (amount_of argument) amount h
 
 shown-test : (name : CommandName) (found : Option Shown) (shown : Shown) → showable name found ≡ Some shown →
     (found ≡ Some shown) × (can_show name shown ≡ true)
@@ -260,101 +260,101 @@ shown-test name (Some other) shown h =
     let same : other ≡ shown = sym w.1 in
     (ap Some same, rw (← same) w.0)
 
--- the word is the value of an option, with which this much more is given
-record IsSetting (subject : Subject) (given more : Given) (key : Key) (word : List ℕ) (setting : Setting) : Type 0 where
+-- the argument is the value of an option, with which this much more is given
+record IsSetting (subject : Subject) (given more : Given) (key : Key) (argument : List ℕ) (setting : Setting) : Type 0 where
   key_is : setting_key setting ≡ key
-  word_is : value_words setting ≡ word ∷ []
+  argument_is : value_arguments setting ≡ argument ∷ []
   allowed : is_value subject.name setting ≡ true
   more_is : more ≡ put given setting
 
 value-found : {A : Type 0} (found : Option A) (with : A → Given) (setting : A → Setting) (subject : Subject) (given : Given) (key : Key)
-    (word : List ℕ) (later : ReadingState) →
-    ((x : A) → found ≡ Some x → IsSetting subject given (with x) key word (setting x)) →
-    after_value subject (option_map with found) ≡ Some later → ValueRead subject given key word later
-value-found None with setting subject given key word later is h = absurd (cc)
-value-found (Some x) with setting subject given key word later is h =
+    (argument : List ℕ) (later : ReadingState) →
+    ((x : A) → found ≡ Some x → IsSetting subject given (with x) key argument (setting x)) →
+    after_value subject (option_map with found) ≡ Some later → ValueRead subject given key argument later
+value-found None with setting subject given key argument later is h = absurd (cc)
+value-found (Some x) with setting subject given key argument later is h =
     let s = is x refl in
     record {
       setting = setting x;
       key_is = s.key_is;
-      word_is = s.word_is;
+      argument_is = s.argument_is;
       allowed = s.allowed;
       after_is = cc (s.more_is);
     }
 
-file-found : (b : Bool) (more : Given) (setting : Setting) (subject : Subject) (given : Given) (key : Key) (word : List ℕ)
-    (later : ReadingState) → (b ≡ true → IsSetting subject given more key word setting) →
-    after_value subject (when b more) ≡ Some later → ValueRead subject given key word later
-file-found true more setting subject given key word later is h =
+file-found : (b : Bool) (more : Given) (setting : Setting) (subject : Subject) (given : Given) (key : Key) (argument : List ℕ)
+    (later : ReadingState) → (b ≡ true → IsSetting subject given more key argument setting) →
+    after_value subject (when b more) ≡ Some later → ValueRead subject given key argument later
+file-found true more setting subject given key argument later is h =
     let s = is refl in
-    record { setting = setting; key_is = s.key_is; word_is = s.word_is; allowed = s.allowed; after_is = cc (s.more_is) }
-file-found false more setting subject given key word later is h = absurd (cc)
+    record { setting = setting; key_is = s.key_is; argument_is = s.argument_is; allowed = s.allowed; after_is = cc (s.more_is) }
+file-found false more setting subject given key argument later is h = absurd (cc)
 
-one-word : (word other : List ℕ) → word ≡ other → other ∷ [] ≡ word ∷ []
-one-word word other same = ap (λ (w : List ℕ). w ∷ []) (sym same)
+one-argument : (argument other : List ℕ) → argument ≡ other → other ∷ [] ≡ argument ∷ []
+one-argument argument other same = ap (λ (w : List ℕ). w ∷ []) (sym same)
 
-pub value-read : (key : Key) (subject : Subject) (given : Given) (word : List ℕ) (later : ReadingState) →
-    follow (valued subject given key) word ≡ Some later → ValueRead subject given key word later
+pub value-read : (key : Key) (subject : Subject) (given : Given) (argument : List ℕ) (later : ReadingState) →
+    follow (valued subject given key) argument ≡ Some later → ValueRead subject given key argument later
 unfolding follow given_with_value
-value-read keys.Limit subject given word later h =
-    value-found (amount_in 0 (most_limit_of subject.name) word) (λ n. record given { limit = Some n }) (λ n. limit_to word)
-    subject given keys.Limit word later
-    (λ n e. let t = amount-test 0 (most_limit_of subject.name) word n e in
-    record { key_is = refl; word_is = refl; allowed = t.0; more_is = ap (λ (m : ℕ). record given { limit = Some m }) t.1 }) h
-value-read keys.Every subject given word later h =
-    value-found (amount_in 1 most_limit word) (λ n. record given { every = Some n }) (λ n. say_every word)
-    subject given keys.Every word later
-    (λ n e. let t = amount-test 1 most_limit word n e in
-    record { key_is = refl; word_is = refl; allowed = t.0; more_is = ap (λ (m : ℕ). record given { every = Some m }) t.1 }) h
-value-read keys.Show subject given word later h =
-    value-found (showable subject.name (shown_in word)) (λ shown. record given { show = Some shown }) show_of
-    subject given keys.Show word later
-    (λ shown e. let t = shown-test subject.name (shown_in word) shown e in
-    record { key_is = refl; word_is = one-word word (show_word shown) (shown-read word shown t.0); allowed = t.1; more_is = refl }) h
-value-read keys.Script subject given word later h =
-    file-found (is_file_name word) (record given { script = Some word }) (script_from word) subject given keys.Script word later
-    (λ t. record { key_is = refl; word_is = refl; allowed = t; more_is = refl }) h
-value-read keys.Seed subject given word later h =
-    value-found (number_up_to most_seed word) (λ n. record given { seed = Some n }) (λ n. seed_from word)
-    subject given keys.Seed word later
-    (λ n e. let t = number-test most_seed word n e in
-    record { key_is = refl; word_is = refl; allowed = t.0; more_is = ap (λ (m : ℕ). record given { seed = Some m }) t.1 }) h
-value-read keys.Guess subject given word later h =
-    value-found (rule_in word) (λ rule. record given { guess = Some rule }) guess_by subject given keys.Guess word later
-    (λ rule e. record { key_is = refl; word_is = one-word word (rule_word rule) (rule-read word rule e); allowed = refl; more_is = refl }) h
-value-read keys.Input subject given word later h =
-    file-found (is_file_name word) (record given { input = Some word }) (input_from word) subject given keys.Input word later
-    (λ t. record { key_is = refl; word_is = refl; allowed = t; more_is = refl }) h
-value-read keys.Issues subject given word later h =
-    value-found (positive_in most_issues word) (λ n. record given { issues = Some n }) (λ n. issue_at_most word)
-    subject given keys.Issues word later
-    (λ n e. let t = positive-test most_issues word n e in
-    record { key_is = refl; word_is = refl; allowed = t.0; more_is = ap (λ (m : ℕ). record given { issues = Some m }) t.1 }) h
-value-read keys.States subject given word later h =
-    value-found (positive_in most_states word) (λ n. record given { states = Some n }) (λ n. reach_at_most word)
-    subject given keys.States word later
-    (λ n e. let t = positive-test most_states word n e in
-    record { key_is = refl; word_is = refl; allowed = t.0; more_is = ap (λ (m : ℕ). record given { states = Some m }) t.1 }) h
-value-read keys.Without subject given word later h =
-    value-found (rule_named word) (λ rule. record given { without = Some rule }) do_without subject given keys.Without word later
-    (λ rule e. record { key_is = refl; word_is = one-word word (rule_name rule) (sym (named_once word rule e)); allowed = refl; more_is = refl }) h
-value-read keys.Mul subject given word later h = absurd (cc)
-value-read keys.Run subject given word later h = absurd (cc)
+value-read keys.Limit subject given argument later h =
+    value-found (amount_in 0 (most_limit_of subject.name) argument) (λ n. record given { limit = Some n }) (λ n. limit_to argument)
+    subject given keys.Limit argument later
+    (λ n e. let t = amount-test 0 (most_limit_of subject.name) argument n e in
+    record { key_is = refl; argument_is = refl; allowed = t.0; more_is = ap (λ (m : ℕ). record given { limit = Some m }) t.1 }) h
+value-read keys.Every subject given argument later h =
+    value-found (amount_in 1 most_limit argument) (λ n. record given { every = Some n }) (λ n. say_every argument)
+    subject given keys.Every argument later
+    (λ n e. let t = amount-test 1 most_limit argument n e in
+    record { key_is = refl; argument_is = refl; allowed = t.0; more_is = ap (λ (m : ℕ). record given { every = Some m }) t.1 }) h
+value-read keys.Show subject given argument later h =
+    value-found (showable subject.name (shown_in argument)) (λ shown. record given { show = Some shown }) show_of
+    subject given keys.Show argument later
+    (λ shown e. let t = shown-test subject.name (shown_in argument) shown e in
+    record { key_is = refl; argument_is = one-argument argument (shown_name shown) (shown-read argument shown t.0); allowed = t.1; more_is = refl }) h
+value-read keys.Script subject given argument later h =
+    file-found (is_file_name argument) (record given { script = Some argument }) (script_from argument) subject given keys.Script argument later
+    (λ t. record { key_is = refl; argument_is = refl; allowed = t; more_is = refl }) h
+value-read keys.Seed subject given argument later h =
+    value-found (number_up_to most_seed argument) (λ n. record given { seed = Some n }) (λ n. seed_from argument)
+    subject given keys.Seed argument later
+    (λ n e. let t = number-test most_seed argument n e in
+    record { key_is = refl; argument_is = refl; allowed = t.0; more_is = ap (λ (m : ℕ). record given { seed = Some m }) t.1 }) h
+value-read keys.Guess subject given argument later h =
+    value-found (rule_in argument) (λ rule. record given { guess = Some rule }) guess_by subject given keys.Guess argument later
+    (λ rule e. record { key_is = refl; argument_is = one-argument argument (guess_name rule) (rule-read argument rule e); allowed = refl; more_is = refl }) h
+value-read keys.Input subject given argument later h =
+    file-found (is_file_name argument) (record given { input = Some argument }) (input_from argument) subject given keys.Input argument later
+    (λ t. record { key_is = refl; argument_is = refl; allowed = t; more_is = refl }) h
+value-read keys.Issues subject given argument later h =
+    value-found (positive_in most_issues argument) (λ n. record given { issues = Some n }) (λ n. issue_at_most argument)
+    subject given keys.Issues argument later
+    (λ n e. let t = positive-test most_issues argument n e in
+    record { key_is = refl; argument_is = refl; allowed = t.0; more_is = ap (λ (m : ℕ). record given { issues = Some m }) t.1 }) h
+value-read keys.States subject given argument later h =
+    value-found (positive_in most_states argument) (λ n. record given { states = Some n }) (λ n. reach_at_most argument)
+    subject given keys.States argument later
+    (λ n e. let t = positive-test most_states argument n e in
+    record { key_is = refl; argument_is = refl; allowed = t.0; more_is = ap (λ (m : ℕ). record given { states = Some m }) t.1 }) h
+value-read keys.Without subject given argument later h =
+    value-found (rule_named argument) (λ rule. record given { without = Some rule }) do_without subject given keys.Without argument later
+    (λ rule e. record { key_is = refl; argument_is = one-argument argument (rule_name rule) (sym (named_once argument rule e)); allowed = refl; more_is = refl }) h
+value-read keys.Mul subject given argument later h = absurd (cc)
+value-read keys.Run subject given argument later h = absurd (cc)
 
-number-is : (most : ℕ) (word : List ℕ) → is_number_word most word ≡ true →
-    number_up_to most word ≡ Some (digits_value 10 word)
+number-is : (most : ℕ) (argument : List ℕ) → is_number_argument most argument ≡ true →
+    number_up_to most argument ≡ Some (digits_value 10 argument)
 unfolding number_up_to
-number-is most word h = rw h
+number-is most argument h = rw h
 
-positive-is : (most : ℕ) (word : List ℕ) → is_positive most word ≡ true →
-    positive_in most word ≡ Some (digits_value 10 word)
+positive-is : (most : ℕ) (argument : List ℕ) → is_positive most argument ≡ true →
+    positive_in most argument ≡ Some (digits_value 10 argument)
 unfolding positive_in
-positive-is most word h = rw h
+positive-is most argument h = rw h
 
-amount-is : (least most : ℕ) (word : List ℕ) → is_amount_within least most word ≡ true →
-    amount_in least most word ≡ Some (amount_of word)
+amount-is : (least most : ℕ) (argument : List ℕ) → is_amount_within least most argument ≡ true →
+    amount_in least most argument ≡ Some (amount_of argument)
 unfolding amount_in
-amount-is least most word h = rw h
+amount-is least most argument h = rw h
 
 -- an option that has a value
 abbrev pub has_value : Key → Bool
@@ -362,14 +362,14 @@ has_value keys.Mul = false
 has_value keys.Run = false
 has_value _ = true
 
--- the value's word
+-- the value's argument
 abbrev pub value_of : Setting → List ℕ
 value_of (limit_to amount) = amount
 value_of (say_every amount) = amount
-value_of (show_of shown) = show_word shown
+value_of (show_of shown) = shown_name shown
 value_of (script_from file) = file
 value_of (seed_from digits) = digits
-value_of (guess_by rule) = rule_word rule
+value_of (guess_by rule) = guess_name rule
 value_of (input_from file) = file
 value_of (issue_at_most digits) = digits
 value_of (reach_at_most digits) = digits

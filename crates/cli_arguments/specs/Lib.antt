@@ -3,4 +3,4 @@ pub mod Options
 pub mod Reading
 pub mod Values
 pub mod Views
-pub mod Words
+pub mod Arguments

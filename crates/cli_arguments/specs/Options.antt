@@ -12,7 +12,7 @@ use Rattle.cli_arguments.specs.declared.options.Key.{Key}
 use Rattle.cli_arguments.specs.declared.options.Key.TheVariants as keys
 use Rattle.cli_arguments.specs.declared.shown.Shown.{Shown}
 use Rattle.cli_arguments.specs.declared.shown.Shown.TheVariants as shows
-use Rattle.cli_arguments.specs.Values.{amount_of, is_file_name, is_number_word, is_positive, is_amount_within}
+use Rattle.cli_arguments.specs.Values.{amount_of, is_file_name, is_number_argument, is_positive, is_amount_within}
 
 -- an option, with the value of those that have one
 pub data Setting : Type 0 where
@@ -44,56 +44,56 @@ setting_key (do_without rule) = keys.Without
 setting_key with_mul = keys.Mul
 setting_key with_run = keys.Run
 
--- the option's own word
-abbrev pub key_word : Key → List ℕ
-key_word keys.Limit = codes "--limit"
-key_word keys.Every = codes "--every"
-key_word keys.Show = codes "--show"
-key_word keys.Script = codes "--script"
-key_word keys.Seed = codes "--seed"
-key_word keys.Guess = codes "--guess"
-key_word keys.Input = codes "--input"
-key_word keys.Issues = codes "--issues"
-key_word keys.States = codes "--states"
-key_word keys.Without = codes "--without"
-key_word keys.Mul = codes "--mul"
-key_word keys.Run = codes "--run"
+-- the option's own name
+abbrev pub option_name : Key → List ℕ
+option_name keys.Limit = codes "--limit"
+option_name keys.Every = codes "--every"
+option_name keys.Show = codes "--show"
+option_name keys.Script = codes "--script"
+option_name keys.Seed = codes "--seed"
+option_name keys.Guess = codes "--guess"
+option_name keys.Input = codes "--input"
+option_name keys.Issues = codes "--issues"
+option_name keys.States = codes "--states"
+option_name keys.Without = codes "--without"
+option_name keys.Mul = codes "--mul"
+option_name keys.Run = codes "--run"
 
--- the word for what is shown
-abbrev pub show_word : Shown → List ℕ
-show_word shows.Report = codes "report"
-show_word shows.Retired = codes "retired"
-show_word shows.Moves = codes "moves"
-show_word shows.Sites = codes "sites"
-show_word shows.Edges = codes "edges"
+-- the value for what is shown
+abbrev pub shown_name : Shown → List ℕ
+shown_name shows.Report = codes "report"
+shown_name shows.Retired = codes "retired"
+shown_name shows.Moves = codes "moves"
+shown_name shows.Sites = codes "sites"
+shown_name shows.Edges = codes "edges"
 
--- the word for a guess rule
-abbrev pub rule_word : GuessRule → List ℕ
-rule_word rules.Any = codes "any"
-rule_word rules.Next = codes "next"
-rule_word rules.Taken = codes "taken"
-rule_word rules.Backward = codes "backward"
-rule_word rules.Wait = codes "wait"
+-- the name of a guess rule
+abbrev pub guess_name : GuessRule → List ℕ
+guess_name rules.Any = codes "any"
+guess_name rules.Next = codes "next"
+guess_name rules.Taken = codes "taken"
+guess_name rules.Backward = codes "backward"
+guess_name rules.Wait = codes "wait"
 
--- the value is one word after it; `--mul` and `--run` have none
-abbrev pub value_words : Setting → List (List ℕ)
-value_words (limit_to amount) = amount ∷ []
-value_words (say_every amount) = amount ∷ []
-value_words (show_of shown) = show_word shown ∷ []
-value_words (script_from file) = file ∷ []
-value_words (seed_from digits) = digits ∷ []
-value_words (guess_by rule) = rule_word rule ∷ []
-value_words (input_from file) = file ∷ []
-value_words (issue_at_most digits) = digits ∷ []
-value_words (reach_at_most digits) = digits ∷ []
-value_words (do_without rule) = rule_name rule ∷ []
-value_words with_mul = []
-value_words with_run = []
+-- the value is one argument after it; `--mul` and `--run` have none
+abbrev pub value_arguments : Setting → List (List ℕ)
+value_arguments (limit_to amount) = amount ∷ []
+value_arguments (say_every amount) = amount ∷ []
+value_arguments (show_of shown) = shown_name shown ∷ []
+value_arguments (script_from file) = file ∷ []
+value_arguments (seed_from digits) = digits ∷ []
+value_arguments (guess_by rule) = guess_name rule ∷ []
+value_arguments (input_from file) = file ∷ []
+value_arguments (issue_at_most digits) = digits ∷ []
+value_arguments (reach_at_most digits) = digits ∷ []
+value_arguments (do_without rule) = rule_name rule ∷ []
+value_arguments with_mul = []
+value_arguments with_run = []
 
--- the words of the options, in their order
-abbrev pub setting_words : List Setting → List (List ℕ)
-setting_words [] = []
-setting_words (setting ∷ settings) = key_word (setting_key setting) ∷ (value_words setting ++ setting_words settings)
+-- the names and values of the options, in their order
+abbrev pub setting_arguments : List Setting → List (List ℕ)
+setting_arguments [] = []
+setting_arguments (setting ∷ settings) = option_name (setting_key setting) ∷ (value_arguments setting ++ setting_arguments settings)
 
 -- the options of each command
 abbrev pub takes_key : CommandName → Key → Bool
@@ -165,7 +165,7 @@ is_value name (limit_to amount) = is_amount_within 0 (most_limit_of name) amount
 is_value name (say_every amount) = is_amount_within 1 most_limit amount
 is_value name (show_of shown) = can_show name shown
 is_value name (script_from file) = is_file_name file
-is_value name (seed_from digits) = is_number_word most_seed digits
+is_value name (seed_from digits) = is_number_argument most_seed digits
 is_value name (guess_by rule) = true
 is_value name (input_from file) = is_file_name file
 is_value name (issue_at_most digits) = is_positive most_issues digits

@@ -1,4 +1,4 @@
--- How the words of the command line are read one by one: what is known after each of them, and which words may follow.
+-- How the arguments of the command line are read one by one: what is known after each of them, and which arguments may follow.
 use Rattle.std.specs.Prelude.{ℕ, ◌+◌, List, codes, take, drop, nat_le, nat_lt, Bool, true, false, not, ◌&&◌, ◌||◌, Option, Some, None, option_map, if◌then◌else◌}
 use Rattle.run_options.specs.Limits.{most_issues, most_limit, most_states}
 use Rattle.run_options.specs.declared.guess_rule.GuessRule.{GuessRule}
@@ -13,43 +13,43 @@ use Rattle.cli_arguments.specs.declared.shown.Shown.TheVariants as shows
 use Rattle.cli_arguments.specs.Values.{amount_in, is_file_name, number_up_to, positive_in}
 use Rattle.cli_arguments.specs.Commands.{fewest, most, is_positional, is_text, name_in}
 use Rattle.cli_arguments.specs.Options.{takes_key, can_show, most_limit_of, most_seed, Given}
-use Rattle.cli_arguments.specs.Words.{Asked, asked_by}
+use Rattle.cli_arguments.specs.Arguments.{Asked, asked_by}
 
--- the option whose own word it is
+-- the option whose name it is
 unfoldable pub key_in : List ℕ → Option Key
-key_in word =
-    if is_text word (codes "--limit") then Some keys.Limit
-    else if is_text word (codes "--every") then Some keys.Every
-    else if is_text word (codes "--show") then Some keys.Show
-    else if is_text word (codes "--script") then Some keys.Script
-    else if is_text word (codes "--seed") then Some keys.Seed
-    else if is_text word (codes "--guess") then Some keys.Guess
-    else if is_text word (codes "--input") then Some keys.Input
-    else if is_text word (codes "--issues") then Some keys.Issues
-    else if is_text word (codes "--states") then Some keys.States
-    else if is_text word (codes "--without") then Some keys.Without
-    else if is_text word (codes "--mul") then Some keys.Mul
-    else if is_text word (codes "--run") then Some keys.Run
+key_in argument =
+    if is_text argument (codes "--limit") then Some keys.Limit
+    else if is_text argument (codes "--every") then Some keys.Every
+    else if is_text argument (codes "--show") then Some keys.Show
+    else if is_text argument (codes "--script") then Some keys.Script
+    else if is_text argument (codes "--seed") then Some keys.Seed
+    else if is_text argument (codes "--guess") then Some keys.Guess
+    else if is_text argument (codes "--input") then Some keys.Input
+    else if is_text argument (codes "--issues") then Some keys.Issues
+    else if is_text argument (codes "--states") then Some keys.States
+    else if is_text argument (codes "--without") then Some keys.Without
+    else if is_text argument (codes "--mul") then Some keys.Mul
+    else if is_text argument (codes "--run") then Some keys.Run
     else None
 
--- what a word asks to be shown
+-- what an argument asks to be shown
 unfoldable pub shown_in : List ℕ → Option Shown
-shown_in word =
-    if is_text word (codes "report") then Some shows.Report
-    else if is_text word (codes "retired") then Some shows.Retired
-    else if is_text word (codes "moves") then Some shows.Moves
-    else if is_text word (codes "sites") then Some shows.Sites
-    else if is_text word (codes "edges") then Some shows.Edges
+shown_in argument =
+    if is_text argument (codes "report") then Some shows.Report
+    else if is_text argument (codes "retired") then Some shows.Retired
+    else if is_text argument (codes "moves") then Some shows.Moves
+    else if is_text argument (codes "sites") then Some shows.Sites
+    else if is_text argument (codes "edges") then Some shows.Edges
     else None
 
--- the guess rule that a word names
+-- the guess rule that an argument names
 unfoldable pub rule_in : List ℕ → Option GuessRule
-rule_in word =
-    if is_text word (codes "any") then Some rules.Any
-    else if is_text word (codes "next") then Some rules.Next
-    else if is_text word (codes "taken") then Some rules.Taken
-    else if is_text word (codes "backward") then Some rules.Backward
-    else if is_text word (codes "wait") then Some rules.Wait
+rule_in argument =
+    if is_text argument (codes "any") then Some rules.Any
+    else if is_text argument (codes "next") then Some rules.Next
+    else if is_text argument (codes "taken") then Some rules.Taken
+    else if is_text argument (codes "backward") then Some rules.Backward
+    else if is_text argument (codes "wait") then Some rules.Wait
     else None
 
 -- no option yet
@@ -89,7 +89,7 @@ has_key given keys.Without = is_there given.without
 has_key given keys.Mul = given.mul
 has_key given keys.Run = given.run
 
--- what is known after the words that were read: nothing yet, a command with that many positional words, options after
+-- what is known after the arguments that were read: nothing yet, a command with that many positional arguments, options after
 -- them, or an option whose value comes next
 pub data ReadingState : Type 0 where
   start : ReadingState
@@ -102,19 +102,19 @@ abbrev pub when : {A : Type 0} → Bool → A → Option A
 when true x = Some x
 when false x = None
 
--- a command without positional words yet, and the command with one more
+-- a command without positional arguments yet, and the command with one more
 abbrev pub unplaced : CommandName → Subject
 unplaced name = record { name = name; count = 0 }
 
 abbrev pub one_place_more : Subject → Subject
 one_place_more subject = record { name = subject.name; count = subject.count + 1 }
 
--- after the first word
+-- after the first argument
 abbrev pub after_name : Option CommandName → Option ReadingState
 after_name None = None
 after_name (Some name) = Some (placed (unplaced name))
 
--- after an option's own word
+-- after an option's own name
 abbrev pub after_key : Subject → Given → Key → ReadingState
 after_key subject given keys.Mul = options subject (record given { mul = true })
 after_key subject given keys.Run = options subject (record given { run = true })
@@ -126,15 +126,15 @@ after_option subject given None = None
 after_option subject given (Some key) =
     when (takes_key subject.name key && not (has_key given key)) (after_key subject given key)
 
--- whether one more positional word may stand there, and this is one
+-- whether one more positional argument may stand there, and this is one
 abbrev pub has_place : Subject → List ℕ → Bool
-has_place subject word = nat_lt subject.count (most subject.name) && is_positional subject.name word
+has_place subject argument = nat_lt subject.count (most subject.name) && is_positional subject.name argument
 
--- after one more positional word, or after the first option's own word where there are enough of them
+-- after one more positional argument, or after the first option's own name where there are enough of them
 abbrev pub after_place : Subject → List ℕ → Option ReadingState
-after_place subject word =
-    if has_place subject word then Some (placed (one_place_more subject))
-    else if nat_le (fewest subject.name) subject.count then after_option subject nothing_given (key_in word)
+after_place subject argument =
+    if has_place subject argument then Some (placed (one_place_more subject))
+    else if nat_le (fewest subject.name) subject.count then after_option subject nothing_given (key_in argument)
     else None
 
 -- what the command can show of it
@@ -144,44 +144,44 @@ showable name (Some shown) = when (can_show name shown) shown
 
 -- what is given with one more value
 unfoldable pub given_with_value : CommandName → Given → Key → List ℕ → Option Given
-given_with_value name given keys.Limit word =
-    option_map (λ limit. record given { limit = Some limit }) (amount_in 0 (most_limit_of name) word)
-given_with_value name given keys.Every word =
-    option_map (λ every. record given { every = Some every }) (amount_in 1 most_limit word)
-given_with_value name given keys.Show word = option_map (λ shown. record given { show = Some shown }) (showable name (shown_in word))
-given_with_value name given keys.Script word = when (is_file_name word) (record given { script = Some word })
-given_with_value name given keys.Seed word =
-    option_map (λ seed. record given { seed = Some seed }) (number_up_to most_seed word)
-given_with_value name given keys.Guess word = option_map (λ rule. record given { guess = Some rule }) (rule_in word)
-given_with_value name given keys.Input word = when (is_file_name word) (record given { input = Some word })
-given_with_value name given keys.Issues word =
-    option_map (λ issues. record given { issues = Some issues }) (positive_in most_issues word)
-given_with_value name given keys.States word =
-    option_map (λ states. record given { states = Some states }) (positive_in most_states word)
-given_with_value name given keys.Without word =
-    option_map (λ rule. record given { without = Some rule }) (rule_named word)
-given_with_value name given keys.Mul word = None
-given_with_value name given keys.Run word = None
+given_with_value name given keys.Limit argument =
+    option_map (λ limit. record given { limit = Some limit }) (amount_in 0 (most_limit_of name) argument)
+given_with_value name given keys.Every argument =
+    option_map (λ every. record given { every = Some every }) (amount_in 1 most_limit argument)
+given_with_value name given keys.Show argument = option_map (λ shown. record given { show = Some shown }) (showable name (shown_in argument))
+given_with_value name given keys.Script argument = when (is_file_name argument) (record given { script = Some argument })
+given_with_value name given keys.Seed argument =
+    option_map (λ seed. record given { seed = Some seed }) (number_up_to most_seed argument)
+given_with_value name given keys.Guess argument = option_map (λ rule. record given { guess = Some rule }) (rule_in argument)
+given_with_value name given keys.Input argument = when (is_file_name argument) (record given { input = Some argument })
+given_with_value name given keys.Issues argument =
+    option_map (λ issues. record given { issues = Some issues }) (positive_in most_issues argument)
+given_with_value name given keys.States argument =
+    option_map (λ states. record given { states = Some states }) (positive_in most_states argument)
+given_with_value name given keys.Without argument =
+    option_map (λ rule. record given { without = Some rule }) (rule_named argument)
+given_with_value name given keys.Mul argument = None
+given_with_value name given keys.Run argument = None
 
 -- after an option's value
 abbrev pub after_value : Subject → Option Given → Option ReadingState
 after_value subject None = None
 after_value subject (Some given) = Some (options subject given)
 
--- what is known after one more word, which has no place where there is no answer
+-- what is known after one more argument, which has no place where there is no answer
 unfoldable pub follow : ReadingState → List ℕ → Option ReadingState
-follow start word = after_name (name_in word)
-follow (placed subject) word = after_place subject word
-follow (options subject given) word = after_option subject given (key_in word)
-follow (valued subject given key) word = after_value subject (given_with_value subject.name given key word)
+follow start argument = after_name (name_in argument)
+follow (placed subject) argument = after_place subject argument
+follow (options subject given) argument = after_option subject given (key_in argument)
+follow (valued subject given key) argument = after_value subject (given_with_value subject.name given key argument)
 
--- the positional words: that many words after the first
+-- the positional arguments: that many arguments after the first
 abbrev pub positional_in : ℕ → List (List ℕ) → List (List ℕ)
-positional_in count words = take count (drop 1 words)
+positional_in count arguments = take count (drop 1 arguments)
 
--- what is asked where no word is left, or nothing where one is missing
+-- what is asked where no argument is left, or nothing where one is missing
 unfoldable pub completed : List (List ℕ) → ReadingState → Option Asked
-completed words start = None
-completed words (placed subject) = asked_by subject.name (positional_in subject.count words) nothing_given
-completed words (options subject given) = asked_by subject.name (positional_in subject.count words) given
-completed words (valued subject given key) = None
+completed arguments start = None
+completed arguments (placed subject) = asked_by subject.name (positional_in subject.count arguments) nothing_given
+completed arguments (options subject given) = asked_by subject.name (positional_in subject.count arguments) given
+completed arguments (valued subject given key) = None

@@ -1,4 +1,4 @@
--- What contracts see of the types that borrow words of the command line: the bytes of those words.
+-- What contracts see of the types that borrow arguments of the command line: the bytes of those arguments.
 use Rattle.std.specs.Prelude.{map, string_bytes, option_map}
 use Rattle.cli_arguments.specs.declared.options.Options.{Options}
 use Rattle.cli_arguments.specs.declared.options.Schedule as rust_schedule
@@ -8,10 +8,10 @@ use Rattle.cli_arguments.specs.declared.reading.ArgumentReading.TheVariants as r
 use Rattle.cli_arguments.specs.declared.command.Command.{Command}
 use Rattle.cli_arguments.specs.declared.command.Command.TheVariants as commands
 use Rattle.cli_arguments.specs.declared.command.TimeOptions.{TimeOptions}
-use Rattle.cli_arguments.specs.declared.command.LayoutWord.{LayoutWord}
-use Rattle.cli_arguments.specs.declared.command.LayoutWord.TheVariants as layout_words
+use Rattle.cli_arguments.specs.declared.command.LayoutArgument.{LayoutArgument}
+use Rattle.cli_arguments.specs.declared.command.LayoutArgument.TheVariants as layout_arguments
 use Rattle.cli_arguments.specs.Options.{Schedule, by_script, by_seed, by_rule, Given}
-use Rattle.cli_arguments.specs.Words.{NamedLayout, plain, in_file, layout_in, Asked, TimeChoices, machine, run, moves, rounds, orders, conform, debug, time, audit, check, asm, listing, gen, help, version, help_on}
+use Rattle.cli_arguments.specs.Arguments.{NamedLayout, plain, in_file, layout_in, Asked, TimeChoices, machine, run, moves, rounds, orders, conform, debug, time, audit, check, asm, listing, gen, help, version, help_on}
 use Rattle.cli_arguments.specs.Reading.{ReadingState, start, placed, options, valued}
 
 -- what chooses the moves
@@ -37,7 +37,7 @@ given_of o = record {
   run = o.run;
 }
 
--- what is known after the words that were read
+-- what is known after the arguments that were read
 abbrev pub reading_state_of : rust_reading.ArgumentReading → ReadingState
 reading_state_of readings.Start = start
 reading_state_of (readings.Placed subject) = placed subject
@@ -45,9 +45,9 @@ reading_state_of (readings.Options subject given) = options subject (given_of gi
 reading_state_of (readings.Value subject given key) = valued subject (given_of given) key
 
 -- where a layout is
-abbrev pub layout_of : LayoutWord → NamedLayout
-layout_of layout_words.Plain = plain
-layout_of (layout_words.File name) = in_file name.now
+abbrev pub layout_of : LayoutArgument → NamedLayout
+layout_of layout_arguments.Plain = plain
+layout_of (layout_arguments.File name) = in_file name.now
 
 -- what the options of `time` say
 abbrev pub times_view : TimeOptions → TimeChoices

@@ -21,42 +21,42 @@ struct Written<'a> {
     unit: u64,
 }
 
-/// The word without this last letter, where it ends with it.
+/// The argument without this last letter, where it ends with it.
 #[tactic(auto, using(crate::proofs::Letters::letters))]
-fn before(word: &str, letter: char) -> Option<&str>
+fn before(argument: &str, letter: char) -> Option<&str>
     requires { letter < 128 }
-    ensures { option_map (λ text. text.now) result ≡ before_letter letter word.now }
+    ensures { option_map (λ text. text.now) result ≡ before_letter letter argument.now }
 {
-    word.strip_suffix(letter)
+    argument.strip_suffix(letter)
 }
 
-/// The digits of a word, and what they count in by its last letter.
+/// The digits of an argument, and what they count in by its last letter.
 #[tactic(auto, unfolding(crate::specs::Values::before_letter, crate::specs::Values::digits_in, crate::specs::Values::unit_of))]
-fn split(word: &str) -> Written<'_>
-    ensures digits { result.digits.now ≡ digits_in word.now }
-    ensures unit { result.unit ≡ unit_of word.now }
+fn split(argument: &str) -> Written<'_>
+    ensures digits { result.digits.now ≡ digits_in argument.now }
+    ensures unit { result.unit ≡ unit_of argument.now }
     ensures within { result.unit ≤ 1000000000 }
 {
-    if let Some(digits) = before(word, 'k') {
+    if let Some(digits) = before(argument, 'k') {
         return Written {
             digits,
             unit: 1_000,
         };
     }
-    if let Some(digits) = before(word, 'M') {
+    if let Some(digits) = before(argument, 'M') {
         return Written {
             digits,
             unit: 1_000_000,
         };
     }
-    if let Some(digits) = before(word, 'G') {
+    if let Some(digits) = before(argument, 'G') {
         return Written {
             digits,
             unit: 1_000_000_000,
         };
     }
     Written {
-        digits: word,
+        digits: argument,
         unit: 1,
     }
 }
@@ -85,12 +85,12 @@ fn bounded(amount: u64, least: u64, most: u64) -> Option<u64>
     (least <= amount && amount <= most).then_some(amount)
 }
 
-/// The amount that a word writes within these bounds.
-pub(crate) fn read_amount(word: &str, least: u64, most: u64) -> Option<u64>
-    ensures amount { result ≡ amount_in least most word.now }
+/// The amount that an argument writes within these bounds.
+pub(crate) fn read_amount(argument: &str, least: u64, most: u64) -> Option<u64>
+    ensures amount { result ≡ amount_in least most argument.now }
     ensures within { IfSome result (λ amount. amount ≤ most) }
 {
-    let written = split(word);
+    let written = split(argument);
     let number = written.number()?;
     bounded(number * written.unit, least, most)
 }

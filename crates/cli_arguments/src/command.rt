@@ -1,9 +1,9 @@
-//! What the words of the command line ask.
+//! What the arguments of the command line ask.
 #![tactic(auto, unfolding(crate::specs::Reading::completed))]
 
 ghost use Rattle.std.specs.Prelude.{◌≡◌, ◌≤◌, [], ◌∷◌, IfOk, MatchResult, drop, length, map, string_bytes, option_map, take};
 ghost use Rattle.cli_arguments.specs.Options.{Given};
-ghost use Rattle.cli_arguments.specs.Words.{Asks, IsBadAt, IsBounded, asked_by, layout_in, orders_options_of, times_of};
+ghost use Rattle.cli_arguments.specs.Arguments.{Asks, IsBadAt, IsBounded, asked_by, layout_in, orders_options_of, times_of};
 ghost use Rattle.cli_arguments.specs.Reading.{completed};
 ghost use Rattle.cli_arguments.specs.Views.{reading_state_of, given_of, asked_of, layout_of, times_view};
 
@@ -78,8 +78,8 @@ pub struct OrdersOptions {
 
 /// Where a layout is.
 #[derive(Clone, Copy)]
-pub enum LayoutWord<'a> {
-    /// The built-in layout, which the word `plain` names.
+pub enum LayoutArgument<'a> {
+    /// The built-in layout, which the argument `plain` names.
     Plain,
     /// The name of a file.
     File(&'a str),
@@ -95,13 +95,13 @@ pub enum Command<'a> {
     },
     /// Runs the processor.
     Run {
-        layout: LayoutWord<'a>,
+        layout: LayoutArgument<'a>,
         program: &'a str,
         options: RunOptions<'a>,
     },
     /// Runs the processor by a script, and says which moves can be made at its end.
     Moves {
-        layout: LayoutWord<'a>,
+        layout: LayoutArgument<'a>,
         program: &'a str,
         schedule: Schedule<'a>,
         limit: u64,
@@ -109,7 +109,7 @@ pub enum Command<'a> {
     },
     /// Runs the processor in rounds of independent moves.
     Rounds {
-        layout: LayoutWord<'a>,
+        layout: LayoutArgument<'a>,
         program: &'a str,
         limit: u64,
         every: Option<u64>,
@@ -117,22 +117,22 @@ pub enum Command<'a> {
     },
     /// Searches all orders of the first moves of a program for one that is wrong.
     Orders {
-        layout: LayoutWord<'a>,
+        layout: LayoutArgument<'a>,
         program: &'a str,
         options: OrdersOptions,
     },
     /// Goes through the log of a circuit.
     Conform {
-        layout: LayoutWord<'a>,
+        layout: LayoutArgument<'a>,
         program: &'a str,
         limit: u64,
     },
     /// Debugs a run of the processor.
     Debug {
-        layout: LayoutWord<'a>,
+        layout: LayoutArgument<'a>,
         program: &'a str,
     },
-    /// Compares how long a program takes on one to eight layouts, each named by a word.
+    /// Compares how long a program takes on one to eight layouts, each named by an argument.
     Time {
         delays: &'a str,
         program: &'a str,
@@ -141,13 +141,13 @@ pub enum Command<'a> {
     },
     /// Says whether a recorded trace is that of a run.
     Audit {
-        layout: LayoutWord<'a>,
+        layout: LayoutArgument<'a>,
         program: &'a str,
         trace: &'a str,
     },
     /// Writes the layout's one text.
     Check {
-        layout: LayoutWord<'a>,
+        layout: LayoutArgument<'a>,
     },
     /// Assembles.
     Asm {
@@ -170,19 +170,19 @@ pub enum Command<'a> {
     Version,
 }
 
-impl<'a> LayoutWord<'a> {
-    /// The layout that a word names.
-    pub fn from_word(word: &'a str) -> Self
-        ensures { layout_of result ≡ layout_in word.entry.now }
+impl<'a> LayoutArgument<'a> {
+    /// The layout that an argument names.
+    pub fn from_argument(argument: &'a str) -> Self
+        ensures { layout_of result ≡ layout_in argument.entry.now }
     {
-        match word {
-            "plain" => LayoutWord::Plain,
-            name => LayoutWord::File(name),
+        match argument {
+            "plain" => LayoutArgument::Plain,
+            name => LayoutArgument::File(name),
         }
     }
 }
 
-/// A command without positional words.
+/// A command without positional arguments.
 fn bare<'a>(name: CommandName) -> Option<Command<'a>>
     ensures { (given : Given) → option_map asked_of result ≡ asked_by name [] given }
 {
@@ -207,13 +207,13 @@ fn bare<'a>(name: CommandName) -> Option<Command<'a>>
     }
 }
 
-/// A command with one positional word.
-fn with_one<'a>(name: CommandName, word: &'a str, options: Options<'a>) -> Option<Command<'a>>
-    ensures { option_map asked_of result ≡ asked_by name (word.entry.now ∷ []) (given_of options.entry) }
+/// A command with one positional argument.
+fn with_one<'a>(name: CommandName, argument: &'a str, options: Options<'a>) -> Option<Command<'a>>
+    ensures { option_map asked_of result ≡ asked_by name (argument.entry.now ∷ []) (given_of options.entry) }
 {
     match name {
         CommandName::Machine => Some(Command::Machine {
-            program: word,
+            program: argument,
             options: MachineOptions {
                 limit: options.limit.unwrap_or(DEFAULT_LIMIT),
                 show_retired: matches!(lines_of(options.show), Show::Retired),
@@ -222,18 +222,18 @@ fn with_one<'a>(name: CommandName, word: &'a str, options: Options<'a>) -> Optio
             },
         }),
         CommandName::Check => Some(Command::Check {
-            layout: LayoutWord::from_word(word),
+            layout: LayoutArgument::from_argument(argument),
         }),
-        CommandName::Asm => Some(Command::Asm { source: word }),
-        CommandName::List => Some(Command::List { program: word }),
+        CommandName::Asm => Some(Command::Asm { source: argument }),
+        CommandName::List => Some(Command::List { program: argument }),
         CommandName::Gen => {
-            let number = read_count(word)?;
+            let number = read_count(argument)?;
             Some(Command::Gen {
                 number,
                 run: options.run,
             })
         }
-        CommandName::Help => Some(Command::HelpOn(CommandName::from_topic(word)?)),
+        CommandName::Help => Some(Command::HelpOn(CommandName::from_topic(argument)?)),
         CommandName::Run
         | CommandName::Moves
         | CommandName::Rounds
@@ -284,7 +284,7 @@ fn with_two<'a>(
     ensures { option_map asked_of result
         ≡ asked_by name (layout.entry.now ∷ program.entry.now ∷ []) (given_of options.entry) }
 {
-    let layout = LayoutWord::from_word(layout);
+    let layout = LayoutArgument::from_argument(layout);
     let limit = options.limit.unwrap_or(DEFAULT_LIMIT);
     let rule = options.guess.unwrap_or(GuessRule::Any);
     match name {
@@ -363,7 +363,7 @@ fn with_more<'a>(
             options: time_options(options),
         }),
         (CommandName::Audit, [trace]) => Some(Command::Audit {
-            layout: LayoutWord::from_word(first),
+            layout: LayoutArgument::from_argument(first),
             program,
             trace: trace.as_str(),
         }),
@@ -371,8 +371,8 @@ fn with_more<'a>(
     }
 }
 
-/// A command with these positional words and options, or None where a word is missing.
-fn with_words<'a>(
+/// A command with these positional arguments and options, or None where an argument is missing.
+fn with_arguments<'a>(
     name: CommandName,
     positional: &'a [String],
     options: Options<'a>,
@@ -382,7 +382,7 @@ fn with_words<'a>(
 {
     match positional {
         [] => bare(name),
-        [word] => with_one(name, word.as_str(), options),
+        [argument] => with_one(name, argument.as_str(), options),
         [layout, program] => with_two(name, layout.as_str(), program.as_str(), options),
         [first, program, others @ ..] => {
             with_more(name, first.as_str(), program.as_str(), others, options)
@@ -390,48 +390,48 @@ fn with_words<'a>(
     }
 }
 
-/// The positional words: `count` words after the first.
-fn positional(words: &[String], count: usize) -> &[String]
-    ensures { result.now ≡ take count (drop 1 words.now) }
+/// The positional arguments: `count` arguments after the first.
+fn positional(arguments: &[String], count: usize) -> &[String]
+    ensures { result.now ≡ take count (drop 1 arguments.now) }
 {
-    let later = words.get(1..).unwrap_or(&[]);
+    let later = arguments.get(1..).unwrap_or(&[]);
     later.get(..count).unwrap_or(later)
 }
 
-/// What is asked where no word is left, or None where one is missing.
+/// What is asked where no argument is left, or None where one is missing.
 #[tactic(auto, using(crate::proofs::Completions::mapped), unfolding(crate::specs::Reading::completed))]
-fn complete<'a>(words: &'a [String], reading: ArgumentReading<'a>) -> Option<Command<'a>>
-    ensures { option_map asked_of result ≡ completed (map string_bytes words.entry.now) (reading_state_of reading.entry) }
+fn complete<'a>(arguments: &'a [String], reading: ArgumentReading<'a>) -> Option<Command<'a>>
+    ensures { option_map asked_of result ≡ completed (map string_bytes arguments.entry.now) (reading_state_of reading.entry) }
 {
     match reading {
-        ArgumentReading::Placed(subject) => with_words(
+        ArgumentReading::Placed(subject) => with_arguments(
             subject.name,
-            positional(words, subject.count),
+            positional(arguments, subject.count),
             Options::new(),
         ),
         ArgumentReading::Options(subject, options) => {
-            with_words(subject.name, positional(words, subject.count), options)
+            with_arguments(subject.name, positional(arguments, subject.count), options)
         }
         ArgumentReading::Start | ArgumentReading::Value(..) => None,
     }
 }
 
-/// What the words ask, or the index of the first word that has no place, which is their number where a word is missing.
-pub fn read_words(words: &[String]) -> Result<Command<'_>, u32>
+/// What the arguments ask, or the index of the first argument that has no place, which is their number where an argument is missing.
+pub fn read_arguments(arguments: &[String]) -> Result<Command<'_>, u32>
     ensures answers { MatchResult result
-        (λ command. Asks (map string_bytes words.now) (asked_of command))
-        (λ index. IsBadAt (map string_bytes words.now) index) }
+        (λ command. Asks (map string_bytes arguments.now) (asked_of command))
+        (λ index. IsBadAt (map string_bytes arguments.now) index) }
     ensures bounded { IfOk result (λ command. IsBounded (asked_of command)) }
 {
     let mut reading = ArgumentReading::Start;
-    // No command has more than thirty-four words, so the index stays small.
+    // No command has more than thirty-four arguments, so the index stays small.
     let mut index: u32 = 0;
-    for word in words {
-        let Some(later) = reading.follow(word.as_str()) else {
+    for argument in arguments {
+        let Some(later) = reading.follow(argument.as_str()) else {
             return Err(index);
         };
         reading = later;
         index += 1;
     }
-    complete(words, reading).ok_or(index)
+    complete(arguments, reading).ok_or(index)
 }

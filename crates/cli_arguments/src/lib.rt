@@ -1,4 +1,4 @@
-//! The words of the command line: what they ask, or the first of them that has no place.
+//! The arguments of the command line: what they ask, or the first of them that has no place.
 #![tactic(auto)]
 
 mod amounts;
@@ -10,8 +10,8 @@ mod reading;
 mod shown;
 
 pub use command::{
-    Command, DEFAULT_LIMIT, LayoutWord, MachineOptions, OrdersOptions, RunOptions, TimeOptions,
-    read_words,
+    Command, DEFAULT_LIMIT, LayoutArgument, MachineOptions, OrdersOptions, RunOptions, TimeOptions,
+    read_arguments,
 };
 pub use names::CommandName;
 pub use options::{Key, Schedule};

@@ -1,4 +1,4 @@
-//! The commands by their first words, and which positional words they have.
+//! The commands by their names, and which positional arguments they have.
 #![tactic(auto, unfolding(crate::specs::Commands::is_positional, crate::specs::Commands::name_in, crate::specs::Commands::topic_in))]
 
 ghost use Rattle.std.specs.Prelude.{◌≡◌};
@@ -30,7 +30,7 @@ pub enum CommandName {
     VersionLetter,
 }
 
-/// What the positional words of a command are.
+/// What the positional arguments of a command are.
 #[derive(Clone, Copy)]
 pub(crate) enum PlaceKind {
     /// Names of files.
@@ -42,11 +42,11 @@ pub(crate) enum PlaceKind {
 }
 
 impl CommandName {
-    /// The command that begins with this word.
-    pub(crate) fn from_word(word: &str) -> Option<Self>
-        ensures { result ≡ name_in word.now }
+    /// The command that begins with this argument.
+    pub(crate) fn from_argument(argument: &str) -> Option<Self>
+        ensures { result ≡ name_in argument.now }
     {
-        match word {
+        match argument {
             "machine" => Some(CommandName::Machine),
             "run" => Some(CommandName::Run),
             "moves" => Some(CommandName::Moves),
@@ -69,7 +69,7 @@ impl CommandName {
         }
     }
 
-    /// How many positional words the command has at least.
+    /// How many positional arguments the command has at least.
     pub(crate) fn fewest(self) -> usize
         ensures { result ≡ fewest self }
     {
@@ -94,7 +94,7 @@ impl CommandName {
         }
     }
 
-    /// How many it has at most: `time` takes up to eight layouts, and `help` a command's word.
+    /// How many it has at most: `time` takes up to eight layouts, and `help` a command's name.
     pub(crate) fn most(self) -> usize
         ensures { result ≡ most self }
     {
@@ -118,15 +118,15 @@ impl CommandName {
         )
     }
 
-    /// The command that a word after `help` names.
-    pub(crate) fn from_topic(word: &str) -> Option<Self>
-        ensures { result ≡ topic_in word.now }
+    /// The command that an argument after `help` names.
+    pub(crate) fn from_topic(argument: &str) -> Option<Self>
+        ensures { result ≡ topic_in argument.now }
     {
-        let name = CommandName::from_word(word)?;
+        let name = CommandName::from_argument(argument)?;
         name.has_help().then_some(name)
     }
 
-    /// What its positional words are.
+    /// What its positional arguments are.
     fn places(self) -> PlaceKind
         ensures { result ≡ place_kind self }
     {
@@ -137,30 +137,30 @@ impl CommandName {
         }
     }
 
-    /// Whether a word may stand among its positional words.
-    pub(crate) fn is_positional(self, word: &str) -> bool
-        ensures { result ≡ is_positional self word.now }
+    /// Whether an argument may stand among its positional arguments.
+    pub(crate) fn is_positional(self, argument: &str) -> bool
+        ensures { result ≡ is_positional self argument.now }
     {
-        self.places().has(word)
+        self.places().has(argument)
     }
 }
 
 impl PlaceKind {
-    /// Whether a word is of this kind.
-    fn has(self, word: &str) -> bool
-        ensures { result ≡ is_of self word.now }
+    /// Whether an argument is of this kind.
+    fn has(self, argument: &str) -> bool
+        ensures { result ≡ is_of self argument.now }
     {
         match self {
-            PlaceKind::Files => is_file_name(word),
-            PlaceKind::Numbers => read_count(word).is_some(),
-            PlaceKind::Topics => CommandName::from_topic(word).is_some(),
+            PlaceKind::Files => is_file_name(argument),
+            PlaceKind::Numbers => read_count(argument).is_some(),
+            PlaceKind::Topics => CommandName::from_topic(argument).is_some(),
         }
     }
 }
 
-/// Whether a word may name a file: it is not empty and does not begin as an option does.
-pub(crate) fn is_file_name(word: &str) -> bool
-    ensures { result ≡ is_file_name word.now }
+/// Whether an argument may name a file: it is not empty and does not begin as an option does.
+pub(crate) fn is_file_name(argument: &str) -> bool
+    ensures { result ≡ is_file_name argument.now }
 {
-    !word.is_empty() && !word.starts_with("--")
+    !argument.is_empty() && !argument.starts_with("--")
 }

@@ -5,7 +5,7 @@ ghost use Rattle.std.specs.Prelude.{◌≡◌, option_map};
 ghost use Rattle.cli_arguments.specs.declared.options.Key.TheVariants as keys;
 ghost use Rattle.cli_arguments.specs.Options.{most_limit_of, takes_key};
 ghost use Rattle.cli_arguments.specs.Reading.{key_in, rule_in, has_key, nothing_given, given_with_value};
-ghost use Rattle.cli_arguments.specs.Words.{schedule_of};
+ghost use Rattle.cli_arguments.specs.Arguments.{schedule_of};
 ghost use Rattle.cli_arguments.specs.Views.{given_of, schedule_view};
 
 use crate::amounts::read_amount;
@@ -41,7 +41,7 @@ pub enum Schedule<'a> {
     Rule(GuessRule),
 }
 
-/// The options by their own words.
+/// The options by their names.
 #[derive(Clone, Copy)]
 pub enum Key {
     Limit,
@@ -76,11 +76,11 @@ pub(crate) struct Options<'a> {
 }
 
 impl Key {
-    /// The option that begins with this word.
-    pub(crate) fn from_word(word: &str) -> Option<Self>
-        ensures { result ≡ key_in word.now }
+    /// The option that begins with this argument.
+    pub(crate) fn from_argument(argument: &str) -> Option<Self>
+        ensures { result ≡ key_in argument.now }
     {
-        match word {
+        match argument {
             "--limit" => Some(Key::Limit),
             "--every" => Some(Key::Every),
             "--show" => Some(Key::Show),
@@ -118,10 +118,10 @@ impl Key {
 }
 
 /// The guess rule that the value of `--guess` names.
-fn rule_of(word: &str) -> Option<GuessRule>
-    ensures { result ≡ rule_in word.now }
+fn rule_of(argument: &str) -> Option<GuessRule>
+    ensures { result ≡ rule_in argument.now }
 {
-    match word {
+    match argument {
         "any" => Some(GuessRule::Any),
         "next" => Some(GuessRule::Next),
         "taken" => Some(GuessRule::Taken),
@@ -198,10 +198,10 @@ impl<'a> Options<'a> {
     }
 
     /// The options with a value of `--show`, where the command can show it.
-    fn with_shown(self, name: CommandName, word: &str) -> Option<Self>
-        ensures { option_map given_of result ≡ given_with_value name (given_of self.entry) keys.Show word.now }
+    fn with_shown(self, name: CommandName, argument: &str) -> Option<Self>
+        ensures { option_map given_of result ≡ given_with_value name (given_of self.entry) keys.Show argument.now }
     {
-        let shown = Shown::from_word(word)?;
+        let shown = Shown::from_argument(argument)?;
         shown.is_of(name).then_some(Options {
             show: Some(shown),
             ..self
@@ -209,10 +209,10 @@ impl<'a> Options<'a> {
     }
 
     /// The options with a limit of that command.
-    fn with_limit(self, name: CommandName, word: &str) -> Option<Self>
-        ensures { option_map given_of result ≡ given_with_value name (given_of self.entry) keys.Limit word.now }
+    fn with_limit(self, name: CommandName, argument: &str) -> Option<Self>
+        ensures { option_map given_of result ≡ given_with_value name (given_of self.entry) keys.Limit argument.now }
     {
-        let limit = read_amount(word, 0, most_limit(name))?;
+        let limit = read_amount(argument, 0, most_limit(name))?;
         Some(Options {
             limit: Some(limit),
             ..self
@@ -220,10 +220,10 @@ impl<'a> Options<'a> {
     }
 
     /// The options with an amount of `--every`.
-    fn with_every(self, name: CommandName, word: &str) -> Option<Self>
-        ensures { option_map given_of result ≡ given_with_value name (given_of self.entry) keys.Every word.now }
+    fn with_every(self, name: CommandName, argument: &str) -> Option<Self>
+        ensures { option_map given_of result ≡ given_with_value name (given_of self.entry) keys.Every argument.now }
     {
-        let every = read_amount(word, 1, MOST_LIMIT)?;
+        let every = read_amount(argument, 1, MOST_LIMIT)?;
         Some(Options {
             every: Some(every),
             ..self
@@ -231,10 +231,10 @@ impl<'a> Options<'a> {
     }
 
     /// The options with a seed.
-    fn with_seed(self, name: CommandName, word: &str) -> Option<Self>
-        ensures { option_map given_of result ≡ given_with_value name (given_of self.entry) keys.Seed word.now }
+    fn with_seed(self, name: CommandName, argument: &str) -> Option<Self>
+        ensures { option_map given_of result ≡ given_with_value name (given_of self.entry) keys.Seed argument.now }
     {
-        let seed = read_number(word, MOST_SEED)?;
+        let seed = read_number(argument, MOST_SEED)?;
         Some(Options {
             seed: Some(seed as u32),
             ..self
@@ -242,10 +242,10 @@ impl<'a> Options<'a> {
     }
 
     /// The options with a guess rule.
-    fn with_guess(self, name: CommandName, word: &str) -> Option<Self>
-        ensures { option_map given_of result ≡ given_with_value name (given_of self.entry) keys.Guess word.now }
+    fn with_guess(self, name: CommandName, argument: &str) -> Option<Self>
+        ensures { option_map given_of result ≡ given_with_value name (given_of self.entry) keys.Guess argument.now }
     {
-        let rule = rule_of(word)?;
+        let rule = rule_of(argument)?;
         Some(Options {
             guess: Some(rule),
             ..self
@@ -253,10 +253,10 @@ impl<'a> Options<'a> {
     }
 
     /// The options with how many issues a search makes at most.
-    fn with_issues(self, name: CommandName, word: &str) -> Option<Self>
-        ensures { option_map given_of result ≡ given_with_value name (given_of self.entry) keys.Issues word.now }
+    fn with_issues(self, name: CommandName, argument: &str) -> Option<Self>
+        ensures { option_map given_of result ≡ given_with_value name (given_of self.entry) keys.Issues argument.now }
     {
-        let issues = read_positive(word, MOST_ISSUES)?;
+        let issues = read_positive(argument, MOST_ISSUES)?;
         Some(Options {
             issues: Some(issues as u32),
             ..self
@@ -264,10 +264,10 @@ impl<'a> Options<'a> {
     }
 
     /// The options with how many states it reaches at most.
-    fn with_states(self, name: CommandName, word: &str) -> Option<Self>
-        ensures { option_map given_of result ≡ given_with_value name (given_of self.entry) keys.States word.now }
+    fn with_states(self, name: CommandName, argument: &str) -> Option<Self>
+        ensures { option_map given_of result ≡ given_with_value name (given_of self.entry) keys.States argument.now }
     {
-        let states = read_positive(word, MOST_STATES)?;
+        let states = read_positive(argument, MOST_STATES)?;
         Some(Options {
             states: Some(states as u32),
             ..self
@@ -275,10 +275,10 @@ impl<'a> Options<'a> {
     }
 
     /// The options with the rule that is taken away.
-    fn with_without(self, name: CommandName, word: &str) -> Option<Self>
-        ensures { option_map given_of result ≡ given_with_value name (given_of self.entry) keys.Without word.now }
+    fn with_without(self, name: CommandName, argument: &str) -> Option<Self>
+        ensures { option_map given_of result ≡ given_with_value name (given_of self.entry) keys.Without argument.now }
     {
-        let rule = Rule::named(word)?;
+        let rule = Rule::named(argument)?;
         Some(Options {
             without: Some(rule),
             ..self
@@ -286,26 +286,26 @@ impl<'a> Options<'a> {
     }
 
     /// The options with the value of one more, where the command allows it.
-    pub(crate) fn with_value(self, name: CommandName, key: Key, word: &'a str) -> Option<Self>
-        ensures { option_map given_of result ≡ given_with_value name (given_of self.entry) key word.entry.now }
+    pub(crate) fn with_value(self, name: CommandName, key: Key, argument: &'a str) -> Option<Self>
+        ensures { option_map given_of result ≡ given_with_value name (given_of self.entry) key argument.entry.now }
     {
         match key {
-            Key::Limit => self.with_limit(name, word),
-            Key::Every => self.with_every(name, word),
-            Key::Show => self.with_shown(name, word),
-            Key::Script => is_file_name(word).then_some(Options {
-                script: Some(word),
+            Key::Limit => self.with_limit(name, argument),
+            Key::Every => self.with_every(name, argument),
+            Key::Show => self.with_shown(name, argument),
+            Key::Script => is_file_name(argument).then_some(Options {
+                script: Some(argument),
                 ..self
             }),
-            Key::Seed => self.with_seed(name, word),
-            Key::Guess => self.with_guess(name, word),
-            Key::Input => is_file_name(word).then_some(Options {
-                input: Some(word),
+            Key::Seed => self.with_seed(name, argument),
+            Key::Guess => self.with_guess(name, argument),
+            Key::Input => is_file_name(argument).then_some(Options {
+                input: Some(argument),
                 ..self
             }),
-            Key::Issues => self.with_issues(name, word),
-            Key::States => self.with_states(name, word),
-            Key::Without => self.with_without(name, word),
+            Key::Issues => self.with_issues(name, argument),
+            Key::States => self.with_states(name, argument),
+            Key::Without => self.with_without(name, argument),
             Key::Mul | Key::Run => None,
         }
     }

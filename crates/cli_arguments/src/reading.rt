@@ -1,4 +1,4 @@
-//! The words read one by one: what is known after each of them.
+//! The arguments read one by one: what is known after each of them.
 #![tactic(auto, unfolding(crate::specs::Reading::follow))]
 
 ghost use Rattle.std.specs.Prelude.{◌≡◌, ◌+◌, ◌<◌, ◌^◌, option_map};
@@ -8,35 +8,35 @@ ghost use Rattle.cli_arguments.specs.Views.{given_of, reading_state_of};
 use crate::names::CommandName;
 use crate::options::{Key, Options};
 
-/// A command with this many positional words.
+/// A command with this many positional arguments.
 #[derive(Clone, Copy)]
 pub(crate) struct Subject {
     pub(crate) name: CommandName,
     pub(crate) count: usize,
 }
 
-/// What is known after the words that were read.
+/// What is known after the arguments that were read.
 #[derive(Clone, Copy)]
 pub(crate) enum ArgumentReading<'a> {
-    /// No word yet.
+    /// No argument yet.
     Start,
-    /// The command and the positional words that stood there.
+    /// The command and the positional arguments that stood there.
     Placed(Subject),
-    /// All positional words, and some options.
+    /// All positional arguments, and some options.
     Options(Subject, Options<'a>),
     /// An option whose value comes next.
     Value(Subject, Options<'a>, Key),
 }
 
 impl Subject {
-    /// Whether one more positional word may stand there, and this is one.
-    fn has_place(&self, word: &str) -> bool
-        ensures { result ≡ has_place self.now word.now }
+    /// Whether one more positional argument may stand there, and this is one.
+    fn has_place(&self, argument: &str) -> bool
+        ensures { result ≡ has_place self.now argument.now }
     {
-        self.count < self.name.most() && self.name.is_positional(word)
+        self.count < self.name.most() && self.name.is_positional(argument)
     }
 
-    /// With one more positional word.
+    /// With one more positional argument.
     fn one_more(self) -> Self
         requires { self.count + 1 < 2 ^ 64 }
         ensures { result ≡ one_place_more self }
@@ -48,7 +48,7 @@ impl Subject {
     }
 }
 
-/// What is known after an option's own word.
+/// What is known after an option's own name.
 fn after_subject<'a>(
     subject: Subject,
     options: Options<'a>,
@@ -88,35 +88,35 @@ fn after_subject<'a>(
     }
 }
 
-/// What is known after one more positional word, or after the first option's own word.
-fn after_place<'a>(subject: Subject, word: &'a str) -> Option<ArgumentReading<'a>>
-    ensures { option_map reading_state_of result ≡ after_place subject word.entry.now }
+/// What is known after one more positional argument, or after the first option's own name.
+fn after_place<'a>(subject: Subject, argument: &'a str) -> Option<ArgumentReading<'a>>
+    ensures { option_map reading_state_of result ≡ after_place subject argument.entry.now }
 {
-    if subject.has_place(word) {
+    if subject.has_place(argument) {
         return Some(ArgumentReading::Placed(subject.one_more()));
     }
     if subject.name.fewest() > subject.count {
         return None;
     }
-    after_subject(subject, Options::new(), Key::from_word(word))
+    after_subject(subject, Options::new(), Key::from_argument(argument))
 }
 
 impl<'a> ArgumentReading<'a> {
-    /// What is known after one more word, or None where that word has no place.
-    pub(crate) fn follow(self, word: &'a str) -> Option<Self>
-        ensures { option_map reading_state_of result ≡ follow (reading_state_of self.entry) word.entry.now }
+    /// What is known after one more argument, or None where that argument has no place.
+    pub(crate) fn follow(self, argument: &'a str) -> Option<Self>
+        ensures { option_map reading_state_of result ≡ follow (reading_state_of self.entry) argument.entry.now }
     {
         match self {
             ArgumentReading::Start => {
-                let name = CommandName::from_word(word)?;
+                let name = CommandName::from_argument(argument)?;
                 Some(ArgumentReading::Placed(Subject { name, count: 0 }))
             }
-            ArgumentReading::Placed(subject) => after_place(subject, word),
+            ArgumentReading::Placed(subject) => after_place(subject, argument),
             ArgumentReading::Options(subject, options) => {
-                after_subject(subject, options, Key::from_word(word))
+                after_subject(subject, options, Key::from_argument(argument))
             }
             ArgumentReading::Value(subject, options, key) => {
-                let options = options.with_value(subject.name, key, word)?;
+                let options = options.with_value(subject.name, key, argument)?;
                 Some(ArgumentReading::Options(subject, options))
             }
         }

@@ -4,7 +4,7 @@
 ghost use Rattle.std.specs.Prelude.{◌≡◌};
 ghost use Rattle.cli_arguments.specs.Options.{can_show};
 ghost use Rattle.cli_arguments.specs.Reading.{shown_in};
-ghost use Rattle.cli_arguments.specs.Words.{run_show_of, shows_edges, time_show_of};
+ghost use Rattle.cli_arguments.specs.Arguments.{run_show_of, shows_edges, time_show_of};
 
 use crate::names::CommandName;
 use run_options::{Show, TimeShow};
@@ -25,11 +25,11 @@ pub(crate) enum Shown {
 }
 
 impl Shown {
-    /// The value that this word is.
-    pub(crate) fn from_word(word: &str) -> Option<Self>
-        ensures { result ≡ shown_in word.now }
+    /// The value that this argument is.
+    pub(crate) fn from_argument(argument: &str) -> Option<Self>
+        ensures { result ≡ shown_in argument.now }
     {
-        match word {
+        match argument {
             "report" => Some(Shown::Report),
             "retired" => Some(Shown::Retired),
             "moves" => Some(Shown::Moves),

@@ -13,7 +13,7 @@ use Rattle.cf_audit.specs.Audits.{TracesMachine}
 use Rattle.cf_audit.specs.Findings.{Findings, GoesWrongFinding, IsTraceFinding}
 use Rattle.cf_audit.specs.Traces.{IsTrace, GoesWrong, StopsAtCall}
 use Rattle.texts.specs.Lines.{line}
-use Rattle.cli_arguments.specs.Words.{NamedLayout}
+use Rattle.cli_arguments.specs.Arguments.{NamedLayout}
 use Rattle.cli_files.specs.Loading.{IsLoaded, LacksLoaded}
 use Rattle.cli_files.specs.declared.status.Status.{Status}
 use Rattle.cli_files.specs.declared.status.Status.TheVariants as status
@@ -24,7 +24,7 @@ use Rattle.cli_audit.specs.Effects.{InputSide}
 use Rattle.cli_audit.specs.Reports.{trace_of}
 use Rattle.cli_audit.specs.Traces.{IsTraceAt, LacksTrace}
 
--- what the words ask of `audit`: where the layout is, and the files with the program and the trace
+-- what the arguments ask of `audit`: where the layout is, and the files with the program and the trace
 pub record AuditAsked : Type 0 where
   pub layout : NamedLayout
   pub program : List ℕ

@@ -12,7 +12,7 @@ use crate::traces::trace_at;
 use cf_audit::{Audit, audit};
 use cf_core::Core;
 use cf_io::{Files, Source};
-use cli_arguments::LayoutWord;
+use cli_arguments::LayoutArgument;
 use cli_files::{Answer, Loaded, Status, TraceFault, Which, load, no_memory, unread};
 use report_refusals::bad_trace;
 use std::alloc::Global;
@@ -57,7 +57,7 @@ fn audit_loaded<S: Source>(alloc: Global, loaded: Loaded, text: &[u8], input: &m
 /// program writes goes nowhere.
 pub fn audit_trace<F: Files, S: Source>(
     alloc: Global,
-    layout: LayoutWord<'_>,
+    layout: LayoutArgument<'_>,
     program: &str,
     trace: &str,
     files: &mut F,

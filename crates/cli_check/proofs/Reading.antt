@@ -1,6 +1,6 @@
 -- The file that `check` reads.
 use Rattle.std.proofs.Common.{ℕ, List, inl, inr}
-use Rattle.cli_arguments.specs.Words.{NamedLayout}
+use Rattle.cli_arguments.specs.Arguments.{NamedLayout}
 use Rattle.cli_files.specs.Reads.{layout_files, WereRead}
 use Rattle.cli_files.specs.declared.status.Status.{Status}
 use Rattle.cli_files.proofs.Reading.{were-all, layout-read, layout-lacking}

@@ -4,7 +4,7 @@ use Rattle.cf_io.specs.Puts.{Writes, WritesFront}
 use Rattle.cf_layout.specs.Layout.{Plan}
 use Rattle.layout_file.specs.Text.{layout_text}
 use Rattle.texts.specs.Lines.{line}
-use Rattle.cli_arguments.specs.Words.{NamedLayout}
+use Rattle.cli_arguments.specs.Arguments.{NamedLayout}
 use Rattle.cli_reports.specs.FileCommands.{FileSide}
 use Rattle.cli_files.specs.Layouts.{IsLayoutAt, LacksLayout}
 use Rattle.cli_files.specs.declared.status.Status.{Status}

@@ -6,7 +6,7 @@ ghost use Rattle.cli_reports.specs.FileCommands.{AnswersByFile, AnswersByOutput}
 
 use cf_io::{Files, Sink, put_all};
 use cf_layout::Layout;
-use cli_arguments::LayoutWord;
+use cli_arguments::LayoutArgument;
 use cli_files::{Answer, done, layout_at, no_memory, write_fault};
 use layout_file::write_layout;
 use std::alloc::Global;
@@ -28,13 +28,13 @@ fn write_text<K: Sink>(alloc: Global, layout: &Layout, output: &mut K) -> Answer
 /// Carries out `check`: reads the layout that the argument names, and writes it to the output in its canonical form.
 pub fn check_layout<F: Files, K: Sink>(
     alloc: Global,
-    word: LayoutWord<'_>,
+    argument: LayoutArgument<'_>,
     files: &mut F,
     output: &mut K,
 ) -> Answer
-    ensures { AnswersByFile (AnswersCheck (layout_of word.entry)) F.Files K.Sink (files.old, output.old) (files.new, output.new) result }
+    ensures { AnswersByFile (AnswersCheck (layout_of argument.entry)) F.Files K.Sink (files.old, output.old) (files.new, output.new) result }
 {
-    match layout_at(alloc, word, files) {
+    match layout_at(alloc, argument, files) {
         Ok(layout) => write_text(alloc, &layout, output),
         Err(answer) => answer,
     }

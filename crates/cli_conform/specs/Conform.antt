@@ -10,7 +10,7 @@ use Rattle.cf_conform.specs.declared.answer.Conformed.TheVariants.{Ran, LogEnd, 
 use Rattle.cf_conform.specs.declared.progress.LogProgress.{LogProgress}
 use Rattle.cf_conform.specs.Conforming.{JudgesLog}
 use Rattle.cf_conform.specs.LogPlaces.{log_place, no_progress}
-use Rattle.cli_arguments.specs.Words.{NamedLayout}
+use Rattle.cli_arguments.specs.Arguments.{NamedLayout}
 use Rattle.cli_files.specs.Loading.{IsLoaded, LacksLoaded}
 use Rattle.cli_files.specs.Memory.{LacksProcessor}
 use Rattle.cli_files.specs.Outside.{Outside, Report}

@@ -10,7 +10,7 @@ ghost use Rattle.cli_conform.specs.Conform.{conform_asked, JudgesCore, ComesOfLo
 use crate::closing::close_log;
 use cf_conform::{LogProgress, conform};
 use cf_io::{Files, Sink, Source};
-use cli_arguments::LayoutWord;
+use cli_arguments::LayoutArgument;
 use cli_files::{Loaded, load, no_memory};
 use cli_processor::{Opened, open};
 use cli_reports::{Reported, RunStreams, put_answer};
@@ -70,7 +70,7 @@ fn conform_loaded<S: Source, K: Sink, R: Sink>(
 /// own input is empty.
 pub fn conform_log<F: Files, S: Source, K: Sink, R: Sink>(
     alloc: Global,
-    layout: LayoutWord<'_>,
+    layout: LayoutArgument<'_>,
     program: &str,
     limit: u64,
     files: &mut F,

@@ -17,7 +17,7 @@ use Rattle.cli_files.specs.Memory.{LacksProcessor}
 use Rattle.cli_files.specs.Outside.{Outside, Report, report_of}
 use Rattle.cli_files.specs.declared.status.Status.{Status}
 use Rattle.cli_files.specs.Loading.{IsLoaded}
-use Rattle.cli_arguments.specs.Words.{NamedLayout}
+use Rattle.cli_arguments.specs.Arguments.{NamedLayout}
 use Rattle.cli_reports.specs.Reporting.{Carries, Comes, PutsReport}
 use Rattle.cli_reports.specs.declared.reporting.Reported.{Reported}
 use Rattle.cli_reports.proofs.PutReports.{shows-none}

@@ -1,6 +1,6 @@
 -- The files that `debug` reads.
 use Rattle.std.proofs.Common.{ℕ, List, [], ◌∷◌, ◌++◌, Option, inl, inr}
-use Rattle.cli_arguments.specs.Words.{NamedLayout}
+use Rattle.cli_arguments.specs.Arguments.{NamedLayout}
 use Rattle.cli_files.specs.Outside.{Outside}
 use Rattle.cli_files.specs.Reads.{layout_files, WereRead}
 use Rattle.cli_files.specs.declared.status.Status.{Status}

@@ -10,7 +10,7 @@ use Rattle.cf_debug.specs.declared.answer.Debugged.TheVariants.{ReportFault}
 use Rattle.cf_debug.specs.Making.{processor_state}
 use Rattle.cf_debug.specs.Sessions.{Debugs, session_of}
 use Rattle.cf_debug.specs.Standing.{IsOnRun}
-use Rattle.cli_arguments.specs.Words.{NamedLayout}
+use Rattle.cli_arguments.specs.Arguments.{NamedLayout}
 use Rattle.cli_files.specs.Loading.{IsLoaded, LacksLoaded}
 use Rattle.cli_files.specs.Memory.{LacksProcessor}
 use Rattle.cli_files.specs.Outside.{Outside}

@@ -11,7 +11,7 @@ ghost use Rattle.cli_reports.specs.Reporting.{CarriesOutCommand, CarriesOutRun};
 use crate::closing::close_session;
 use cf_debug::{Ring, debug};
 use cf_io::{Failed, Files, Sink, Source};
-use cli_arguments::LayoutWord;
+use cli_arguments::LayoutArgument;
 use cli_files::{Loaded, load, no_memory};
 use cli_processor::{Opened, open};
 use cli_reports::{Reported, RunStreams, put_answer};
@@ -74,7 +74,7 @@ fn debug_loaded<S: Source, K: Sink, R: Sink>(
 /// fails during the session; nothing more is then put to it.
 pub fn debug_program<F: Files, S: Source, K: Sink, R: Sink>(
     alloc: Global,
-    layout: LayoutWord<'_>,
+    layout: LayoutArgument<'_>,
     program: &str,
     files: &mut F,
     streams: RunStreams<'_, S, K, R>,

@@ -1,9 +1,9 @@
--- A layout that a word names, or that it lacks.
+-- A layout that an argument names, or that it lacks.
 use Rattle.std.proofs.Common.{ℕ, ◌+◌, List, Option, Result, Ok, Err, IfOk, IfErr, inl}
 use Rattle.cf_io.specs.Reads.{FilesSeen}
 use Rattle.cf_layout.specs.Layout.{Plan}
 use Rattle.layout_file.specs.Answers.{Describes, DescribesLoosely}
-use Rattle.cli_arguments.specs.Words.{in_file}
+use Rattle.cli_arguments.specs.Arguments.{in_file}
 use Rattle.cli_files.specs.Files.{IsFrontOf}
 use Rattle.layout_file.specs.Limits.{most_layout_bytes}
 use Rattle.cli_files.specs.Layouts.{IsLayoutAt, IsNoLayout, LacksLayout}

@@ -2,7 +2,7 @@
 use Rattle.std.proofs.Common.{◌≡◌, ℕ, List, Option, Result, Ok, Err, inl, inr, refl, arith}
 use Rattle.cf_io.specs.Causes.{HasCause}
 use Rattle.cf_io.specs.Reads.{FilesSeen}
-use Rattle.cli_arguments.specs.Words.{NamedLayout, plain, in_file}
+use Rattle.cli_arguments.specs.Arguments.{NamedLayout, plain, in_file}
 use Rattle.cli_files.specs.Causes.{input_answered, output_answered}
 use Rattle.cli_files.specs.Layouts.{IsNoLayout, LacksLayout}
 use Rattle.cli_files.specs.Loading.{LacksLoaded, LacksLoadedLoosely}
@@ -34,8 +34,8 @@ no-program-says : (image : List ℕ) (answer : Status) (report : List ℕ) → I
 no-program-says image answer report (inl (error, refused, is, reports)) = record { input = rw is; output = rw is }
 no-program-says image answer report (inr (program, (is, reports))) = record { input = rw is; output = rw is }
 
-pub lacks-layout-says : (word : NamedLayout) (before after : Option FilesSeen) (answer : Status) (report : List ℕ) →
-    LacksLayout word before after answer report → SaysNoStream answer
+pub lacks-layout-says : (argument : NamedLayout) (before after : Option FilesSeen) (answer : Status) (report : List ℕ) →
+    LacksLayout argument before after answer report → SaysNoStream answer
 lacks-layout-says plain before after answer report h = absurd h
 lacks-layout-says (in_file name) before after answer report (inl r) = no-layout-says r.file answer report r.why
 lacks-layout-says (in_file name) before after answer report (inr (inl r)) =
@@ -43,8 +43,8 @@ lacks-layout-says (in_file name) before after answer report (inr (inl r)) =
 lacks-layout-says (in_file name) before after answer report (inr (inr r)) =
     record { input = rw r.status_is; output = rw r.status_is }
 
-lacks-loose-layout-says : (word : NamedLayout) (before after : Option FilesSeen) (answer : Status) (report : List ℕ) →
-    LacksLooseLayout word before after answer report → SaysNoStream answer
+lacks-loose-layout-says : (argument : NamedLayout) (before after : Option FilesSeen) (answer : Status) (report : List ℕ) →
+    LacksLooseLayout argument before after answer report → SaysNoStream answer
 lacks-loose-layout-says plain before after answer report h = absurd h
 lacks-loose-layout-says (in_file name) before after answer report (inl r) = no-loose-layout-says r.file answer report r.why
 lacks-loose-layout-says (in_file name) before after answer report (inr (inl r)) =

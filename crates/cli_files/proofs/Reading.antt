@@ -8,7 +8,7 @@ use Rattle.cf_io.specs.Reads.{FilesSeen, with_failed, with_read, with_unheld}
 use Rattle.rv_machine.specs.Hart.{Hart}
 use Rattle.cf_layout.specs.Layout.{Plan}
 use Rattle.cli_arguments.specs.Options.{Schedule, by_script, by_seed, by_rule}
-use Rattle.cli_arguments.specs.Words.{NamedLayout, plain, in_file}
+use Rattle.cli_arguments.specs.Arguments.{NamedLayout, plain, in_file}
 use Rattle.cli_files.specs.Files.{IsFrontOf, NotesFailure, NotesUnheld, LacksBytes}
 use Rattle.cli_files.specs.Image.{most_bytes}
 use Rattle.layout_file.specs.Limits.{most_layout_bytes}
@@ -141,12 +141,12 @@ were-before xs ys None b h = tt
 were-before xs ys (Some told) b (now, is, f) = (now, is, fewer xs ys told now f)
 
 -- a layout
-pub layout-read : (word : NamedLayout) (a b : Option FilesSeen) (plan : Plan) → IsLayoutAt word a b plan → AllRead (layout_files word) a b
+pub layout-read : (argument : NamedLayout) (a b : Option FilesSeen) (plan : Plan) → IsLayoutAt argument a b plan → AllRead (layout_files argument) a b
 layout-read plain a b plan h = none-read a b h.1
 layout-read (in_file name) a b plan (file, front, describes) = one-read (most_layout_bytes + 1) a b name file front
 
-pub layout-lacking : (word : NamedLayout) (a b : Option FilesSeen) (answer : Status) (report : List ℕ) →
-    LacksLayout word a b answer report → WereRead (layout_files word) a b
+pub layout-lacking : (argument : NamedLayout) (a b : Option FilesSeen) (answer : Status) (report : List ℕ) →
+    LacksLayout argument a b answer report → WereRead (layout_files argument) a b
 layout-lacking plain a b answer report h = absurd h
 layout-lacking (in_file name) a b answer report (inl r) =
     were-all (name ∷ []) a b (one-read (most_layout_bytes + 1) a b name r.file r.front)
@@ -163,44 +163,44 @@ program-lacking name a b answer report (inl r) =
 program-lacking name a b answer report (inr r) = were-lacking _ _ name a b answer report r
 
 -- a layout and then a program
-pub loaded-read : (word : NamedLayout) (name : List ℕ) (a b : Option FilesSeen) (plan : Plan) (hart : Hart) →
-    IsLoaded word name a b plan hart → AllRead (layout_files word ++ name ∷ []) a b
-loaded-read word name a b plan hart l =
-    more-read (layout_files word) (name ∷ []) a l.between b (layout-read word a l.between plan l.laid)
+pub loaded-read : (argument : NamedLayout) (name : List ℕ) (a b : Option FilesSeen) (plan : Plan) (hart : Hart) →
+    IsLoaded argument name a b plan hart → AllRead (layout_files argument ++ name ∷ []) a b
+loaded-read argument name a b plan hart l =
+    more-read (layout_files argument) (name ∷ []) a l.between b (layout-read argument a l.between plan l.laid)
     (program-read name l.between b hart l.program)
 
-pub loaded-lacking : (word : NamedLayout) (name : List ℕ) (a b : Option FilesSeen) (answer : Status) (report : List ℕ) →
-    LacksLoaded word name a b answer report → WereRead (layout_files word ++ name ∷ []) a b
-loaded-lacking word name a b answer report (inl h) =
-    were-before (layout_files word) (name ∷ []) a b (layout-lacking word a b answer report h)
-loaded-lacking word name a b answer report (inr h) =
-    were-after (layout_files word) (name ∷ []) a h.between b (layout-read word a h.between h.plan h.laid)
+pub loaded-lacking : (argument : NamedLayout) (name : List ℕ) (a b : Option FilesSeen) (answer : Status) (report : List ℕ) →
+    LacksLoaded argument name a b answer report → WereRead (layout_files argument ++ name ∷ []) a b
+loaded-lacking argument name a b answer report (inl h) =
+    were-before (layout_files argument) (name ∷ []) a b (layout-lacking argument a b answer report h)
+loaded-lacking argument name a b answer report (inr h) =
+    were-after (layout_files argument) (name ∷ []) a h.between b (layout-read argument a h.between h.plan h.laid)
     (program-lacking name h.between b answer report h.lacks)
 
 -- the same, where the layout may break the rule on where control turns
-loose-layout-read : (word : NamedLayout) (a b : Option FilesSeen) (plan : Plan) → IsLooseLayoutAt word a b plan → AllRead (layout_files word) a b
+loose-layout-read : (argument : NamedLayout) (a b : Option FilesSeen) (plan : Plan) → IsLooseLayoutAt argument a b plan → AllRead (layout_files argument) a b
 loose-layout-read plain a b plan h = none-read a b h.1
 loose-layout-read (in_file name) a b plan (file, front, describes) = one-read (most_layout_bytes + 1) a b name file front
 
-loose-layout-lacking : (word : NamedLayout) (a b : Option FilesSeen) (answer : Status) (report : List ℕ) →
-    LacksLooseLayout word a b answer report → WereRead (layout_files word) a b
+loose-layout-lacking : (argument : NamedLayout) (a b : Option FilesSeen) (answer : Status) (report : List ℕ) →
+    LacksLooseLayout argument a b answer report → WereRead (layout_files argument) a b
 loose-layout-lacking plain a b answer report h = absurd h
 loose-layout-lacking (in_file name) a b answer report (inl r) =
     were-all (name ∷ []) a b (one-read (most_layout_bytes + 1) a b name r.file r.front)
 loose-layout-lacking (in_file name) a b answer report (inr r) = were-lacking _ _ name a b answer report r
 
-pub loaded-loosely-read : (word : NamedLayout) (name : List ℕ) (a b : Option FilesSeen) (plan : Plan) (hart : Hart) →
-    IsLoadedLoosely word name a b plan hart → AllRead (layout_files word ++ name ∷ []) a b
-loaded-loosely-read word name a b plan hart l =
-    more-read (layout_files word) (name ∷ []) a l.between b (loose-layout-read word a l.between plan l.laid)
+pub loaded-loosely-read : (argument : NamedLayout) (name : List ℕ) (a b : Option FilesSeen) (plan : Plan) (hart : Hart) →
+    IsLoadedLoosely argument name a b plan hart → AllRead (layout_files argument ++ name ∷ []) a b
+loaded-loosely-read argument name a b plan hart l =
+    more-read (layout_files argument) (name ∷ []) a l.between b (loose-layout-read argument a l.between plan l.laid)
     (program-read name l.between b hart l.program)
 
-pub loaded-loosely-lacking : (word : NamedLayout) (name : List ℕ) (a b : Option FilesSeen) (answer : Status) (report : List ℕ) →
-    LacksLoadedLoosely word name a b answer report → WereRead (layout_files word ++ name ∷ []) a b
-loaded-loosely-lacking word name a b answer report (inl h) =
-    were-before (layout_files word) (name ∷ []) a b (loose-layout-lacking word a b answer report h)
-loaded-loosely-lacking word name a b answer report (inr h) =
-    were-after (layout_files word) (name ∷ []) a h.between b (loose-layout-read word a h.between h.plan h.laid)
+pub loaded-loosely-lacking : (argument : NamedLayout) (name : List ℕ) (a b : Option FilesSeen) (answer : Status) (report : List ℕ) →
+    LacksLoadedLoosely argument name a b answer report → WereRead (layout_files argument ++ name ∷ []) a b
+loaded-loosely-lacking argument name a b answer report (inl h) =
+    were-before (layout_files argument) (name ∷ []) a b (loose-layout-lacking argument a b answer report h)
+loaded-loosely-lacking argument name a b answer report (inr h) =
+    were-after (layout_files argument) (name ∷ []) a h.between b (loose-layout-read argument a h.between h.plan h.laid)
     (program-lacking name h.between b answer report h.lacks)
 
 -- a script

@@ -1,4 +1,4 @@
--- Files that words of the command line name: what a read of one of them leaves of the files.
+-- Files that arguments of the command line name: what a read of one of them leaves of the files.
 use Rattle.std.specs.Prelude.{◌≡◌, ◌⊎◌, ℕ, List, take, codes, Option, Some, None}
 use Rattle.cf_io.specs.Reads.{FilesSeen, with_read, with_failed, with_unheld}
 use Rattle.texts.specs.Lines.{line}

@@ -1,4 +1,4 @@
--- The layout that a word of the command line names, and why it names none.
+-- The layout that an argument of the command line names, and why it names none.
 use Rattle.std.specs.Prelude.{◌≡◌, ◌≢◌, ◌⊎◌, ℕ, ◌+◌, List, codes, Option}
 use Rattle.cf_io.specs.Reads.{FilesSeen}
 use Rattle.cf_layout.specs.Layout.{Plan}
@@ -8,14 +8,14 @@ use Rattle.layout_file.specs.declared.fault.FileErr.TheVariants as err
 use Rattle.layout_file.specs.Answers.{LayoutFails, Describes}
 use Rattle.layout_file.specs.Limits.{most_layout_bytes}
 use Rattle.report_refusals.specs.Layouts.{bad_layout}
-use Rattle.cli_arguments.specs.Words.{NamedLayout, plain, in_file}
+use Rattle.cli_arguments.specs.Arguments.{NamedLayout, plain, in_file}
 use Rattle.cli_files.specs.Files.{IsFrontOf, LacksBytes}
 use Rattle.cli_files.specs.Memory.{SaysNoMemory}
 use Rattle.cli_files.specs.declared.status.Status.{Status}
 use Rattle.cli_files.specs.declared.status.Status.TheVariants as status
 use Rattle.cli_files.specs.declared.status.Which.TheVariants as which
 
--- the word names this layout: the built-in one, or the one that is described by its file's first bytes, one more than a
+-- the argument names this layout: the built-in one, or the one that is described by its file's first bytes, one more than a
 -- layout may have
 abbrev pub IsLayoutAt : NamedLayout → Option FilesSeen → Option FilesSeen → Plan → Type 0
 IsLayoutAt plain before after plan = (plan ≡ built_in.plain) × (after ≡ before)
@@ -36,7 +36,7 @@ pub record RefusesLayout (name : List ℕ) (before after : Option FilesSeen) (an
   pub front : IsFrontOf (most_layout_bytes + 1) before after name file
   pub why : IsNoLayout file answer report
 
--- why the word names no layout, the status that says so, and the report; the built-in layout is always there
+-- why the argument names no layout, the status that says so, and the report; the built-in layout is always there
 abbrev pub LacksLayout : NamedLayout → Option FilesSeen → Option FilesSeen → Status → List ℕ → Type 0
 LacksLayout plain before after answer report = ⊥
 LacksLayout (in_file name) before after answer report =

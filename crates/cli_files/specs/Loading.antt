@@ -3,13 +3,13 @@ use Rattle.std.specs.Prelude.{◌⊎◌, ℕ, List, Option}
 use Rattle.cf_io.specs.Reads.{FilesSeen}
 use Rattle.rv_machine.specs.Hart.{Hart}
 use Rattle.cf_layout.specs.Layout.{Plan}
-use Rattle.cli_arguments.specs.Words.{NamedLayout}
+use Rattle.cli_arguments.specs.Arguments.{NamedLayout}
 use Rattle.cli_files.specs.Layouts.{IsLayoutAt, LacksLayout}
 use Rattle.cli_files.specs.LooseLayouts.{IsLooseLayoutAt, LacksLooseLayout}
 use Rattle.cli_files.specs.Programs.{IsProgramAt, LacksProgram}
 use Rattle.cli_files.specs.declared.status.Status.{Status}
 
--- the word names this layout, and after it the program was read, which begins on this hart
+-- the argument names this layout, and after it the program was read, which begins on this hart
 pub record IsLoaded (layout : NamedLayout) (name : List ℕ) (before after : Option FilesSeen) (plan : Plan)
     (hart : Hart) : Type 0 where
   pub between : Option FilesSeen

@@ -1,9 +1,9 @@
--- Which files were read: those that the words name, one after another, each once, up to the last that was wanted.
+-- Which files were read: those that the arguments name, one after another, each once, up to the last that was wanted.
 use Rattle.std.specs.Prelude.{◌≡◌, ◌<◌, ◌≤◌, ◌⊎◌, ℕ, List, [], ◌∷◌, ◌++◌, length, take, Option, Some, None}
 use Rattle.cf_io.specs.Causes.{raised}
 use Rattle.cf_io.specs.Reads.{FilesSeen}
 use Rattle.cli_arguments.specs.Options.{Schedule, by_script, by_seed, by_rule}
-use Rattle.cli_arguments.specs.Words.{NamedLayout, plain, in_file}
+use Rattle.cli_arguments.specs.Arguments.{NamedLayout, plain, in_file}
 
 -- the file of a layout; the built-in one has none
 abbrev pub layout_files : NamedLayout → List (List ℕ)
@@ -13,7 +13,7 @@ layout_files (in_file name) = name ∷ []
 -- those of some layouts, in their order
 abbrev pub files_of_layouts : List NamedLayout → List (List ℕ)
 files_of_layouts [] = []
-files_of_layouts (word ∷ words) = layout_files word ++ files_of_layouts words
+files_of_layouts (argument ∷ arguments) = layout_files argument ++ files_of_layouts arguments
 
 -- the file of the script, where a script gives the moves
 abbrev pub script_files : Schedule → List (List ℕ)

@@ -6,15 +6,15 @@ use Rattle.rv_machine.specs.Hart.{Hart}
 use Rattle.cf_layout.specs.Layout.{Plan}
 use Rattle.cli_arguments.specs.Options.{Schedule}
 use Rattle.cli_arguments.specs.Views.{layout_of, schedule_view}
-use Rattle.cli_arguments.specs.declared.command.LayoutWord.{LayoutWord}
+use Rattle.cli_arguments.specs.declared.command.LayoutArgument.{LayoutArgument}
 use Rattle.cli_arguments.specs.declared.command.RunOptions.{RunOptions}
-use Rattle.cli_arguments.specs.Words.{NamedLayout}
+use Rattle.cli_arguments.specs.Arguments.{NamedLayout}
 use Rattle.cli_files.specs.Loading.{IsLoaded, LacksLoaded}
 use Rattle.cli_files.specs.Outside.{Outside}
 use Rattle.cli_files.specs.Schedules.{ReadySchedule, IsScheduled, LacksSchedule}
 use Rattle.cli_files.specs.declared.status.Status.{Status}
 
--- what the words ask of `run`: where the layout is, the file with the program, what chooses the moves, the number of
+-- what the arguments ask of `run`: where the layout is, the file with the program, what chooses the moves, the number of
 -- retired instructions at which the run stops, and what it writes to the report
 pub record RunAsked : Type 0 where
   pub layout : NamedLayout
@@ -32,8 +32,8 @@ run_asked layout program schedule limit reporting = record {
   reporting = reporting;
 }
 
--- the same by what contracts see of the words
-abbrev pub run_asked_by : LayoutWord → List ℕ → RunOptions → RunAsked
+-- the same by what contracts see of the arguments
+abbrev pub run_asked_by : LayoutArgument → List ℕ → RunOptions → RunAsked
 run_asked_by layout program options =
     run_asked (layout_of layout) program (schedule_view options.schedule) options.limit options.reporting
 

@@ -16,7 +16,7 @@ pub data ReadySchedule : Type 0 where
   drawn_from : (seed : ℕ) → GuessRule → ReadySchedule
   in_turn : GuessRule → ReadySchedule
 
--- what becomes of the schedule that the words ask for: a script's file is read, and where there is no script, no file is
+-- what becomes of the schedule that the arguments ask for: a script's file is read, and where there is no script, no file is
 abbrev pub IsScheduled : Schedule → Option FilesSeen → Option FilesSeen → ReadySchedule → Type 0
 IsScheduled (by_script file) before after (in_script text) = IsScriptAt file before after text
 IsScheduled (by_script file) before after (drawn_from seed rule) = ⊥
@@ -30,7 +30,7 @@ FitsScript (in_script text) = length text ≤ most_script
 FitsScript (drawn_from seed rule) = Unit {0}
 FitsScript (in_turn rule) = Unit {0}
 
--- the words ask for the script in a file, and that file gives none: the status that says why, and the report
+-- the arguments ask for the script in a file, and that file gives none: the status that says why, and the report
 pub record LacksSchedule (schedule : Schedule) (before after : Option FilesSeen) (answer : Status)
     (report : List ℕ) : Type 0 where
   pub file : List ℕ

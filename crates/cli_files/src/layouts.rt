@@ -1,7 +1,7 @@
-//! The layouts that words of the command line name.
+//! The layouts that arguments of the command line name.
 
 ghost use Rattle.std.specs.Prelude.{IfOk, IfErr};
-ghost use Rattle.cli_arguments.specs.Words.{in_file};
+ghost use Rattle.cli_arguments.specs.Arguments.{in_file};
 ghost use Rattle.cli_arguments.specs.Views.{layout_of};
 ghost use Rattle.layout_file.specs.Answers.{Describes};
 ghost use Rattle.cli_files.specs.Layouts.{IsNoLayout, IsLayoutAt, LacksLayout};
@@ -11,7 +11,7 @@ use crate::answer::{Answer, no_memory, unread};
 use crate::status::{Status, Which};
 use cf_io::{Files, FilesErr};
 use cf_layout::{Layout, plain};
-use cli_arguments::LayoutWord;
+use cli_arguments::LayoutArgument;
 use layout_file::{FileErr, MOST_LAYOUT, read_layout};
 use report_refusals::bad_layout;
 use std::alloc::Global;
@@ -46,16 +46,16 @@ fn read_file<F: Files>(alloc: Global, name: &str, files: &mut F) -> Result<Layou
     }
 }
 
-/// The layout that the word names, or the answer where it names none.
+/// The layout that the argument names, or the answer where it names none.
 pub fn layout_at<F: Files>(
     alloc: Global,
-    word: LayoutWord<'_>,
+    argument: LayoutArgument<'_>,
     files: &mut F,
 ) -> Result<Layout, Answer>
-    ensures { ReadsFiles (IsLayoutAt (layout_of word.entry)) (LacksLayout (layout_of word.entry)) F.Files files.old files.new result }
+    ensures { ReadsFiles (IsLayoutAt (layout_of argument.entry)) (LacksLayout (layout_of argument.entry)) F.Files files.old files.new result }
 {
-    match word {
-        LayoutWord::Plain => Ok(plain()),
-        LayoutWord::File(name) => read_file(alloc, name, files),
+    match argument {
+        LayoutArgument::Plain => Ok(plain()),
+        LayoutArgument::File(name) => read_file(alloc, name, files),
     }
 }

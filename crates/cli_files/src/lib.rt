@@ -1,4 +1,4 @@
-//! The files that the words of the command line name: what each of them holds, and what is answered where one is not there
+//! The files that the arguments of the command line name: what each of them holds, and what is answered where one is not there
 //! or is refused.
 #![tactic(auto)]
 

@@ -12,7 +12,7 @@ use crate::loose_layouts::loose_layout_at;
 use crate::programs::program_at;
 use cf_io::Files;
 use cf_layout::{Layout, LooseLayout};
-use cli_arguments::LayoutWord;
+use cli_arguments::LayoutArgument;
 use rv_machine::Machine;
 use std::alloc::Global;
 
@@ -26,7 +26,7 @@ pub struct Loaded {
 /// Reads the layout and then the program; or gives the answer of the first that is not there.
 pub fn load<F: Files>(
     alloc: Global,
-    layout: LayoutWord<'_>,
+    layout: LayoutArgument<'_>,
     program: &str,
     files: &mut F,
 ) -> Result<Loaded, Answer>
@@ -61,7 +61,7 @@ pub struct LooseImages {
 /// Reads the layout and then the program, which is loaded three times; or gives the answer of the first that is not there.
 pub fn load_images<F: Files>(
     alloc: Global,
-    layout: LayoutWord<'_>,
+    layout: LayoutArgument<'_>,
     program: &str,
     files: &mut F,
 ) -> Result<LoadedImages, Answer>
@@ -84,7 +84,7 @@ pub fn load_images<F: Files>(
 /// The same, where the layout may break the rule on where control turns.
 pub fn load_images_loosely<F: Files>(
     alloc: Global,
-    layout: LayoutWord<'_>,
+    layout: LayoutArgument<'_>,
     program: &str,
     files: &mut F,
 ) -> Result<LooseImages, Answer>

@@ -1,7 +1,7 @@
-//! The layouts that words of the command line name, where a layout may break the rule on where control turns.
+//! The layouts that arguments of the command line name, where a layout may break the rule on where control turns.
 
 ghost use Rattle.std.specs.Prelude.{IfOk, IfErr};
-ghost use Rattle.cli_arguments.specs.Words.{in_file};
+ghost use Rattle.cli_arguments.specs.Arguments.{in_file};
 ghost use Rattle.cli_arguments.specs.Views.{layout_of};
 ghost use Rattle.layout_file.specs.Answers.{DescribesLoosely};
 ghost use Rattle.cli_files.specs.LooseLayouts.{IsLooseLayoutAt, IsNoLooseLayout, LacksLooseLayout};
@@ -11,7 +11,7 @@ use crate::answer::{Answer, no_memory, unread};
 use crate::status::{Status, Which};
 use cf_io::{Files, FilesErr};
 use cf_layout::{LooseLayout, plain};
-use cli_arguments::LayoutWord;
+use cli_arguments::LayoutArgument;
 use layout_file::{FileErr, MOST_LAYOUT, read_layout_loosely};
 use report_refusals::bad_layout;
 use std::alloc::Global;
@@ -50,17 +50,17 @@ fn read_loose_file<F: Files>(
     }
 }
 
-/// The layout that the word names, or the answer where it names none; a layout that breaks no rule but the one on where
+/// The layout that the argument names, or the answer where it names none; a layout that breaks no rule but the one on where
 /// control turns is one here.
 pub fn loose_layout_at<F: Files>(
     alloc: Global,
-    word: LayoutWord<'_>,
+    argument: LayoutArgument<'_>,
     files: &mut F,
 ) -> Result<LooseLayout, Answer>
-    ensures { ReadsFiles (IsLooseLayoutAt (layout_of word.entry)) (LacksLooseLayout (layout_of word.entry)) F.Files files.old files.new result }
+    ensures { ReadsFiles (IsLooseLayoutAt (layout_of argument.entry)) (LacksLooseLayout (layout_of argument.entry)) F.Files files.old files.new result }
 {
-    match word {
-        LayoutWord::Plain => Ok(*plain().loose()),
-        LayoutWord::File(name) => read_loose_file(alloc, name, files),
+    match argument {
+        LayoutArgument::Plain => Ok(*plain().loose()),
+        LayoutArgument::File(name) => read_loose_file(alloc, name, files),
     }
 }

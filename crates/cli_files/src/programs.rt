@@ -1,4 +1,4 @@
-//! The programs that words of the command line name.
+//! The programs that arguments of the command line name.
 
 ghost use Rattle.std.specs.Prelude.{◌≡◌, IfOk, IfErr};
 ghost use Rattle.cli_files.specs.Image.{IsProgramFile, hart_at_start};

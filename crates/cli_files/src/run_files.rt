@@ -10,7 +10,7 @@ use crate::loading::load;
 use crate::schedules::{ReadySchedule, schedule_at};
 use cf_io::Files;
 use cf_layout::Layout;
-use cli_arguments::{LayoutWord, RunOptions};
+use cli_arguments::{LayoutArgument, RunOptions};
 use rv_machine::Machine;
 use std::alloc::Global;
 
@@ -22,11 +22,11 @@ pub struct ReadyRun {
     pub schedule: ReadySchedule,
 }
 
-/// Reads the layout, the program and the script, where the words name one, in this order; or gives the answer of the first
+/// Reads the layout, the program and the script, where the arguments name one, in this order; or gives the answer of the first
 /// that is not there.
 pub fn read_files<F: Files>(
     alloc: Global,
-    layout: LayoutWord<'_>,
+    layout: LayoutArgument<'_>,
     program: &str,
     options: RunOptions<'_>,
     files: &mut F,

@@ -22,7 +22,7 @@ pub enum ReadySchedule {
     Rule(GuessRule),
 }
 
-/// Reads the script, where the words ask for one in a file; or gives the answer where that file holds none.
+/// Reads the script, where the arguments ask for one in a file; or gives the answer where that file holds none.
 pub fn schedule_at<F: Files>(
     alloc: Global,
     schedule: Schedule<'_>,

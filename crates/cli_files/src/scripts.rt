@@ -1,4 +1,4 @@
-//! The scripts that words of the command line name.
+//! The scripts that arguments of the command line name.
 
 ghost use Rattle.std.specs.Prelude.{vec_items};
 ghost use Rattle.cli_files.specs.ReadsFiles.{ReadsFiles};

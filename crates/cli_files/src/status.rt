@@ -38,7 +38,7 @@ pub enum Status {
     /// The command was carried out, and its status is not that of a run.
     Done,
 
-    /// The words are not those of any command: the index of the first that has no place.
+    /// The arguments are not those of any command: the index of the first that has no place.
     BadWords(u32),
 
     /// The file is no layout.

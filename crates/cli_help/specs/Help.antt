@@ -5,11 +5,11 @@ use Rattle.cli_arguments.specs.declared.names.CommandName.{CommandName}
 use Rattle.cli_arguments.specs.declared.names.CommandName.TheVariants as names
 use Rattle.cli_arguments.specs.declared.options.Key.{Key}
 use Rattle.cli_arguments.specs.declared.options.Key.TheVariants as keys
-use Rattle.cli_arguments.specs.Commands.{command_word}
-use Rattle.cli_arguments.specs.Options.{key_word, takes_key}
+use Rattle.cli_arguments.specs.Commands.{command_name}
+use Rattle.cli_arguments.specs.Options.{option_name, takes_key}
 use Rattle.texts.specs.Lines.{line}
 
--- what follows the command's word: its positional words, and options where it has some that it does not need
+-- what follows the command's name: its positional arguments, and options where it has some that it does not need
 abbrev pub operands : CommandName → List ℕ
 operands names.Machine = codes "PROGRAM [OPTION ..]"
 operands names.Run = codes "LAYOUT PROGRAM [OPTION ..]"
@@ -33,16 +33,16 @@ all_keys =
     keys.Limit ∷ keys.Every ∷ keys.Show ∷ keys.Script ∷ keys.Seed ∷ keys.Guess ∷ keys.Input
     ∷ keys.Issues ∷ keys.States ∷ keys.Without ∷ keys.Mul ∷ keys.Run ∷ []
 
--- the options' own words, each after a space
-abbrev pub key_words : List Key → List ℕ
-key_words [] = codes " none"
-key_words (key ∷ others) = flat_map (λ k. codes " " ++ key_word k) (key ∷ others)
+-- the options' own names, each after a space
+abbrev pub option_names : List Key → List ℕ
+option_names [] = codes " none"
+option_names (key ∷ others) = flat_map (λ k. codes " " ++ option_name k) (key ∷ others)
 
--- the first two lines: the command with its positional words, and the options that the grammar gives it
+-- the first two lines: the command with its positional arguments, and the options that the grammar gives it
 abbrev pub head_lines : CommandName → List ℕ
 head_lines name =
-    line (codes "cfpp " ++ command_word name ++ codes " " ++ operands name)
-    ++ line (codes "Options:" ++ key_words (filter (takes_key name) all_keys))
+    line (codes "cfpp " ++ command_name name ++ codes " " ++ operands name)
+    ++ line (codes "Options:" ++ option_names (filter (takes_key name) all_keys))
 
 -- the help text of a command begins with these
 abbrev pub IsHelp : CommandName → List ℕ → Type 0

@@ -17,7 +17,7 @@ use Rattle.order_graph.specs.OrderAnswers.{AreOrdersFound, IsNotWrong, IsSearche
 use Rattle.order_report.specs.Drawing.{IsDrawable}
 use Rattle.order_shapes.specs.Shapes.{IsEncodable}
 use Rattle.cli_arguments.specs.declared.command.OrdersOptions.{OrdersOptions}
-use Rattle.cli_arguments.specs.Words.{NamedLayout}
+use Rattle.cli_arguments.specs.Arguments.{NamedLayout}
 use Rattle.cli_files.specs.Causes.{files_answered, input_answered, output_answered}
 use Rattle.cli_files.specs.Loading.{IsLoaded, IsLoadedLoosely, LacksLoaded, LacksLoadedLoosely}
 use Rattle.cli_files.specs.Memory.{LacksProcessor, SaysNoMemory}

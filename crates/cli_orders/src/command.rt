@@ -11,7 +11,7 @@ ghost use Rattle.cli_reports.specs.Reporting.{ReportsCommand, ReportsRun};
 use crate::found::put_found;
 use cf_io::{Files, Sink, Source};
 use cf_layout::{Layout, LooseLayout};
-use cli_arguments::{LayoutWord, OrdersOptions};
+use cli_arguments::{LayoutArgument, OrdersOptions};
 use cli_files::{LoadedImages, LooseImages, ProgramImages, load_images, load_images_loosely};
 use cli_reports::{Reported, RunStreams, put_answer};
 use order_graph::{search_loosely, search_orders};
@@ -107,7 +107,7 @@ fn search_images_loosely<S: Source, K: Sink, R: Sink>(
 /// Reads the layout and the program, and searches.
 fn search_strictly<F: Files, S: Source, K: Sink, R: Sink>(
     alloc: Global,
-    layout: LayoutWord<'_>,
+    layout: LayoutArgument<'_>,
     program: &str,
     options: OrdersOptions,
     files: &mut F,
@@ -130,7 +130,7 @@ fn search_strictly<F: Files, S: Source, K: Sink, R: Sink>(
 /// The same, where the rule on where control turns is taken away.
 fn search_without_control<F: Files, S: Source, K: Sink, R: Sink>(
     alloc: Global,
-    layout: LayoutWord<'_>,
+    layout: LayoutArgument<'_>,
     program: &str,
     options: OrdersOptions,
     files: &mut F,
@@ -158,7 +158,7 @@ fn search_without_control<F: Files, S: Source, K: Sink, R: Sink>(
 /// program's input is empty. Where the rule on where control turns is taken away, a layout that breaks it alone is accepted.
 pub fn search_program<F: Files, S: Source, K: Sink, R: Sink>(
     alloc: Global,
-    layout: LayoutWord<'_>,
+    layout: LayoutArgument<'_>,
     program: &str,
     options: OrdersOptions,
     files: &mut F,

@@ -15,7 +15,7 @@ use Rattle.cf_run.specs.Ending.{EndsSequentially}
 use Rattle.cf_run.specs.Moving.{run_place_of}
 use Rattle.cf_run.specs.Policies.{most_moves}
 use Rattle.report_closing.specs.Closing.{closing_in_rounds, is_report_fault}
-use Rattle.cli_arguments.specs.Words.{NamedLayout}
+use Rattle.cli_arguments.specs.Arguments.{NamedLayout}
 use Rattle.cli_files.specs.Loading.{IsLoaded, LacksLoaded}
 use Rattle.cli_files.specs.Memory.{LacksProcessor}
 use Rattle.cli_files.specs.Outside.{Outside}

@@ -13,7 +13,7 @@ use crate::closing::close_in_rounds;
 use cf_io::{Failed, Files, Sink, Source};
 use cf_rounds::{Clocked, RoundsOptions, run_rounds};
 use cf_run::Ran;
-use cli_arguments::LayoutWord;
+use cli_arguments::LayoutArgument;
 use cli_files::{Loaded, load, no_memory};
 use cli_processor::{Opened, no_moves, open};
 use cli_reports::{Reported, RunStreams, put_answer};
@@ -101,7 +101,7 @@ fn run_loaded<S: Source, K: Sink, R: Sink>(
 /// is then put to the report.
 pub fn run_in_rounds<F: Files, S: Source, K: Sink, R: Sink>(
     alloc: Global,
-    layout: LayoutWord<'_>,
+    layout: LayoutArgument<'_>,
     program: &str,
     options: RoundsOptions,
     files: &mut F,

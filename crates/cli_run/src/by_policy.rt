@@ -47,7 +47,14 @@ pub fn run_by_policy<P: Policy + Drop, S: Source, K: Sink, R: ReportSink>(
         reporting,
     };
     let ran = run_policy(
-        core, candidates, &mut policy, options, input, output, report, &mut tally,
+        core,
+        candidates,
+        &mut policy,
+        options,
+        input,
+        output,
+        report,
+        &mut tally,
     );
     close(core, limit, Scripted::Ran(ran), &tally, report)
 }

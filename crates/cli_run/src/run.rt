@@ -21,7 +21,7 @@ use cf_io::{Failed, Files, Sink, Source};
 use cf_report::ReportSink;
 use cf_run::Reporting;
 use cf_sched::{Drawn, Round};
-use cli_arguments::{LayoutWord, RunOptions};
+use cli_arguments::{LayoutArgument, RunOptions};
 use cli_files::{ReadyRun, ReadySchedule, no_memory, read_files};
 use cli_processor::{Opened, open};
 use cli_reports::{Reported, RunStreams, put_answer};
@@ -122,7 +122,7 @@ pub fn run_ready<S: Source, K: Sink, R: ReportSink>(
 /// more is then put to the report.
 pub fn run_processor<F: Files, S: Source, K: Sink, R: ReportSink>(
     alloc: Global,
-    layout: LayoutWord<'_>,
+    layout: LayoutArgument<'_>,
     program: &str,
     options: RunOptions<'_>,
     tail: Tail,

@@ -15,7 +15,7 @@ use Rattle.std.proofs.lemmas.Bool.{false≢true}
 use Rattle.cf_report.specs.Putting.{PutsText}
 use Rattle.texts.specs.Lines.{line}
 use Rattle.cli_time.specs.declared.choices.RunChoices.{RunChoices}
-use Rattle.cli_arguments.specs.Words.{NamedLayout, TimeChoices}
+use Rattle.cli_arguments.specs.Arguments.{NamedLayout, TimeChoices}
 use Rattle.run_options.specs.Limits.{most_timed_limit}
 use Rattle.cli_files.specs.Deciding.{Decides}
 use Rattle.cli_files.specs.declared.answer.Answer.{Answer}
@@ -27,16 +27,16 @@ use Rattle.cli_time.specs.Lines.{least_line, time_lines}
 use Rattle.cli_time.specs.Runs.{PutsAll, PutsFewer}
 use Rattle.cli_time.specs.Times.{AnswersTime, BreaksTime, BreaksTimes, MeasuresAll, TimesOf}
 
--- the limit is that of the words
+-- the limit is that of the arguments
 pub limit-chosen : (asked : TimeChoices) (options : RunChoices) → options ≡ choices_by asked → asked.limit ≤ most_timed_limit → options.limit ≤ most_timed_limit
 unfolding choices_by
 limit-chosen asked options is few = subst (λ (o : RunChoices). o.limit ≤ most_timed_limit) (sym is) few
 
 -- the layout that is named is the first with the least time
-measures-all : (words : List NamedLayout) (options : RunChoices) (delays : List Span) (plans : List Plan) (start : Machine) (blank told : Option (List ℕ))
-    (times : List ℕ) (place : ℕ) (named : NamedLayout) → (h : PutsAll words options delays plans start blank told times) →
-    IsFirstLeast times place → slice_get words place ≡ Some named → MeasuresAll words options delays plans start h.measured named
-measures-all words options delays plans start blank told times place named h least is = record {
+measures-all : (arguments : List NamedLayout) (options : RunChoices) (delays : List Span) (plans : List Plan) (start : Machine) (blank told : Option (List ℕ))
+    (times : List ℕ) (place : ℕ) (named : NamedLayout) → (h : PutsAll arguments options delays plans start blank told times) →
+    IsFirstLeast times place → slice_get arguments place ≡ Some named → MeasuresAll arguments options delays plans start h.measured named
+measures-all arguments options delays plans start blank told times place named h least is = record {
   each = h.each;
   all = h.all;
   place = place;
@@ -45,68 +45,68 @@ measures-all words options delays plans start blank told times place named h lea
 }
 
 -- it was named
-pub times-all : (words : List NamedLayout) (options : RunChoices) (delays : List Span) (plans : List Plan) (start : Machine) (blank told full : Option (List ℕ))
-    (times : List ℕ) (place : ℕ) (named : NamedLayout) (answer : Answer) → PutsAll words options delays plans start blank told times →
-    IsFirstLeast times place → slice_get words place ≡ Some named → Writes told full (least_line named) →
+pub times-all : (arguments : List NamedLayout) (options : RunChoices) (delays : List Span) (plans : List Plan) (start : Machine) (blank told full : Option (List ℕ))
+    (times : List ℕ) (place : ℕ) (named : NamedLayout) (answer : Answer) → PutsAll arguments options delays plans start blank told times →
+    IsFirstLeast times place → slice_get arguments place ≡ Some named → Writes told full (least_line named) →
     answer.status ≡ status.Done → answer.closing ≡ [] →
-    Decides (TimesOf words options delays plans start) (BreaksTimes words options delays plans start blank full) blank full (Ok answer)
-times-all words options delays plans start blank told full times place named answer h least is put done closed =
-    let text : List ℕ = time_lines options.limit words h.measured ++ least_line named in (
+    Decides (TimesOf arguments options delays plans start) (BreaksTimes arguments options delays plans start blank full) blank full (Ok answer)
+times-all arguments options delays plans start blank told full times place named answer h least is put done closed =
+    let text : List ℕ = time_lines options.limit arguments h.measured ++ least_line named in (
       text,
-      writes-again blank told full (time_lines options.limit words h.measured) (least_line named) h.put put,
+      writes-again blank told full (time_lines options.limit arguments h.measured) (least_line named) h.put put,
       inl (record {
         measured = h.measured;
         named = named;
-        all = measures-all words options delays plans start blank told times place named h least is;
+        all = measures-all arguments options delays plans start blank told times place named h least is;
         status_is = done;
         reports = ap (λ (rest : List ℕ). text ++ rest) closed ∙ append-nil text;
       }),
     )
 
 -- the report failed at that line
-pub times-break : (words : List NamedLayout) (options : RunChoices) (delays : List Span) (plans : List Plan) (start : Machine)
+pub times-break : (arguments : List NamedLayout) (options : RunChoices) (delays : List Span) (plans : List Plan) (start : Machine)
     (blank told full : Option (List ℕ))
-    (times : List ℕ) (place : ℕ) (named : NamedLayout) → PutsAll words options delays plans start blank told times →
-    IsFirstLeast times place → slice_get words place ≡ Some named → WritesFront told full (least_line named) →
-    BreaksTimes words options delays plans start blank full
-times-break words options delays plans start blank told full times place named h least is front =
+    (times : List ℕ) (place : ℕ) (named : NamedLayout) → PutsAll arguments options delays plans start blank told times →
+    IsFirstLeast times place → slice_get arguments place ≡ Some named → WritesFront told full (least_line named) →
+    BreaksTimes arguments options delays plans start blank full
+times-break arguments options delays plans start blank told full times place named h least is front =
     inr (record {
       measured = h.measured;
       named = named;
-      all = measures-all words options delays plans start blank told times place named h least is;
+      all = measures-all arguments options delays plans start blank told times place named h least is;
       told = told;
       put = h.put;
       front = front;
     })
 
-pub times-broken : {T E : Type 0} (words : List NamedLayout) (options : RunChoices) (delays : List Span) (plans : List Plan) (start : Machine)
+pub times-broken : {T E : Type 0} (arguments : List NamedLayout) (options : RunChoices) (delays : List Span) (plans : List Plan) (start : Machine)
     (blank told full : Option (List ℕ)) (i j : ℕ) (times : List ℕ) (place : ℕ) (named : NamedLayout) (r : Result T E) (e : E) (result : Result Answer Failed) →
-    PutsAll words options delays plans start blank told times → IsFirstLeast times place → slice_get words place ≡ Some named →
+    PutsAll arguments options delays plans start blank told times → IsFirstLeast times place → slice_get arguments place ≡ Some named →
     PutsText told full i j (least_line named) r → r ≡ Err e → IsErr result →
-    Decides (TimesOf words options delays plans start) (BreaksTimes words options delays plans start blank full) blank full result
-times-broken words options delays plans start blank told full i j times place named r e (Ok answer) h least is puts was failed =
+    Decides (TimesOf arguments options delays plans start) (BreaksTimes arguments options delays plans start blank full) blank full result
+times-broken arguments options delays plans start blank told full i j times place named r e (Ok answer) h least is puts was failed =
     absurd (false≢true failed)
-times-broken {T = T} {E = E} words options delays plans start blank told full i j times place named r e (Err f) h least is puts was failed =
+times-broken {T = T} {E = E} arguments options delays plans start blank told full i j times place named r e (Err f) h least is puts was failed =
     let q : PutsText {T = T} {E = E} told full i j (least_line named) (Err e) = rw was at puts in
-    times-break words options delays plans start blank told full times place named h least is q.front
+    times-break arguments options delays plans start blank told full times place named h least is q.front
 
 -- it was named, and that is all
-pub times-named : {T E : Type 0} (words : List NamedLayout) (options : RunChoices) (delays : List Span) (plans : List Plan) (start : Machine)
+pub times-named : {T E : Type 0} (arguments : List NamedLayout) (options : RunChoices) (delays : List Span) (plans : List Plan) (start : Machine)
     (blank told full : Option (List ℕ)) (i j : ℕ) (times : List ℕ) (place : ℕ) (named : NamedLayout) (r : Result T E) (t : T) (answer : Answer) →
-    PutsAll words options delays plans start blank told times → IsFirstLeast times place → slice_get words place ≡ Some named →
+    PutsAll arguments options delays plans start blank told times → IsFirstLeast times place → slice_get arguments place ≡ Some named →
     PutsText told full i j (least_line named) r → r ≡ Ok t → answer.status ≡ status.Done → answer.closing ≡ [] →
-    Decides (TimesOf words options delays plans start) (BreaksTimes words options delays plans start blank full) blank full (Ok answer)
-times-named {T = T} {E = E} words options delays plans start blank told full i j times place named r t answer h least is puts was done closed =
+    Decides (TimesOf arguments options delays plans start) (BreaksTimes arguments options delays plans start blank full) blank full (Ok answer)
+times-named {T = T} {E = E} arguments options delays plans start blank told full i j times place named r t answer h least is puts was done closed =
     let q : PutsText {T = T} {E = E} told full i j (least_line named) (Ok t) = rw was at puts in
-    times-all words options delays plans start blank told full times place named answer h least is q.all done closed
+    times-all arguments options delays plans start blank told full times place named answer h least is q.all done closed
 
 -- memory was refused before that
-pub times-fewer : (words : List NamedLayout) (options : RunChoices) (delays : List Span) (plans : List Plan) (start : Machine) (blank full : Option (List ℕ))
-    (place : ℕ) (answer : Answer) → PutsFewer words options delays plans start blank full place →
+pub times-fewer : (arguments : List NamedLayout) (options : RunChoices) (delays : List Span) (plans : List Plan) (start : Machine) (blank full : Option (List ℕ))
+    (place : ℕ) (answer : Answer) → PutsFewer arguments options delays plans start blank full place →
     answer.status ≡ status.NoMemory → answer.closing ≡ line (codes "no memory") →
-    Decides (TimesOf words options delays plans start) (BreaksTimes words options delays plans start blank full) blank full (Ok answer)
-times-fewer words options delays plans start blank full place answer h is closed =
-    let text : List ℕ = time_lines options.limit words h.measured in (
+    Decides (TimesOf arguments options delays plans start) (BreaksTimes arguments options delays plans start blank full) blank full (Ok answer)
+times-fewer arguments options delays plans start blank full place answer h is closed =
+    let text : List ℕ = time_lines options.limit arguments h.measured in (
       text,
       h.put,
       inr (record {

@@ -5,7 +5,7 @@ use Rattle.cf_io.specs.Reads.{FilesSeen}
 use Rattle.rv_machine.specs.Hart.{Hart}
 use Rattle.rv_machine.specs.Machine.{Machine}
 use Rattle.cf_layout.specs.Layout.{Plan}
-use Rattle.cli_arguments.specs.Words.{NamedLayout}
+use Rattle.cli_arguments.specs.Arguments.{NamedLayout}
 use Rattle.cli_files.specs.Reads.{layout_files, files_of_layouts, input_files, WereRead}
 use Rattle.cli_files.specs.declared.status.Status.{Status}
 use Rattle.cli_files.proofs.Reading.{AllRead, none-read, one-read, more-read, were-all, were-before, were-after, were-lacking, layout-read}
@@ -28,24 +28,24 @@ delays-lacking name a b answer report (inl r) = were-all (name ∷ []) a b (one-
 delays-lacking name a b answer report (inr r) = were-lacking _ _ name a b answer report r
 
 -- the layouts
-layouts-read : (words : List NamedLayout) (a b : Option FilesSeen) (plans : List Plan) → AreLayoutsAt words a b plans → AllRead (files_of_layouts words) a b
+layouts-read : (arguments : List NamedLayout) (a b : Option FilesSeen) (plans : List Plan) → AreLayoutsAt arguments a b plans → AllRead (files_of_layouts arguments) a b
 layouts-read [] a b [] same = none-read a b same
 layouts-read [] a b (plan ∷ plans) h = absurd h
-layouts-read (word ∷ words) a b [] h = absurd h
-layouts-read (word ∷ words) a b (plan ∷ plans) (between, first, more) =
-    more-read (layout_files word) (files_of_layouts words) a between b (layout-read word a between plan first)
-    (layouts-read words between b plans more)
+layouts-read (argument ∷ arguments) a b [] h = absurd h
+layouts-read (argument ∷ arguments) a b (plan ∷ plans) (between, first, more) =
+    more-read (layout_files argument) (files_of_layouts arguments) a between b (layout-read argument a between plan first)
+    (layouts-read arguments between b plans more)
 
-layouts-lacking : (words : List NamedLayout) (a b : Option FilesSeen) (answer : Status) (report : List ℕ) →
-    LacksLayouts words a b answer report → WereRead (files_of_layouts words) a b
+layouts-lacking : (arguments : List NamedLayout) (a b : Option FilesSeen) (answer : Status) (report : List ℕ) →
+    LacksLayouts arguments a b answer report → WereRead (files_of_layouts arguments) a b
 layouts-lacking [] a b answer report h = absurd h
-layouts-lacking (word ∷ words) a b answer report (inl h) =
-    were-before (layout_files word) (files_of_layouts words) a b (layout-lacking word a b answer report h)
-layouts-lacking (word ∷ words) a b answer report (inr (inl (plan, first, (is, reports)))) =
-    were-before (layout_files word) (files_of_layouts words) a b (were-all (layout_files word) a b (layout-read word a b plan first))
-layouts-lacking (word ∷ words) a b answer report (inr (inr (between, plan, first, h))) =
-    were-after (layout_files word) (files_of_layouts words) a between b (layout-read word a between plan first)
-    (layouts-lacking words between b answer report h)
+layouts-lacking (argument ∷ arguments) a b answer report (inl h) =
+    were-before (layout_files argument) (files_of_layouts arguments) a b (layout-lacking argument a b answer report h)
+layouts-lacking (argument ∷ arguments) a b answer report (inr (inl (plan, first, (is, reports)))) =
+    were-before (layout_files argument) (files_of_layouts arguments) a b (were-all (layout_files argument) a b (layout-read argument a b plan first))
+layouts-lacking (argument ∷ arguments) a b answer report (inr (inr (between, plan, first, h))) =
+    were-after (layout_files argument) (files_of_layouts arguments) a between b (layout-read argument a between plan first)
+    (layouts-lacking arguments between b answer report h)
 
 -- all of them
 abbrev laid_files : TimeFiles → List (List ℕ)

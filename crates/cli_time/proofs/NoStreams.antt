@@ -3,7 +3,7 @@
 use Rattle.std.proofs.Common.{◌≡◌, ℕ, List, [], ◌∷◌, Option, Result, Ok, refl, sym, subst, inl, inr}
 use Rattle.cf_io.specs.Causes.{HasCause}
 use Rattle.cf_io.specs.Reads.{FilesSeen}
-use Rattle.cli_arguments.specs.Words.{NamedLayout}
+use Rattle.cli_arguments.specs.Arguments.{NamedLayout}
 use Rattle.cli_files.specs.Causes.{files_answered, input_answered, output_answered, reading_answered}
 use Rattle.cli_files.specs.declared.answer.Answer.{Answer}
 use Rattle.cli_files.specs.declared.status.Status.{Status}
@@ -25,14 +25,14 @@ lacks-delays-says name before after answer report (inr (inl r)) =
 lacks-delays-says name before after answer report (inr (inr r)) =
     record { input = rw r.status_is; output = rw r.status_is }
 
-lacks-layouts-says : (words : List NamedLayout) (before after : Option FilesSeen) (answer : Status) (report : List ℕ) →
-    LacksLayouts words before after answer report → SaysNoStream answer
+lacks-layouts-says : (arguments : List NamedLayout) (before after : Option FilesSeen) (answer : Status) (report : List ℕ) →
+    LacksLayouts arguments before after answer report → SaysNoStream answer
 lacks-layouts-says [] before after answer report h = absurd h
-lacks-layouts-says (word ∷ words) before after answer report (inl h) = lacks-layout-says word before after answer report h
-lacks-layouts-says (word ∷ words) before after answer report (inr (inl (plan, first, (is, reports)))) =
+lacks-layouts-says (argument ∷ arguments) before after answer report (inl h) = lacks-layout-says argument before after answer report h
+lacks-layouts-says (argument ∷ arguments) before after answer report (inr (inl (plan, first, (is, reports)))) =
     record { input = rw is; output = rw is }
-lacks-layouts-says (word ∷ words) before after answer report (inr (inr (between, plan, first, h))) =
-    lacks-layouts-says words between after answer report h
+lacks-layouts-says (argument ∷ arguments) before after answer report (inr (inr (between, plan, first, h))) =
+    lacks-layouts-says arguments between after answer report h
 
 pub lacks-file-says : (asked : TimeFiles) (before after : Option FilesSeen) (answer : Status) (report : List ℕ) →
     LacksTimeFile asked before after answer report → SaysNoStream answer

@@ -1,7 +1,7 @@
--- What the words ask of `time`.
+-- What the arguments ask of `time`.
 use Rattle.std.specs.Prelude.{ℕ, List, Option, codes}
 use Rattle.cli_time.specs.declared.choices.RunChoices.{RunChoices}
-use Rattle.cli_arguments.specs.Words.{NamedLayout, TimeChoices, plain, in_file}
+use Rattle.cli_arguments.specs.Arguments.{NamedLayout, TimeChoices, plain, in_file}
 
 -- the files with the delays and with the program, and the layouts in their order
 pub record TimeFiles : Type 0 where
@@ -18,7 +18,7 @@ pub record TimeAsked : Type 0 where
 abbrev pub files_asked : List ℕ → List ℕ → List NamedLayout → TimeFiles
 files_asked delays program layouts = record { delays = delays; program = program; layouts = layouts }
 
--- how the runs are made by what the words ask
+-- how the runs are made by what the arguments ask
 unfoldable pub choices_by : TimeChoices → RunChoices
 choices_by options = record {
   limit = options.limit;
@@ -34,7 +34,7 @@ time_asked delays program layouts options = record {
   options = choices_by options;
 }
 
--- the word that names a layout
+-- the argument that names a layout
 unfoldable pub layout_name : NamedLayout → List ℕ
 layout_name plain = codes "plain"
 layout_name (in_file name) = name

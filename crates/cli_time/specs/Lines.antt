@@ -4,7 +4,7 @@ use Rattle.report_closing.specs.Lines.{line_of_run}
 use Rattle.texts.specs.Lines.{counted_line, line}
 use Rattle.cf_timed.specs.declared.answer.Timed.{Timed}
 use Rattle.cf_timed.specs.TimedRuns.{answer_of_timed}
-use Rattle.cli_arguments.specs.Words.{NamedLayout}
+use Rattle.cli_arguments.specs.Arguments.{NamedLayout}
 use Rattle.cli_time.specs.Asked.{layout_name}
 use Rattle.cli_time.specs.Measures.{TakenRun}
 use Rattle.cli_time.specs.SiteLines.{sites_text}
@@ -30,22 +30,22 @@ measured_text limit measured =
 
 -- the line of a layout
 abbrev pub time_line : ℕ → NamedLayout → Measured → List ℕ
-time_line limit word measured = layout_name word ++ measured_text limit measured
+time_line limit argument measured = layout_name argument ++ measured_text limit measured
 
 -- the same, and after it the lines of what the time is made of, where that is shown
 abbrev pub closing_lines : ℕ → NamedLayout → Measured → List ℕ
-closing_lines limit word measured = time_line limit word measured ++ sites_text measured.sites
+closing_lines limit argument measured = time_line limit argument measured ++ sites_text measured.sites
 
 -- what is shown of the moves, and then these
 abbrev pub layout_lines : ℕ → NamedLayout → TakenRun → List ℕ
-layout_lines limit word taken = taken.shown ++ closing_lines limit word taken.measured
+layout_lines limit argument taken = taken.shown ++ closing_lines limit argument taken.measured
 
 -- the lines of the first layouts, as many as were measured
 abbrev pub time_lines : ℕ → List NamedLayout → List TakenRun → List ℕ
-time_lines limit words [] = []
+time_lines limit arguments [] = []
 time_lines limit [] (taken ∷ more) = []
-time_lines limit (word ∷ words) (taken ∷ more) = layout_lines limit word taken ++ time_lines limit words more
+time_lines limit (argument ∷ arguments) (taken ∷ more) = layout_lines limit argument taken ++ time_lines limit arguments more
 
 -- the line that names the layout with the least time
 abbrev pub least_line : NamedLayout → List ℕ
-least_line word = codes "least " ++ line (layout_name word)
+least_line argument = codes "least " ++ line (layout_name argument)

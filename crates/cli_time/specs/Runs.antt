@@ -6,7 +6,7 @@ use Rattle.rv_machine.specs.Machine.{Machine}
 use Rattle.cf_layout.specs.Layout.{Plan}
 use Rattle.cf_core.specs.Processors.{Processor, opened_processor}
 use Rattle.cli_time.specs.declared.choices.RunChoices.{RunChoices}
-use Rattle.cli_arguments.specs.Words.{NamedLayout}
+use Rattle.cli_arguments.specs.Arguments.{NamedLayout}
 use Rattle.cli_time.specs.Lines.{time_lines}
 use Rattle.cli_time.specs.Measures.{BreaksTaking, Measures, MeasuresFirst, MeasuresRun, TakenRun, rule_by}
 use Rattle.cf_timed.specs.DelayedRuns.{DelayRule}
@@ -16,27 +16,27 @@ use Rattle.cli_time.specs.declared.stop.Stop.{Stop}
 use Rattle.cli_time.specs.declared.stop.Stop.TheVariants as stop
 
 -- the program was run on each layout, with these times, and each has its line
-pub record PutsAll (words : List NamedLayout) (options : RunChoices) (delays : List Span) (plans : List Plan) (start : Machine)
+pub record PutsAll (arguments : List NamedLayout) (options : RunChoices) (delays : List Span) (plans : List Plan) (start : Machine)
     (blank full : Option (List ℕ)) (times : List ℕ) : Type 0 where
   pub measured : List TakenRun
   pub each : MeasuresFirst delays options start plans measured
   pub all : length measured ≡ length plans
   pub times_are : times ≡ map (λ m. m.measured.time) measured
-  pub put : Writes blank full (time_lines options.limit words measured)
+  pub put : Writes blank full (time_lines options.limit arguments measured)
 
 -- memory was refused before the first move of the run on the layout with this index; each layout before it has its line
-pub record PutsFewer (words : List NamedLayout) (options : RunChoices) (delays : List Span) (plans : List Plan) (start : Machine)
+pub record PutsFewer (arguments : List NamedLayout) (options : RunChoices) (delays : List Span) (plans : List Plan) (start : Machine)
     (blank full : Option (List ℕ)) (place : ℕ) : Type 0 where
   pub measured : List TakenRun
   pub each : MeasuresFirst delays options start plans measured
   pub there : place < length plans
   pub count : length measured ≡ place
-  pub put : Writes blank full (time_lines options.limit words measured)
+  pub put : Writes blank full (time_lines options.limit arguments measured)
 
 -- why there is not a line for each
 abbrev pub TimingStops : List NamedLayout → RunChoices → List Span → List Plan → Machine → Option (List ℕ) → Option (List ℕ) → Stop → Type 0
-TimingStops words options delays plans start blank full (stop.NoMemory place) = PutsFewer words options delays plans start blank full place
-TimingStops words options delays plans start blank full stop.Failed = BreaksAtLayout words options delays plans start blank full
+TimingStops arguments options delays plans start blank full (stop.NoMemory place) = PutsFewer arguments options delays plans start blank full place
+TimingStops arguments options delays plans start blank full stop.Failed = BreaksAtLayout arguments options delays plans start blank full
 
 -- an error where the report failed
 abbrev pub stopped_by_report : {T : Type 0} → Result T Stop → Result (Unit {0}) (Unit {0})

@@ -23,7 +23,7 @@ pub struct RunChoices {
     pub show: TimeShow,
 }
 
-/// How the runs are made by what the words ask.
+/// How the runs are made by what the arguments ask.
 #[tactic(auto, unfolding(crate::specs::Asked::choices_by))]
 pub(crate) fn choices_by(options: TimeOptions<'_>) -> RunChoices
     ensures { result ≡ choices_by (times_view options.entry) }

@@ -4,7 +4,7 @@ ghost use Rattle.std.specs.Prelude.{◌≡◌, ◌≤◌, ◌++◌, IfOk, MatchR
 ghost use Rattle.run_options.specs.Limits.{most_timed_limit};
 ghost use Rattle.cf_io.specs.Causes.{HasCause};
 ghost use Rattle.cli_arguments.specs.Views.{times_view};
-ghost use Rattle.cli_arguments.specs.Words.{layout_in};
+ghost use Rattle.cli_arguments.specs.Arguments.{layout_in};
 ghost use Rattle.cf_run.specs.Headline.{machine_on};
 ghost use Rattle.cli_files.specs.Causes.{output_answered};
 ghost use Rattle.cli_files.specs.Deciding.{Decides, reading_decided};
@@ -16,7 +16,7 @@ ghost use Rattle.cli_time.specs.Times.{AnswersTime, BreaksTime, BreaksTimes, Tim
 
 use crate::choices::{RunChoices, choices_by};
 use crate::input_files::input_at;
-use crate::layout_files::word_at;
+use crate::layout_files::argument_at;
 use crate::leasts::first_least;
 use crate::lines::{put_layout, put_least};
 use crate::measuring::measure;
@@ -35,18 +35,18 @@ fn time_each<R: Sink>(
     alloc: Global,
     ready: &ReadyTimes,
     input: &[u8],
-    words: &[String],
+    arguments: &[String],
     options: RunChoices,
     report: &mut R,
 ) -> Result<ArrayVec<u64, 8>, Stop>
     requires limit { options.limit ≤ most_timed_limit }
     requires program { IsProgramFile (vec_items ready.now.image) }
-    requires words { length words.now ≡ length (vec_items ready.now.layouts) }
-    requires few { length words.now ≤ 8 }
+    requires arguments { length arguments.now ≡ length (vec_items ready.now.layouts) }
+    requires few { length arguments.now ≤ 8 }
     ensures put { MatchResult result
-        (λ times. PutsAll (map layout_in (map string_bytes words.now)) options ready.now.delays (vec_items ready.now.layouts)
+        (λ times. PutsAll (map layout_in (map string_bytes arguments.now)) options ready.now.delays (vec_items ready.now.layouts)
         (machine_on (hart_at_start (vec_items ready.now.image)) input.now) (R.written report.old) (R.written report.new) times.items)
-        (λ stop. TimingStops (map layout_in (map string_bytes words.now)) options ready.now.delays (vec_items ready.now.layouts)
+        (λ stop. TimingStops (map layout_in (map string_bytes arguments.now)) options ready.now.delays (vec_items ready.now.layouts)
         (machine_on (hart_at_start (vec_items ready.now.image)) input.now) (R.written report.old) (R.written report.new) stop) }
     ensures cause { HasCause (R.faults report.old) (R.faults report.new) (stopped_by_report result) }
 {
@@ -59,7 +59,7 @@ fn time_each<R: Sink>(
             Err(stop) => return Err(stop),
         };
         let time = measured.time;
-        if put_layout(limit, word_at(words, place), measured, report).is_err() {
+        if put_layout(limit, argument_at(arguments, place), measured, report).is_err() {
             return Err(Stop::Failed);
         }
         times.push(time);
@@ -72,31 +72,31 @@ fn compare_ready<R: Sink>(
     alloc: Global,
     ready: &ReadyTimes,
     input: &[u8],
-    words: &[String],
+    arguments: &[String],
     options: RunChoices,
     report: &mut R,
 ) -> Result<Answer, Failed>
     requires limit { options.limit ≤ most_timed_limit }
     requires program { IsProgramFile (vec_items ready.now.image) }
-    requires words { length words.now ≡ length (vec_items ready.now.layouts) }
-    requires some { 1 ≤ length words.now }
-    requires few { length words.now ≤ 8 }
+    requires arguments { length arguments.now ≡ length (vec_items ready.now.layouts) }
+    requires some { 1 ≤ length arguments.now }
+    requires few { length arguments.now ≤ 8 }
     ensures comes { Decides
-        (TimesOf (map layout_in (map string_bytes words.now)) options ready.now.delays (vec_items ready.now.layouts) (machine_on (hart_at_start (vec_items ready.now.image)) input.now))
-        (BreaksTimes (map layout_in (map string_bytes words.now)) options ready.now.delays (vec_items ready.now.layouts)
+        (TimesOf (map layout_in (map string_bytes arguments.now)) options ready.now.delays (vec_items ready.now.layouts) (machine_on (hart_at_start (vec_items ready.now.image)) input.now))
+        (BreaksTimes (map layout_in (map string_bytes arguments.now)) options ready.now.delays (vec_items ready.now.layouts)
         (machine_on (hart_at_start (vec_items ready.now.image)) input.now) (R.written report.old) (R.written report.new))
         (R.written report.old) (R.written report.new) result }
     ensures files { reading_decided result ≡ Ok tt }
     ensures output { IfOk result (λ answer. output_answered answer.status ≡ Ok tt) }
     ensures report { HasCause (R.faults report.old) (R.faults report.new) result }
 {
-    let times = match time_each(alloc, ready, input, words, options, report) {
+    let times = match time_each(alloc, ready, input, arguments, options, report) {
         Ok(times) => times,
         Err(Stop::NoMemory(_)) => return Ok(no_memory()),
         Err(Stop::Failed) => return Err(Failed),
     };
     let least = first_least(times.as_slice());
-    put_least(word_at(words, least), report)?;
+    put_least(argument_at(arguments, least), report)?;
     Ok(done())
 }
 

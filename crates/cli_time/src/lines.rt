@@ -14,7 +14,7 @@ use crate::site_lines::put_sites;
 use cf_io::{Failed, Sink, put_all};
 use cf_run::Ran;
 use cf_timed::Timed;
-use cli_arguments::LayoutWord;
+use cli_arguments::LayoutArgument;
 use report_closing::run_line;
 use texts::Page;
 
@@ -65,13 +65,13 @@ fn measured_page(limit: u64, measured: Measured) -> Page
     page
 }
 
-/// The word that names a layout.
-fn name_of(word: LayoutWord<'_>) -> &[u8]
-    ensures { result.now ≡ layout_name (layout_of word.entry) }
+/// The argument that names a layout.
+fn name_of(argument: LayoutArgument<'_>) -> &[u8]
+    ensures { result.now ≡ layout_name (layout_of argument.entry) }
 {
-    match word {
-        LayoutWord::Plain => b"plain",
-        LayoutWord::File(name) => name.as_bytes(),
+    match argument {
+        LayoutArgument::Plain => b"plain",
+        LayoutArgument::File(name) => name.as_bytes(),
     }
 }
 
@@ -86,21 +86,21 @@ fn put_both<R: Sink>(first: &[u8], second: &[u8], report: &mut R) -> Result<(), 
 /// Puts the line of a layout, and after it those of what its time is made of, where that is shown.
 pub(crate) fn put_layout<R: Sink>(
     limit: u64,
-    word: LayoutWord<'_>,
+    argument: LayoutArgument<'_>,
     measured: Measured,
     report: &mut R,
 ) -> Result<(), Failed>
-    ensures { PutsInto R.Sink report.old report.new (closing_lines limit (layout_of word.entry) measured) result }
+    ensures { PutsInto R.Sink report.old report.new (closing_lines limit (layout_of argument.entry) measured) result }
 {
     let page = measured_page(limit, measured);
-    put_both(name_of(word), page.bytes(), report)?;
+    put_both(name_of(argument), page.bytes(), report)?;
     put_sites(&measured.sites, report)
 }
 
 /// Puts the line that names the layout with the least time.
-pub(crate) fn put_least<R: Sink>(word: LayoutWord<'_>, report: &mut R) -> Result<(), Failed>
-    ensures { PutsInto R.Sink report.old report.new (least_line (layout_of word.entry)) result }
+pub(crate) fn put_least<R: Sink>(argument: LayoutArgument<'_>, report: &mut R) -> Result<(), Failed>
+    ensures { PutsInto R.Sink report.old report.new (least_line (layout_of argument.entry)) result }
 {
     put_all(report, b"least ")?;
-    put_both(name_of(word), b"\n", report)
+    put_both(name_of(argument), b"\n", report)
 }

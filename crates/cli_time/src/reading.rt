@@ -1,7 +1,7 @@
 //! The files that the command reads.
 
 ghost use Rattle.std.specs.Prelude.{◌≡◌, IfOk, map, string_bytes, vec_items};
-ghost use Rattle.cli_arguments.specs.Words.{layout_in};
+ghost use Rattle.cli_arguments.specs.Arguments.{layout_in};
 ghost use Rattle.cli_files.specs.Image.{IsProgramFile, hart_at_start};
 ghost use Rattle.cli_files.specs.Programs.{IsProgramAt, LacksProgram};
 ghost use Rattle.cli_files.specs.ReadsFiles.{ReadsFiles};

@@ -1,5 +1,5 @@
 //! Arguments of command lines, by the grammar: what they request, and which of them is refused.
-use cli_arguments::{Command, GuessRule, LayoutWord, Rule, Schedule, TimeShow, read_words};
+use cli_arguments::{Command, GuessRule, LayoutArgument, Rule, Schedule, TimeShow, read_arguments};
 use std::alloc::{AllocError, Global};
 use std::process::Abort;
 
@@ -22,7 +22,7 @@ type MachineAsked<'a> = (&'a str, u64, bool, bool);
 
 /// What the arguments request of the sequential machine.
 fn machine_asked(words: &[String]) -> Option<MachineAsked<'_>> {
-    match read_words(words) {
+    match read_arguments(words) {
         Ok(Command::Machine { program, options }) => Some((
             program,
             options.limit,
@@ -63,10 +63,10 @@ type Checked<'a> = Option<&'a str>;
 
 /// What the arguments request to check.
 fn checked(words: &[String]) -> Option<Checked<'_>> {
-    match read_words(words) {
+    match read_arguments(words) {
         Ok(Command::Check { layout }) => Some(match layout {
-            LayoutWord::Plain => None,
-            LayoutWord::File(name) => Some(name),
+            LayoutArgument::Plain => None,
+            LayoutArgument::File(name) => Some(name),
         }),
         _ => None,
     }
@@ -94,7 +94,7 @@ type RunAsked<'a> = (Option<&'a str>, Option<u32>, u64);
 
 /// How the arguments request to run the processor.
 fn run_asked(words: &[String]) -> Option<RunAsked<'_>> {
-    let Ok(Command::Run { options, .. }) = read_words(words) else {
+    let Ok(Command::Run { options, .. }) = read_arguments(words) else {
         return None;
     };
     let (script, seed) = match options.schedule {
@@ -135,7 +135,7 @@ type TimeAsked<'a> = (&'a str, &'a str, usize, u64, TimeShow);
 
 /// What the arguments request to compare.
 fn time_asked(words: &[String]) -> Option<TimeAsked<'_>> {
-    match read_words(words) {
+    match read_arguments(words) {
         Ok(
             Command::Time {
                 delays,
@@ -188,7 +188,7 @@ type TimeChoice<'a> = (GuessRule, Option<u32>, Option<&'a str>);
 
 /// How the arguments request to make the runs that are compared.
 fn time_choice(words: &[String]) -> Option<TimeChoice<'_>> {
-    match read_words(words) {
+    match read_arguments(words) {
         Ok(Command::Time { options, .. }) => Some((options.rule, options.seed, options.input)),
         _ => None,
     }
@@ -224,7 +224,7 @@ type OrdersAsked<'a> = (&'a str, u32, u32, Option<Rule>, bool);
 
 /// What the arguments request to search.
 fn orders_asked(words: &[String]) -> Option<OrdersAsked<'_>> {
-    match read_words(words) {
+    match read_arguments(words) {
         Ok(
             Command::Orders {
                 program,
@@ -275,7 +275,7 @@ type Amounts = (u64, Option<u64>);
 
 /// The amounts that the arguments of a run have.
 fn amounts(words: &[String]) -> Option<Amounts> {
-    match read_words(words) {
+    match read_arguments(words) {
         Ok(Command::Machine { options, .. }) => Some((options.limit, options.every)),
         Ok(Command::Run { options, .. }) => Some((options.limit, options.reporting.every)),
         Ok(Command::Moves { limit, every, .. }) => Some((limit, every)),
@@ -378,7 +378,7 @@ const REFUSALS: [(&str, u32); 55] = [
 
 fn refusal(rt: &(impl Abort + AllocGlobal), line: &str) -> Option<u32> {
     let words = words_of(rt, line);
-    match read_words(words.as_slice()) {
+    match read_arguments(words.as_slice()) {
         Ok(_) => None,
         Err(index) => Some(index),
     }

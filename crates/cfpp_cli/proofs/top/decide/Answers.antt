@@ -1,7 +1,7 @@
 use Rattle.std.proofs.Common.{◌≡◌, ◌++◌, true, false, map, Ok, Err, refl, []}
 use Rattle.std.specs.Prelude.{string_bytes}
 use Rattle.rv_machine.specs.Streams.{streams_of}
-use Rattle.cli_arguments.specs.Words.{layout_in, machine, run, moves, rounds, orders, conform, debug, time, audit, check, asm, listing, gen, help, version, help_on}
+use Rattle.cli_arguments.specs.Arguments.{layout_in, machine, run, moves, rounds, orders, conform, debug, time, audit, check, asm, listing, gen, help, version, help_on}
 use Rattle.cli_arguments.specs.Views.{layout_of, schedule_view, times_view}
 use Rattle.cli_gen.specs.Drawn.{AnswersDrawn, BreaksDrawn}
 use Rattle.cli_files.specs.Causes.{output_answered}

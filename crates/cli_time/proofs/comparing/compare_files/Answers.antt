@@ -2,16 +2,16 @@ use Rattle.std.proofs.Common.{inl, inr, []}
 use Rattle.cf_io.proofs.Owing.{writes-nothing}
 use Rattle.cli_files.specs.Image.{hart_at_start}
 use Rattle.cli_time.proofs.Comparisons.{limit-chosen}
-use Rattle.cli_time.proofs.LayoutLists.{words-length}
+use Rattle.cli_time.proofs.LayoutLists.{arguments-length}
 use Rattle.cli_time.proofs.NoStreams.{counts-file, lacks-file-says}
 use Rattle.cli_time.proofs.comparing.compare_files.Goals as goal
 
 pub compare_ready-requires-clause-limit : goal.compare_ready-requires-clause-limit
 compare_ready-requires-clause-limit g c = limit-chosen _ _ c.choices_by.ensures c.requires.limit
 
-pub compare_ready-requires-clause-words : goal.compare_ready-requires-clause-words
-compare_ready-requires-clause-words g c =
-    words-length c.args.layouts.now c.in-Ok.ready.layouts.items _ _ c.in-Ok.ensures.reads.gives.laid.layouts
+pub compare_ready-requires-clause-arguments : goal.compare_ready-requires-clause-arguments
+compare_ready-requires-clause-arguments g c =
+    arguments-length c.args.layouts.now c.in-Ok.ready.layouts.items _ _ c.in-Ok.ensures.reads.gives.laid.layouts
 
 pub returns-in-Err-clause-answers : goal.returns-in-Err-clause-answers
 returns-in-Err-clause-answers g c = ([], writes-nothing _, inr (inl c.in-Err.ensures.reads.lacks))

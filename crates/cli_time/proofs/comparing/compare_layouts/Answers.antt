@@ -1,7 +1,7 @@
 use Rattle.std.proofs.Common.{map}
 use Rattle.std.specs.Prelude.{string_bytes}
 use Rattle.cli_arguments.specs.Views.{times_view}
-use Rattle.cli_arguments.specs.Words.{layout_in}
+use Rattle.cli_arguments.specs.Arguments.{layout_in}
 use Rattle.cli_files.specs.Causes.{output_answered}
 use Rattle.cli_files.specs.Outside.{report_of}
 use Rattle.cli_reports.proofs.PutReports.{decided-comes}

@@ -13,12 +13,12 @@ returns-in-Err-Failed-clause-comes g c = inl (rw c.in-Err-Failed.field-0-is at c
 
 pub returns-in_err-put_least-clause-comes : goal.returns-in_err-put_least-clause-comes
 returns-in_err-put_least-clause-comes g c =
-    times-broken _ _ _ _ _ _ _ _ _ _ _ c.first_least-least.result (layout_of c.word_at.result) c.put_least.result _ c.from_residual.result
-    c.in-Ok.ensures.put (rw c.as_slice.ensures.value at c.first_least-least.ensures) c.word_at.ensures c.put_least.ensures
+    times-broken _ _ _ _ _ _ _ _ _ _ _ c.first_least-least.result (layout_of c.argument_at.result) c.put_least.result _ c.from_residual.result
+    c.in-Ok.ensures.put (rw c.as_slice.ensures.value at c.first_least-least.ensures) c.argument_at.ensures c.put_least.ensures
     c.in_err-put_least.was c.from_residual.ensures.0
 
 pub returns-clause-comes : goal.returns-clause-comes
 returns-clause-comes g c =
-    times-named _ _ _ _ _ _ _ _ _ _ _ c.first_least-least.result (layout_of c.word_at.result) c.put_least.result _
-    c.done.result c.in-Ok.ensures.put (rw c.as_slice.ensures.value at c.first_least-least.ensures) c.word_at.ensures
+    times-named _ _ _ _ _ _ _ _ _ _ _ c.first_least-least.result (layout_of c.argument_at.result) c.put_least.result _
+    c.done.result c.in-Ok.ensures.put (rw c.as_slice.ensures.value at c.first_least-least.ensures) c.argument_at.ensures
     c.put_least.ensures c.in_ok-put_least.was c.done.ensures.status c.done.ensures.closing

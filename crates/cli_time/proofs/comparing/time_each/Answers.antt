@@ -9,9 +9,9 @@ loop-place-init g c = rows-start _ _ _ _ _ _ _ _ c.new-times.ensures
 
 pub loop-place-preserved : goal.loop-place-preserved
 loop-place-preserved g c =
-    rows-next _ _ _ _ _ _ _ _ _ _ _ _ _ c.loop-place.place _ _ (layout_of c.word_at.result) c.index-layouts-place.result c.in-Ok.measured
-    c.put_layout.result c.is_err.result c.loop-place.invariant c.word_at.ensures
-    (plan-at c.args.words.now c.args.ready.now.layouts.items _ c.loop-place.place _ _ c.word_at.ensures c.requires.words
+    rows-next _ _ _ _ _ _ _ _ _ _ _ _ _ c.loop-place.place _ _ (layout_of c.argument_at.result) c.index-layouts-place.result c.in-Ok.measured
+    c.put_layout.result c.is_err.result c.loop-place.invariant c.argument_at.ensures
+    (plan-at c.args.arguments.now c.args.ready.now.layouts.items _ c.loop-place.place _ _ c.argument_at.ensures c.requires.arguments
     c.as_slice-layouts.ensures.value c.index-layouts-place.is)
     c.in-Ok.ensures.measured c.in-Ok.ensures.cause.still c.put_layout.ensures c.is_err.ensures.value c.if-is_err.false
     c.push.ensures.items
@@ -30,9 +30,9 @@ returns-in-Err-clause-cause g c = rows-stopped _ _ _ c.in-Err.stop c.loop-place.
 
 pub returns-then-is_err-clause-put : goal.returns-then-is_err-clause-put
 returns-then-is_err-clause-put g c =
-    rows-break _ _ _ _ _ _ _ _ _ _ _ _ _ c.loop-place.place _ (layout_of c.word_at.result) c.index-layouts-place.result c.in-Ok.measured
-    c.put_layout.result c.is_err.result c.loop-place.invariant c.word_at.ensures
-    (plan-at c.args.words.now c.args.ready.now.layouts.items _ c.loop-place.place _ _ c.word_at.ensures c.requires.words
+    rows-break _ _ _ _ _ _ _ _ _ _ _ _ _ c.loop-place.place _ (layout_of c.argument_at.result) c.index-layouts-place.result c.in-Ok.measured
+    c.put_layout.result c.is_err.result c.loop-place.invariant c.argument_at.ensures
+    (plan-at c.args.arguments.now c.args.ready.now.layouts.items _ c.loop-place.place _ _ c.argument_at.ensures c.requires.arguments
     c.as_slice-layouts.ensures.value c.index-layouts-place.is)
     c.in-Ok.ensures.measured c.put_layout.ensures c.is_err.ensures.value c.if-is_err.true
 

@@ -7,12 +7,12 @@ use Rattle.cli_time.proofs.lines.put_layout.Goals as goal
 
 pub returns-in_err-put_both : goal.returns-in_err-put_both
 returns-in_err-put_both g c =
-    let line : c.name_of.result.now ++ c.bytes.result.now ≡ time_line c.args.limit (layout_of c.args.word) c.args.measured = cc in
-    puts-stopped (sites_text c.args.measured.sites) (closing_lines c.args.limit (layout_of c.args.word) c.args.measured) c.in_err-put_both.was
+    let line : c.name_of.result.now ++ c.bytes.result.now ≡ time_line c.args.limit (layout_of c.args.argument) c.args.measured = cc in
+    puts-stopped (sites_text c.args.measured.sites) (closing_lines c.args.limit (layout_of c.args.argument) c.args.measured) c.in_err-put_both.was
     (cc line) c.from_residual.ensures.0 c.put_both.ensures
 
 pub returns : goal.returns
 returns g c =
-    let line : c.name_of.result.now ++ c.bytes.result.now ≡ time_line c.args.limit (layout_of c.args.word) c.args.measured = cc in
-    puts-again (closing_lines c.args.limit (layout_of c.args.word) c.args.measured) c.in_ok-put_both.was (cc line) c.put_both.ensures
+    let line : c.name_of.result.now ++ c.bytes.result.now ≡ time_line c.args.limit (layout_of c.args.argument) c.args.measured = cc in
+    puts-again (closing_lines c.args.limit (layout_of c.args.argument) c.args.measured) c.in_ok-put_both.was (cc line) c.put_both.ensures
     c.put_sites.ensures

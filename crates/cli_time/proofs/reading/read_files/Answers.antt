@@ -1,6 +1,6 @@
 use Rattle.std.proofs.Common.{map}
 use Rattle.std.specs.Prelude.{string_bytes}
-use Rattle.cli_arguments.specs.Words.{layout_in}
+use Rattle.cli_arguments.specs.Arguments.{layout_in}
 use Rattle.cli_time.specs.Asked.{files_asked}
 use Rattle.cli_time.proofs.FilesLacking.{lacks-laid}
 use Rattle.cli_time.proofs.reading.read_files.Goals as goal

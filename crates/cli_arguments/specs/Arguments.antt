@@ -1,4 +1,4 @@
--- The grammar of the project's command line: accepted words, what they ask, and the first word that has no place.
+-- The grammar of the project's command line: accepted arguments, what they ask, and the first argument that has no place.
 use Rattle.std.specs.Prelude.{◌≡◌, ◌≤◌, ◌+◌, ℕ, List, [], ◌∷◌, ◌++◌, codes, length, map, take, nat_eq, Bool, true, false, Option, Some, None, IfSome, option_map, if◌then◌else◌}
 use Rattle.std.specs.List.{list_all}
 use Rattle.std.specs.Option.{unwrap_or}
@@ -17,14 +17,14 @@ use Rattle.cli_arguments.specs.declared.command.OrdersOptions.{OrdersOptions}
 use Rattle.cli_arguments.specs.declared.shown.Shown.{Shown}
 use Rattle.cli_arguments.specs.declared.shown.Shown.TheVariants as shown
 use Rattle.cli_arguments.specs.Values.{count_in}
-use Rattle.cli_arguments.specs.Commands.{command_word, fewest, most, is_positional, topic_in}
-use Rattle.cli_arguments.specs.Options.{Setting, setting_words, takes_setting, default_issues, default_limit, default_states, NoneTwice, Schedule, by_rule, Given, given_in, by_script, by_seed}
+use Rattle.cli_arguments.specs.Commands.{command_name, fewest, most, is_positional, topic_in}
+use Rattle.cli_arguments.specs.Options.{Setting, setting_arguments, takes_setting, default_issues, default_limit, default_states, NoneTwice, Schedule, by_rule, Given, given_in, by_script, by_seed}
 
--- the words are a command's, with its positional words and after them options of that command, which
+-- the arguments are a command's, with its positional arguments and after them options of that command, which
 -- exclude none of each other
-pub record IsCommand (words : List (List ℕ)) (name : CommandName) (positional : List (List ℕ))
+pub record IsCommand (arguments : List (List ℕ)) (name : CommandName) (positional : List (List ℕ))
     (settings : List Setting) : Type 0 where
-  pub words_are : words ≡ command_word name ∷ (positional ++ setting_words settings)
+  pub arguments_are : arguments ≡ command_name name ∷ (positional ++ setting_arguments settings)
   pub enough : fewest name ≤ length positional
   pub few : length positional ≤ most name
   pub placed : list_all (is_positional name) positional ≡ true
@@ -36,9 +36,9 @@ pub data NamedLayout : Type 0 where
   plain : NamedLayout
   in_file : (name : List ℕ) → NamedLayout
 
--- the word `plain` names the built-in layout, and any other word names a file
+-- the argument `plain` names the built-in layout, and any other argument names a file
 abbrev pub layout_in : List ℕ → NamedLayout
-layout_in word = if pointwise nat_eq word (codes "plain") then plain else in_file word
+layout_in argument = if pointwise nat_eq argument (codes "plain") then plain else in_file argument
 
 -- what the options of `time` say
 pub record TimeChoices : Type 0 where
@@ -48,7 +48,7 @@ pub record TimeChoices : Type 0 where
   pub show : TimeShow
   pub input : Option (List ℕ)
 
--- what words ask: a command, the files that they name, and what the options say; `every` is after how many retired
+-- what arguments ask: a command, the files that they name, and what the options say; `every` is after how many retired
 -- instructions it is said each time how far the run has come
 pub data Asked : Type 0 where
   machine : (program : List ℕ) (limit : ℕ) (retired : Bool) (mul : Bool) (every : Option ℕ) → Asked
@@ -129,7 +129,7 @@ abbrev pub is_retired : Show → Bool
 is_retired shows.Retired = true
 is_retired _ = false
 
--- what a command asks with its positional words and what its options give; nothing where a word is missing, which for
+-- what a command asks with its positional arguments and what its options give; nothing where an argument is missing, which for
 -- `moves` may be the script
 abbrev pub asked_by : CommandName → List (List ℕ) → Given → Option Asked
 asked_by names.Machine (program ∷ []) given =
@@ -150,21 +150,21 @@ asked_by names.Audit (layout ∷ program ∷ trace ∷ []) given = Some (audit (
 asked_by names.Check (layout ∷ []) given = Some (check (layout_in layout))
 asked_by names.Asm (source ∷ []) given = Some (asm source)
 asked_by names.List (program ∷ []) given = Some (listing program)
-asked_by names.Gen (word ∷ []) given = option_map (λ number. gen number given.run) (count_in word)
+asked_by names.Gen (argument ∷ []) given = option_map (λ number. gen number given.run) (count_in argument)
 asked_by names.Help [] given = Some help
-asked_by names.Help (word ∷ []) given = option_map help_on (topic_in word)
+asked_by names.Help (argument ∷ []) given = option_map help_on (topic_in argument)
 asked_by names.HelpOption [] given = Some help
 asked_by names.HelpLetter [] given = Some help
 asked_by names.Version [] given = Some version
 asked_by names.VersionLetter [] given = Some version
 asked_by _ _ _ = None
 
--- the words are accepted, and ask this
-pub record Asks (words : List (List ℕ)) (asked : Asked) : Type 0 where
+-- the arguments are accepted, and ask this
+pub record Asks (arguments : List (List ℕ)) (asked : Asked) : Type 0 where
   pub name : CommandName
   pub positional : List (List ℕ)
   pub settings : List Setting
-  pub command : IsCommand words name positional settings
+  pub command : IsCommand arguments name positional settings
   pub means : asked_by name positional (given_in settings) ≡ Some asked
 
 -- an amount after which it is said each time how far a run has come
@@ -185,11 +185,11 @@ IsBounded (time delays program layouts options) =
 IsBounded (gen number runs) = (1 ≤ number) × (number ≤ most_statements)
 IsBounded _ = Unit {0}
 
--- the words before this index begin those of some command; with the word at it, or with none there, they begin
+-- the arguments before this index begin those of some command; with the argument at it, or with none there, they begin
 -- those of no command
-pub record IsBadAt (words : List (List ℕ)) (index : ℕ) : Type 0 where
-  pub within : index ≤ length words
+pub record IsBadAt (arguments : List (List ℕ)) (index : ℕ) : Type 0 where
+  pub within : index ≤ length arguments
   pub begun : (command : List (List ℕ)) × (asked : Asked) × Asks command asked
-      × (take index command ≡ take index words)
+      × (take index command ≡ take index arguments)
   pub no_further : (command : List (List ℕ)) (asked : Asked) → Asks command asked →
-      take (index + 1) command ≡ take (index + 1) words → ⊥
+      take (index + 1) command ≡ take (index + 1) arguments → ⊥
